@@ -1,10 +1,9 @@
 -- What a call does to a handle, and what it writes of it.
 use Rattle.std.proofs.Common.{◌≡◌, inl, inr, ℕ, List, Option, Some, None, Result, Ok, Err, refl, sym, subst}
-use Rattle.c_parts.specs.declared.status.Failure.{Failure}
-use Rattle.c_parts.specs.declared.status.Failure.TheVariants.{Absent}
+use Rattle.c_parts.{specs.declared.status.Failure.Failure, specs.declared.status.Failure.TheVariants.Absent}
 use Rattle.c_parts.specs.Endings.{IsHandedOut, done, status_of}
-use Rattle.c_connection.specs.declared.held.Held.{Held}
-use Rattle.c_connection.specs.Calls.{HandsOutAsked, IsNew, OnAsked, OnOpen, Opens, Reads, Shows}
+use Rattle.c_connection.{specs.declared.held.Held.Held, specs.Calls.{HandsOutAsked, IsNew, OnAsked, OnOpen, Opens}}
+use Rattle.c_connection.specs.Calls.{Reads, Shows}
 
 pub on_open : {V : Type 0} (P : Held → Held → Result V Failure → Type 0) (old new : Option Held) (a was b : Held)
     (answer : Result V Failure) → old ≡ Some a → was ≡ a → new ≡ Some b → P was b answer → OnOpen P old new answer

@@ -1,25 +1,19 @@
 -- What the calls on a handle do to its connection.
 use Rattle.std.specs.Prelude.{◌≡◌, ◌≢◌, ◌⊎◌, ℕ, ◌<◌, List, [], ◌∷◌, ◌++◌, length, Option, Some, None, ⊤, codes, true}
 use Rattle.std.specs.Prelude.{Result, Ok, Err, take, min}
-use Rattle.http.specs.declared.request.Request.{Request}
-use Rattle.http.specs.declared.request.Parts.{Parts}
-use Rattle.http.specs.Request.{body_of, head_of}
+use Rattle.http.{specs.declared.request.Request.Request, specs.declared.request.Parts.Parts, specs.Request.body_of}
+use Rattle.http.specs.Request.{head_of}
 use Rattle.http_uri.specs.Uri.{uri_path, uri_query}
 use Rattle.http_server.specs.declared.state.Config.{Config}
-use Rattle.server_connection.specs.declared.piece.Extent.{Extent}
-use Rattle.server_connection.specs.declared.plan.Plan.{Plan}
-use Rattle.server_connection.specs.Plan.{IsBlank}
+use Rattle.server_connection.{specs.declared.piece.Extent.Extent, specs.declared.plan.Plan.Plan, specs.Plan.IsBlank}
 use Rattle.server_connection.specs.declared.connection.Event.{Event}
 use Rattle.server_connection.specs.declared.connection.Event.TheVariants.{NeedsInput, Request as Asks, Output, Busy}
 use Rattle.server_connection.specs.declared.connection.Event.TheVariants.{Closed, Aborted}
-use Rattle.server_connection.specs.declared.machine.Phase.TheVariants.{Receiving, Asking}
-use Rattle.server_connection.specs.Connection.{HasRested, IsReached, IsSaid}
-use Rattle.server_connection.specs.Machine.{IsNextRange, Moves, Offers}
-use Rattle.c_parts.specs.Endings.{IsHandedOut, IsWritten, done}
-use Rattle.c_parts.specs.declared.status.Failure.{Failure}
+use Rattle.server_connection.{specs.declared.machine.Phase.TheVariants.{Receiving, Asking}, specs.Connection.HasRested}
+use Rattle.server_connection.{specs.Connection.{IsReached, IsSaid}, specs.Machine.{IsNextRange, Moves, Offers}}
+use Rattle.c_parts.{specs.Endings.{IsHandedOut, IsWritten, done}, specs.declared.status.Failure.Failure}
 use Rattle.c_parts.specs.declared.status.Failure.TheVariants.{Refused, Memory, Absent}
-use Rattle.c_connection.specs.declared.held.Held.{Held}
-use Rattle.c_connection.specs.declared.host.Host.{Host}
+use Rattle.c_connection.{specs.declared.held.Held.Held, specs.declared.host.Host.Host}
 
 -- the plan is the next that the host gives, for that request
 abbrev pub host_plans : Host → Request (List ℕ) → Plan → Host → Type 0

@@ -1,7 +1,6 @@
 //! A handle, as C has it.
 ghost use Rattle.std.specs.Prelude.{◌≡◌, Option, Some, None, is_some, true, false, MatchOption};
-ghost use Rattle.c_connection.specs.Ownership.{held_owns};
-ghost use Rattle.c_connection.specs.declared.held.Held.{Held};
+ghost use Rattle.c_connection.{specs.Ownership.held_owns, specs.declared.held.Held.Held};
 
 use crate::held::Held;
 use c_boxes::{Loose, RawBox};

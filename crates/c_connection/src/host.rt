@@ -1,6 +1,5 @@
 //! The host in C, as an application.
-ghost use Rattle.std.specs.Prelude.{ℕ, List};
-ghost use Rattle.std.specs.Borrow.{ftrue};
+ghost use Rattle.std.{specs.Prelude.{ℕ, List}, specs.Borrow.ftrue};
 ghost use Rattle.http.specs.declared.request.Request.{Request};
 ghost use Rattle.server_connection.specs.declared.plan.Plan.{Plan};
 

@@ -1,7 +1,6 @@
 //! Calls that make the plan of a response.
 ghost use Rattle.server_connection.specs.declared.piece.Piece.TheVariants.{Literal, Range};
-ghost use Rattle.c_connection.specs.Calls.{OnOpen};
-ghost use Rattle.c_connection.specs.Plans.{AddsField, AddsPiece, Begins, IsValueOf};
+ghost use Rattle.c_connection.{specs.Calls.OnOpen, specs.Plans.{AddsField, AddsPiece, Begins, IsValueOf}};
 
 use crate::handle::Connection as Handle;
 use crate::held::Held;

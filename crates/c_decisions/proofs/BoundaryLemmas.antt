@@ -1,11 +1,7 @@
 -- Boundaries are text.
-use Rattle.std.proofs.Common.{◌≡◌, ℕ, ◌<◌, true, List, rules}
-use Rattle.std.specs.List.{list_all}
-use Rattle.std.specs.Str.{IsUtf8}
-use Rattle.std.proofs.lemmas.List.Elements.{All-weaker}
-use Rattle.std.proofs.lemmas.List.Sums.{AllPass-from_list_all}
-use Rattle.std.proofs.lemmas.Str.{IsUtf8-from_ascii}
-use Rattle.std.proofs.lemmas.Str.Ascii.{IsAscii-from_all}
+use Rattle.std.{proofs.Common.{◌≡◌, ℕ, ◌<◌, true, List, rules}, specs.List.list_all, specs.Str.IsUtf8}
+use Rattle.std.{proofs.lemmas.List.Elements.All-weaker, proofs.lemmas.List.Sums.AllPass-from_list_all}
+use Rattle.std.{proofs.lemmas.Str.IsUtf8-from_ascii, proofs.lemmas.Str.Ascii.IsAscii-from_all}
 use Rattle.decide_preconditions.specs.Boundaries.{is_boundary, is_boundary_byte}
 
 boundary_byte_ascii : (b : ℕ) → is_boundary_byte b ≡ true → b < 128

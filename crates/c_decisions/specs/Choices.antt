@@ -2,8 +2,7 @@
 use Rattle.std.specs.Prelude.{◌⊎◌, ℕ, List, Option, Some, None, Result, Ok, Err}
 use Rattle.http_header.specs.FieldValue.{FieldValue}
 use Rattle.headers.specs.Lines.{Line}
-use Rattle.c_parts.specs.FieldText.{field_lines}
-use Rattle.c_parts.specs.declared.status.Failure.{Failure}
+use Rattle.c_parts.{specs.FieldText.field_lines, specs.declared.status.Failure.Failure}
 use Rattle.c_parts.specs.declared.status.Failure.TheVariants.{Absent}
 use Rattle.c_decisions.specs.Texts.{AreValuesOf, FailsAt}
 

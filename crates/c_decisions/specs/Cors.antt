@@ -1,25 +1,15 @@
 -- What a server answers a request from another origin, by what a caller hands in.
 use Rattle.std.specs.Prelude.{◌≡◌, ◌⊎◌, ℕ, List, Result, Ok, Err}
-use Rattle.http_header.specs.FieldValue.{FieldValue}
-use Rattle.http_header.specs.HeaderMap.{Entries}
-use Rattle.http_header.specs.Token.{IsToken}
+use Rattle.http_header.{specs.FieldValue.FieldValue, specs.HeaderMap.Entries, specs.Token.IsToken}
 use Rattle.headers.specs.LineMap.{fields_of, lines_at}
 use Rattle.headers_section.specs.Section.{Holds}
-use Rattle.decide_cors.specs.Answer.{IsAnswer}
-use Rattle.decide_cors.specs.Policy.{Policy}
-use Rattle.decide_cors.specs.declared.kind.CorsKind.{CorsKind}
+use Rattle.decide_cors.{specs.Answer.IsAnswer, specs.Policy.Policy, specs.declared.kind.CorsKind.CorsKind}
 use Rattle.decide_cors.specs.declared.kind.CorsKind.TheVariants.{Preflight, Plain, NoOrigin}
 use Rattle.decide_cors.specs.declared.policy.CorsAnswer.{CorsAnswer}
-use Rattle.c_decisions.specs.Flags.{flag_of}
-use Rattle.c_decisions.specs.FieldLines.{fields_text}
-use Rattle.c_parts.specs.Endings.{TellsAndWrites}
-use Rattle.c_decisions.specs.Methods.{IsMethodOf}
-use Rattle.c_decisions.specs.Rules.{IsPolicyAnswer, IsPolicyFor}
-use Rattle.c_parts.specs.SectionMap.{IsMapOf}
-use Rattle.c_decisions.specs.declared.cors.CorsFacts.{CorsFacts}
-use Rattle.c_decisions.specs.declared.cors.Shared.{Shared}
-use Rattle.c_decisions.specs.declared.rules.Rules.{Rules}
-use Rattle.c_parts.specs.declared.status.Failure.{Failure}
+use Rattle.c_decisions.{specs.Flags.flag_of, specs.FieldLines.fields_text, specs.Methods.IsMethodOf}
+use Rattle.c_decisions.{specs.Rules.{IsPolicyAnswer, IsPolicyFor}, specs.declared.cors.CorsFacts.CorsFacts}
+use Rattle.c_decisions.{specs.declared.cors.Shared.Shared, specs.declared.rules.Rules.Rules}
+use Rattle.c_parts.{specs.Endings.TellsAndWrites, specs.SectionMap.IsMapOf, specs.declared.status.Failure.Failure}
 use Rattle.c_parts.specs.declared.status.Failure.TheVariants.{Memory}
 
 abbrev pub kind_number : CorsKind → ℕ

@@ -1,19 +1,13 @@
 -- What the preconditions of a request come to, by what a caller hands in.
 use Rattle.std.specs.Prelude.{◌≡◌, ◌⊎◌, ℕ, List, Result, Ok, Err}
-use Rattle.http_header.specs.FieldValue.{FieldValue}
-use Rattle.http_header.specs.HeaderMap.{Entries}
-use Rattle.http_header.specs.Token.{IsToken}
+use Rattle.http_header.{specs.FieldValue.FieldValue, specs.HeaderMap.Entries, specs.Token.IsToken}
 use Rattle.headers.specs.LineMap.{lines_at}
 use Rattle.headers_section.specs.Section.{Holds}
-use Rattle.decide_preconditions.specs.Preconditions.{Answers}
-use Rattle.decide_preconditions.specs.declared.precondition.Precondition.{Precondition}
+use Rattle.decide_preconditions.{specs.Preconditions.Answers, specs.declared.precondition.Precondition.Precondition}
 use Rattle.decide_preconditions.specs.declared.precondition.Precondition.TheVariants.{Perform, NotModified, Failed}
 use Rattle.decide_preconditions.specs.declared.resource.Resource.{Resource}
-use Rattle.c_parts.specs.SectionMap.{IsMapOf}
-use Rattle.c_decisions.specs.Methods.{IsMethodOf}
-use Rattle.c_decisions.specs.Targets.{IsResourceOf}
-use Rattle.c_decisions.specs.declared.target.Target.{Target}
-use Rattle.c_parts.specs.declared.status.Failure.{Failure}
+use Rattle.c_parts.{specs.SectionMap.IsMapOf, specs.declared.status.Failure.Failure}
+use Rattle.c_decisions.{specs.Methods.IsMethodOf, specs.Targets.IsResourceOf, specs.declared.target.Target.Target}
 
 abbrev pub code_of : Precondition → ℕ
 code_of Perform = 0

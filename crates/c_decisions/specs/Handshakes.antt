@@ -1,38 +1,25 @@
 -- Both ends of the opening handshake of a WebSocket, by what a caller hands in.
 use Rattle.std.specs.Prelude.{◌≡◌, ◌≢◌, ◌⊎◌, ℕ, true, false, List, [], length, Option, Some, None, Result, Ok, Err}
-use Rattle.std.specs.Prelude.{◌==◌, if◌then◌else◌}
-use Rattle.std.specs.Global.{Vec}
-use Rattle.http.specs.declared.version.Version.{Version}
-use Rattle.http.specs.declared.version.TheConstants.Version.{HTTP_09, HTTP_10, HTTP_11, HTTP_2, HTTP_3}
-use Rattle.http_header.specs.FieldValue.{FieldValue}
-use Rattle.http_header.specs.HeaderMap.{Entries}
-use Rattle.http_header.specs.Token.{IsToken}
+use Rattle.std.{specs.Prelude.{◌==◌, if◌then◌else◌}, specs.Global.Vec}
+use Rattle.http.{specs.declared.version.Version.Version, specs.declared.version.TheConstants.Version.{HTTP_09, HTTP_10}}
+use Rattle.http.specs.declared.version.TheConstants.Version.{HTTP_11, HTTP_2, HTTP_3}
+use Rattle.http_header.{specs.FieldValue.FieldValue, specs.HeaderMap.Entries, specs.Token.IsToken}
 use Rattle.websocket.specs.Handshake.{base64}
-use Rattle.headers.specs.LineMap.{LineMap, lines_at}
-use Rattle.headers.specs.Lines.{Line}
+use Rattle.headers.{specs.LineMap.{LineMap, lines_at}, specs.Lines.Line}
 use Rattle.headers_section.specs.Section.{Holds}
-use Rattle.decide_handshake.specs.Client.{Checks}
-use Rattle.decide_handshake.specs.Messages.{answer_fields, request_fields, status_of}
-use Rattle.decide_handshake.specs.Server.{Answers, IsAccepted}
-use Rattle.decide_handshake.specs.declared.client.Checked.{Checked}
-use Rattle.decide_handshake.specs.declared.client.Checked.TheVariants.{Open, Fail}
-use Rattle.decide_handshake.specs.declared.client.Flaw.{Flaw}
+use Rattle.decide_handshake.{specs.Client.Checks, specs.Messages.{answer_fields, request_fields, status_of}}
+use Rattle.decide_handshake.{specs.Server.{Answers, IsAccepted}, specs.declared.client.Checked.Checked}
+use Rattle.decide_handshake.{specs.declared.client.Checked.TheVariants.{Open, Fail}, specs.declared.client.Flaw.Flaw}
 use Rattle.decide_handshake.specs.declared.client.Flaw.TheVariants as flaw
-use Rattle.decide_handshake.specs.declared.origins.Origins.{Origins}
-use Rattle.decide_handshake.specs.declared.origins.Origins.TheVariants.{Any, Listed}
-use Rattle.decide_handshake.specs.declared.server.Answer.{Answer}
+use Rattle.decide_handshake.{specs.declared.origins.Origins.Origins, specs.declared.origins.Origins.TheVariants.Any}
+use Rattle.decide_handshake.{specs.declared.origins.Origins.TheVariants.Listed, specs.declared.server.Answer.Answer}
 use Rattle.decide_handshake.specs.declared.server.Answer.TheVariants.{Switch, BadRequest, UpgradeRequired, Forbidden}
 use Rattle.decide_handshake.specs.declared.server.Fault.{Fault}
 use Rattle.decide_handshake.specs.declared.server.Fault.TheVariants as fault
-use Rattle.c_parts.specs.FieldText.{field_lines}
-use Rattle.c_parts.specs.SectionMap.{IsMapOf}
-use Rattle.c_parts.specs.declared.status.Failure.{Failure}
+use Rattle.c_parts.{specs.FieldText.field_lines, specs.SectionMap.IsMapOf, specs.declared.status.Failure.Failure}
 use Rattle.c_parts.specs.declared.status.Failure.TheVariants.{Refused, Memory, Absent, TooLarge}
-use Rattle.c_decisions.specs.FieldLines.{fields_text}
-use Rattle.c_decisions.specs.Methods.{IsMethodOf}
-use Rattle.c_decisions.specs.Star.{is_any}
-use Rattle.c_decisions.specs.StatusCodes.{IsStatusOf}
-use Rattle.c_decisions.specs.Texts.{AreValuesOf, FailsAt}
+use Rattle.c_decisions.{specs.FieldLines.fields_text, specs.Methods.IsMethodOf, specs.Star.is_any}
+use Rattle.c_decisions.{specs.StatusCodes.IsStatusOf, specs.Texts.{AreValuesOf, FailsAt}}
 use Rattle.c_decisions.specs.declared.handshake.Answered.{Answered}
 
 -- ---- the server's end

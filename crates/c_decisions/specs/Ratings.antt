@@ -4,10 +4,8 @@ use Rattle.http_header.specs.FieldValue.{FieldValue}
 use Rattle.headers.specs.Lines.{Line}
 use Rattle.decide_negotiation.specs.declared.acceptability.Quality.{Quality}
 use Rattle.decide_negotiation.specs.declared.acceptability.Quality.TheVariants.{NotAcceptable, Unlisted, Weight}
-use Rattle.c_parts.specs.FieldText.{field_lines}
-use Rattle.c_parts.specs.declared.status.Failure.{Failure}
-use Rattle.c_decisions.specs.Texts.{AreValuesOf, FailsAt}
-use Rattle.c_decisions.specs.declared.quality.OfferQuality.{OfferQuality}
+use Rattle.c_parts.{specs.FieldText.field_lines, specs.declared.status.Failure.Failure}
+use Rattle.c_decisions.{specs.Texts.{AreValuesOf, FailsAt}, specs.declared.quality.OfferQuality.OfferQuality}
 
 abbrev pub shown : Quality → OfferQuality
 shown NotAcceptable = record { weight = 0; is_acceptable = 0 }

@@ -1,26 +1,18 @@
 -- Which part of a representation a request selects, by what a caller hands in.
 use Rattle.std.specs.Prelude.{◌≡◌, ◌⊎◌, ⊤, ℕ, false, List, [], map, Result, Ok, Err}
-use Rattle.http_header.specs.FieldValue.{FieldValue}
-use Rattle.http_header.specs.HeaderMap.{Entries}
-use Rattle.http_header.specs.Token.{IsToken}
+use Rattle.http_header.{specs.FieldValue.FieldValue, specs.HeaderMap.Entries, specs.Token.IsToken}
 use Rattle.headers.specs.LineMap.{lines_at}
 use Rattle.headers_section.specs.Section.{Holds}
 use Rattle.decide_preconditions.specs.Limits.{usual_limits}
 use Rattle.decide_preconditions.specs.Selection.{Applies, Selects as SelectsOf}
-use Rattle.decide_preconditions.specs.declared.part.Part.{Part}
-use Rattle.decide_preconditions.specs.declared.resource.Resource.TheVariants.{Current}
+use Rattle.decide_preconditions.{specs.declared.part.Part.Part, specs.declared.resource.Resource.TheVariants.Current}
 use Rattle.decide_preconditions.specs.declared.resource.Validators.{Validators}
 use Rattle.decide_preconditions.specs.declared.selection.Selection.{Selection}
 use Rattle.decide_preconditions.specs.declared.selection.Selection.TheVariants.{Whole, Parts, Unsatisfiable}
-use Rattle.c_parts.specs.Endings.{TellsAndWrites}
-use Rattle.c_decisions.specs.Methods.{IsMethodOf}
-use Rattle.c_decisions.specs.Targets.{IsResourceOf}
-use Rattle.c_parts.specs.SectionMap.{IsMapOf}
-use Rattle.c_decisions.specs.declared.target.Target.{Target}
-use Rattle.c_decisions.specs.declared.selection.BytesRange.{BytesRange}
-use Rattle.c_decisions.specs.declared.selection.Selected.{Selected}
-use Rattle.c_parts.specs.declared.status.Failure.{Failure}
+use Rattle.c_parts.{specs.Endings.TellsAndWrites, specs.SectionMap.IsMapOf, specs.declared.status.Failure.Failure}
 use Rattle.c_parts.specs.declared.status.Failure.TheVariants.{Memory, Absent}
+use Rattle.c_decisions.{specs.Methods.IsMethodOf, specs.Targets.IsResourceOf, specs.declared.target.Target.Target}
+use Rattle.c_decisions.{specs.declared.selection.BytesRange.BytesRange, specs.declared.selection.Selected.Selected}
 
 abbrev pub range_of : Part → BytesRange
 range_of part = record { first = part.first; last = part.last }

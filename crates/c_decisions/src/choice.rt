@@ -1,8 +1,6 @@
 //! Which of a server's offers a request is served.
 ghost use Rattle.std.specs.Prelude.{◌≡◌};
-ghost use Rattle.decide_negotiation.specs.Choice.{Chooses};
-ghost use Rattle.decide_negotiation.specs.Lookup.{LooksUp};
-ghost use Rattle.decide_negotiation.specs.Qualities.{quality_in};
+ghost use Rattle.decide_negotiation.{specs.Choice.Chooses, specs.Lookup.LooksUp, specs.Qualities.quality_in};
 ghost use Rattle.c_decisions.specs.Choices.{Finds, given};
 
 use crate::texts::{request_for, request_with, values_of};

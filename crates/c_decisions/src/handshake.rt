@@ -1,9 +1,8 @@
 //! Both ends of the opening handshake of a WebSocket (RFC 6455, section 4).
 ghost use Rattle.std.specs.Prelude.{◌≡◌, ◌≢◌, [], IfOk, IsErr};
 ghost use Rattle.decide_handshake.specs.Messages.{answer_fields};
-ghost use Rattle.c_decisions.specs.Handshakes.{AnswersHandshake, AreOriginsOf, ChecksResponse, IsVersionOf};
-ghost use Rattle.c_decisions.specs.Handshakes.{Offers, IsShownHandshake, checked_number, fault_number};
-ghost use Rattle.c_decisions.specs.Handshakes.{fault_in, flaw_number};
+ghost use Rattle.c_decisions.specs.Handshakes.{AnswersHandshake, AreOriginsOf, ChecksResponse, IsVersionOf, Offers};
+ghost use Rattle.c_decisions.specs.Handshakes.{IsShownHandshake, checked_number, fault_number, fault_in, flaw_number};
 
 use crate::field_lines::fields_text;
 use crate::method::read_method;

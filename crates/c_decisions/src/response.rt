@@ -1,8 +1,7 @@
 //! The whole response to a request for a representation.
 ghost use Rattle.std.specs.Prelude.{◌≡◌, IfOk, map};
 ghost use Rattle.decide_preconditions.specs.Plans.{parts_sent};
-ghost use Rattle.c_decisions.specs.Responses.{IsShownAnswer, IsShownResponse, Responds};
-ghost use Rattle.c_decisions.specs.Selection.{range_of};
+ghost use Rattle.c_decisions.{specs.Responses.{IsShownAnswer, IsShownResponse, Responds}, specs.Selection.range_of};
 
 use crate::content::{ContentParts, boundary_of, content_of};
 use crate::field_lines::fields_text;

@@ -1,9 +1,7 @@
 //! A server's rules for requests from other origins, as C hands them in.
 ghost use Rattle.std.specs.Prelude.{◌≡◌, ◌∷◌, [], ℕ, List};
-ghost use Rattle.headers.specs.Lines.{lines_of};
-ghost use Rattle.headers.specs.Typed.{HasLine};
-ghost use Rattle.c_decisions.specs.Rules.{Finds, FindsOfLine, FindsOfText, IsPolicyAnswer, IsRulesAnswer};
-ghost use Rattle.c_decisions.specs.Rules.{ReadEach};
+ghost use Rattle.headers.{specs.Lines.lines_of, specs.Typed.HasLine};
+ghost use Rattle.c_decisions.specs.Rules.{Finds, FindsOfLine, FindsOfText, IsPolicyAnswer, IsRulesAnswer, ReadEach};
 
 use crate::method::read_method;
 use crate::numbers::known;

@@ -1,19 +1,12 @@
 -- A map of one name, and blocks of credentials.
-use Rattle.std.proofs.Common.{◌≡◌, ℕ, ◌+◌, ◌^◌, ◌<◌, true, List, [], ◌∷◌, ◌++◌, length, Some, None}
-use Rattle.std.proofs.Common.{Bool, Result, IfOk, arith, refl, inl, inr, subst, sym}
-use Rattle.std.specs.Prelude.{MatchBool, bytes_eq}
-use Rattle.std.proofs.lemmas.Result.{IfOk-weaker}
-use Rattle.std.proofs.lemmas.Slice.Eq.{bytes_eq-Decides}
-use Rattle.http_header.specs.FieldValue.{FieldValue}
-use Rattle.http_header.specs.HeaderMap.{Entries, RefusesAppend, append, get_all}
-use Rattle.headers.specs.Basic.{UserPass}
-use Rattle.headers.specs.Bearer.{bearer_writes}
-use Rattle.headers.specs.Lines.{Line, lines_of}
-use Rattle.headers.specs.Typed.{HasLine}
+use Rattle.std.proofs.Common.{◌≡◌, ℕ, ◌+◌, ◌^◌, ◌<◌, true, List, [], ◌∷◌, ◌++◌, length, Some, None, Bool, Result, IfOk}
+use Rattle.std.{proofs.Common.{arith, refl, inl, inr, subst, sym}, specs.Prelude.{MatchBool, bytes_eq}}
+use Rattle.std.{proofs.lemmas.Result.IfOk-weaker, proofs.lemmas.Slice.Eq.bytes_eq-Decides}
+use Rattle.http_header.{specs.FieldValue.FieldValue, specs.HeaderMap.{Entries, RefusesAppend, append, get_all}}
+use Rattle.headers.{specs.Basic.UserPass, specs.Bearer.bearer_writes, specs.Lines.{Line, lines_of}, specs.Typed.HasLine}
 use Rattle.headers.specs.declared.authorization.Authorization.{Authorization}
 use Rattle.headers_section.specs.CanonicalText.{Block, IsBlock, IsTypedBlock}
-use Rattle.c_fields.specs.Written.{IsCredentialsBlock, IsWrittenBlock, has_credentials, reads_basic}
-use Rattle.c_fields.specs.Written.{reads_bearer}
+use Rattle.c_fields.specs.Written.{IsCredentialsBlock, IsWrittenBlock, has_credentials, reads_basic, reads_bearer}
 
 -- the map that has these values under the name, and nothing else
 abbrev pub alone : List ℕ → List FieldValue → Entries FieldValue

@@ -1,14 +1,11 @@
 -- Dates, content ranges and entity tags, as they are written.
-use Rattle.std.specs.Prelude.{◌≡◌, ℕ, ◌<◌, ◌≤◌, ⊤, Bool, List, Option, Some, None, Result, Ok, Err}
-use Rattle.std.specs.Prelude.{◌==◌, if◌then◌else◌}
+use Rattle.std.specs.Prelude.{◌≡◌, ℕ, ◌<◌, ◌≤◌, ⊤, Bool, List, Option, Some, None, Result, Ok, Err, ◌==◌, if◌then◌else◌}
 use Rattle.std.specs.Global.{Vec}
-use Rattle.http_header.specs.FieldValue.{FieldValue}
-use Rattle.http_header.specs.Token.{AllPass}
-use Rattle.headers.specs.ContentBytes.{ContentBytes, content_text}
-use Rattle.headers.specs.Date.{IsDated, fixdate}
+use Rattle.http_header.{specs.FieldValue.FieldValue, specs.Token.AllPass}
+use Rattle.headers.{specs.ContentBytes.{ContentBytes, content_text}, specs.Date.{IsDated, fixdate}}
 use Rattle.headers.specs.EntityTag.{is_tag_byte, tag_text}
-use Rattle.c_parts.specs.declared.status.Failure.{Failure}
-use Rattle.c_parts.specs.declared.status.Failure.TheVariants.{Refused, Memory, Absent, TooLarge}
+use Rattle.c_parts.{specs.declared.status.Failure.Failure, specs.declared.status.Failure.TheVariants.{Refused, Memory}}
+use Rattle.c_parts.specs.declared.status.Failure.TheVariants.{Absent, TooLarge}
 use Rattle.c_fields.specs.declared.formats.ContentRangeParts.{ContentRangeParts}
 
 -- the value if P holds, `Refused` only if it doesn't hold, and `Memory` only if it does

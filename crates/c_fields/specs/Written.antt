@@ -1,18 +1,12 @@
 -- The lines that a header writes of the value that its lines read.
-use Rattle.std.specs.Prelude.{◌≡◌, ◌⊎◌, ℕ, ◌||◌, Bool, List, [], ◌∷◌, ◌++◌, flat_map, All, Some, None}
-use Rattle.std.specs.Prelude.{Result, Ok, Err, MatchBool, bytes_eq, codes}
-use Rattle.std.specs.Global.{Vec}
-use Rattle.http_header.specs.FieldName.{IsFieldName}
-use Rattle.http_header.specs.FieldValue.{FieldValue, IsFieldValue}
-use Rattle.http_header.specs.Token.{lowercase}
-use Rattle.headers.specs.Basic.{ReadsBasic, UserPass, basic_scheme, basic_writes}
-use Rattle.headers.specs.Bearer.{ReadsBearer, bearer_scheme, bearer_writes}
-use Rattle.headers.specs.Lines.{Line, lines_of}
-use Rattle.headers.specs.Scheme.{FirstReads}
+use Rattle.std.specs.Prelude.{◌≡◌, ◌⊎◌, ℕ, ◌||◌, Bool, List, [], ◌∷◌, ◌++◌, flat_map, All, Some, None, Result, Ok, Err}
+use Rattle.std.{specs.Prelude.{MatchBool, bytes_eq, codes}, specs.Global.Vec}
+use Rattle.http_header.{specs.FieldName.IsFieldName, specs.FieldValue.{FieldValue, IsFieldValue}, specs.Token.lowercase}
+use Rattle.headers.{specs.Basic.{ReadsBasic, UserPass, basic_scheme, basic_writes}, specs.Bearer.ReadsBearer}
+use Rattle.headers.{specs.Bearer.{bearer_scheme, bearer_writes}, specs.Lines.{Line, lines_of}, specs.Scheme.FirstReads}
 use Rattle.headers.specs.Typed.{HasLine}
 use Rattle.headers_section.specs.CanonicalText.{Block, IsBlock}
-use Rattle.c_parts.specs.FieldText.{IsNameOf, field_lines}
-use Rattle.c_parts.specs.declared.status.Failure.{Failure}
+use Rattle.c_parts.{specs.FieldText.{IsNameOf, field_lines}, specs.declared.status.Failure.Failure}
 use Rattle.c_parts.specs.declared.status.Failure.TheVariants.{Refused, Memory, Absent, TooLarge}
 
 -- each line, and a byte 10 after it

@@ -1,7 +1,6 @@
 //! Flags of `cache-control` that the header has no call for.
 ghost use Rattle.std.specs.Prelude.{◌≡◌};
-ghost use Rattle.headers.specs.CacheControl.{is_set};
-ghost use Rattle.headers.specs.Lines.{lines_of};
+ghost use Rattle.headers.{specs.CacheControl.is_set, specs.Lines.lines_of};
 ghost use Rattle.headers_items.specs.Entries.{entries, line_entries};
 
 use headers::HeaderValue;

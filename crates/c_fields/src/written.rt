@@ -3,8 +3,7 @@ ghost use Rattle.std.specs.Prelude.{◌≡◌, ◌<◌, length, option_map, IfOk
 ghost use Rattle.headers.specs.Lines.{lines_of};
 ghost use Rattle.http_header.specs.HeaderMap.{get_all};
 ghost use Rattle.headers_section.specs.CanonicalText.{IsTypedBlock};
-ghost use Rattle.c_fields.specs.Written.{IsCredentialsBlock, IsWrittenAs, IsWrittenBlock, has_credentials};
-ghost use Rattle.c_fields.specs.Written.{lines_text};
+ghost use Rattle.c_fields.specs.Written.{IsCredentialsBlock, IsWrittenAs, IsWrittenBlock, has_credentials, lines_text};
 
 use c_parts::{Failure, read_name, read_values};
 use headers::authorization::{Basic, Bearer};

@@ -1,11 +1,7 @@
 -- Identifiers that hide a node are text.
-use Rattle.std.proofs.Common.{◌≡◌, ℕ, ◌<◌, true, List, [], ◌∷◌, arith, rules}
-use Rattle.std.specs.List.{list_all}
-use Rattle.std.specs.Str.{IsUtf8}
-use Rattle.std.proofs.lemmas.List.Elements.{All-cons, All-weaker}
-use Rattle.std.proofs.lemmas.List.Sums.{AllPass-from_list_all}
-use Rattle.std.proofs.lemmas.Str.{IsUtf8-from_ascii, IsUtf8-nil}
-use Rattle.std.proofs.lemmas.Str.Ascii.{IsAscii-from_all}
+use Rattle.std.{proofs.Common.{◌≡◌, ℕ, ◌<◌, true, List, [], ◌∷◌, arith, rules}, specs.List.list_all, specs.Str.IsUtf8}
+use Rattle.std.{proofs.lemmas.List.Elements.{All-cons, All-weaker}, proofs.lemmas.List.Sums.AllPass-from_list_all}
+use Rattle.std.{proofs.lemmas.Str.{IsUtf8-from_ascii, IsUtf8-nil}, proofs.lemmas.Str.Ascii.IsAscii-from_all}
 use Rattle.gateway_forwarded.specs.Nodes.{is_obfuscated, is_obfuscated_byte}
 
 obfuscated_byte_ascii : (b : ℕ) → is_obfuscated_byte b ≡ true → b < 128

@@ -1,6 +1,5 @@
 -- The authority of a target.
-use Rattle.std.proofs.Common.{◌≡◌, Option, Some, None, ap, option_map, Bor}
-use Rattle.std.specs.Option.{option_copied}
+use Rattle.std.{proofs.Common.{◌≡◌, Option, Some, None, ap, option_map, Bor}, specs.Option.option_copied}
 use Rattle.http_header.specs.FieldValue.{FieldValue}
 
 -- the bytes of a value that is borrowed

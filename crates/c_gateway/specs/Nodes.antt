@@ -1,16 +1,12 @@
 -- Nodes, as a caller hands them in.
 use Rattle.std.specs.Prelude.{◌≡◌, ◌≢◌, ℕ, ◌==◌, true, false, List, [], Option, Some, None, Result, Ok, Err}
-use Rattle.std.specs.Prelude.{if◌then◌else◌}
-use Rattle.std.specs.Net.Grammar.{IsIpText}
-use Rattle.std.specs.declared.net.ip_addr.IpAddr.{IpAddr}
-use Rattle.gateway_forwarded.specs.Nodes.{is_obfuscated}
-use Rattle.gateway_forwarded.specs.declared.node.Node.{Node}
-use Rattle.gateway_forwarded.specs.declared.node.NodeName.{NodeName}
-use Rattle.gateway_forwarded.specs.declared.node.NodeName.TheVariants.{Address, Unknown, Hidden}
-use Rattle.gateway_forwarded.specs.declared.node.NodePort.{NodePort}
-use Rattle.gateway_forwarded.specs.declared.node.NodePort.TheVariants.{Number}
-use Rattle.c_parts.specs.declared.status.Failure.{Failure}
-use Rattle.c_parts.specs.declared.status.Failure.TheVariants.{Refused, Memory, Absent, TooLarge}
+use Rattle.std.{specs.Prelude.if◌then◌else◌, specs.Net.Grammar.IsIpText, specs.declared.net.ip_addr.IpAddr.IpAddr}
+use Rattle.gateway_forwarded.{specs.Nodes.is_obfuscated, specs.declared.node.Node.Node}
+use Rattle.gateway_forwarded.{specs.declared.node.NodeName.NodeName, specs.declared.node.NodeName.TheVariants.Address}
+use Rattle.gateway_forwarded.specs.declared.node.NodeName.TheVariants.{Unknown, Hidden}
+use Rattle.gateway_forwarded.{specs.declared.node.NodePort.NodePort, specs.declared.node.NodePort.TheVariants.Number}
+use Rattle.c_parts.{specs.declared.status.Failure.Failure, specs.declared.status.Failure.TheVariants.{Refused, Memory}}
+use Rattle.c_parts.specs.declared.status.Failure.TheVariants.{Absent, TooLarge}
 
 -- an identifier that hides a node (RFC 7239, section 6.3); `Refused` only if the text is none
 abbrev pub IsHiddenOf : List ℕ → Result (List ℕ) Failure → Type 0

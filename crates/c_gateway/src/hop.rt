@@ -3,8 +3,7 @@ ghost use Rattle.std.specs.Prelude.{◌≡◌, option_map};
 ghost use Rattle.headers.specs.LineMap.{lines_at};
 ghost use Rattle.gateway_forwarded.specs.Arrivals.{arrival_parts};
 ghost use Rattle.gateway_next_hop.specs.Connections.{connection_parts};
-ghost use Rattle.c_gateway.specs.Hops.{AreNodesOf, arrival_of, connection_of, forwarding_of, scheme_of};
-ghost use Rattle.c_gateway.specs.Hops.{told_host};
+ghost use Rattle.c_gateway.specs.Hops.{AreNodesOf, arrival_of, connection_of, forwarding_of, scheme_of, told_host};
 
 use crate::node::{read_node, read_optional_node};
 use c_parts::Failure;

@@ -1,9 +1,8 @@
 //! What a gateway sends of a request on its next connection.
 ghost use Rattle.std.specs.Prelude.{◌≡◌, IfOk};
 ghost use Rattle.gateway_messages.specs.Requests.{request_of};
-ghost use Rattle.c_gateway.specs.Lines.{lines_text};
-ghost use Rattle.c_gateway.specs.Requests.{IsOutcomeAt, IsShownRequest, IsStepAt, PassesRequest};
-ghost use Rattle.c_gateway.specs.Requests.{rejected, request_facts, sent_lines};
+ghost use Rattle.c_gateway.{specs.Lines.lines_text, specs.Requests.{IsOutcomeAt, IsShownRequest, IsStepAt}};
+ghost use Rattle.c_gateway.specs.Requests.{PassesRequest, rejected, request_facts, sent_lines};
 
 use crate::content::{ContentFacts, content_facts, request_content};
 use crate::gateway::{GatewayOptions, read_gateway};

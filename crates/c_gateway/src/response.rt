@@ -1,9 +1,8 @@
 //! What a gateway forwards of a response.
 ghost use Rattle.std.specs.Prelude.{◌≡◌, IfOk};
 ghost use Rattle.gateway_messages.specs.Responses.{response_of};
-ghost use Rattle.c_gateway.specs.Lines.{lines_text};
-ghost use Rattle.c_gateway.specs.Responses.{IsShownResponse, IsStepAt, PassesResponse, forwarded_lines};
-ghost use Rattle.c_gateway.specs.Responses.{response_facts, without_content};
+ghost use Rattle.c_gateway.{specs.Lines.lines_text, specs.Responses.{IsShownResponse, IsStepAt, PassesResponse}};
+ghost use Rattle.c_gateway.specs.Responses.{forwarded_lines, response_facts, without_content};
 
 use crate::content::{ContentFacts, content_facts, sent_content};
 use crate::date::read_date;

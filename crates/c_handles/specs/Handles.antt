@@ -1,11 +1,9 @@
 -- Calls on a handle.
 use Rattle.std.specs.Prelude.{◌≡◌, Option, Some, None, Result, Ok, Err}
-use Rattle.http_header.specs.FieldValue.{FieldValue}
-use Rattle.http_header.specs.HeaderMap.{Entries}
+use Rattle.http_header.{specs.FieldValue.FieldValue, specs.HeaderMap.Entries}
 use Rattle.decide_cors.specs.Policy.{Policy}
 use Rattle.decide_resource.specs.declared.resource.Resource.{Resource}
-use Rattle.c_parts.specs.declared.status.Failure.{Failure}
-use Rattle.c_parts.specs.declared.status.Failure.TheVariants.{Refused, Absent}
+use Rattle.c_parts.{specs.declared.status.Failure.Failure, specs.declared.status.Failure.TheVariants.{Refused, Absent}}
 use Rattle.c_handles.specs.declared.held.Held.{Held}
 use Rattle.c_handles.specs.declared.held.Held.TheVariants as held
 

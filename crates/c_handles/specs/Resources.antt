@@ -1,23 +1,16 @@
 -- A resource that was read, and what it answers.
 use Rattle.std.specs.Prelude.{◌≡◌, ◌⊎◌, ℕ, List, Option, Some, None, Result, Ok, Err}
-use Rattle.http_header.specs.FieldValue.{FieldValue}
-use Rattle.http_header.specs.HeaderMap.{Entries}
-use Rattle.http_header.specs.Token.{IsToken}
+use Rattle.http_header.{specs.FieldValue.FieldValue, specs.HeaderMap.Entries, specs.Token.IsToken}
 use Rattle.gateway_messages.specs.declared.protocol.Protocol.{Protocol}
 use Rattle.decide_resource.specs.declared.resource.Resource.{Resource}
-use Rattle.c_parts.specs.declared.status.Failure.{Failure}
-use Rattle.c_parts.specs.declared.status.Failure.TheVariants.{Memory, Absent}
-use Rattle.c_decisions.specs.Methods.{IsMethodOf}
-use Rattle.c_decisions.specs.declared.rules.Rules.{Rules}
-use Rattle.c_resource.specs.Answers.{IsAnsweredBy}
-use Rattle.c_resource.specs.Requests.{IsAuthorityAnswer, IsProtocolAnswer, authority_of}
-use Rattle.c_resource.specs.Resources.{IsResourceAnswer}
-use Rattle.c_resource.specs.declared.answer.Answered.{Answered}
+use Rattle.c_parts.{specs.declared.status.Failure.Failure, specs.declared.status.Failure.TheVariants.{Memory, Absent}}
+use Rattle.c_decisions.{specs.Methods.IsMethodOf, specs.declared.rules.Rules.Rules}
+use Rattle.c_resource.{specs.Answers.IsAnsweredBy, specs.Requests.{IsAuthorityAnswer, IsProtocolAnswer, authority_of}}
+use Rattle.c_resource.{specs.Resources.IsResourceAnswer, specs.declared.answer.Answered.Answered}
 use Rattle.c_resource.specs.declared.representation.RepresentationParts.{RepresentationParts}
 use Rattle.c_resource.specs.declared.request.RequestParts.{RequestParts}
 use Rattle.c_resource.specs.declared.resource.ResourceParts.{ResourceParts}
-use Rattle.c_handles.specs.Sections.{OfEach}
-use Rattle.c_handles.specs.declared.held.Held.{Held}
+use Rattle.c_handles.{specs.Sections.OfEach, specs.declared.held.Held.Held}
 use Rattle.c_handles.specs.declared.held.Held.TheVariants as held
 
 -- the resource that was handed in, or why there is none; `Memory` also for the handle

@@ -1,30 +1,18 @@
 -- What is asked of a section that was parsed. An answer is that of the call without a handle, to each text that has
 -- these fields.
-use Rattle.std.specs.Prelude.{◌≡◌, ◌⊎◌, ℕ, false, List, [], Option, Some, None, Result, Ok, Err}
-use Rattle.std.specs.Global.{Vec}
-use Rattle.http_header.specs.FieldName.{IsFieldName}
-use Rattle.http_header.specs.FieldValue.{FieldValue}
-use Rattle.http_header.specs.HeaderMap.{Entries, get_all}
+use Rattle.std.{specs.Prelude.{◌≡◌, ◌⊎◌, ℕ, false, List, [], Option, Some, None, Result, Ok, Err}, specs.Global.Vec}
+use Rattle.http_header.{specs.FieldName.IsFieldName, specs.FieldValue.FieldValue, specs.HeaderMap.{Entries, get_all}}
 use Rattle.http_header.specs.Token.{lowercase}
-use Rattle.headers.specs.Lines.{Line, lines_of}
-use Rattle.headers.specs.Typed.{HasLine}
+use Rattle.headers.{specs.Lines.{Line, lines_of}, specs.Typed.HasLine}
 use Rattle.headers_section.specs.Section.{Holds}
-use Rattle.c_parts.specs.FieldText.{IsNameOf}
-use Rattle.c_parts.specs.SectionMap.{IsMapOf}
-use Rattle.c_parts.specs.declared.status.Failure.{Failure}
+use Rattle.c_parts.{specs.FieldText.IsNameOf, specs.SectionMap.IsMapOf, specs.declared.status.Failure.Failure}
 use Rattle.c_parts.specs.declared.status.Failure.TheVariants.{Refused, Memory, Absent, TooLarge}
 use Rattle.c_fields.specs.Written.{IsWrittenBlock}
-use Rattle.c_decisions.specs.Contents.{IsBoundaryOf, IsContentOf}
-use Rattle.c_decisions.specs.Evaluations.{IsEvaluated}
-use Rattle.c_decisions.specs.Methods.{IsMethodOf}
-use Rattle.c_decisions.specs.Responses.{IsResponded}
-use Rattle.c_decisions.specs.Selection.{HasRange, IsSelected}
-use Rattle.c_decisions.specs.Targets.{IsResourceOf}
-use Rattle.c_decisions.specs.Texts.{AreValuesOf, FailsAt}
-use Rattle.c_decisions.specs.declared.content.ContentParts.{ContentParts}
-use Rattle.c_decisions.specs.declared.response.Responded.{Responded}
-use Rattle.c_decisions.specs.declared.selection.Selected.{Selected}
-use Rattle.c_decisions.specs.declared.target.Target.{Target}
+use Rattle.c_decisions.{specs.Contents.{IsBoundaryOf, IsContentOf}, specs.Evaluations.IsEvaluated}
+use Rattle.c_decisions.{specs.Methods.IsMethodOf, specs.Responses.IsResponded, specs.Selection.{HasRange, IsSelected}}
+use Rattle.c_decisions.{specs.Targets.IsResourceOf, specs.Texts.{AreValuesOf, FailsAt}}
+use Rattle.c_decisions.{specs.declared.content.ContentParts.ContentParts, specs.declared.response.Responded.Responded}
+use Rattle.c_decisions.{specs.declared.selection.Selected.Selected, specs.declared.target.Target.Target}
 use Rattle.c_handles.specs.declared.held.Held.{Held}
 use Rattle.c_handles.specs.declared.held.Held.TheVariants as held
 

@@ -1,9 +1,8 @@
 //! What is asked of a section.
 ghost use Rattle.std.specs.Prelude.{◌≡◌, Some};
-ghost use Rattle.decide_negotiation.specs.Choice.{Chooses};
-ghost use Rattle.decide_negotiation.specs.Qualities.{quality_in};
-ghost use Rattle.c_handles.specs.Handles.{OnHeld, section_in};
-ghost use Rattle.c_handles.specs.Sections.{EvaluatesOf, FindsOf, RespondsOf, SelectsOf, lines_under};
+ghost use Rattle.decide_negotiation.{specs.Choice.Chooses, specs.Qualities.quality_in};
+ghost use Rattle.c_handles.{specs.Handles.{OnHeld, section_in}, specs.Sections.{EvaluatesOf, FindsOf, RespondsOf}};
+ghost use Rattle.c_handles.specs.Sections.{SelectsOf, lines_under};
 
 use crate::handle::Handle;
 use crate::held::Held;

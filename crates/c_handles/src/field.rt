@@ -3,8 +3,7 @@ ghost use Rattle.std.specs.Prelude.{◌≡◌, ◌<◌, [], length, option_map, 
 ghost use Rattle.http_header.specs.HeaderMap.{get_all};
 ghost use Rattle.headers.specs.Lines.{lines_of};
 ghost use Rattle.c_fields.specs.Written.{IsWrittenBlock};
-ghost use Rattle.c_handles.specs.Handles.{OnHeld, section_in};
-ghost use Rattle.c_handles.specs.Sections.{IsWrittenOf};
+ghost use Rattle.c_handles.{specs.Handles.{OnHeld, section_in}, specs.Sections.IsWrittenOf};
 
 use crate::handle::Handle;
 use crate::held::Held;

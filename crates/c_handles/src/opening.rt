@@ -1,8 +1,6 @@
 //! How a handle is opened and closed.
 ghost use Rattle.std.specs.Prelude.{◌≡◌, None, Ok, Err, IfErr, IfOk};
-ghost use Rattle.c_handles.specs.Handles.{Opens};
-ghost use Rattle.c_handles.specs.Policies.{IsPolicyHeld};
-ghost use Rattle.c_handles.specs.Resources.{IsResourceHeld};
+ghost use Rattle.c_handles.{specs.Handles.Opens, specs.Policies.IsPolicyHeld, specs.Resources.IsResourceHeld};
 ghost use Rattle.c_handles.specs.Sections.{IsSectionHeld};
 
 use crate::handle::Handle;

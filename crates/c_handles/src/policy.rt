@@ -1,7 +1,6 @@
 //! What a policy answers a request from another origin.
 ghost use Rattle.std.specs.Prelude.{◌≡◌, Some};
-ghost use Rattle.c_handles.specs.Handles.{policy_in, section_in};
-ghost use Rattle.c_handles.specs.Policies.{SharesBetween, SharesOf};
+ghost use Rattle.c_handles.{specs.Handles.{policy_in, section_in}, specs.Policies.{SharesBetween, SharesOf}};
 
 use crate::handle::Handle;
 use crate::held::Held;

@@ -1,7 +1,6 @@
 //! What a resource answers a request.
 ghost use Rattle.std.specs.Prelude.{◌≡◌, Some};
-ghost use Rattle.c_handles.specs.Handles.{resource_in, section_in};
-ghost use Rattle.c_handles.specs.Resources.{AnswersBetween, AnswersOf};
+ghost use Rattle.c_handles.{specs.Handles.{resource_in, section_in}, specs.Resources.{AnswersBetween, AnswersOf}};
 
 use crate::handle::Handle;
 use crate::held::Held;

@@ -1,33 +1,21 @@
 -- What a cache may do with a response, by what a caller hands in.
-use Rattle.std.specs.Prelude.{◌≡◌, ◌⊎◌, ℕ, Bool, true, false, List, Option, Some, None}
-use Rattle.std.specs.Prelude.{Result, Ok, Err}
+use Rattle.std.specs.Prelude.{◌≡◌, ◌⊎◌, ℕ, Bool, true, false, List, Option, Some, None, Result, Ok, Err}
 use Rattle.std.specs.Global.{Vec}
 use Rattle.http.specs.StatusCode.{IsStatusCode}
-use Rattle.http_header.specs.FieldValue.{FieldValue}
-use Rattle.http_header.specs.HeaderMap.{Entries}
-use Rattle.http_header.specs.Token.{IsToken}
+use Rattle.http_header.{specs.FieldValue.FieldValue, specs.HeaderMap.Entries, specs.Token.IsToken}
 use Rattle.headers.specs.LineMap.{lines_at}
 use Rattle.headers_section.specs.Section.{Holds}
 use Rattle.cache_policy.specs.Age.{age_at}
 use Rattle.cache_policy.specs.Decisions as Decided_by
-use Rattle.cache_policy.specs.Fields.{capped}
-use Rattle.cache_policy.specs.Freshness.{HasHeuristic, HasLifetime}
-use Rattle.cache_policy.specs.Requests.{Request}
-use Rattle.cache_policy.specs.Storing.{MayStore}
-use Rattle.cache_policy.specs.Validating.{validation_fields}
-use Rattle.cache_policy.specs.declared.Times.{Times}
+use Rattle.cache_policy.{specs.Fields.capped, specs.Freshness.{HasHeuristic, HasLifetime}, specs.Requests.Request}
+use Rattle.cache_policy.{specs.Storing.MayStore, specs.Validating.validation_fields, specs.declared.Times.Times}
 use Rattle.cache_policy.specs.declared.decision.Decision.{Decision}
 use Rattle.cache_policy.specs.declared.decision.Decision.TheVariants as Decided
-use Rattle.cache_policy.specs.declared.Kind.{Kind}
-use Rattle.cache_policy.specs.declared.Kind.TheVariants.{Shared, Private}
-use Rattle.c_decisions.specs.FieldLines.{fields_text}
-use Rattle.c_decisions.specs.Methods.{IsMethodOf}
-use Rattle.c_decisions.specs.StatusCodes.{IsStatusOf}
-use Rattle.c_parts.specs.SectionMap.{IsMapOf}
-use Rattle.c_library.specs.Tags.{Tells}
-use Rattle.c_library.specs.declared.cache.Moments.{Moments}
-use Rattle.c_parts.specs.declared.status.Failure.{Failure}
+use Rattle.cache_policy.{specs.declared.Kind.Kind, specs.declared.Kind.TheVariants.{Shared, Private}}
+use Rattle.c_decisions.{specs.FieldLines.fields_text, specs.Methods.IsMethodOf, specs.StatusCodes.IsStatusOf}
+use Rattle.c_parts.{specs.SectionMap.IsMapOf, specs.declared.status.Failure.Failure}
 use Rattle.c_parts.specs.declared.status.Failure.TheVariants.{Absent}
+use Rattle.c_library.{specs.Tags.Tells, specs.declared.cache.Moments.Moments}
 
 abbrev pub times_of : Moments → Times
 times_of moments = record { request = moments.request; response = moments.response; now = moments.now }

@@ -1,7 +1,6 @@
 -- The directives of `cache-control`, as C sees them.
 use Rattle.std.specs.Prelude.{◌≡◌, ℕ, List, Option, Some, None}
-use Rattle.headers.specs.CacheControl.{Directives, directives_of}
-use Rattle.headers.specs.Lines.{Line}
+use Rattle.headers.{specs.CacheControl.{Directives, directives_of}, specs.Lines.Line}
 use Rattle.c_decisions.specs.Flags.{flag_of}
 use Rattle.c_library.specs.declared.cache_control.CacheDirectives.{CacheDirectives}
 use Rattle.c_library.specs.declared.cache_control.DirectiveSeconds.{DirectiveSeconds}

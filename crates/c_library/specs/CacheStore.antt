@@ -1,7 +1,6 @@
 -- How the calls on the handle of a cache end.
 use Rattle.std.specs.Prelude.{◌≡◌, ℕ, Option, unwrap_or, Result, Ok, Err}
-use Rattle.c_parts.specs.Endings.{IsTold, done, status_of}
-use Rattle.c_parts.specs.declared.status.Failure.{Failure}
+use Rattle.c_parts.{specs.Endings.{IsTold, done, status_of}, specs.declared.status.Failure.Failure}
 
 -- the status of an answer
 abbrev pub ended : {V : Type 0} → Result V Failure → ℕ

@@ -1,13 +1,8 @@
 -- Which numbers the lines of a field read.
-use Rattle.std.specs.Prelude.{ℕ, List, ◌==◌}
-use Rattle.std.specs.List.{before_first}
+use Rattle.std.{specs.Prelude.{ℕ, List, ◌==◌}, specs.List.before_first}
 use Rattle.http_header.specs.FieldValue.{FieldValue}
-use Rattle.headers.specs.ContentLength.{content_length_reads}
-use Rattle.headers.specs.ContentType.{ReadsType}
-use Rattle.headers.specs.HeaderLaws.{ReadsBy}
-use Rattle.headers.specs.Lines.{Line}
-use Rattle.headers.specs.MediaType.{semicolon}
-use Rattle.headers.specs.Shapes.{only_date, only_number}
+use Rattle.headers.{specs.ContentLength.content_length_reads, specs.ContentType.ReadsType, specs.HeaderLaws.ReadsBy}
+use Rattle.headers.{specs.Lines.Line, specs.MediaType.semicolon, specs.Shapes.{only_date, only_number}}
 
 -- the only line is a number
 abbrev pub reads_number : List Line → ℕ → Type 0

@@ -1,9 +1,7 @@
 -- What is at the caller's places after a gateway's step.
 use Rattle.std.specs.Prelude.{ℕ, List, Result}
-use Rattle.c_parts.specs.Endings.{TellsAndWrites}
-use Rattle.c_parts.specs.declared.status.Failure.{Failure}
-use Rattle.c_gateway.specs.declared.request.RequestFacts.{RequestFacts}
-use Rattle.c_gateway.specs.declared.request.RequestStep.{RequestStep}
+use Rattle.c_parts.{specs.Endings.TellsAndWrites, specs.declared.status.Failure.Failure}
+use Rattle.c_gateway.{specs.declared.request.RequestFacts.RequestFacts, specs.declared.request.RequestStep.RequestStep}
 use Rattle.c_gateway.specs.declared.response.ResponseFacts.{ResponseFacts}
 use Rattle.c_gateway.specs.declared.response.ResponseStep.{ResponseStep}
 

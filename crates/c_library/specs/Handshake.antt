@@ -2,8 +2,7 @@
 use Rattle.std.specs.Prelude.{◌≡◌, ℕ, List, Some, Result}
 use Rattle.websocket.specs.Handshake.{IsValidKey, accept_key_of}
 use Rattle.headers.specs.Lines.{Line, only_line}
-use Rattle.c_parts.specs.Endings.{TellsAndWrites}
-use Rattle.c_parts.specs.declared.status.Failure.{Failure}
+use Rattle.c_parts.{specs.Endings.TellsAndWrites, specs.declared.status.Failure.Failure}
 use Rattle.c_decisions.specs.declared.handshake.Answered.{Answered}
 use Rattle.c_decisions.specs.declared.handshake.HandshakeFacts.{HandshakeFacts}
 

@@ -1,11 +1,8 @@
 -- Two entity tags, compared.
 use Rattle.std.specs.Prelude.{◌≡◌, ◌⊎◌, ℕ, ◌&&◌, ◌==◌, List, drop, slice_index, Result, Ok, Err, if◌then◌else◌}
-use Rattle.headers.specs.EntityTag.{TagParts, AreTags}
-use Rattle.headers.specs.HeaderLaws.{ReadsBy}
-use Rattle.headers.specs.Lines.{Line}
+use Rattle.headers.{specs.EntityTag.{TagParts, AreTags}, specs.HeaderLaws.ReadsBy, specs.Lines.Line}
 use Rattle.headers.specs.Shapes.{only_tag}
-use Rattle.c_parts.specs.declared.status.Failure.{Failure}
-use Rattle.c_parts.specs.FieldText.{FieldDecodes, FieldReads}
+use Rattle.c_parts.{specs.declared.status.Failure.Failure, specs.FieldText.{FieldDecodes, FieldReads}}
 
 -- the only line is this entity tag
 abbrev pub reads_tag : List Line → Line → Type 0

@@ -2,8 +2,7 @@
 ghost use Rattle.std.specs.Prelude.{◌≡◌, ℕ, Option};
 ghost use Rattle.headers.specs.CacheControl.{GivesSeconds};
 ghost use Rattle.c_library.specs.CacheDirectives.{reads_directives, seconds_of, shown};
-ghost use Rattle.c_parts.specs.Endings.{Gives};
-ghost use Rattle.c_parts.specs.FieldText.{FieldDecodes};
+ghost use Rattle.c_parts.{specs.Endings.Gives, specs.FieldText.FieldDecodes};
 
 use c_decisions::flag_of;
 use c_fields::has_flag;

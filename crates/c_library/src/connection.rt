@@ -4,10 +4,9 @@ ghost use Rattle.server_connection.specs.declared.piece.Piece.TheVariants.{Liter
 ghost use Rattle.c_parts.specs.Endings.{Gives};
 ghost use Rattle.c_connection.specs.Calls.{CopiesOutput, Finishes, HandsOut, IsContent, IsMethod, IsPath, IsQuery};
 ghost use Rattle.c_connection.specs.Calls.{IsRangeNext, IsRejection, IsTimedOut, OnAsked, OnOpen, Opens, Reads};
-ghost use Rattle.c_connection.specs.Calls.{Receives, Responds, Shows, Wants, planned};
-ghost use Rattle.c_connection.specs.Plans.{AddsField, AddsPiece, Begins};
-ghost use Rattle.c_library.specs.CacheStore.{Ends};
-ghost use Rattle.c_library.specs.Connections.{TellsBoth};
+ghost use Rattle.c_connection.{specs.Calls.{Receives, Responds, Shows, Wants, planned}, specs.Plans.AddsField};
+ghost use Rattle.c_connection.specs.Plans.{AddsPiece, Begins};
+ghost use Rattle.c_library.{specs.CacheStore.Ends, specs.Connections.TellsBoth};
 
 use crate::giving::give;
 use crate::store::ended;

@@ -1,6 +1,5 @@
 //! Fields that are one number or one date.
-ghost use Rattle.c_parts.specs.Endings.{Gives};
-ghost use Rattle.c_parts.specs.FieldText.{FieldDecodes};
+ghost use Rattle.c_parts.{specs.Endings.Gives, specs.FieldText.FieldDecodes};
 ghost use Rattle.c_library.specs.Fields.{reads_date, reads_length, reads_number};
 
 use c_parts::{DONE, read_field};

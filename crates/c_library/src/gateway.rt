@@ -1,9 +1,7 @@
 //! What a gateway forwards of requests and responses, and how messages are delimited.
 ghost use Rattle.c_parts.specs.Endings.{Gives};
 ghost use Rattle.c_library.specs.Gateways.{WritesRequest, WritesResponse};
-ghost use Rattle.c_gateway.specs.Framings.{Frames};
-ghost use Rattle.c_gateway.specs.Requests.{PassesRequest};
-ghost use Rattle.c_gateway.specs.Responses.{PassesResponse};
+ghost use Rattle.c_gateway.{specs.Framings.Frames, specs.Requests.PassesRequest, specs.Responses.PassesResponse};
 
 use crate::giving::give;
 use c_gateway::{

@@ -1,6 +1,5 @@
 //! Both ends of the opening handshake of a WebSocket.
-ghost use Rattle.c_parts.specs.Endings.{Gives, Writes, done};
-ghost use Rattle.c_parts.specs.FieldText.{FieldDecodes};
+ghost use Rattle.c_parts.{specs.Endings.{Gives, Writes, done}, specs.FieldText.FieldDecodes};
 ghost use Rattle.c_library.specs.Handshake.{WritesHandshake, reads_accept};
 ghost use Rattle.c_decisions.specs.Handshakes.{AnswersHandshake, ChecksResponse, Offers};
 

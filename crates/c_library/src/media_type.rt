@@ -1,7 +1,6 @@
 //! The media type of `content-type`.
 ghost use Rattle.std.specs.Prelude.{◌≡◌};
-ghost use Rattle.c_parts.specs.Endings.{Writes, done};
-ghost use Rattle.c_parts.specs.FieldText.{FieldDecodes};
+ghost use Rattle.c_parts.{specs.Endings.{Writes, done}, specs.FieldText.FieldDecodes};
 ghost use Rattle.c_library.specs.Fields.{essence, reads_media};
 
 use c_parts::{DONE, Failure, copy_into, read_field};

@@ -1,12 +1,8 @@
 //! Content negotiation.
-ghost use Rattle.decide_negotiation.specs.Choice.{Chooses};
-ghost use Rattle.decide_negotiation.specs.Codings.{encoding_quality};
-ghost use Rattle.decide_negotiation.specs.Languages.{language_says};
-ghost use Rattle.decide_negotiation.specs.Lookup.{LooksUp};
-ghost use Rattle.decide_negotiation.specs.MediaRanges.{media_type_says};
-ghost use Rattle.decide_negotiation.specs.Qualities.{quality_by, quality_in};
-ghost use Rattle.c_decisions.specs.Choices.{Finds};
-ghost use Rattle.c_decisions.specs.Ratings.{Rates};
+ghost use Rattle.decide_negotiation.{specs.Choice.Chooses, specs.Codings.encoding_quality};
+ghost use Rattle.decide_negotiation.{specs.Languages.language_says, specs.Lookup.LooksUp};
+ghost use Rattle.decide_negotiation.{specs.MediaRanges.media_type_says, specs.Qualities.{quality_by, quality_in}};
+ghost use Rattle.c_decisions.{specs.Choices.Finds, specs.Ratings.Rates};
 ghost use Rattle.c_parts.specs.Endings.{Gives};
 
 use crate::giving::give;

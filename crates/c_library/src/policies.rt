@@ -1,11 +1,9 @@
 //! Policies and resources that are made once, behind handles.
 ghost use Rattle.std.specs.Prelude.{◌≡◌, None};
 ghost use Rattle.c_decisions.specs.Cors.{WritesShared};
-ghost use Rattle.c_handles.specs.Handles.{Opens, policy_in, resource_in, section_in};
-ghost use Rattle.c_handles.specs.Policies.{IsPolicyHeld, SharesBetween};
-ghost use Rattle.c_handles.specs.Resources.{AnswersBetween, IsResourceHeld};
-ghost use Rattle.c_library.specs.CacheStore.{Ends};
-ghost use Rattle.c_library.specs.Responses.{WritesAnswer};
+ghost use Rattle.c_handles.{specs.Handles.{Opens, policy_in, resource_in, section_in}, specs.Policies.IsPolicyHeld};
+ghost use Rattle.c_handles.{specs.Policies.SharesBetween, specs.Resources.{AnswersBetween, IsResourceHeld}};
+ghost use Rattle.c_library.{specs.CacheStore.Ends, specs.Responses.WritesAnswer};
 
 use crate::response::worse;
 use crate::store::ended;

@@ -1,8 +1,6 @@
 //! The ranges of `range`.
-ghost use Rattle.std.specs.Prelude.{◌≡◌, IfOk};
-ghost use Rattle.std.specs.List.{filter_map};
-ghost use Rattle.c_parts.specs.Endings.{Writes, done};
-ghost use Rattle.c_parts.specs.FieldText.{FieldDecodes};
+ghost use Rattle.std.{specs.Prelude.{◌≡◌, IfOk}, specs.List.filter_map};
+ghost use Rattle.c_parts.{specs.Endings.{Writes, done}, specs.FieldText.FieldDecodes};
 ghost use Rattle.c_library.specs.Ranges.{bytes_range, reads_ranges};
 
 use c_decisions::BytesRange;

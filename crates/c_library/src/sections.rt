@@ -1,19 +1,15 @@
 //! A section that is parsed once: its fields behind a handle.
 ghost use Rattle.std.specs.Prelude.{◌≡◌, None, codes};
 ghost use Rattle.headers.specs.Lines.{lines_of};
-ghost use Rattle.decide_negotiation.specs.Choice.{Chooses};
-ghost use Rattle.decide_negotiation.specs.Codings.{encoding_quality};
-ghost use Rattle.decide_negotiation.specs.Languages.{language_says};
-ghost use Rattle.decide_negotiation.specs.MediaRanges.{media_type_says};
+ghost use Rattle.decide_negotiation.{specs.Choice.Chooses, specs.Codings.encoding_quality};
+ghost use Rattle.decide_negotiation.{specs.Languages.language_says, specs.MediaRanges.media_type_says};
 ghost use Rattle.decide_negotiation.specs.Qualities.{quality_by, quality_in};
 ghost use Rattle.c_parts.specs.Endings.{Gives, Writes, done};
 ghost use Rattle.c_fields.specs.Written.{lines_text};
 ghost use Rattle.c_decisions.specs.Selection.{WritesSelection};
-ghost use Rattle.c_handles.specs.Handles.{OnHeld, Opens, section_in};
-ghost use Rattle.c_handles.specs.Sections.{EvaluatesOf, FindsOf, IsSectionHeld, IsWrittenOf, RespondsOf};
-ghost use Rattle.c_handles.specs.Sections.{SelectsOf, lines_under};
-ghost use Rattle.c_library.specs.CacheStore.{Ends};
-ghost use Rattle.c_library.specs.Responses.{WritesResponse};
+ghost use Rattle.c_handles.{specs.Handles.{OnHeld, Opens, section_in}, specs.Sections.{EvaluatesOf, FindsOf}};
+ghost use Rattle.c_handles.specs.Sections.{IsSectionHeld, IsWrittenOf, RespondsOf, SelectsOf, lines_under};
+ghost use Rattle.c_library.{specs.CacheStore.Ends, specs.Responses.WritesResponse};
 
 use crate::giving::give;
 use crate::response::worse;

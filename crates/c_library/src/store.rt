@@ -1,12 +1,9 @@
 //! A cache: a store of responses behind a handle.
 ghost use Rattle.std.specs.Prelude.{◌≡◌, None};
 ghost use Rattle.c_parts.specs.Endings.{Gives, TellsAndWrites};
-ghost use Rattle.c_handles.specs.Cache.Answers.{AnswersClient};
-ghost use Rattle.c_handles.specs.Cache.Handles.{OnOpen, Opens, OpensWith, Reads};
-ghost use Rattle.c_handles.specs.Cache.Lookups.{LooksUp};
-ghost use Rattle.c_handles.specs.Cache.Removals.{InvalidatesTarget, Removes};
-ghost use Rattle.c_handles.specs.Cache.Shown.{CopiesContent, ShowsStored};
-ghost use Rattle.c_handles.specs.Cache.Storing.{StoresResponse};
+ghost use Rattle.c_handles.{specs.Cache.Answers.AnswersClient, specs.Cache.Handles.{OnOpen, Opens, OpensWith, Reads}};
+ghost use Rattle.c_handles.{specs.Cache.Lookups.LooksUp, specs.Cache.Removals.{InvalidatesTarget, Removes}};
+ghost use Rattle.c_handles.{specs.Cache.Shown.{CopiesContent, ShowsStored}, specs.Cache.Storing.StoresResponse};
 ghost use Rattle.c_handles.specs.Cache.Validations.{Freshens, FreshensByHead};
 ghost use Rattle.c_library.specs.CacheStore.{Ends, TellsNumber, ended};
 

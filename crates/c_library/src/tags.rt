@@ -1,8 +1,7 @@
 //! Entity tags, compared.
 ghost use Rattle.std.specs.Prelude.{◌≡◌};
 ghost use Rattle.headers.specs.EntityTag.{StronglyEqual, WeaklyEqual};
-ghost use Rattle.c_parts.specs.Endings.{Gives};
-ghost use Rattle.c_parts.specs.FieldText.{FieldDecodes};
+ghost use Rattle.c_parts.{specs.Endings.Gives, specs.FieldText.FieldDecodes};
 ghost use Rattle.c_library.specs.Tags.{Compares, quoted_part};
 ghost use Rattle.c_decisions.specs.Targets.{reads_etag};
 

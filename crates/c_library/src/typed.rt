@@ -1,17 +1,13 @@
 //! Typed values of fields: credentials, cookies, hosts, origins, policies, ranges and lists.
-ghost use Rattle.headers.specs.ContentRange.{content_range_grammar};
-ghost use Rattle.headers.specs.HeaderLaws.{ReadsBy};
-ghost use Rattle.headers.specs.Host.{host_reads};
-ghost use Rattle.headers.specs.Origin.{origin_reads};
-ghost use Rattle.headers.specs.RetryAfter.{retry_after_grammar};
+ghost use Rattle.headers.{specs.ContentRange.content_range_grammar, specs.HeaderLaws.ReadsBy, specs.Host.host_reads};
+ghost use Rattle.headers.{specs.Origin.origin_reads, specs.RetryAfter.retry_after_grammar};
 ghost use Rattle.headers.specs.StrictTransportSecurityGrammar.{security_grammar};
 ghost use Rattle.c_parts.specs.Endings.{Gives, TellsAndWrites, Writes, done};
 ghost use Rattle.c_typed.specs.Contents.{ShowsContentRange, ShowsDisposition, reads_disposition};
-ghost use Rattle.c_typed.specs.Cookies.{FindsCookie, ShowsCookies, reads_cookies};
-ghost use Rattle.c_typed.specs.Credentials.{ShowsToken, ShowsUserPassword, basic_reads, bearer_reads};
-ghost use Rattle.c_typed.specs.Hosts.{ShowsHost, ShowsOrigin, is_whole_host, is_whole_origin};
-ghost use Rattle.c_typed.specs.Members.{ShowsMembers, ShowsMembership, reads_list};
-ghost use Rattle.c_typed.specs.Policies.{ShowsRetryTime, ShowsSecurity};
+ghost use Rattle.c_typed.{specs.Cookies.{FindsCookie, ShowsCookies, reads_cookies}, specs.Credentials.ShowsToken};
+ghost use Rattle.c_typed.{specs.Credentials.{ShowsUserPassword, basic_reads, bearer_reads}, specs.Hosts.ShowsHost};
+ghost use Rattle.c_typed.{specs.Hosts.{ShowsOrigin, is_whole_host, is_whole_origin}, specs.Members.ShowsMembers};
+ghost use Rattle.c_typed.{specs.Members.{ShowsMembership, reads_list}, specs.Policies.{ShowsRetryTime, ShowsSecurity}};
 ghost use Rattle.c_typed.specs.Shown.{FieldShows, FieldShowsIf};
 
 use crate::giving::give;

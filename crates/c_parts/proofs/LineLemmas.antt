@@ -1,7 +1,6 @@
 -- The lines of a text, one after the other.
-use Rattle.std.proofs.Common.{◌≡◌, ℕ, List, [], ◌∷◌, ◌++◌, All, Contains, Option, Some, None, IfSome}
-use Rattle.std.proofs.Common.{IfNone, refl, sym, ◌∙◌, ap, subst, arith, append_assoc}
-use Rattle.std.proofs.lemmas.List.{map-append}
+use Rattle.std.proofs.Common.{◌≡◌, ℕ, List, [], ◌∷◌, ◌++◌, All, Contains, Option, Some, None, IfSome, IfNone, refl, sym}
+use Rattle.std.{proofs.Common.{◌∙◌, ap, subst, arith, append_assoc}, proofs.lemmas.List.map-append}
 use Rattle.std.proofs.lemmas.List.Elements.{All-push, All-contains, Contains-append_right}
 use denote.Ref.{Bor}
 use Rattle.http_header.specs.FieldValue.{FieldValue, IsFieldValue, plain_value}

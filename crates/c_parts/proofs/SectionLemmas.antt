@@ -1,10 +1,7 @@
 -- Sections that have a line.
-use Rattle.std.proofs.Common.{◌≡◌, ◌≢◌, ℕ, List, [], ◌∷◌, arith, refl, subst, sym}
-use Rattle.std.specs.List.{AllZip}
-use Rattle.http_header.specs.FieldValue.{FieldValue}
-use Rattle.http_header.specs.HeaderMap.{Entries, append_all}
-use Rattle.headers.specs.Lines.{Line}
-use Rattle.headers.specs.Typed.{HasLine}
+use Rattle.std.{proofs.Common.{◌≡◌, ◌≢◌, ℕ, List, [], ◌∷◌, arith, refl, subst, sym}, specs.List.AllZip}
+use Rattle.http_header.{specs.FieldValue.FieldValue, specs.HeaderMap.{Entries, append_all}}
+use Rattle.headers.{specs.Lines.Line, specs.Typed.HasLine}
 use Rattle.headers_section.specs.Section.{AreFields, Field, Holds, section}
 
 -- lines of which there are fields are some, unless there is no field

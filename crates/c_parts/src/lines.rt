@@ -1,8 +1,7 @@
 //! The lines of a field.
 ghost use Rattle.std.specs.Prelude.{◌≡◌, ◌<◌, ◌∷◌, [], length, All, IfOk, IfSome, IfNone, IsErr};
 ghost use Rattle.http_header.specs.FieldValue.{IsFieldValue, plain_value};
-ghost use Rattle.headers.specs.Lines.{lines_of};
-ghost use Rattle.headers.specs.Typed.{HasLine};
+ghost use Rattle.headers.{specs.Lines.lines_of, specs.Typed.HasLine};
 ghost use Rattle.headers_section.specs.Section.{input_lines};
 ghost use Rattle.c_parts.specs.FieldText.{without_last, field_lines, FieldDecodes};
 

@@ -1,9 +1,7 @@
 -- Lists by their places.
-use Rattle.std.proofs.Common.{◌≡◌, ℕ, zero, suc, ◌+◌, ◌<◌, List, [], ◌∷◌, ◌++◌, Some, arith}
-use Rattle.std.proofs.Common.{◌∙◌, ◌<◌, Bool, ap, get_or, length, length-append, map, option_map, refl, slice_get}
-use Rattle.std.proofs.Common.{subst, sym, zero-add, ◌||◌}
-use Rattle.std.specs.List.{list_any}
-use Rattle.std.proofs.lemmas.Option.{slice_get-map, slice_get_read}
+use Rattle.std.proofs.Common.{◌≡◌, ℕ, zero, suc, ◌+◌, ◌<◌, List, [], ◌∷◌, ◌++◌, Some, arith, ◌∙◌, Bool, ap, get_or}
+use Rattle.std.proofs.Common.{length, length-append, map, option_map, refl, slice_get, subst, sym, zero-add, ◌||◌}
+use Rattle.std.{specs.List.list_any, proofs.lemmas.Option.{slice_get-map, slice_get_read}}
 use Rattle.http_header.specs.FieldValue.{FieldValue}
 use Rattle.headers.specs.Lines.{lines_of}
 use Rattle.c_resource.specs.Lists.{IsEachAt}

@@ -1,12 +1,8 @@
 -- What is left once fields are set in their order.
 use Rattle.std.proofs.Common.{◌≡◌, ◌≢◌, ◌⊎◌, ◌∙◌, ℕ, Bool, true, false, List, [], ◌∷◌, inl, inr, refl, ap, sym, subst}
-use Rattle.std.proofs.Common.{All, arith}
-use Rattle.std.specs.Prelude.{bytes_eq, if◌then◌else◌}
-use Rattle.std.specs.List.{AllPairs}
-use Rattle.std.proofs.lemmas.Bool.{cases_Bool}
-use Rattle.std.proofs.lemmas.List.Elements.{All-cons, All-nil}
-use Rattle.std.proofs.lemmas.List.Kept.{AllPairs-cons}
-use Rattle.std.proofs.lemmas.Slice.Eq.{bytes_eq-Decides}
+use Rattle.std.{proofs.Common.{All, arith}, specs.Prelude.{bytes_eq, if◌then◌else◌}, specs.List.AllPairs}
+use Rattle.std.{proofs.lemmas.Bool.cases_Bool, proofs.lemmas.List.Elements.{All-cons, All-nil}}
+use Rattle.std.{proofs.lemmas.List.Kept.AllPairs-cons, proofs.lemmas.Slice.Eq.bytes_eq-Decides}
 use Rattle.headers.specs.LineMap.{Field, LineMap, set, set_all}
 use Rattle.c_resource.specs.Settled.{is_set_by, settled}
 

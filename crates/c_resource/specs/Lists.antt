@@ -1,14 +1,11 @@
 -- Lists as texts, with one value a line.
-use Rattle.std.specs.Prelude.{◌≡◌, ◌⊎◌, ℕ, ◌<◌, ◌≤◌, Bool, List, [], ◌∷◌, Option, Some, None, Result, Ok, Err}
-use Rattle.std.specs.Prelude.{bytes_eq, length, slice_get}
-use Rattle.std.specs.Global.{Vec}
-use Rattle.std.specs.List.{list_any}
+use Rattle.std.specs.Prelude.{◌≡◌, ◌⊎◌, ℕ, ◌<◌, ◌≤◌, Bool, List, [], ◌∷◌, Option, Some, None, Result, Ok, Err, bytes_eq}
+use Rattle.std.{specs.Prelude.{length, slice_get}, specs.Global.Vec, specs.List.list_any}
 use Rattle.http_header.specs.FieldValue.{FieldValue}
 use Rattle.headers.specs.Lines.{Line}
-use Rattle.c_parts.specs.FieldText.{field_lines}
-use Rattle.c_decisions.specs.Texts.{AreValuesOf, IsValuesOf}
-use Rattle.c_parts.specs.declared.status.Failure.{Failure}
+use Rattle.c_parts.{specs.FieldText.field_lines, specs.declared.status.Failure.Failure}
 use Rattle.c_parts.specs.declared.status.Failure.TheVariants.{Refused}
+use Rattle.c_decisions.specs.Texts.{AreValuesOf, IsValuesOf}
 
 -- the values are the lines of the text, at most so many; `Refused` only if a line can't be a value, or there are more
 abbrev pub IsListOf : ℕ → List ℕ → Result (Vec FieldValue) Failure → Type 0

@@ -1,16 +1,11 @@
 -- The methods of a resource, by what a caller hands in.
 use Rattle.std.specs.Prelude.{◌≡◌, ◌⊎◌, ℕ, ◌≤◌, List, [], ◌∷◌, All, codes, length, slice_get, Option, Some, None}
-use Rattle.std.specs.Prelude.{Result, Ok, Err, false}
-use Rattle.std.specs.Global.{Vec}
-use Rattle.http_header.specs.FieldValue.{IsFieldValue}
-use Rattle.http_header.specs.Token.{IsToken}
-use Rattle.headers.specs.LineMap.{lines_at}
-use Rattle.headers.specs.Lines.{Line, lines_of}
+use Rattle.std.{specs.Prelude.{Result, Ok, Err, false}, specs.Global.Vec}
+use Rattle.http_header.{specs.FieldValue.IsFieldValue, specs.Token.IsToken}
+use Rattle.headers.{specs.LineMap.lines_at, specs.Lines.{Line, lines_of}}
 use Rattle.decide_resource.specs.declared.resource.MethodRule.{MethodRule}
-use Rattle.c_decisions.specs.Methods.{IsMethodOf}
-use Rattle.c_decisions.specs.Texts.{IsValuesOf}
-use Rattle.c_parts.specs.FieldText.{field_lines}
-use Rattle.c_parts.specs.declared.status.Failure.{Failure}
+use Rattle.c_decisions.{specs.Methods.IsMethodOf, specs.Texts.IsValuesOf}
+use Rattle.c_parts.{specs.FieldText.field_lines, specs.declared.status.Failure.Failure}
 use Rattle.c_parts.specs.declared.status.Failure.TheVariants.{Memory}
 use Rattle.c_resource.specs.Lists.{IsEachAt, IsListOf, filled_at, is_named}
 use Rattle.c_resource.specs.declared.method_rule.RuleLists.{RuleLists}

@@ -1,17 +1,13 @@
 -- A request, by what a caller hands in.
-use Rattle.std.specs.Prelude.{◌≡◌, ℕ, ◌==◌, Bool, ◌||◌, ◌&&◌, not, nat_le, List, Option, Some, None}
-use Rattle.std.specs.Prelude.{Result, Ok, Err, bytes_eq, codes, drop, if◌then◌else◌, length, take}
-use Rattle.std.specs.List.{prefix_len}
-use Rattle.http_header.specs.FieldValue.{FieldValue}
-use Rattle.http_header.specs.Token.{lowercase}
+use Rattle.std.specs.Prelude.{◌≡◌, ℕ, ◌==◌, Bool, ◌||◌, ◌&&◌, not, nat_le, List, Option, Some, None, Result, Ok, Err}
+use Rattle.std.{specs.Prelude.{bytes_eq, codes, drop, if◌then◌else◌, length, take}, specs.List.prefix_len}
+use Rattle.http_header.{specs.FieldValue.FieldValue, specs.Token.lowercase}
 use Rattle.gateway_messages.specs.declared.protocol.Protocol.{Protocol}
 use Rattle.gateway_messages.specs.declared.protocol.Protocol.TheVariants.{Http10, Http11}
 use Rattle.decide_resource.specs.declared.request.RequestContent.{RequestContent}
 use Rattle.decide_resource.specs.declared.request.RequestContent.TheVariants.{Absent, Sized, Unsized}
-use Rattle.c_parts.specs.declared.status.Failure.{Failure}
-use Rattle.c_parts.specs.declared.status.Failure.TheVariants.{Refused}
-use Rattle.c_resource.specs.Values.{IsFilledValue}
-use Rattle.c_resource.specs.declared.request.RequestParts.{RequestParts}
+use Rattle.c_parts.{specs.declared.status.Failure.Failure, specs.declared.status.Failure.TheVariants.Refused}
+use Rattle.c_resource.{specs.Values.IsFilledValue, specs.declared.request.RequestParts.RequestParts}
 
 -- ---- the version
 

@@ -1,6 +1,5 @@
 -- What is left once fields are set in their order.
-use Rattle.std.specs.Prelude.{ℕ, Bool, List, [], ◌∷◌, bytes_eq, if◌then◌else◌}
-use Rattle.std.specs.List.{list_any}
+use Rattle.std.{specs.Prelude.{ℕ, Bool, List, [], ◌∷◌, bytes_eq, if◌then◌else◌}, specs.List.list_any}
 use Rattle.headers.specs.LineMap.{Field}
 
 -- one of the fields has this name

@@ -1,12 +1,8 @@
 -- What is told of an answer.
-use Rattle.std.specs.Prelude.{◌≡◌, ℕ, List, [], Option, Some, None, is_some}
-use Rattle.std.specs.Option.{option_map_or}
-use Rattle.decide_preconditions.specs.Plans.{parts_sent}
-use Rattle.decide_preconditions.specs.declared.part.Part.{Part}
-use Rattle.decide_preconditions.specs.declared.plan.Plan.{Plan}
+use Rattle.std.{specs.Prelude.{◌≡◌, ℕ, List, [], Option, Some, None, is_some}, specs.Option.option_map_or}
+use Rattle.decide_preconditions.{specs.Plans.parts_sent, specs.declared.part.Part.Part, specs.declared.plan.Plan.Plan}
 use Rattle.decide_preconditions.specs.declared.plan.Plan.TheVariants as plan
-use Rattle.decide_resource.specs.declared.answer.Answer.{Answer}
-use Rattle.decide_resource.specs.declared.answer.Sends.{Sends}
+use Rattle.decide_resource.{specs.declared.answer.Answer.Answer, specs.declared.answer.Sends.Sends}
 use Rattle.decide_resource.specs.declared.answer.Sends.TheVariants as sends
 use Rattle.decide_resource.specs.declared.reason.Reason.{Reason}
 use Rattle.decide_resource.specs.declared.reason.Reason.TheVariants as reason

@@ -1,6 +1,5 @@
 //! What follows from the definitions alone. A proof cites a law by calling it.
-ghost use Rattle.std.specs.Prelude.{◌≡◌, ◌≢◌, ℕ, List};
-ghost use Rattle.std.specs.List.{AllPairs};
+ghost use Rattle.std.{specs.Prelude.{◌≡◌, ◌≢◌, ℕ, List}, specs.List.AllPairs};
 ghost use Rattle.headers.specs.LineMap.{Field, LineMap, set_all};
 ghost use Rattle.c_resource.specs.Settled.{settled};
 

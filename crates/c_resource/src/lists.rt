@@ -1,6 +1,5 @@
 //! Lists as texts, with one value a line.
-ghost use Rattle.std.specs.Prelude.{◌≡◌, IfOk, option_map};
-ghost use Rattle.std.specs.List.{list_any};
+ghost use Rattle.std.{specs.Prelude.{◌≡◌, IfOk, option_map}, specs.List.list_any};
 ghost use Rattle.headers.specs.Lines.{lines_of};
 ghost use Rattle.c_resource.specs.Lists.{IsListOf, filled_at, is_named};
 

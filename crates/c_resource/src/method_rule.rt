@@ -1,10 +1,8 @@
 //! The methods of a resource, as C hands them in.
 ghost use Rattle.std.specs.Prelude.{◌≡◌, IfOk, codes, option_map};
-ghost use Rattle.headers.specs.LineMap.{lines_at};
-ghost use Rattle.headers.specs.Lines.{lines_of};
-ghost use Rattle.c_resource.specs.Lists.{filled_at};
-ghost use Rattle.c_resource.specs.MethodRules.{AreRulesRead, IsRuleAnswer, IsRulesAnswer, lines_by};
-ghost use Rattle.c_resource.specs.MethodRules.{option_lines};
+ghost use Rattle.headers.{specs.LineMap.lines_at, specs.Lines.lines_of};
+ghost use Rattle.c_resource.{specs.Lists.filled_at, specs.MethodRules.{AreRulesRead, IsRuleAnswer, IsRulesAnswer}};
+ghost use Rattle.c_resource.specs.MethodRules.{lines_by, option_lines};
 
 use crate::lists::{filled_at, is_named, read_list};
 use crate::resource::ResourceParts;

@@ -1,9 +1,8 @@
 //! The representations of a resource, as C hands them in.
 ghost use Rattle.std.specs.Prelude.{IfOk};
 ghost use Rattle.headers.specs.Lines.{lines_of};
-ghost use Rattle.c_resource.specs.Representations.{AreRepresentationsRead, IsRepresentationAnswer};
-ghost use Rattle.c_resource.specs.Representations.{IsContent, IsRepresentationsAnswer, IsTagAt};
-ghost use Rattle.c_resource.specs.Representations.{IsValidatorsAnswer, lines_by};
+ghost use Rattle.c_resource.specs.Representations.{AreRepresentationsRead, IsRepresentationAnswer, IsContent};
+ghost use Rattle.c_resource.specs.Representations.{IsRepresentationsAnswer, IsTagAt, IsValidatorsAnswer, lines_by};
 
 use crate::lists::{copy_at, filled_at, read_list};
 use crate::resource::ResourceParts;

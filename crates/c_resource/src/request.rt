@@ -1,8 +1,7 @@
 //! A request, as C hands it in.
-ghost use Rattle.std.specs.Prelude.{◌≡◌, ◌≤◌, codes, length, option_map};
-ghost use Rattle.std.specs.List.{prefix_len};
-ghost use Rattle.c_resource.specs.Requests.{IsAuthorityAnswer, IsProtocolAnswer, authority_of, begins_with};
-ghost use Rattle.c_resource.specs.Requests.{content_of, is_authority_byte, scheme_len};
+ghost use Rattle.std.{specs.Prelude.{◌≡◌, ◌≤◌, codes, length, option_map}, specs.List.prefix_len};
+ghost use Rattle.c_resource.specs.Requests.{IsAuthorityAnswer, IsProtocolAnswer, authority_of, begins_with, content_of};
+ghost use Rattle.c_resource.specs.Requests.{is_authority_byte, scheme_len};
 
 use crate::values::read_filled;
 use c_parts::Failure;

@@ -1,6 +1,5 @@
 //! Fields that are set in their order.
-ghost use Rattle.std.specs.Prelude.{◌≡◌, ◌++◌, IfOk, OnOk};
-ghost use Rattle.std.specs.List.{list_any};
+ghost use Rattle.std.{specs.Prelude.{◌≡◌, ◌++◌, IfOk, OnOk}, specs.List.list_any};
 ghost use Rattle.headers.specs.LineMap.{fields_of};
 ghost use Rattle.c_decisions.specs.FieldLines.{fields_text};
 ghost use Rattle.c_resource.specs.Settled.{is_set_by, settled};

@@ -1,8 +1,6 @@
 -- Tests of the elements that a filter keeps.
-use Rattle.std.proofs.Common.{◌≡◌, ◌&&◌, ◌||◌, Bool, List, [], ◌∷◌, ap, inl, inr, refl}
-use Rattle.std.specs.Prelude.{filter}
-use Rattle.std.specs.List.{list_any}
-use Rattle.std.proofs.lemmas.Bool.{cases_Bool}
+use Rattle.std.{proofs.Common.{◌≡◌, ◌&&◌, ◌||◌, Bool, List, [], ◌∷◌, ap, inl, inr, refl}, specs.Prelude.filter}
+use Rattle.std.{specs.List.list_any, proofs.lemmas.Bool.cases_Bool}
 
 module _ {X : Type 0} (keeps test : X → Bool) where
   -- an element that is kept passes exactly if one is kept and passes

@@ -1,12 +1,8 @@
 -- Content ranges and dispositions, as C sees them.
-use Rattle.std.specs.Prelude.{◌≡◌, ◌↔◌, ◌≤◌, ℕ, List, Some, codes, is_some}
-use Rattle.std.specs.Option.{unwrap_or}
+use Rattle.std.{specs.Prelude.{◌≡◌, ◌↔◌, ◌≤◌, ℕ, List, Some, codes, is_some}, specs.Option.unwrap_or}
 use Rattle.http_header.specs.FieldValue.{FieldValue}
-use Rattle.headers.specs.ContentBytes.{ContentBytes}
-use Rattle.headers.specs.Disposition.{disposition_of}
-use Rattle.headers.specs.HeaderLaws.{ReadsBy}
-use Rattle.headers.specs.Lines.{Line}
-use Rattle.headers.specs.Shapes.{first_kept}
+use Rattle.headers.{specs.ContentBytes.ContentBytes, specs.Disposition.disposition_of, specs.HeaderLaws.ReadsBy}
+use Rattle.headers.{specs.Lines.Line, specs.Shapes.first_kept}
 use Rattle.c_decisions.specs.Flags.{flag_of}
 use Rattle.c_fields.specs.declared.formats.ContentRangeParts.{ContentRangeParts}
 

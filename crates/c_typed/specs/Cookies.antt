@@ -1,14 +1,10 @@
 -- Cookies, as C sees them.
 use Rattle.std.specs.Prelude.{◌≡◌, ◌⊎◌, ℕ, List, [], ◌∷◌, ◌++◌, flat_map, Some, None, Result, Ok, Err}
 use Rattle.std.specs.Global.{Vec}
-use Rattle.headers.specs.HeaderLaws.{ReadsBy}
-use Rattle.headers.specs.Lines.{Line}
-use Rattle.headers.specs.Merge.{merged}
-use Rattle.headers.specs.Places.{items, semicolon}
+use Rattle.headers.{specs.HeaderLaws.ReadsBy, specs.Lines.Line, specs.Merge.merged, specs.Places.{items, semicolon}}
 use Rattle.headers.specs.Typed.{HasLine}
 use Rattle.headers_items.specs.Pairs.{Pair, first_value, pairs}
-use Rattle.c_parts.specs.FieldText.{FieldDecodes, FieldReads, field_lines}
-use Rattle.c_parts.specs.declared.status.Failure.{Failure}
+use Rattle.c_parts.{specs.FieldText.{FieldDecodes, FieldReads, field_lines}, specs.declared.status.Failure.Failure}
 use Rattle.c_parts.specs.declared.status.Failure.TheVariants.{Absent}
 
 -- all lines, joined by a semicolon and a space

@@ -1,10 +1,7 @@
 -- Credentials, as C sees them.
-use Rattle.std.specs.Prelude.{◌≡◌, ℕ, List, ◌++◌, length}
-use Rattle.std.specs.Global.{Vec}
+use Rattle.std.{specs.Prelude.{◌≡◌, ℕ, List, ◌++◌, length}, specs.Global.Vec}
 use Rattle.http_header.specs.FieldValue.{FieldValue}
-use Rattle.headers.specs.Basic.{UserPass, password_of, user_of}
-use Rattle.headers.specs.Bearer.{bearer_token}
-use Rattle.headers.specs.Lines.{Line}
+use Rattle.headers.{specs.Basic.{UserPass, password_of, user_of}, specs.Bearer.bearer_token, specs.Lines.Line}
 use Rattle.headers.specs.declared.authorization.Authorization.{Authorization}
 use Rattle.c_fields.specs.Written.{reads_basic, reads_bearer}
 use Rattle.c_typed.specs.declared.credentials.UserPassword.{UserPassword}

@@ -1,11 +1,7 @@
 -- Members of lists between commas, as C sees them.
-use Rattle.std.specs.Prelude.{◌≡◌, ℕ, Bool, List, filter, bytes_eq, if◌then◌else◌}
-use Rattle.std.specs.Global.{Vec}
+use Rattle.std.{specs.Prelude.{◌≡◌, ℕ, Bool, List, filter, bytes_eq, if◌then◌else◌}, specs.Global.Vec}
 use Rattle.std.specs.List.{list_any}
-use Rattle.headers.specs.HeaderLaws.{ReadsBy}
-use Rattle.headers.specs.ItemsState.{is_entry}
-use Rattle.headers.specs.Lines.{Line}
-use Rattle.headers.specs.Merge.{merged}
+use Rattle.headers.{specs.HeaderLaws.ReadsBy, specs.ItemsState.is_entry, specs.Lines.Line, specs.Merge.merged}
 use Rattle.headers.specs.Places.{comma, items}
 use Rattle.headers_syntax.specs.AsciiCase.{same_name}
 use Rattle.c_decisions.specs.Flags.{flag_of}

@@ -1,7 +1,6 @@
 //! Ranges of `content-range`, and kinds of `content-disposition`.
 ghost use Rattle.std.specs.Prelude.{◌≡◌};
-ghost use Rattle.headers.specs.ContentRange.{content_range_grammar};
-ghost use Rattle.headers.specs.HeaderLaws.{ReadsBy};
+ghost use Rattle.headers.{specs.ContentRange.content_range_grammar, specs.HeaderLaws.ReadsBy};
 ghost use Rattle.c_typed.specs.Contents.{ShowsContentRange, ShowsDisposition, parts_of, reads_disposition};
 ghost use Rattle.c_typed.specs.Shown.{FieldShows};
 

@@ -1,12 +1,10 @@
 //! Hosts of `host`, and origins of `origin`.
 ghost use Rattle.std.specs.Prelude.{◌≡◌, ℕ, [], ◌∷◌, IfOk, List};
-ghost use Rattle.headers.specs.Host.{host_bytes, host_reads};
-ghost use Rattle.headers.specs.Lines.{lines_of};
-ghost use Rattle.headers.specs.Origin.{origin_host, origin_reads, origin_scheme, tuple_text};
+ghost use Rattle.headers.{specs.Host.{host_bytes, host_reads}, specs.Lines.lines_of, specs.Origin.origin_host};
+ghost use Rattle.headers.specs.Origin.{origin_reads, origin_scheme, tuple_text};
 ghost use Rattle.http_uri.specs.Grammar.{authority_host};
 ghost use Rattle.c_typed.specs.Hosts.{ShowsHost, ShowsOrigin, has_whole_port, is_port, is_port_part, is_whole_host};
-ghost use Rattle.c_typed.specs.Hosts.{is_whole_origin, port_shown};
-ghost use Rattle.c_typed.specs.Shown.{FieldShowsIf, ShowsIf};
+ghost use Rattle.c_typed.{specs.Hosts.{is_whole_origin, port_shown}, specs.Shown.{FieldShowsIf, ShowsIf}};
 
 use c_decisions::flag_of;
 use c_parts::{Failure, read_field};

@@ -1,7 +1,6 @@
 //! Members of lists between commas.
-ghost use Rattle.std.specs.Prelude.{◌≡◌, ◌&&◌, IfOk};
+ghost use Rattle.std.{specs.Prelude.{◌≡◌, ◌&&◌, IfOk}, specs.List.list_any};
 ghost use Rattle.headers.specs.ItemsState.{is_entry};
-ghost use Rattle.std.specs.List.{list_any};
 ghost use Rattle.c_typed.specs.Members.{ShowsMembers, ShowsMembership, is_same, members, reads_list};
 ghost use Rattle.c_typed.specs.Shown.{FieldShows};
 

@@ -1,11 +1,8 @@
 //! Policies of `strict-transport-security`, and times of `retry-after`.
 ghost use Rattle.std.specs.Prelude.{◌≡◌, option_map};
-ghost use Rattle.headers.specs.HeaderLaws.{ReadsBy};
-ghost use Rattle.headers.specs.RetryAfter.{retry_after_grammar};
-ghost use Rattle.headers.specs.RetryTime.{retry_time};
+ghost use Rattle.headers.{specs.HeaderLaws.ReadsBy, specs.RetryAfter.retry_after_grammar, specs.RetryTime.retry_time};
 ghost use Rattle.headers.specs.StrictTransportSecurityGrammar.{security_grammar};
-ghost use Rattle.c_typed.specs.Policies.{ShowsRetryTime, ShowsSecurity, retry_shown};
-ghost use Rattle.c_typed.specs.Shown.{FieldShows};
+ghost use Rattle.c_typed.{specs.Policies.{ShowsRetryTime, ShowsSecurity, retry_shown}, specs.Shown.FieldShows};
 
 use c_decisions::flag_of;
 use c_parts::{Failure, read_field, read_values};

@@ -1,9 +1,7 @@
 -- What stands before the first comma.
 use Rattle.std.proofs.Common.{◌≡◌, ℕ, List, length, take, Option, Some, None, inl, inr, ap, arith}
-use Rattle.std.specs.Prelude.{nat_lt, not, unwrap_or, if◌then◌else◌}
-use Rattle.std.specs.List.{before_first, position_or_len}
-use Rattle.std.proofs.lemmas.Bool.{cases_lt, lt-ltb, le-ltb}
-use Rattle.std.proofs.lemmas.List.Sums.{prefix_len-le-length}
+use Rattle.std.{specs.Prelude.{nat_lt, not, unwrap_or, if◌then◌else◌}, specs.List.{before_first, position_or_len}}
+use Rattle.std.{proofs.lemmas.Bool.{cases_lt, lt-ltb, le-ltb}, proofs.lemmas.List.Sums.prefix_len-le-length}
 use Rattle.cache_fields.specs.Fields.{is_comma}
 
 -- the place of the first comma, or the length, is where the bytes before it end

@@ -1,13 +1,9 @@
 -- What a cache reads of the fields of a message.
 use Rattle.std.specs.Prelude.{ℕ, ◌+◌, ◌-◌, ◌^◌, min, Bool, ◌==◌, List, [], ◌∷◌, Option, option_and_then, unwrap_or}
-use Rattle.std.specs.Prelude.{codes}
-use Rattle.std.specs.List.{before_first}
-use Rattle.headers_map.specs.LineMap.{LineMap}
-use Rattle.headers_syntax.specs.Lines.{Line, only_line}
-use Rattle.headers_syntax.specs.Text.{trim}
-use Rattle.headers_map.specs.Typed.{HasLine}
-use Rattle.rfc_dates.specs.Calendar.{unix_epoch}
-use Rattle.rfc_dates.specs.Date.{timestamp}
+use Rattle.std.{specs.Prelude.codes, specs.List.before_first}
+use Rattle.headers_map.{specs.LineMap.LineMap, specs.Typed.HasLine}
+use Rattle.headers_syntax.{specs.Lines.{Line, only_line}, specs.Text.trim}
+use Rattle.rfc_dates.{specs.Calendar.unix_epoch, specs.Date.timestamp}
 use Rattle.rfc_fields.specs.Numbers.{number_within}
 
 -- the message has a field of this name

@@ -1,19 +1,14 @@
 -- What governs a response in a cache that has a list of targeted fields (RFC 9213).
 use Rattle.std.specs.Prelude.{ℕ, Bool, true, false, List, [], ◌∷◌, ◌++◌, Option, Some, None, option_and_then}
-use Rattle.std.specs.Prelude.{option_map, bytes_eq, codes, if◌then◌else◌, unwrap_or}
-use Rattle.std.specs.Option.{option_map_or, option_or}
+use Rattle.std.{specs.Prelude.{option_map, bytes_eq, codes, if◌then◌else◌, unwrap_or}, specs.Option.option_map_or}
+use Rattle.std.specs.Option.{option_or}
 use Rattle.headers_map.specs.LineMap.{LineMap}
-use Rattle.headers_syntax.specs.Lines.{Line}
-use Rattle.headers_syntax.specs.Text.{trim}
+use Rattle.headers_syntax.{specs.Lines.Line, specs.Text.trim}
 use Rattle.rfc_fields.specs.Numbers.{number_within}
-use Rattle.rfc_structured.specs.Dictionaries.{MemberParts, dictionary}
-use Rattle.rfc_structured.specs.Items.{ValueParts}
+use Rattle.rfc_structured.{specs.Dictionaries.{MemberParts, dictionary}, specs.Items.ValueParts}
 use Rattle.rfc_structured.specs.Items.ValueParts.{Integer, Boolean, Text, Other}
-use Rattle.cache_fields.specs.Directives.{nothing}
-use Rattle.cache_fields.specs.Fields.{greatest}
-use Rattle.cache_fields.specs.Freshness.{by_itself}
-use Rattle.cache_fields.specs.declared.directives.Directives.{Directives}
-use Rattle.cache_fields.specs.declared.governing.Governing.{Governing}
+use Rattle.cache_fields.{specs.Directives.nothing, specs.Fields.greatest, specs.Freshness.by_itself}
+use Rattle.cache_fields.{specs.declared.directives.Directives.Directives, specs.declared.governing.Governing.Governing}
 
 -- ---- one member (section 2.1)
 

@@ -1,8 +1,7 @@
 //! The age of a response.
 ghost use Rattle.std.specs.Prelude.{◌≡◌};
 ghost use Rattle.headers_map.specs.LineMap.{lines_at};
-ghost use Rattle.cache_fields.specs.Age.{age_at, apparent_age};
-ghost use Rattle.cache_fields.specs.Fields.{capped};
+ghost use Rattle.cache_fields.{specs.Age.{age_at, apparent_age}, specs.Fields.capped};
 
 use crate::fields::{age_value, date};
 use http_header::{DATE, HeaderMap};

@@ -1,13 +1,10 @@
 //! The directives of Cache-Control, for a cache.
 ghost use Rattle.std.specs.Prelude.{◌≡◌, ◌||◌, option_map};
 ghost use Rattle.headers_map.specs.LineMap.{lines_at};
-ghost use Rattle.rfc_fields.specs.Directives.{directive_parts};
-ghost use Rattle.rfc_fields.specs.Members.{member_of};
-ghost use Rattle.rfc_fields.specs.Numbers.{number_within};
+ghost use Rattle.rfc_fields.{specs.Directives.directive_parts, specs.Members.member_of, specs.Numbers.number_within};
 ghost use Rattle.rfc_fields.specs.Values.{octets_of, value_parts};
-ghost use Rattle.cache_fields.specs.Directives.{asks_always, directed, directs, is_alone, is_argued, nothing};
-ghost use Rattle.cache_fields.specs.Directives.{said_in, seconds_if, stores_nothing, strictest};
-ghost use Rattle.cache_fields.specs.Directives.{with_later};
+ghost use Rattle.cache_fields.specs.Directives.{asks_always, directed, directs, is_alone, is_argued, nothing, said_in};
+ghost use Rattle.cache_fields.specs.Directives.{seconds_if, stores_nothing, strictest, with_later};
 ghost use Rattle.cache_fields.specs.Fields.{greatest};
 
 use http_header::{CACHE_CONTROL, HeaderMap};

@@ -1,10 +1,8 @@
 //! How long a response is fresh.
-ghost use Rattle.std.specs.Prelude.{◌≡◌, ◌-◌, MatchOption};
-ghost use Rattle.std.specs.Bool.{MatchBool};
+ghost use Rattle.std.{specs.Prelude.{◌≡◌, ◌-◌, MatchOption}, specs.Bool.MatchBool};
 ghost use Rattle.headers_map.specs.LineMap.{lines_at};
-ghost use Rattle.cache_fields.specs.Fields.{capped, dated};
-ghost use Rattle.cache_fields.specs.Freshness.{ExpiresAfter, HasExpires, HasHeuristicBy, HasLifetimeBy};
-ghost use Rattle.cache_fields.specs.Freshness.{StatesAge, StatesNoAge, is_heuristic};
+ghost use Rattle.cache_fields.{specs.Fields.{capped, dated}, specs.Freshness.{ExpiresAfter, HasExpires}};
+ghost use Rattle.cache_fields.specs.Freshness.{HasHeuristicBy, HasLifetimeBy, StatesAge, StatesNoAge, is_heuristic};
 
 use crate::directives::Directives;
 use crate::fields::date;

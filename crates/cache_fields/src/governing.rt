@@ -1,8 +1,7 @@
 //! The directives that govern a response.
 ghost use Rattle.std.specs.Prelude.{◌≡◌};
 ghost use Rattle.headers_map.specs.LineMap.{lines_at};
-ghost use Rattle.cache_fields.specs.Freshness.{by_itself};
-ghost use Rattle.cache_fields.specs.Targets.{governing};
+ghost use Rattle.cache_fields.{specs.Freshness.by_itself, specs.Targets.governing};
 
 use crate::directives::{Directives, read_directives};
 use crate::targets::told;

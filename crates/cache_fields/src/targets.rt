@@ -1,10 +1,8 @@
 //! Targeted fields (RFC 9213).
 ghost use Rattle.std.specs.Prelude.{◌≡◌, Bool, Option, ℕ, bytes_eq, option_map};
 ghost use Rattle.headers_map.specs.LineMap.{lines_at};
-ghost use Rattle.headers_syntax.specs.Lines.{lines_of};
-ghost use Rattle.headers_syntax.specs.Text.{trim};
-ghost use Rattle.rfc_structured.specs.Dictionaries.{dictionary};
-ghost use Rattle.rfc_structured.specs.Values.{member_of, value_of};
+ghost use Rattle.headers_syntax.{specs.Lines.lines_of, specs.Text.trim};
+ghost use Rattle.rfc_structured.{specs.Dictionaries.dictionary, specs.Values.{member_of, value_of}};
 ghost use Rattle.cache_fields.specs.Targets.{is_true, is_true_or_named, replaced, seconds_of, told, told_after};
 ghost use Rattle.cache_fields.specs.Targets.{told_by, with_member};
 

@@ -1,16 +1,10 @@
 -- What calls make of a cache, one after the other.
 use Rattle.std.proofs.Common.{◌≡◌, ℕ, List, [], ◌∷◌, ◌++◌, map, Option, Some, None, refl, sym, ap, subst, inl, inr, ◌∙◌}
-use Rattle.cache_store.specs.History.{Call, History, Run}
-use Rattle.cache_store.specs.History.Call.{Removed}
-use Rattle.cache_store.specs.Kept.{contents_of}
+use Rattle.cache_store.{specs.History.{Call, History, Run}, specs.History.Call.Removed, specs.Kept.contents_of}
 use Rattle.cache_pass.specs.Effects.{DoAll, Does, Kept, Settings, kept_of, removals, settings_of}
-use Rattle.cache_pass.specs.Steps.{HasEnded}
-use Rattle.cache_pass.specs.Worlds.{Acts, Deed, IsStep, Log, Reaches, World, asks_of, calls_of}
-use Rattle.cache_pass.specs.Worlds.Deed.{Begins, Comes, Fails, Ends}
-use Rattle.cache_pass.specs.Worlds.Event.{Calls}
-use Rattle.cache_pass.specs.declared.cache.Cache.{Cache}
-use Rattle.cache_pass.specs.declared.pass.Pass.{Pass}
-use Rattle.cache_pass.specs.declared.pass.Phase.{Phase}
+use Rattle.cache_pass.{specs.Steps.HasEnded, specs.Worlds.{Acts, Deed, IsStep, Log, Reaches, World, asks_of, calls_of}}
+use Rattle.cache_pass.{specs.Worlds.Deed.{Begins, Comes, Fails, Ends}, specs.Worlds.Event.Calls}
+use Rattle.cache_pass.{specs.declared.cache.Cache.Cache, specs.declared.pass.Pass.Pass, specs.declared.pass.Phase.Phase}
 use Rattle.cache_pass.specs.declared.pass.Phase.TheVariants.{Began, Asking, Passing, Ended}
 
 pub none-some : {X : Type 0} {x : X} → None ≡ Some x → ⊥

@@ -1,29 +1,20 @@
 -- What is stored was asked since its target was last removed.
-use Rattle.std.proofs.Common.{◌≡◌, ◌⊎◌, ℕ, ◌≤◌, List, [], ◌∷◌, ◌++◌, map, Option, Some, None, refl, sym, ap}
-use Rattle.std.proofs.Common.{true, false, subst, inl, inr, ◌∙◌, arith}
-use Rattle.std.specs.Prelude.{⊤}
-use Rattle.std.proofs.lemmas.Option.{same_Some}
-use Rattle.http_header.specs.FieldValue.{FieldValue}
-use Rattle.http_header.specs.HeaderMap.{Entries}
+use Rattle.std.proofs.Common.{◌≡◌, ◌⊎◌, ℕ, ◌≤◌, List, [], ◌∷◌, ◌++◌, map, Option, Some, None, refl, sym, ap, true}
+use Rattle.std.{proofs.Common.{false, subst, inl, inr, ◌∙◌, arith}, specs.Prelude.⊤, proofs.lemmas.Option.same_Some}
+use Rattle.http_header.{specs.FieldValue.FieldValue, specs.HeaderMap.Entries}
 use Rattle.url.specs.Parts.{serialize}
 use Rattle.cache_rules.specs.declared.storing.Reception.{Reception}
 use Rattle.cache_rules.specs.declared.storing.Reception.TheVariants.{Complete}
-use Rattle.cache_store.specs.History.{Call, History, Removes}
-use Rattle.cache_store.specs.History.Call.{Looked, Arrived, Validated, Described, Answered, Removed}
+use Rattle.cache_store.{specs.History.{Call, History, Removes}, specs.History.Call.{Looked, Arrived, Validated}}
+use Rattle.cache_store.specs.History.Call.{Described, Answered, Removed}
 use Rattle.cache_pass.specs.Effects.{DoAll, Does, Kept, Settings, kept_of, removals, settings_of}
-use Rattle.cache_pass.specs.Passes.{asked_of, key_of, phase_after, phase_first}
-use Rattle.cache_pass.specs.Removals.{IsNoted, IsOutdated}
-use Rattle.cache_pass.specs.Steps.{HasCome, HasEnded}
-use Rattle.cache_pass.specs.Worlds.{Acts, AreCurrent, Deed, IsCurrent, IsStep, Log, Reaches, StoresAt, World, asks_of}
-use Rattle.cache_pass.specs.Worlds.Deed.{Begins, Comes, Fails, Ends}
-use Rattle.cache_pass.specs.Worlds.Event.{Asks, Calls}
-use Rattle.cache_pass.specs.declared.cache.Cache.{Cache}
-use Rattle.cache_pass.specs.declared.pass.Asked.{Asked}
-use Rattle.cache_pass.specs.declared.pass.Pass.{Pass}
-use Rattle.cache_pass.specs.declared.pass.Phase.{Phase}
+use Rattle.cache_pass.{specs.Passes.{asked_of, key_of, phase_after, phase_first}, specs.Removals.{IsNoted, IsOutdated}}
+use Rattle.cache_pass.{specs.Steps.{HasCome, HasEnded}, specs.Worlds.{Acts, AreCurrent, Deed, IsCurrent, IsStep, Log}}
+use Rattle.cache_pass.{specs.Worlds.{Reaches, StoresAt, World, asks_of}, specs.Worlds.Deed.{Begins, Comes, Fails, Ends}}
+use Rattle.cache_pass.{specs.Worlds.Event.{Asks, Calls}, specs.declared.cache.Cache.Cache}
+use Rattle.cache_pass.{specs.declared.pass.Asked.Asked, specs.declared.pass.Pass.Pass, specs.declared.pass.Phase.Phase}
 use Rattle.cache_pass.specs.declared.pass.Phase.TheVariants.{Began, Asking, Passing, Ended}
-use Rattle.cache_pass.specs.declared.removals.Removals.{Removals}
-use Rattle.cache_pass.specs.declared.replying.First.{First}
+use Rattle.cache_pass.{specs.declared.removals.Removals.Removals, specs.declared.replying.First.First}
 use Rattle.cache_pass.specs.declared.replying.First.TheVariants as first
 use Rattle.cache_pass.specs.declared.revalidating.Next.{Next}
 use Rattle.cache_pass.specs.declared.revalidating.Next.TheVariants as next

@@ -2,11 +2,9 @@
 use Rattle.std.proofs.Common.{◌≡◌, ℕ, ◌∷◌, Option, Some, None, List, refl, subst, inr}
 use Rattle.cache_rules.specs.declared.storing.Reception.TheVariants.{Complete}
 use Rattle.cache_rules.specs.declared.stored.StoredResponse.{StoredResponse}
-use Rattle.cache_store.specs.Changes.{IsInserted, IsStoredAs, IsToStore}
-use Rattle.cache_store.specs.History.{History, Step}
+use Rattle.cache_store.{specs.Changes.{IsInserted, IsStoredAs, IsToStore}, specs.History.{History, Step}}
 use Rattle.cache_store.specs.History.Call.{Arrived}
-use Rattle.cache_pass.specs.Effects.{DoAll, Kept, Settings}
-use Rattle.cache_pass.specs.Keeping.{AreDescribing, IsKept, IsNumbered}
+use Rattle.cache_pass.{specs.Effects.{DoAll, Kept, Settings}, specs.Keeping.{AreDescribing, IsKept, IsNumbered}}
 use Rattle.cache_pass.specs.Removals.{IsOutdated}
 
 module _ (settings later : Settings) (same : later ≡ settings) (key : List ℕ) (came : StoredResponse) (clock : ℕ)

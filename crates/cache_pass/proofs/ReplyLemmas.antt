@@ -1,28 +1,18 @@
 -- What replies show.
 use Rattle.std.proofs.Common.{◌≡◌, ◌⊎◌, ℕ, List, Option, Some, None, refl, sym, subst, inl, inr, ◌∙◌}
-use Rattle.std.proofs.lemmas.Option.{same_Some}
-use Rattle.std.specs.Prelude.{IsSomeAnd, MatchOption}
-use Rattle.headers.specs.LineMap.{LineMap}
-use Rattle.headers.specs.declared.Encoded.{Encoded}
-use Rattle.cache_policy.specs.Requests.{Request}
-use Rattle.cache_policy.specs.declared.decision.Decision.{Decision}
+use Rattle.std.{proofs.lemmas.Option.same_Some, specs.Prelude.{IsSomeAnd, MatchOption}}
+use Rattle.headers.{specs.LineMap.LineMap, specs.declared.Encoded.Encoded}
+use Rattle.cache_policy.{specs.Requests.Request, specs.declared.decision.Decision.Decision}
 use Rattle.cache_policy.specs.declared.decision.Decision.TheVariants as decisions
-use Rattle.cache_rules.specs.Conditions.{IsForCache}
-use Rattle.cache_rules.specs.declared.freshening.Exchange.{Exchange}
+use Rattle.cache_rules.{specs.Conditions.IsForCache, specs.declared.freshening.Exchange.Exchange}
 use Rattle.cache_rules.specs.declared.stored.StoredResponse.{StoredResponse}
-use Rattle.cache_store.specs.Changes.{IsRestored}
-use Rattle.cache_store.specs.Contents.{responses_at}
-use Rattle.cache_store.specs.Lookups.{HasFields, IsAnswer, IsFound}
-use Rattle.cache_store.specs.Numbers.{numbered}
-use Rattle.cache_store.specs.declared.lookup.Lookup.{Lookup}
+use Rattle.cache_store.{specs.Changes.IsRestored, specs.Contents.responses_at, specs.Lookups.{HasFields, IsAnswer}}
+use Rattle.cache_store.{specs.Lookups.IsFound, specs.Numbers.numbered, specs.declared.lookup.Lookup.Lookup}
 use Rattle.cache_store.specs.declared.lookup.Lookup.TheVariants as lookup
 use Rattle.cache_store.proofs.NumberLemmas.{Has-numbered}
-use Rattle.cache_pass.proofs.CallLemmas.{none-some}
-use Rattle.cache_pass.specs.Answers.{IsShownAfter}
-use Rattle.cache_pass.specs.Effects.{Kept, Settings}
+use Rattle.cache_pass.{proofs.CallLemmas.none-some, specs.Answers.IsShownAfter, specs.Effects.{Kept, Settings}}
 use Rattle.cache_pass.specs.Replies.{IsAlone, IsFirst, IsNoneOnError, IsReplyTo, IsShown, IsShownOnError, MayFallBack}
-use Rattle.cache_pass.specs.Replies.{number_on_error}
-use Rattle.cache_pass.specs.declared.replying.First.{First}
+use Rattle.cache_pass.{specs.Replies.number_on_error, specs.declared.replying.First.First}
 use Rattle.cache_pass.specs.declared.replying.First.TheVariants as first
 use Rattle.cache_pass.specs.declared.replying.Reply.{Reply}
 

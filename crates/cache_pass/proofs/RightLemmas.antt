@@ -1,44 +1,29 @@
 -- What a step answers is right.
 use Rattle.std.proofs.Common.{◌≡◌, ℕ, List, [], ◌∷◌, ◌++◌, Option, Some, None, refl, sym, ap, subst, inl, inr, ◌∙◌}
-use Rattle.std.proofs.Common.{true, length, slice_get, arith}
-use Rattle.std.proofs.lemmas.Slice.Eq.{bytes_eq-Decides}
+use Rattle.std.{proofs.Common.{true, length, slice_get, arith}, proofs.lemmas.Slice.Eq.bytes_eq-Decides}
 use Rattle.std.specs.Prelude.{IsSomeAnd}
-use Rattle.http_header.specs.FieldValue.{FieldValue}
-use Rattle.http_header.specs.HeaderMap.{Entries}
+use Rattle.http_header.{specs.FieldValue.FieldValue, specs.HeaderMap.Entries}
 use Rattle.headers.specs.LineMap.{lines_at}
 use Rattle.cache_policy.specs.declared.decision.Decision.{Decision}
 use Rattle.cache_policy.specs.declared.decision.Decision.TheVariants as decisions
-use Rattle.cache_rules.specs.Conditions.{IsStoredAnswer}
-use Rattle.cache_rules.specs.Selection.{IsCandidate}
+use Rattle.cache_rules.{specs.Conditions.IsStoredAnswer, specs.Selection.IsCandidate}
 use Rattle.cache_rules.specs.declared.conditions.StoredAnswer.{StoredAnswer}
-use Rattle.cache_rules.specs.declared.stored.StoredResponse.{StoredResponse}
-use Rattle.cache_rules.specs.Freshening.{IsFreshened}
+use Rattle.cache_rules.{specs.declared.stored.StoredResponse.StoredResponse, specs.Freshening.IsFreshened}
 use Rattle.cache_rules.specs.declared.freshening.Exchange.{Exchange}
-use Rattle.cache_store.specs.Changes.{IsLetGo}
-use Rattle.cache_store.specs.Contents.{Contents, responses_at, without}
-use Rattle.cache_store.specs.History.{History, IsJustified}
-use Rattle.cache_store.specs.Kept.{contents_of}
-use Rattle.cache_store.specs.Numbers.{numbered}
+use Rattle.cache_store.{specs.Changes.IsLetGo, specs.Contents.{Contents, responses_at, without}, specs.History.History}
+use Rattle.cache_store.{specs.History.IsJustified, specs.Kept.contents_of, specs.Numbers.numbered}
 use Rattle.cache_store.proofs.HistoryLemmas.{Has-slice_get, HasUnder-responses_at, run-justified}
-use Rattle.cache_store.proofs.LawLemmas.{stored-may-be}
-use Rattle.cache_store.proofs.NumberLemmas.{Has-numbered, distinct-at, numbered-at}
-use Rattle.cache_pass.specs.Answers.{IsShownAfter}
-use Rattle.cache_pass.specs.Effects.{Settings, kept_of, settings_of, stored_at}
-use Rattle.cache_pass.specs.Origin.{IsNext}
-use Rattle.cache_pass.specs.Passes.{asked_of, key_of, request_of_pass}
-use Rattle.cache_pass.specs.Replies.{IsFirst, IsReplyTo, IsShown, IsShownOnError}
-use Rattle.cache_pass.specs.Right.{IsGood, IsGoodOnError, IsOfStored, IsRight, IsRightOnError, IsRightReply}
-use Rattle.cache_pass.specs.Right.{IsRightValidated}
-use Rattle.cache_pass.specs.Steps.{HasBegun, HasCome, HasFailed}
-use Rattle.cache_pass.specs.Worlds.{Acts, Deed, IsStep, Reaches, World, calls_of}
-use Rattle.cache_pass.specs.Worlds.Deed.{Begins, Comes, Fails, Ends}
-use Rattle.cache_pass.specs.declared.cache.Cache.{Cache}
-use Rattle.cache_pass.specs.declared.pass.Asked.{Asked}
-use Rattle.cache_pass.specs.declared.pass.Pass.{Pass}
+use Rattle.cache_store.{proofs.LawLemmas.stored-may-be, proofs.NumberLemmas.{Has-numbered, distinct-at, numbered-at}}
+use Rattle.cache_pass.{specs.Answers.IsShownAfter, specs.Effects.{Settings, kept_of, settings_of, stored_at}}
+use Rattle.cache_pass.{specs.Origin.IsNext, specs.Passes.{asked_of, key_of, request_of_pass}, specs.Replies.IsFirst}
+use Rattle.cache_pass.{specs.Replies.{IsReplyTo, IsShown, IsShownOnError}, specs.Right.{IsGood, IsGoodOnError}}
+use Rattle.cache_pass.specs.Right.{IsOfStored, IsRight, IsRightOnError, IsRightReply, IsRightValidated}
+use Rattle.cache_pass.{specs.Steps.{HasBegun, HasCome, HasFailed}, specs.Worlds.{Acts, Deed, IsStep, Reaches, World}}
+use Rattle.cache_pass.{specs.Worlds.calls_of, specs.Worlds.Deed.{Begins, Comes, Fails, Ends}}
+use Rattle.cache_pass.{specs.declared.cache.Cache.Cache, specs.declared.pass.Asked.Asked, specs.declared.pass.Pass.Pass}
 use Rattle.cache_pass.specs.declared.replying.First.{First}
 use Rattle.cache_pass.specs.declared.replying.First.TheVariants as first
-use Rattle.cache_pass.specs.declared.replying.Reply.{Reply}
-use Rattle.cache_pass.specs.declared.revalidating.Next.{Next}
+use Rattle.cache_pass.{specs.declared.replying.Reply.Reply, specs.declared.revalidating.Next.Next}
 use Rattle.cache_pass.specs.declared.revalidating.Next.TheVariants as next
 use Rattle.cache_pass.proofs.CallLemmas.{HasRun, acts-run, reached}
 

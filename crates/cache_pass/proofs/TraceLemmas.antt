@@ -1,21 +1,14 @@
 -- What a response that isn't stored leaves.
 use Rattle.std.proofs.Common.{◌≡◌, ℕ, true, false, refl, subst, inl, inr, ◌∙◌}
-use Rattle.http_header.specs.FieldValue.{FieldValue}
-use Rattle.http_header.specs.HeaderMap.{Entries}
+use Rattle.http_header.{specs.FieldValue.FieldValue, specs.HeaderMap.Entries}
 use Rattle.headers.specs.LineMap.{lines_at}
 use Rattle.cache_policy.specs.Requests.{IsSafe}
 use Rattle.cache_rules.specs.Errors.{IsFailure}
 use Rattle.cache_store.specs.History.{History}
-use Rattle.cache_pass.specs.Effects.{DoAll, kept_of, settings_of}
-use Rattle.cache_pass.specs.Keeping.{IsWanted}
-use Rattle.cache_pass.specs.Origin.{IsPassedOn}
-use Rattle.cache_pass.specs.Passes.{key_of, phase_after, request_of_pass}
-use Rattle.cache_pass.specs.Steps.{HasCome}
-use Rattle.cache_pass.specs.declared.cache.Cache.{Cache}
-use Rattle.cache_pass.specs.declared.pass.Asked.{Asked}
-use Rattle.cache_pass.specs.declared.pass.Pass.{Pass}
-use Rattle.cache_pass.specs.declared.pass.Phase.TheVariants.{Ended}
-use Rattle.cache_pass.specs.declared.revalidating.Next.{Next}
+use Rattle.cache_pass.{specs.Effects.{DoAll, kept_of, settings_of}, specs.Keeping.IsWanted, specs.Origin.IsPassedOn}
+use Rattle.cache_pass.{specs.Passes.{key_of, phase_after, request_of_pass}, specs.Steps.HasCome}
+use Rattle.cache_pass.{specs.declared.cache.Cache.Cache, specs.declared.pass.Asked.Asked, specs.declared.pass.Pass.Pass}
+use Rattle.cache_pass.{specs.declared.pass.Phase.TheVariants.Ended, specs.declared.revalidating.Next.Next}
 use Rattle.cache_pass.specs.declared.revalidating.Next.TheVariants as next
 
 module _ (old : Pass) (before : Cache) (status : ℕ) (response : Entries FieldValue) (now : ℕ) (new : Pass)

@@ -1,16 +1,10 @@
 -- What a request gets after the origin has answered it (RFC 9111, sections 4.3.3, 4.3.4 and 4.4; RFC 5861, section 4).
-use Rattle.std.specs.Prelude.{⊤, ℕ, List, true}
-use Rattle.std.specs.Prelude.{IsSomeAnd}
+use Rattle.std.specs.Prelude.{⊤, ℕ, List, true, IsSomeAnd}
 use Rattle.headers.specs.LineMap.{LineMap}
 use Rattle.cache_policy.specs.Requests.{Request}
-use Rattle.cache_rules.specs.Conditions.{IsForCache, IsStoredAnswer}
-use Rattle.cache_rules.specs.declared.freshening.Exchange.{Exchange}
-use Rattle.cache_store.specs.Changes.{IsLetGo, IsRestored}
-use Rattle.cache_store.specs.Contents.{responses_at}
-use Rattle.cache_store.specs.Numbers.{numbered}
-use Rattle.cache_pass.specs.Effects.{Kept, Settings}
-use Rattle.cache_pass.specs.Replies.{IsReplyTo}
-use Rattle.cache_pass.specs.declared.replying.Reply.{Reply}
+use Rattle.cache_rules.{specs.Conditions.{IsForCache, IsStoredAnswer}, specs.declared.freshening.Exchange.Exchange}
+use Rattle.cache_store.{specs.Changes.{IsLetGo, IsRestored}, specs.Contents.responses_at, specs.Numbers.numbered}
+use Rattle.cache_pass.{specs.Effects.{Kept, Settings}, specs.Replies.IsReplyTo, specs.declared.replying.Reply.Reply}
 use Rattle.cache_pass.specs.declared.revalidating.Next.{Next}
 use Rattle.cache_pass.specs.declared.revalidating.Next.TheVariants.{Reply as Replies, Once, Ask, PassOn}
 

@@ -1,14 +1,11 @@
 -- What the steps of passes make of a cache.
 use Rattle.std.specs.Prelude.{◌≡◌, ℕ, List, [], ◌∷◌, ◌++◌}
 use Rattle.cache_policy.specs.Policies.{Policy}
-use Rattle.cache_store.specs.Contents.{Contents, responses_at}
-use Rattle.cache_store.specs.History.{Call, History, Step}
+use Rattle.cache_store.{specs.Contents.{Contents, responses_at}, specs.History.{Call, History, Step}}
 use Rattle.cache_store.specs.History.Call.{Looked, Arrived, Validated, Described, Answered, Removed}
-use Rattle.cache_store.specs.Kept.{contents_of, policy_of_store}
-use Rattle.cache_store.specs.declared.limits.Limits.{Limits}
+use Rattle.cache_store.{specs.Kept.{contents_of, policy_of_store}, specs.declared.limits.Limits.Limits}
 use Rattle.cache_rules.specs.declared.stored.StoredResponse.{StoredResponse}
-use Rattle.cache_pass.specs.Removals.{IsNoted}
-use Rattle.cache_pass.specs.declared.cache.Cache.{Cache}
+use Rattle.cache_pass.{specs.Removals.IsNoted, specs.declared.cache.Cache.Cache}
 use Rattle.cache_pass.specs.declared.removals.Removals.{Removals}
 
 -- how a cache decides, what it holds at most, and how many seconds it guesses at most

@@ -1,20 +1,13 @@
 -- What is stored of a response that passed on (RFC 9111, sections 3, 4.3.5 and 4.4).
 use Rattle.std.specs.Prelude.{◌≡◌, ◌≢◌, ◌⊎◌, ⊤, ℕ, List, [], ◌∷◌, Option, Some, None, codes}
-use Rattle.headers.specs.LineMap.{LineMap}
-use Rattle.headers.specs.Typed.{HasLine}
-use Rattle.cache_policy.specs.Policies.{Policy}
-use Rattle.cache_policy.specs.Requests.{Request}
-use Rattle.cache_policy.specs.declared.Kind.TheVariants.{Shared}
-use Rattle.cache_rules.specs.Stored.{fields_of_stored, request_of_stored}
-use Rattle.cache_rules.specs.Storing.{IsStored}
+use Rattle.headers.{specs.LineMap.LineMap, specs.Typed.HasLine}
+use Rattle.cache_policy.{specs.Policies.Policy, specs.Requests.Request, specs.declared.Kind.TheVariants.Shared}
+use Rattle.cache_rules.{specs.Stored.{fields_of_stored, request_of_stored}, specs.Storing.IsStored}
 use Rattle.cache_rules.specs.declared.storing.Reception.TheVariants.{Complete}
 use Rattle.cache_rules.specs.declared.stored.StoredResponse.{StoredResponse}
-use Rattle.cache_store.specs.Changes.{IsInserted, IsStoredAs, IsToStore}
-use Rattle.cache_store.specs.History.{History}
-use Rattle.cache_store.specs.History.Call.{Arrived, Described}
-use Rattle.cache_store.specs.Parts.Combining.{exchange_of}
-use Rattle.cache_pass.specs.Effects.{DoAll, Does, Kept, Settings}
-use Rattle.cache_pass.specs.Removals.{IsOutdated}
+use Rattle.cache_store.{specs.Changes.{IsInserted, IsStoredAs, IsToStore}, specs.History.History}
+use Rattle.cache_store.{specs.History.Call.{Arrived, Described}, specs.Parts.Combining.exchange_of}
+use Rattle.cache_pass.{specs.Effects.{DoAll, Does, Kept, Settings}, specs.Removals.IsOutdated}
 
 -- A response is to be stored once all of it has come: section 3 allows it; it doesn't answer the conditions (RFC 9110,
 -- section 15.5.13) or the range (section 15.5.17) of one request alone; and in a shared cache it sets no cookie.

@@ -1,24 +1,16 @@
 -- What a cache does with a response of the origin (RFC 9111, sections 4.3 and 4.4; RFC 5861, section 4).
-use Rattle.std.specs.Prelude.{◌≡◌, ◌⊎◌, ℕ, List, [], ◌∷◌, map, true}
-use Rattle.std.specs.Bool.{MatchBool}
+use Rattle.std.{specs.Prelude.{◌≡◌, ◌⊎◌, ℕ, List, [], ◌∷◌, map, true}, specs.Bool.MatchBool}
 use Rattle.url.specs.Parts.{Parts, serialize}
 use Rattle.headers.specs.LineMap.{LineMap}
 use Rattle.cache_policy.specs.Requests.{Request}
-use Rattle.cache_rules.specs.Errors.{IsFailure}
-use Rattle.cache_rules.specs.Invalidation.{Invalidates}
+use Rattle.cache_rules.{specs.Errors.IsFailure, specs.Invalidation.Invalidates}
 use Rattle.cache_rules.specs.declared.freshening.Exchange.{Exchange}
-use Rattle.cache_store.specs.Contents.{responses_at}
-use Rattle.cache_store.specs.History.{History}
-use Rattle.cache_store.specs.History.Call.{Looked, Validated}
+use Rattle.cache_store.{specs.Contents.responses_at, specs.History.History, specs.History.Call.{Looked, Validated}}
 use Rattle.cache_store.specs.Named.{AreNamed}
-use Rattle.cache_pass.specs.Answers.{IsRevalidated}
-use Rattle.cache_pass.specs.Effects.{Kept, Settings, removals}
-use Rattle.cache_pass.specs.Keeping.{IsWanted}
-use Rattle.cache_pass.specs.Removals.{IsOutdated}
-use Rattle.cache_pass.specs.Replies.{IsShownOnError}
-use Rattle.cache_pass.specs.declared.pass.Asked.{Asked}
-use Rattle.cache_pass.specs.declared.revalidating.Next.{Next}
-use Rattle.cache_pass.specs.declared.revalidating.Next.TheVariants.{Reply, Once, Ask, PassOn}
+use Rattle.cache_pass.{specs.Answers.IsRevalidated, specs.Effects.{Kept, Settings, removals}, specs.Keeping.IsWanted}
+use Rattle.cache_pass.{specs.Removals.IsOutdated, specs.Replies.IsShownOnError, specs.declared.pass.Asked.Asked}
+use Rattle.cache_pass.{specs.declared.revalidating.Next.Next, specs.declared.revalidating.Next.TheVariants.Reply}
+use Rattle.cache_pass.specs.declared.revalidating.Next.TheVariants.{Once, Ask, PassOn}
 
 -- the response is to a request that validates, and says that what is stored is still good
 abbrev pub IsValidation : Asked → ℕ → Type 0

@@ -1,16 +1,12 @@
 -- What a pass is of, and how far it comes.
 use Rattle.std.specs.Prelude.{◌≡◌, ℕ, List, ⊤, Option, Some, None, true, false, string_bytes}
-use Rattle.http_header.specs.FieldValue.{FieldValue}
-use Rattle.http_header.specs.HeaderMap.{Entries}
+use Rattle.http_header.{specs.FieldValue.FieldValue, specs.HeaderMap.Entries}
 use Rattle.headers.specs.LineMap.{lines_at}
 use Rattle.cache_policy.specs.Requests.{Request}
 use Rattle.cache_rules.specs.declared.stored.StoredResponse.{StoredResponse}
-use Rattle.cache_pass.specs.declared.cache.Cache.{Cache}
-use Rattle.cache_pass.specs.declared.pass.Asked.{Asked}
-use Rattle.cache_pass.specs.declared.pass.Pass.{Pass}
-use Rattle.cache_pass.specs.declared.pass.Phase.{Phase}
-use Rattle.cache_pass.specs.declared.pass.Phase.TheVariants.{Began, Asking, Passing, Ended}
-use Rattle.cache_pass.specs.declared.replying.First.{First}
+use Rattle.cache_pass.{specs.declared.cache.Cache.Cache, specs.declared.pass.Asked.Asked, specs.declared.pass.Pass.Pass}
+use Rattle.cache_pass.{specs.declared.pass.Phase.Phase, specs.declared.pass.Phase.TheVariants.{Began, Asking, Passing}}
+use Rattle.cache_pass.{specs.declared.pass.Phase.TheVariants.Ended, specs.declared.replying.First.First}
 use Rattle.cache_pass.specs.declared.replying.First.TheVariants as first
 use Rattle.cache_pass.specs.declared.revalidating.Next.{Next}
 use Rattle.cache_pass.specs.declared.revalidating.Next.TheVariants as next

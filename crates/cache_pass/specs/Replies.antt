@@ -1,21 +1,17 @@
 -- What a request gets of a cache (RFC 9111, section 4; RFC 5861).
 use Rattle.std.specs.Prelude.{◌≡◌, ◌⊎◌, ℕ, List, Option, Some, None, true}
 use Rattle.headers.specs.LineMap.{field_of, fields_of}
-use Rattle.cache_policy.specs.Decisions.{AnswersUnstored}
-use Rattle.cache_policy.specs.Requests.{Request}
+use Rattle.cache_policy.{specs.Decisions.AnswersUnstored, specs.Requests.Request}
 use Rattle.cache_policy.specs.declared.decision.Decision.{Decision}
 use Rattle.cache_policy.specs.declared.decision.Decision.TheVariants as decisions
 use Rattle.cache_rules.specs.Conditions.{IsForCache, IsStoredAnswer}
 use Rattle.cache_rules.specs.declared.stored.StoredResponse.{StoredResponse}
-use Rattle.cache_store.specs.Lookups.{HasFields, IsAsked, IsFound, IsUnmatched, age_of_stored}
-use Rattle.cache_store.specs.Numbers.{numbered}
+use Rattle.cache_store.{specs.Lookups.{HasFields, IsAsked, IsFound, IsUnmatched, age_of_stored}, specs.Numbers.numbered}
 use Rattle.cache_store.specs.declared.lookup.Lookup.{Lookup}
 use Rattle.cache_store.specs.declared.lookup.Lookup.TheVariants as lookup
-use Rattle.cache_pass.specs.Effects.{Settings}
-use Rattle.cache_pass.specs.declared.replying.First.{First}
+use Rattle.cache_pass.{specs.Effects.Settings, specs.declared.replying.First.First}
 use Rattle.cache_pass.specs.declared.replying.First.TheVariants.{Reply as Replies, ReplyAndValidate, Ask, Validate}
-use Rattle.cache_pass.specs.declared.replying.First.TheVariants.{Unavailable}
-use Rattle.cache_pass.specs.declared.replying.Reply.{Reply}
+use Rattle.cache_pass.{specs.declared.replying.First.TheVariants.Unavailable, specs.declared.replying.Reply.Reply}
 
 -- The reply shows the stored response, with its age, as it answers the client's own conditions and ranges (sections
 -- 4.3.2 and 5.1).

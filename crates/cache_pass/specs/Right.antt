@@ -1,26 +1,16 @@
 -- What may be sent to a client (RFC 9111, section 4; RFC 5861).
 use Rattle.std.specs.Prelude.{◌≡◌, ◌⊎◌, ⊤, ℕ, Some, None, true}
 use Rattle.headers.specs.LineMap.{LineMap, lines_at}
-use Rattle.cache_policy.specs.Decisions.{IsGoodEnough, MayServeOnError}
-use Rattle.cache_policy.specs.Policies.{MayStoreUnder, asks, tells}
+use Rattle.cache_policy.{specs.Decisions.{IsGoodEnough, MayServeOnError}, specs.Policies.{MayStoreUnder, asks, tells}}
 use Rattle.cache_policy.specs.Requests.{Request}
-use Rattle.cache_rules.specs.Conditions.{IsStoredAnswer}
-use Rattle.cache_rules.specs.Errors.{IsFailure}
-use Rattle.cache_rules.specs.Freshening.{IsFreshened}
-use Rattle.cache_rules.specs.Selection.{IsCandidate}
-use Rattle.cache_rules.specs.Stored.{fields_of_stored, request_of_stored}
+use Rattle.cache_rules.{specs.Conditions.IsStoredAnswer, specs.Errors.IsFailure, specs.Freshening.IsFreshened}
+use Rattle.cache_rules.{specs.Selection.IsCandidate, specs.Stored.{fields_of_stored, request_of_stored}}
 use Rattle.cache_rules.specs.declared.freshening.Exchange.{Exchange}
 use Rattle.cache_rules.specs.declared.stored.StoredResponse.{StoredResponse}
-use Rattle.cache_store.specs.History.{IsJustified}
-use Rattle.cache_store.specs.Lookups.{IsFreshFor, freshness_of}
-use Rattle.cache_store.specs.Numbers.{numbered}
-use Rattle.cache_pass.specs.Effects.{Settings, stored_at}
-use Rattle.cache_pass.specs.Passes.{asked_of, key_of, request_of_pass}
-use Rattle.cache_pass.specs.Replies.{IsReplyTo}
-use Rattle.cache_pass.specs.Worlds.{Deed, World, calls_of}
-use Rattle.cache_pass.specs.Worlds.Deed.{Begins, Comes, Fails, Ends}
-use Rattle.cache_pass.specs.declared.pass.Asked.{Asked}
-use Rattle.cache_pass.specs.declared.pass.Pass.{Pass}
+use Rattle.cache_store.{specs.History.IsJustified, specs.Lookups.{IsFreshFor, freshness_of}, specs.Numbers.numbered}
+use Rattle.cache_pass.{specs.Effects.{Settings, stored_at}, specs.Passes.{asked_of, key_of, request_of_pass}}
+use Rattle.cache_pass.{specs.Replies.IsReplyTo, specs.Worlds.{Deed, World, calls_of}, specs.Worlds.Deed.{Begins, Comes}}
+use Rattle.cache_pass.{specs.Worlds.Deed.{Fails, Ends}, specs.declared.pass.Asked.Asked, specs.declared.pass.Pass.Pass}
 use Rattle.cache_pass.specs.declared.replying.First.TheVariants as first
 use Rattle.cache_pass.specs.declared.replying.Reply.{Reply}
 use Rattle.cache_pass.specs.declared.revalidating.Next.TheVariants as next

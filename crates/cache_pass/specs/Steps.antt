@@ -1,26 +1,17 @@
 -- The steps of a pass: what each answers, how far the pass is then, and what becomes of the cache.
 use Rattle.std.specs.Prelude.{◌≡◌, ◌⊎◌, ℕ, List, [], Option, Some, None, MatchOption}
-use Rattle.http_header.specs.FieldValue.{FieldValue}
-use Rattle.http_header.specs.HeaderMap.{Entries}
+use Rattle.http_header.{specs.FieldValue.FieldValue, specs.HeaderMap.Entries}
 use Rattle.headers.specs.LineMap.{lines_at}
 use Rattle.cache_rules.specs.declared.storing.Reception.{Reception}
 use Rattle.cache_rules.specs.declared.storing.Reception.TheVariants.{Complete}
 use Rattle.cache_rules.specs.declared.stored.StoredResponse.{StoredResponse}
-use Rattle.cache_store.specs.History.{History}
-use Rattle.cache_store.specs.History.Call.{Looked}
-use Rattle.cache_store.specs.Lookups.{HasFields}
-use Rattle.cache_pass.specs.Effects.{DoAll, Does, kept_of, settings_of, stored_at}
-use Rattle.cache_pass.specs.Keeping.{IsKept}
-use Rattle.cache_pass.specs.Origin.{IsNext}
-use Rattle.cache_pass.specs.Passes.{IsReceived, IsSameRequest, asked_of, key_of, phase_after, phase_first}
-use Rattle.cache_pass.specs.Passes.{request_of_pass}
-use Rattle.cache_pass.specs.Replies.{IsFirst, IsNoneOnError, IsShownOnError}
-use Rattle.cache_pass.specs.declared.cache.Cache.{Cache}
-use Rattle.cache_pass.specs.declared.pass.Asked.{Asked}
-use Rattle.cache_pass.specs.declared.pass.Pass.{Pass}
-use Rattle.cache_pass.specs.declared.pass.Phase.TheVariants.{Began, Passing, Ended}
-use Rattle.cache_pass.specs.declared.replying.First.{First}
-use Rattle.cache_pass.specs.declared.replying.Reply.{Reply}
+use Rattle.cache_store.{specs.History.History, specs.History.Call.Looked, specs.Lookups.HasFields}
+use Rattle.cache_pass.{specs.Effects.{DoAll, Does, kept_of, settings_of, stored_at}, specs.Keeping.IsKept}
+use Rattle.cache_pass.{specs.Origin.IsNext, specs.Passes.{IsReceived, IsSameRequest, asked_of, key_of, phase_after}}
+use Rattle.cache_pass.{specs.Passes.{phase_first, request_of_pass}, specs.Replies.{IsFirst, IsNoneOnError}}
+use Rattle.cache_pass.{specs.Replies.IsShownOnError, specs.declared.cache.Cache.Cache, specs.declared.pass.Asked.Asked}
+use Rattle.cache_pass.{specs.declared.pass.Pass.Pass, specs.declared.pass.Phase.TheVariants.{Began, Passing, Ended}}
+use Rattle.cache_pass.{specs.declared.replying.First.First, specs.declared.replying.Reply.Reply}
 use Rattle.cache_pass.specs.declared.revalidating.Next.{Next}
 
 module _ (old : Pass) (before : Cache) where

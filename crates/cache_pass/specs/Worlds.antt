@@ -1,20 +1,14 @@
 -- Passes over one cache, whose steps interleave.
 use Rattle.std.specs.Prelude.{◌≡◌, ◌⊎◌, ⊤, ℕ, List, [], ◌∷◌, ◌++◌, map, Option}
-use Rattle.http_header.specs.FieldValue.{FieldValue}
-use Rattle.http_header.specs.HeaderMap.{Entries}
+use Rattle.http_header.{specs.FieldValue.FieldValue, specs.HeaderMap.Entries}
 use Rattle.cache_rules.specs.declared.storing.Reception.{Reception}
-use Rattle.cache_store.specs.History.{Call, History, Removes}
-use Rattle.cache_store.specs.History.Call.{Looked, Arrived, Validated, Described, Answered, Removed}
-use Rattle.cache_store.specs.Kept.{contents_of}
-use Rattle.cache_pass.specs.Effects.{Settings, settings_of}
-use Rattle.cache_pass.specs.Passes.{key_of}
-use Rattle.cache_pass.specs.Steps.{HasBegun, HasCome, HasEnded, HasFailed}
-use Rattle.cache_pass.specs.declared.cache.Cache.{Cache}
-use Rattle.cache_pass.specs.declared.pass.Pass.{Pass}
-use Rattle.cache_pass.specs.declared.pass.Phase.{Phase}
+use Rattle.cache_store.{specs.History.{Call, History, Removes}, specs.History.Call.{Looked, Arrived, Validated}}
+use Rattle.cache_store.{specs.History.Call.{Described, Answered, Removed}, specs.Kept.contents_of}
+use Rattle.cache_pass.{specs.Effects.{Settings, settings_of}, specs.Passes.key_of, specs.Steps.{HasBegun, HasCome}}
+use Rattle.cache_pass.{specs.Steps.{HasEnded, HasFailed}, specs.declared.cache.Cache.Cache}
+use Rattle.cache_pass.{specs.declared.pass.Pass.Pass, specs.declared.pass.Phase.Phase}
 use Rattle.cache_pass.specs.declared.pass.Phase.TheVariants.{Began, Asking, Passing, Ended}
-use Rattle.cache_pass.specs.declared.replying.First.{First}
-use Rattle.cache_pass.specs.declared.replying.Reply.{Reply}
+use Rattle.cache_pass.{specs.declared.replying.First.First, specs.declared.replying.Reply.Reply}
 use Rattle.cache_pass.specs.declared.revalidating.Next.{Next}
 
 -- ---- what happens

@@ -1,10 +1,9 @@
 //! What a request gets if the origin fails.
 ghost use Rattle.std.specs.Prelude.{◌≡◌, IfOk, MatchOption, OnErr};
 ghost use Rattle.cache_policy.specs.Requests.{request_of};
-ghost use Rattle.cache_store.specs.History.Call.{Looked};
-ghost use Rattle.cache_store.specs.Lookups.{HasFields};
-ghost use Rattle.cache_pass.specs.Effects.{Does, kept_of, settings_of, stored_at};
-ghost use Rattle.cache_pass.specs.Replies.{IsNoneOnError, IsShownOnError, number_on_error};
+ghost use Rattle.cache_store.{specs.History.Call.Looked, specs.Lookups.HasFields};
+ghost use Rattle.cache_pass.{specs.Effects.{Does, kept_of, settings_of, stored_at}, specs.Replies.IsNoneOnError};
+ghost use Rattle.cache_pass.specs.Replies.{IsShownOnError, number_on_error};
 
 use crate::cache::Cache;
 use crate::replying::Reply;

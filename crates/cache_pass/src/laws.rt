@@ -1,19 +1,13 @@
 //! Theorems about every run of passes over one cache. To cite one in a proof, call it.
 ghost use Rattle.std.specs.Prelude.{◌≡◌, ℕ, List};
-ghost use Rattle.http_header.specs.FieldValue.{FieldValue};
-ghost use Rattle.http_header.specs.HeaderMap.{Entries};
+ghost use Rattle.http_header.{specs.FieldValue.FieldValue, specs.HeaderMap.Entries};
 ghost use Rattle.headers.specs.LineMap.{lines_at};
 ghost use Rattle.cache_policy.specs.Requests.{IsSafe};
 ghost use Rattle.cache_rules.specs.Errors.{IsFailure};
-ghost use Rattle.cache_pass.specs.Effects.{Settings, kept_of, settings_of};
-ghost use Rattle.cache_pass.specs.Keeping.{IsWanted};
-ghost use Rattle.cache_pass.specs.Passes.{request_of_pass};
-ghost use Rattle.cache_pass.specs.Right.{IsRight};
-ghost use Rattle.cache_pass.specs.Steps.{HasCome};
-ghost use Rattle.cache_pass.specs.declared.cache.Cache.{Cache};
-ghost use Rattle.cache_pass.specs.declared.pass.Pass.{Pass};
-ghost use Rattle.cache_pass.specs.declared.pass.Phase.TheVariants.{Ended};
-ghost use Rattle.cache_pass.specs.declared.revalidating.Next.{Next};
+ghost use Rattle.cache_pass.{specs.Effects.{Settings, kept_of, settings_of}, specs.Keeping.IsWanted};
+ghost use Rattle.cache_pass.{specs.Passes.request_of_pass, specs.Right.IsRight, specs.Steps.HasCome};
+ghost use Rattle.cache_pass.{specs.declared.cache.Cache.Cache, specs.declared.pass.Pass.Pass};
+ghost use Rattle.cache_pass.{specs.declared.pass.Phase.TheVariants.Ended, specs.declared.revalidating.Next.Next};
 ghost use Rattle.cache_pass.specs.Worlds.{Acts, AreCurrent, Deed, Reaches, World};
 
 /// Theorem: whatever steps of whatever passes come before, in any order, what a step answers is right for its

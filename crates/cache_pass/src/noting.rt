@@ -1,6 +1,5 @@
 //! When targets were removed.
-ghost use Rattle.std.specs.Prelude.{◌≡◌, ◌≢◌, ℕ, List, ◌+◌, ◌<◌, min, IfOk};
-ghost use Rattle.std.specs.Bool.{MatchBool};
+ghost use Rattle.std.{specs.Prelude.{◌≡◌, ◌≢◌, ℕ, List, ◌+◌, ◌<◌, min, IfOk}, specs.Bool.MatchBool};
 ghost use Rattle.cache_pass.specs.Removals.{IsNoted, IsOutdated, group_of, last_of};
 
 use crate::removals::Removals;

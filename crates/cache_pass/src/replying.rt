@@ -2,10 +2,9 @@
 ghost use Rattle.std.specs.Prelude.{◌≡◌, ◌⊎◌, None, IfOk, IsSomeAnd, MatchOption};
 ghost use Rattle.cache_policy.specs.Requests.{request_of};
 ghost use Rattle.cache_rules.specs.Conditions.{IsForCache};
-ghost use Rattle.cache_store.specs.History.Call.{Looked};
-ghost use Rattle.cache_store.specs.Numbers.{numbered};
-ghost use Rattle.cache_pass.specs.Effects.{Does, kept_of, settings_of, stored_at};
-ghost use Rattle.cache_pass.specs.Replies.{IsAlone, IsFirst, IsReplyTo};
+ghost use Rattle.cache_store.{specs.History.Call.Looked, specs.Numbers.numbered};
+ghost use Rattle.cache_pass.{specs.Effects.{Does, kept_of, settings_of, stored_at}, specs.Replies.{IsAlone, IsFirst}};
+ghost use Rattle.cache_pass.specs.Replies.{IsReplyTo};
 
 use crate::cache::Cache;
 use cache_policy::{Decision, RequestHead, decide_unstored};

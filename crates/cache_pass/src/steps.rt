@@ -1,8 +1,6 @@
 //! The steps of a pass.
-ghost use Rattle.std.specs.Prelude.{◌≡◌, ◌≢◌, IfErr, IfOk, None};
-ghost use Rattle.std.specs.Bool.{MatchBool};
-ghost use Rattle.cache_pass.specs.Passes.{IsNotPassing, IsReceived, IsUnchanged, asked_of, phase_after};
-ghost use Rattle.cache_pass.specs.Passes.{phase_first};
+ghost use Rattle.std.{specs.Prelude.{◌≡◌, ◌≢◌, IfErr, IfOk, None}, specs.Bool.MatchBool};
+ghost use Rattle.cache_pass.specs.Passes.{IsNotPassing, IsReceived, IsUnchanged, asked_of, phase_after, phase_first};
 ghost use Rattle.cache_pass.specs.Steps.{HasBegun, HasCome, HasEnded, HasFailed};
 ghost use Rattle.cache_pass.specs.declared.pass.Phase.TheVariants.{Began};
 

@@ -1,9 +1,8 @@
 -- Facts that hold or don't: what the definitions are made of.
 use Rattle.std.proofs.Common.{◌≡◌, ℕ, ◌<◌, ◌≤◌, Bool, true, false, List, [], ◌∷◌, All, Option, Some, None, refl, inl}
-use Rattle.std.proofs.Common.{inr, arith}
-use Rattle.std.proofs.{lemmas.Bool.cases_Bool, lemmas.Bool.cases_lt, lemmas.Slice.Eq.bytes_eq-Decides}
-use Rattle.std.proofs.lemmas.List.Elements.{All-cons, All-head, All-nil, All-tail}
-use Rattle.std.specs.Prelude.{◌⊎◌, IfSome, IsSome, IsSomeAnd, bytes_eq}
+use Rattle.std.{proofs.Common.{inr, arith}, proofs.lemmas.Bool.{cases_Bool, cases_lt}}
+use Rattle.std.{proofs.lemmas.Slice.Eq.bytes_eq-Decides, proofs.lemmas.List.Elements.{All-cons, All-head, All-nil}}
+use Rattle.std.{proofs.lemmas.List.Elements.All-tail, specs.Prelude.{◌⊎◌, IfSome, IsSome, IsSomeAnd, bytes_eq}}
 
 -- it holds or it doesn't
 abbrev pub IsDecidable : Type 0 → Type 0

@@ -3,18 +3,16 @@ use Rattle.std.proofs.Common.{◌≡◌, ℕ, true, false, List, Option, Some, N
 use Rattle.std.specs.Prelude.{◌⊎◌}
 use Rattle.headers.specs.LineMap.{LineMap}
 use Rattle.cache_policy.specs.Decisions.{Answers, AnswersUnstored, DecidesBy, MayComeFromStore}
-use Rattle.cache_policy.specs.Requests.{AllowsMethod, IsGetOrHead, IsSafe, Request}
-use Rattle.cache_policy.specs.Storing.{IsStorable, MayStore}
-use Rattle.cache_policy.specs.{declared.decision.Decision.Decision, declared.decision.Freshness.Freshness}
+use Rattle.cache_policy.{specs.Requests.{AllowsMethod, IsGetOrHead, IsSafe, Request}, specs.Storing.IsStorable}
+use Rattle.cache_policy.{specs.Storing.MayStore, specs.declared.decision.Decision.Decision}
+use Rattle.cache_policy.specs.declared.decision.Freshness.{Freshness}
 use Rattle.cache_policy.specs.declared.decision.Decision.TheVariants.{Serve, ServeAndRevalidate, ServeStale, Revalidate}
 use Rattle.cache_policy.specs.declared.decision.Decision.TheVariants.{RevalidateOrServe, Unavailable, Fetch}
-use Rattle.cache_fields.specs.Directives.{IsMalformed, Says, directed, strictest}
-use Rattle.cache_fields.specs.Freshness.{HasHeuristic, HasLifetime, StatesAge}
-use Rattle.cache_fields.specs.{declared.directives.Directives.Directives, declared.kind.Kind.Kind}
-use Rattle.cache_fields.specs.declared.kind.Kind.TheVariants.{Shared, Private}
+use Rattle.cache_fields.{specs.Directives.{IsMalformed, Says, directed, strictest}, specs.Freshness.HasHeuristic}
+use Rattle.cache_fields.{specs.Freshness.{HasLifetime, StatesAge}, specs.declared.directives.Directives.Directives}
+use Rattle.cache_fields.{specs.declared.kind.Kind.Kind, specs.declared.kind.Kind.TheVariants.{Shared, Private}}
 use Rattle.cache_fields.proofs.DirectiveLemmas.{malformed_is_strictest, said_no_cache, said_no_store, said_private}
-use Rattle.cache_fields.proofs.DirectiveLemmas.{unsaid_must_understand}
-use Rattle.cache_fields.proofs.FreshnessLemmas.{one_lifetime}
+use Rattle.cache_fields.{proofs.DirectiveLemmas.unsaid_must_understand, proofs.FreshnessLemmas.one_lifetime}
 
 -- ---- storing
 

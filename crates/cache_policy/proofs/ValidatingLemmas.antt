@@ -1,8 +1,7 @@
 -- The encodings of validators, and the request that sends them.
 use Rattle.std.proofs.Common.{◌≡◌, ◌≢◌, ℕ, List, [], ◌∷◌, Option, Some, None, refl, sym, ap, ◌∙◌, inl, inr}
-use Rattle.std.proofs.{lemmas.Bool.cases_Bool, lemmas.Slice.Eq.bytes_eq-Decides}
-use Rattle.std.specs.Prelude.{bytes_eq, codes}
-use Rattle.headers.specs.{LineMap.Field, LineMap.LineMap, LineMap.set, LineMap.set_all, Lines.Line}
+use Rattle.std.{proofs.lemmas.Bool.cases_Bool, proofs.lemmas.Slice.Eq.bytes_eq-Decides, specs.Prelude.{bytes_eq, codes}}
+use Rattle.headers.{specs.LineMap.{Field, LineMap, set, set_all}, specs.Lines.Line}
 use Rattle.cache_policy.specs.Validating.{IsCanonical, IsConditional, lines_of_option, tag_lines, validation_fields}
 
 -- a value is encoded in one field line: that of the value that field lines decode to, if they decode to one

@@ -1,12 +1,11 @@
 -- What the comparison of values says of their lines, and what is left of lists that are compared.
 use Rattle.std.proofs.Common.{◌≡◌, ◌≢◌, List, [], ◌∷◌, All, Option, Some, None, refl, sym, inl, inr}
-use Rattle.std.proofs.{lemmas.Bool.cases_Bool, lemmas.Slice.Eq.bytes_eq-Decides}
-use Rattle.std.proofs.lemmas.List.Elements.{All-cons, All-tail}
-use Rattle.std.specs.Prelude.{Bool, true, false, ◌↔◌, bytes_eq}
-use Rattle.std.specs.{Bool.Decides, Bool.MatchBool, Cmp.Lexicographic.pointwise}
+use Rattle.std.{proofs.lemmas.Bool.cases_Bool, proofs.lemmas.Slice.Eq.bytes_eq-Decides}
+use Rattle.std.{proofs.lemmas.List.Elements.{All-cons, All-tail}, specs.Prelude.{Bool, true, false, ◌↔◌, bytes_eq}}
+use Rattle.std.{specs.Bool.{Decides, MatchBool}, specs.Cmp.Lexicographic.pointwise}
 use Rattle.http_header.specs.FieldValue.{FieldValue}
 use Rattle.headers.specs.Lines.{lines_of}
-use Rattle.rfc_fields.specs.{Scan.Member, Scan.Member.Whole, Scan.Member.Malformed}
+use Rattle.rfc_fields.{specs.Scan.Member, specs.Scan.Member.{Whole, Malformed}}
 use Rattle.cache_policy.specs.Varying.{AreSame, IsSame}
 
 -- the first of a list, if it has one, and what comes after it

@@ -2,12 +2,11 @@
 use Rattle.std.specs.Prelude.{◌≡◌, ◌⊎◌, ⊤, ℕ, ◌+◌, ◌-◌, ◌<◌, ◌≤◌, Bool, true, false, ◌&&◌, nat_lt, Option, None, IfSome}
 use Rattle.std.specs.Prelude.{IsSome, if◌then◌else◌, IsSomeAnd, unwrap_or}
 use Rattle.headers.specs.LineMap.{LineMap}
-use Rattle.cache_fields.specs.{Age.age_at, Directives.directed, Fields.capped, Freshness.HasLifetime}
-use Rattle.cache_fields.specs.{declared.age.Times.Times, declared.directives.Directives.Directives}
-use Rattle.cache_fields.specs.{declared.kind.Kind.Kind}
-use Rattle.cache_fields.specs.declared.kind.Kind.TheVariants.{Shared, Private}
-use Rattle.cache_policy.specs.{Requests.IsSafe, Requests.Request, Varying.Suits, declared.decision.Decision.Decision}
-use Rattle.cache_policy.specs.{declared.decision.Freshness.Freshness}
+use Rattle.cache_fields.{specs.Age.age_at, specs.Directives.directed, specs.Fields.capped, specs.Freshness.HasLifetime}
+use Rattle.cache_fields.{specs.declared.age.Times.Times, specs.declared.directives.Directives.Directives}
+use Rattle.cache_fields.{specs.declared.kind.Kind.Kind, specs.declared.kind.Kind.TheVariants.{Shared, Private}}
+use Rattle.cache_policy.{specs.Requests.{IsSafe, Request}, specs.Varying.Suits}
+use Rattle.cache_policy.{specs.declared.decision.Decision.Decision, specs.declared.decision.Freshness.Freshness}
 use Rattle.cache_policy.specs.declared.decision.Decision.TheVariants.{Serve, ServeAndRevalidate, ServeStale, Revalidate}
 use Rattle.cache_policy.specs.declared.decision.Decision.TheVariants.{RevalidateOrServe, Unavailable, Fetch}
 

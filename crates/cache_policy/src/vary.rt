@@ -1,12 +1,10 @@
 //! Whether a stored response may answer another request, by its method and by Vary.
-ghost use Rattle.std.specs.Prelude.{◌≡◌, ◌↔◌, IsTrue, option_map, bytes_eq, length};
-ghost use Rattle.std.specs.Bool.{MatchBool};
-ghost use Rattle.headers.specs.{LineMap.lines_at, Lines.lines_of};
+ghost use Rattle.std.{specs.Prelude.{◌≡◌, ◌↔◌, IsTrue, option_map, bytes_eq, length}, specs.Bool.MatchBool};
+ghost use Rattle.headers.{specs.LineMap.lines_at, specs.Lines.lines_of};
 ghost use Rattle.rfc_fields.specs.Members.{field_left, field_members, member_of};
 ghost use Rattle.http_header.specs.Token.{lowercase};
-ghost use Rattle.cache_policy.specs.Requests.{request_of};
-ghost use Rattle.cache_policy.specs.Varying.{Agree, AreAlike, AreSame, HaveSameMembers, IsSame, SayTheSame, Suits};
-ghost use Rattle.cache_policy.specs.Varying.{has_pairs, is_list_name};
+ghost use Rattle.cache_policy.{specs.Requests.request_of, specs.Varying.{Agree, AreAlike, AreSame, HaveSameMembers}};
+ghost use Rattle.cache_policy.specs.Varying.{IsSame, SayTheSame, Suits, has_pairs, is_list_name};
 
 use crate::fields::have_same_lines;
 use crate::request::{RequestHead, allows_method};

@@ -1,7 +1,6 @@
 //! The conditions of a client, for a stored response.
-ghost use Rattle.std.specs.Prelude.{◌≡◌, ◌≢◌, IfOk, OnErr, codes, option_map};
-ghost use Rattle.std.specs.Bool.{MatchBool};
-ghost use Rattle.headers.specs.{LineMap.lines_at, Lines.Line, Shapes.only_tag};
+ghost use Rattle.std.{specs.Prelude.{◌≡◌, ◌≢◌, IfOk, OnErr, codes, option_map}, specs.Bool.MatchBool};
+ghost use Rattle.headers.{specs.LineMap.lines_at, specs.Lines.Line, specs.Shapes.only_tag};
 ghost use Rattle.cache_policy.specs.Requests.{request_of};
 ghost use Rattle.cache_rules.specs.Conditions.{AreValidators, IsForCache, IsStoredAnswer, answer_of, divisible};
 ghost use Rattle.cache_rules.specs.Conditions.{one_part, modified_second, unix_second};

@@ -1,6 +1,5 @@
 //! Fields that are set in a map.
-ghost use Rattle.std.specs.Prelude.{◌≡◌, ℕ, List, OnOk, IfErr, IsErrOf};
-ghost use Rattle.std.specs.List.{All};
+ghost use Rattle.std.{specs.Prelude.{◌≡◌, ℕ, List, OnOk, IfErr, IsErrOf}, specs.List.All};
 ghost use Rattle.http_header.specs.HeaderMap.{get_all};
 ghost use Rattle.headers.specs.LineMap.{IsFieldOfOther, fields_of, lines_at, set_all};
 ghost use Rattle.cache_rules.specs.Fields.{IsTooSmallFor, SetsPart};

@@ -1,10 +1,9 @@
 //! Updates of a stored response by a validating one.
-ghost use Rattle.std.specs.Prelude.{◌≡◌, ◌++◌, IfOk, IsErrOf, OnErr};
-ghost use Rattle.std.specs.Bool.{MatchBool};
-ghost use Rattle.headers.specs.{LineMap.fields_of, LineMap.lines_at, LineMap.set_all, Lines.lines_of};
-ghost use Rattle.cache_policy.specs.Policies.{MayStoreUnder, policy_of};
-ghost use Rattle.cache_policy.specs.{Requests.request_of, Updating.IsUpdated};
-ghost use Rattle.cache_rules.specs.{Fields.IsTooSmallFor, Stored.fields_of_stored, Stored.request_of_stored};
+ghost use Rattle.std.{specs.Prelude.{◌≡◌, ◌++◌, IfOk, IsErrOf, OnErr}, specs.Bool.MatchBool};
+ghost use Rattle.headers.{specs.LineMap.{fields_of, lines_at, set_all}, specs.Lines.lines_of};
+ghost use Rattle.cache_policy.{specs.Policies.{MayStoreUnder, policy_of}, specs.Requests.request_of};
+ghost use Rattle.cache_policy.specs.Updating.{IsUpdated};
+ghost use Rattle.cache_rules.{specs.Fields.IsTooSmallFor, specs.Stored.{fields_of_stored, request_of_stored}};
 ghost use Rattle.cache_rules.specs.Freshening.{IsFreshenedAs, IsHeadOf, IsRenewed, IsReusable, SaysAsBefore, aged_anew};
 ghost use Rattle.cache_rules.specs.Freshening.{aging_fields, renewing_fields};
 

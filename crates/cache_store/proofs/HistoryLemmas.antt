@@ -1,20 +1,19 @@
 -- What the calls of a store leave is justified by them.
 use Rattle.std.proofs.Common.{◌≡◌, ◌≢◌, ◌⊎◌, ℕ, zero, suc, Bool, true, false, not, cond, List, [], ◌∷◌, ◌++◌, take}
 use Rattle.std.proofs.Common.{drop, Option, Some, None, refl, sym, ap, subst, arith, filter, remove, slice_get, inl}
-use Rattle.std.proofs.Common.{inr, ◌∙◌}
-use Rattle.std.proofs.{lemmas.Option.same_Some, lemmas.Slice.Eq.bytes_eq-Decides}
+use Rattle.std.{proofs.Common.{inr, ◌∙◌}, proofs.lemmas.Option.same_Some, proofs.lemmas.Slice.Eq.bytes_eq-Decides}
 use Rattle.headers.specs.LineMap.{Field, LineMap}
-use Rattle.cache_policy.specs.{Decisions.IsGoodEnough, declared.decision.Decision.Decision, Requests.Request}
-use Rattle.cache_policy.specs.Policies.{Policy, asks, tells}
-use Rattle.cache_rules.specs.Stored.{fields_of_stored, request_of_stored}
-use Rattle.cache_rules.specs.{Freshening.IsReusable, declared.freshening.Exchange.Exchange}
-use Rattle.cache_rules.specs.{declared.storing.Reception.Reception, declared.stored.StoredResponse.StoredResponse}
-use Rattle.cache_store.specs.{Changes.IsFront, Changes.IsRefreshedTo, Changes.IsRest, Updates.AreLeft}
-use Rattle.cache_store.specs.{Updates.BecomesBeside, Updates.BecomesByHead, declared.limits.Limits.Limits}
-use Rattle.cache_store.specs.{Numbers.numbered, Served.IsRightlyServed, Served.Serves, declared.lookup.Lookup.Lookup}
+use Rattle.cache_policy.{specs.Decisions.IsGoodEnough, specs.declared.decision.Decision.Decision}
+use Rattle.cache_policy.{specs.Requests.Request, specs.Policies.{Policy, asks, tells}}
+use Rattle.cache_rules.{specs.Stored.{fields_of_stored, request_of_stored}, specs.Freshening.IsReusable}
+use Rattle.cache_rules.{specs.declared.freshening.Exchange.Exchange, specs.declared.storing.Reception.Reception}
+use Rattle.cache_rules.specs.declared.stored.StoredResponse.{StoredResponse}
+use Rattle.cache_store.{specs.Changes.{IsFront, IsRefreshedTo, IsRest}, specs.Updates.{AreLeft, BecomesBeside}}
+use Rattle.cache_store.{specs.Updates.BecomesByHead, specs.declared.limits.Limits.Limits, specs.Numbers.numbered}
+use Rattle.cache_store.{specs.Served.{IsRightlyServed, Serves}, specs.declared.lookup.Lookup.Lookup}
 use Rattle.cache_store.specs.Contents.{Contents, Target, is_for, responses_at, used, with_target, without}
-use Rattle.cache_store.specs.History.{Call, Has, HasUnder, History, IsJustified, Run, Step}
-use Rattle.cache_store.specs.History.Call.{Looked, Arrived, Validated, Described, Answered, Removed}
+use Rattle.cache_store.{specs.History.{Call, Has, HasUnder, History, IsJustified, Run, Step}, specs.History.Call.Looked}
+use Rattle.cache_store.specs.History.Call.{Arrived, Validated, Described, Answered, Removed}
 use Rattle.cache_store.specs.declared.freshening.Refreshed.TheVariants.{Absent, Unchanged, Stored, Once}
 use Rattle.cache_store.specs.Lookups.{IsAnswer, IsFound, age_of_stored, freshness_of}
 use Rattle.cache_store.specs.declared.lookup.Lookup.TheVariants.{Serve, ServeAndRevalidate, Validate, ValidateOrServe}

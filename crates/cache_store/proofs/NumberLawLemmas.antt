@@ -1,13 +1,11 @@
 -- What a number shows after any calls.
 use Rattle.std.proofs.Common.{◌≡◌, ◌⊎◌, ℕ, ◌<◌, ◌≤◌, List, [], ◌∷◌, Option, Some, None, refl, sym, ap, subst, arith}
-use Rattle.std.proofs.Common.{inl, inr, ◌∙◌}
-use Rattle.std.proofs.lemmas.Bool.{cases_lt}
+use Rattle.std.{proofs.Common.{inl, inr, ◌∙◌}, proofs.lemmas.Bool.cases_lt}
 use Rattle.cache_policy.specs.Policies.{Policy}
 use Rattle.cache_rules.specs.declared.stored.StoredResponse.{StoredResponse}
-use Rattle.cache_store.specs.{Contents.Contents, Contents.Target, Contents.responses_at, declared.limits.Limits.Limits}
-use Rattle.cache_store.specs.History.{Has, HasUnder, History, RunFrom, State}
-use Rattle.cache_store.specs.Numbers.{AreNumbered, numbered, times_in, times_used}
-use Rattle.cache_store.proofs.HistoryLemmas.{HasUnder-responses_at}
+use Rattle.cache_store.{specs.Contents.{Contents, Target, responses_at}, specs.declared.limits.Limits.Limits}
+use Rattle.cache_store.{specs.History.{Has, HasUnder, History, RunFrom, State}, specs.Numbers.{AreNumbered, numbered}}
+use Rattle.cache_store.{specs.Numbers.{times_in, times_used}, proofs.HistoryLemmas.HasUnder-responses_at}
 use Rattle.cache_store.proofs.NumberLemmas.{Has-numbered, times-cons, times-has, used-cons}
 
 -- ---- a run

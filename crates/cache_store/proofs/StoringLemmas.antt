@@ -1,14 +1,13 @@
 -- What a new response takes away.
 use Rattle.std.proofs.Common.{◌≡◌, ◌≢◌, ℕ, ◌+◌, ◌-◌, ◌<◌, List, [], ◌∷◌, ◌++◌, drop, length, get_or, Result, Option, Ok}
-use Rattle.std.proofs.Common.{Some, refl, sym, ap, subst, arith, remove, inl, inr, ◌∙◌}
-use Rattle.std.proofs.{lemmas.List.drop-drop, lemmas.List.Sums.sum_by-remove, lemmas.Option.get_or_from_slice_get}
+use Rattle.std.{proofs.Common.{Some, refl, sym, ap, subst, arith, remove, inl, inr, ◌∙◌}, proofs.lemmas.List.drop-drop}
+use Rattle.std.{proofs.lemmas.List.Sums.sum_by-remove, proofs.lemmas.Option.get_or_from_slice_get}
 use Rattle.cache_policy.specs.Requests.{Request}
-use Rattle.cache_rules.specs.Selection.{IsCandidate, IsMostRecent}
-use Rattle.cache_rules.specs.{Stored.request_of_stored, declared.stored.StoredResponse.StoredResponse}
-use Rattle.cache_store.specs.Changes.{FitsAlone, IsInserted, IsRest, IsTrimmed}
-use Rattle.cache_store.specs.Contents.{Contents, IsAbsent, bytes_of, responses_at, size_of, without}
-use Rattle.cache_store.specs.{Room.IsLongestWithRoom, declared.limits.Limits.Limits}
-use Rattle.cache_store.proofs.EntryLemmas.{IsAbsent-take, IsAbsent-without}
+use Rattle.cache_rules.{specs.Selection.{IsCandidate, IsMostRecent}, specs.Stored.request_of_stored}
+use Rattle.cache_rules.specs.declared.stored.StoredResponse.{StoredResponse}
+use Rattle.cache_store.{specs.Changes.{FitsAlone, IsInserted, IsRest, IsTrimmed}, specs.Contents.{Contents, IsAbsent}}
+use Rattle.cache_store.{specs.Contents.{bytes_of, responses_at, size_of, without}, specs.Room.IsLongestWithRoom}
+use Rattle.cache_store.{specs.declared.limits.Limits.Limits, proofs.EntryLemmas.{IsAbsent-take, IsAbsent-without}}
 
 -- ---- bytes
 

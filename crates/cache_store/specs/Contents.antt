@@ -1,7 +1,6 @@
 -- What a store has.
 use Rattle.std.specs.Prelude.{◌≡◌, ℕ, Bool, false, not, List, [], ◌∷◌, ◌++◌, map, length, filter, sum_by, bytes_eq}
-use Rattle.std.specs.Prelude.{if◌then◌else◌, string_bytes, String, Vec}
-use Rattle.std.specs.List.{AllByRecursion}
+use Rattle.std.{specs.Prelude.{if◌then◌else◌, string_bytes, String, Vec}, specs.List.AllByRecursion}
 use Rattle.cache_rules.specs.declared.stored.StoredResponse.{StoredResponse}
 
 -- a target URI with the responses that are stored under it, in the order in which they were stored

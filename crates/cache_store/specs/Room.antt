@@ -1,7 +1,6 @@
 -- Whether a store has room for more.
 use Rattle.std.specs.Prelude.{◌≡◌, ℕ, ◌+◌, ◌<◌, ◌≤◌, length, take}
-use Rattle.cache_store.specs.Contents.{Contents, byte_count, response_count}
-use Rattle.cache_store.specs.declared.limits.Limits.{Limits}
+use Rattle.cache_store.{specs.Contents.{Contents, byte_count, response_count}, specs.declared.limits.Limits.Limits}
 
 -- with so many more responses and bytes the limits are kept
 pub record HasRoom (limits : Limits) (responses bytes : ℕ) (contents : Contents) : Type 0 where

@@ -1,13 +1,11 @@
 //! What is stored.
 ghost use Rattle.std.specs.Prelude.{◌≡◌, ◌≢◌, ◌⊎◌, ℕ, ◌+◌, ◌<◌, ◌≤◌, ◌^◌, IfOk, IsErrOf, OnOk, OnErr, Some, None};
-ghost use Rattle.std.specs.Prelude.{length};
-ghost use Rattle.std.specs.Bool.{MatchBool};
+ghost use Rattle.std.{specs.Prelude.length, specs.Bool.MatchBool};
 ghost use Rattle.cache_policy.specs.Requests.{request_of};
 ghost use Rattle.cache_store.specs.Changes.{FitsAlone, IsFront, IsInserted, IsRest, IsStoredAs, IsToStore, IsTrimmed};
-ghost use Rattle.cache_store.specs.Changes.{IsTooSmallToStore};
-ghost use Rattle.cache_store.specs.Contents.{bytes_of, size_of, without};
-ghost use Rattle.cache_store.specs.{History.Call.Arrived, History.GoOn, History.Step, Kept.contents_of};
-ghost use Rattle.cache_store.specs.{Kept.policy_of_store, Numbers.times_in, Numbers.times_used};
+ghost use Rattle.cache_store.{specs.Changes.IsTooSmallToStore, specs.Contents.{bytes_of, size_of, without}};
+ghost use Rattle.cache_store.{specs.History.Call.Arrived, specs.History.{GoOn, Step}, specs.Kept.contents_of};
+ghost use Rattle.cache_store.{specs.Kept.policy_of_store, specs.Numbers.{times_in, times_used}};
 
 use crate::entries::bytes_of;
 use crate::limits::Limits;

@@ -1,29 +1,28 @@
 -- What a client receives through gateways and caches is what the resource says.
 use Rattle.std.proofs.Common.{◌≡◌, ◌≢◌, ◌⊎◌, ℕ, ◌-◌, ◌≤◌, Bool, true, false, List, [], ◌∷◌, Some, None, refl, sym, ◌∙◌}
-use Rattle.std.proofs.Common.{ap, subst, inl, inr, arith}
-use Rattle.std.proofs.lemmas.Bool.{cases_Bool}
-use Rattle.std.specs.{Prelude.All, Prelude.bytes_eq, Prelude.codes, Prelude.if◌then◌else◌, List.list_any}
+use Rattle.std.{proofs.Common.{ap, subst, inl, inr, arith}, proofs.lemmas.Bool.cases_Bool, specs.Prelude.All}
+use Rattle.std.{specs.Prelude.{bytes_eq, codes, if◌then◌else◌}, specs.List.list_any}
 use Rattle.http_header.specs.Token.{lowercase}
-use Rattle.headers.specs.{LineMap.fields_of, LineMap.set_all, Lines.Line}
+use Rattle.headers.{specs.LineMap.{fields_of, set_all}, specs.Lines.Line}
 use Rattle.cache_store.specs.Lookups.{freshness_of}
-use Rattle.cache_policy.specs.{Fields.age_of, Fields.capped, Requests.AllowsMethod, Requests.IsGetOrHead}
+use Rattle.cache_policy.{specs.Fields.{age_of, capped}, specs.Requests.{AllowsMethod, IsGetOrHead}}
 use Rattle.chain.specs.Caches.{Caching, HasComeFrom, IsFromStore, IsPlain, Origin, Reply, unless_head}
 use Rattle.chain.specs.Chains.{Hop, IsForwardedBack, IsGoodAt, IsOwn, IsTold, behind, meant}
-use Rattle.chain.specs.{Chains.Hop.Forwards, Chains.Hop.Stores, Ways.sent_directly}
-use Rattle.chain.specs.Servers.{IsCarried, SaysCloseAtMost, Server, sent_of}
+use Rattle.chain.{specs.Chains.Hop.{Forwards, Stores}, specs.Ways.sent_directly, specs.Servers.IsCarried}
+use Rattle.chain.{specs.Servers.{SaysCloseAtMost, Server, sent_of}, proofs.ConnectionLemmas.crosses_if}
+use Rattle.chain.{proofs.ServerLemmas.{same_sent, says_close_at_most}, proofs.StoreLemmas.{StoreLaws, age_is}}
+use Rattle.chain.proofs.StoreLemmas.{alike_first, allowed_method, asked_first, come, counts, from, once_more}
+use Rattle.chain.proofs.StoreLemmas.{with_method, lacks, plain_first, quiet, right, shown, stored_as, suits}
+use Rattle.chain.{proofs.SuitLemmas.{MembersSelect, VaryIsSound, suited}, proofs.WayLemmas.{ReadsNoMore, alike, apart}}
+use Rattle.chain.proofs.WayLemmas.{choose_alike, choose_direct, crosses, differs, direct, no_options, same_lines}
 use Rattle.rfc_fields.specs.Members.{field_members}
-use Rattle.gateway_messages.specs.{Forwarding.IsHopByHop, Forwarding.own_names, Spellings.has_mark}
-use Rattle.gateway_messages.specs.{declared.gateway.Gateway.Gateway, declared.protocol.Protocol.TheVariants.Http11}
-use Rattle.gateway_messages.specs.HopByHop.{connection_options, is_hop_by_hop, is_known}
-use Rattle.decide_resource.specs.{Answers.IsAnswer, Requests.Request, Requests.get_of, Requests.head_of, Vary.AreAlike}
-use Rattle.decide_resource.specs.{Vary.ChooseAlike, declared.answer.Answer.Answer, declared.resource.Resource.Resource}
-use Rattle.chain.proofs.{ConnectionLemmas.crosses_if, ServerLemmas.same_sent, ServerLemmas.says_close_at_most}
-use Rattle.chain.proofs.StoreLemmas.{StoreLaws, age_is, alike_first, allowed_method, asked_first, come, counts, from}
-use Rattle.chain.proofs.StoreLemmas.{once_more, with_method, lacks, plain_first, quiet, right, shown, stored_as, suits}
-use Rattle.chain.proofs.SuitLemmas.{MembersSelect, VaryIsSound, suited}
-use Rattle.chain.proofs.WayLemmas.{ReadsNoMore, alike, apart, choose_alike, choose_direct, crosses, differs, direct}
-use Rattle.chain.proofs.WayLemmas.{no_options, same_lines}
-use Rattle.gateway_messages.proofs.SpellingLemmas.{well_spelt}
+use Rattle.gateway_messages.{specs.Forwarding.{IsHopByHop, own_names}, specs.Spellings.has_mark}
+use Rattle.gateway_messages.specs.declared.gateway.Gateway.{Gateway}
+use Rattle.gateway_messages.{specs.declared.protocol.Protocol.TheVariants.Http11, specs.HopByHop.connection_options}
+use Rattle.gateway_messages.{specs.HopByHop.{is_hop_by_hop, is_known}, proofs.SpellingLemmas.well_spelt}
+use Rattle.decide_resource.{specs.Answers.IsAnswer, specs.Requests.{Request, get_of, head_of}, specs.Vary.AreAlike}
+use Rattle.decide_resource.{specs.Vary.ChooseAlike, specs.declared.answer.Answer.Answer}
+use Rattle.decide_resource.specs.declared.resource.Resource.{Resource}
 
 -- ---- carried fields
 

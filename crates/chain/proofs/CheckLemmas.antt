@@ -1,6 +1,5 @@
 -- A browser's CORS check reads fields that gateways pass on.
-use Rattle.std.proofs.Common.{◌≡◌, ◌↔◌, List, refl, sym, ◌∙◌, ap, subst, get_or}
-use Rattle.std.specs.Prelude.{codes}
+use Rattle.std.{proofs.Common.{◌≡◌, ◌↔◌, List, refl, sym, ◌∙◌, ap, subst, get_or}, specs.Prelude.codes}
 use Rattle.headers.specs.Lines.{Line}
 use Rattle.chain.specs.Responses.{HasNoOptions, Returns}
 use Rattle.decide_cors.specs.Browser.{Checks, CorsCheck, Request as Sent, combined}

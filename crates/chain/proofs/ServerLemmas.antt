@@ -1,17 +1,15 @@
 -- A resource sets no connection option, and what a server sends for the same is the same.
 use Rattle.std.proofs.Common.{◌≡◌, ℕ, Bool, true, false, List, [], ◌∷◌, ◌++◌, Option, Some, None, refl, ◌∙◌, ap}
-use Rattle.std.proofs.lemmas.Bool.{and_from, and_parts}
-use Rattle.std.specs.Prelude.{bytes_eq, codes, if◌then◌else◌, is_some, not}
+use Rattle.std.{proofs.lemmas.Bool.{and_from, and_parts}, specs.Prelude.{bytes_eq, codes, if◌then◌else◌, is_some, not}}
 use Rattle.std.specs.List.{list_all}
 use Rattle.http_header.specs.FieldValue.{FieldValue}
-use Rattle.headers.specs.LineMap.{Field, LineMap, fields_of, set, set_all}
-use Rattle.headers.specs.Lines.{Line}
-use Rattle.chain.specs.Caches.{Reply}
-use Rattle.chain.specs.Servers.{IsSent, SaysCloseAtMost, Server, connection_lines, sent_of}
-use Rattle.decide_cors.specs.Fields.{covers_origin, grant_fields, granted, vary_sent}
-use Rattle.decide_cors.specs.{Kinds.is_preflight, Policy.Policy}
+use Rattle.headers.{specs.LineMap.{Field, LineMap, fields_of, set, set_all}, specs.Lines.Line}
+use Rattle.chain.{specs.Caches.Reply, specs.Servers.{IsSent, SaysCloseAtMost, Server, connection_lines, sent_of}}
+use Rattle.decide_cors.{specs.Fields.{covers_origin, grant_fields, granted, vary_sent}, specs.Kinds.is_preflight}
+use Rattle.decide_cors.specs.Policy.{Policy}
 use Rattle.decide_preconditions.specs.Fields.{fields_removed, fields_sent, is_known_by, is_whole, keeps_encoding}
-use Rattle.decide_preconditions.specs.{Responses.IsAnswered, declared.content.Content.Content, declared.plan.Plan.Plan}
+use Rattle.decide_preconditions.{specs.Responses.IsAnswered, specs.declared.content.Content.Content}
+use Rattle.decide_preconditions.specs.declared.plan.Plan.{Plan}
 use Rattle.decide_preconditions.specs.{declared.resource.Resource.Resource as Target}
 use Rattle.decide_preconditions.specs.{declared.response.Response.Response}
 use Rattle.decide_resource.specs.Answers.{AreSent, GivesIf, IsAnswer, IsShared, at_place, content_of, is_admitted}

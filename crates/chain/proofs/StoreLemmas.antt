@@ -1,37 +1,35 @@
 -- What a cache serves from its store came from those behind it.
 use Rattle.std.proofs.Common.{◌≡◌, ◌≢◌, ◌⊎◌, ℕ, ◌+◌, ◌-◌, ◌≤◌, Bool, true, false, List, [], ◌∷◌, ◌++◌, refl, sym, ◌∙◌}
-use Rattle.std.proofs.Common.{ap, subst, inl, inr, arith}
-use Rattle.std.proofs.lemmas.Bool.{and_parts, cases_Bool}
-use Rattle.std.proofs.{lemmas.Bool.Decides.nat_tests, lemmas.List.Elements.All-weaker, lemmas.List.Folds.list_any_at}
-use Rattle.std.specs.Prelude.{◌||◌, ◌==◌, not, bytes_eq, codes, unwrap_or, max}
+use Rattle.std.{proofs.Common.{ap, subst, inl, inr, arith}, proofs.lemmas.Bool.{and_parts, cases_Bool}}
+use Rattle.std.{proofs.lemmas.Bool.Decides.nat_tests, proofs.lemmas.List.Elements.All-weaker}
+use Rattle.std.{proofs.lemmas.List.Folds.list_any_at, specs.Prelude.{◌||◌, ◌==◌, not, bytes_eq, codes, unwrap_or, max}}
 use Rattle.std.specs.List.{list_all, list_any}
 use Rattle.http_header.specs.Token.{lowercase}
-use Rattle.headers.specs.LineMap.{Field, LineMap, lines_at}
-use Rattle.headers.specs.{Lines.Line, Lines.only_line, Text.is_text, Typed.HasLine}
-use Rattle.cache_store.specs.{Changes.IsStoredAs, Changes.IsToStore, Contents.Contents, Contents.responses_at}
-use Rattle.cache_store.specs.{Served.IsRightlyServed, Served.Serves, declared.limits.Limits.Limits}
-use Rattle.cache_store.specs.{declared.lookup.Lookup.Lookup, Numbers.numbered}
-use Rattle.cache_store.specs.History.{HasUnder, History, IsJustified, Run}
-use Rattle.cache_store.specs.Lookups.{IsAnswer, IsFreshFor, age_of_stored, freshness_of}
-use Rattle.cache_store.specs.declared.lookup.Lookup.TheVariants.{Serve, ServeAndRevalidate, Validate, ValidateOrServe}
+use Rattle.headers.{specs.LineMap.{Field, LineMap, lines_at}, specs.Lines.{Line, only_line}, specs.Text.is_text}
+use Rattle.headers.specs.Typed.{HasLine}
+use Rattle.cache_store.{specs.Changes.{IsStoredAs, IsToStore}, specs.Contents.{Contents, responses_at}}
+use Rattle.cache_store.{specs.Served.{IsRightlyServed, Serves}, specs.declared.limits.Limits.Limits}
+use Rattle.cache_store.{specs.declared.lookup.Lookup.Lookup, specs.Numbers.numbered, specs.History.{HasUnder, History}}
+use Rattle.cache_store.{specs.History.{IsJustified, Run}, specs.Lookups.{IsAnswer, IsFreshFor, age_of_stored}}
+use Rattle.cache_store.{specs.Lookups.freshness_of, specs.declared.lookup.Lookup.TheVariants.Serve}
+use Rattle.cache_store.specs.declared.lookup.Lookup.TheVariants.{ServeAndRevalidate, Validate, ValidateOrServe}
 use Rattle.cache_store.specs.declared.lookup.Lookup.TheVariants.{Unavailable, Forward}
-use Rattle.cache_store.proofs.{HistoryLemmas.HasUnder-responses_at, NumberLemmas.Has-numbered}
-use Rattle.cache_policy.specs.{Decisions.IsGoodEnough, Decisions.MayServeOnError, Age.age_at, Age.apparent_age}
-use Rattle.cache_policy.specs.{Fields.age_of, Fields.age_value, Fields.capped, Requests.AllowsMethod}
+use Rattle.cache_store.{proofs.HistoryLemmas.HasUnder-responses_at, proofs.NumberLemmas.Has-numbered}
+use Rattle.cache_policy.{specs.Decisions.{IsGoodEnough, MayServeOnError}, specs.Age.{age_at, apparent_age}}
+use Rattle.cache_policy.{specs.Fields.{age_of, age_value, capped}, specs.Requests.AllowsMethod}
 use Rattle.cache_policy.specs.{Requests.IsGetOrHead, Requests.Request as Asked, Storing.IsShareable, Targets.governing}
 use Rattle.cache_policy.specs.{declared.Governing.Governing, declared.Kind.Kind, declared.Kind.TheVariants.Private}
 use Rattle.cache_policy.specs.{declared.Kind.TheVariants.Shared, Varying.Agree, Varying.Suits}
 use Rattle.cache_policy.specs.Policies.{AnswersUnder, Policy, asks as counted_of, tells}
-use Rattle.cache_rules.proofs.StoringLemmas.{governed_alike}
-use Rattle.cache_rules.specs.{Selection.IsCandidate, Stored.fields_of_stored, Stored.times_of, Storing.reuse_names}
-use Rattle.cache_rules.specs.{declared.storing.Reception.Reception, declared.stored.StoredResponse.StoredResponse}
+use Rattle.cache_rules.{proofs.StoringLemmas.governed_alike, specs.Selection.IsCandidate, specs.Stored.fields_of_stored}
+use Rattle.cache_rules.{specs.Stored.times_of, specs.Storing.reuse_names, specs.declared.storing.Reception.Reception}
+use Rattle.cache_rules.specs.declared.stored.StoredResponse.{StoredResponse}
 use Rattle.chain.specs.Caches.{Act, Caching, HasAfter, HasComeFrom, IsFromStore, IsPlain, Origin, Reply, ServesOnError}
-use Rattle.chain.specs.Caches.{asked, calls_of, key_of, unless_head}
-use Rattle.chain.specs.{Caches.Act.Looks, Caches.Act.Takes, Caches.Act.Drops, Servers.SaysCloseAtMost}
-use Rattle.rfc_fields.specs.{Members.field_members, Scan.Member, Scan.Member.Whole, Scan.Member.Malformed}
+use Rattle.chain.{specs.Caches.{asked, calls_of, key_of, unless_head}, specs.Caches.Act.{Looks, Takes, Drops}}
+use Rattle.chain.{specs.Servers.SaysCloseAtMost, proofs.AgeLemmas.age_of-decimal, proofs.ConnectionLemmas.crosses_if}
+use Rattle.rfc_fields.{specs.Members.field_members, specs.Scan.Member, specs.Scan.Member.{Whole, Malformed}}
 use Rattle.gateway_messages.specs.HopByHop.{connection_options, is_hop_by_hop, is_known, is_named}
-use Rattle.decide_resource.specs.{Requests.Request, Vary.AreAlike}
-use Rattle.chain.proofs.{AgeLemmas.age_of-decimal, ConnectionLemmas.crosses_if}
+use Rattle.decide_resource.{specs.Requests.Request, specs.Vary.AreAlike}
 use Rattle.cache_policy.specs.declared.decision.Decision.TheVariants as decisions
 
 -- what a law of a store says

@@ -1,20 +1,17 @@
 -- Requests that a cache takes for one by Vary get the same answers.
 use Rattle.std.proofs.Common.{◌≡◌, ◌≢◌, ◌↔◌, ℕ, Bool, true, false, List, [], ◌∷◌, refl, sym, ◌∙◌, ap, subst, inl, inr}
-use Rattle.std.proofs.Common.{arith, bytes_eq}
-use Rattle.std.proofs.{lemmas.Bool.cases_Bool, lemmas.Bool.Decides.nat_tests, lemmas.Slice.Eq.bytes_eq-Decides}
-use Rattle.std.proofs.lemmas.List.Elements.{All-head, All-tail}
-use Rattle.std.specs.Prelude.{All, ◌||◌, codes, if◌then◌else◌}
-use Rattle.std.specs.{List.list_any, Char.to_ascii_lowercase}
+use Rattle.std.{proofs.Common.{arith, bytes_eq}, proofs.lemmas.Bool.cases_Bool, proofs.lemmas.Bool.Decides.nat_tests}
+use Rattle.std.{proofs.lemmas.Slice.Eq.bytes_eq-Decides, proofs.lemmas.List.Elements.{All-head, All-tail}}
+use Rattle.std.{specs.Prelude.{All, ◌||◌, codes, if◌then◌else◌}, specs.List.list_any, specs.Char.to_ascii_lowercase}
 use Rattle.http_header.specs.Token.{lowercase}
-use Rattle.headers.specs.{LineMap.LineMap, LineMap.fields_of, LineMap.set_all, Lines.Line}
-use Rattle.cache_policy.specs.Varying.{Agree, SayTheSame, has_pairs, is_list_name, Suits}
-use Rattle.cache_policy.specs.Requests.{AllowsMethod}
-use Rattle.rfc_fields.specs.{Directives.is_same_token, Members.field_members, Scan.Member}
+use Rattle.headers.{specs.LineMap.{LineMap, fields_of, set_all}, specs.Lines.Line}
+use Rattle.cache_policy.{specs.Varying.{Agree, SayTheSame, has_pairs, is_list_name, Suits}, specs.Requests.AllowsMethod}
+use Rattle.rfc_fields.{specs.Directives.is_same_token, specs.Members.field_members, specs.Scan.Member}
 use Rattle.rfc_fields.specs.Scan.Member.{Whole, Malformed}
 use Rattle.chain.specs.Caches.{asked}
 use Rattle.decide_cors.specs.Cache.{Serves, nominates}
-use Rattle.decide_resource.specs.Answers.{AreSame, IsAnswer}
-use Rattle.decide_resource.specs.{Requests.Request, declared.answer.Answer.Answer, declared.resource.Resource.Resource}
+use Rattle.decide_resource.{specs.Answers.{AreSame, IsAnswer}, specs.Requests.Request}
+use Rattle.decide_resource.{specs.declared.answer.Answer.Answer, specs.declared.resource.Resource.Resource}
 use Rattle.decide_resource.specs.Vary.{AreAlike, ListAlike, SelectTheSame}
 
 -- ---- what members of Vary nominate

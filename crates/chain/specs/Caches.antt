@@ -1,13 +1,12 @@
 -- A cache before other servers (RFC 9111): which requests it answers from its store, what it stores, and when.
 use Rattle.std.specs.Prelude.{◌≡◌, ◌≢◌, ◌⊎◌, ℕ, ◌+◌, ◌-◌, ◌≤◌, Bool, true, ◌&&◌, not, ◌==◌, List, [], ◌∷◌, ◌++◌, All}
-use Rattle.std.specs.Prelude.{None, Some, bytes_eq, codes, if◌then◌else◌, unwrap_or}
-use Rattle.std.specs.List.{list_all}
-use Rattle.headers.specs.{LineMap.Field, LineMap.LineMap, LineMap.lines_at, Lines.Line, Lines.only_line, Text.is_text}
-use Rattle.cache_store.specs.{Contents.Contents, Contents.responses_at, History.Call, History.History, History.Step}
-use Rattle.cache_store.specs.{History.Call.Looked, History.Call.Arrived, History.Call.Removed, Lookups.IsAnswer}
-use Rattle.cache_store.specs.{Lookups.age_of_stored, Served.Serves, declared.limits.Limits.Limits, Numbers.numbered}
-use Rattle.cache_store.specs.{declared.lookup.Lookup.Lookup}
-use Rattle.cache_store.specs.declared.lookup.Lookup.TheVariants.{Serve, ServeAndRevalidate, Validate, ValidateOrServe}
+use Rattle.std.{specs.Prelude.{None, Some, bytes_eq, codes, if◌then◌else◌, unwrap_or}, specs.List.list_all}
+use Rattle.headers.{specs.LineMap.{Field, LineMap, lines_at}, specs.Lines.{Line, only_line}, specs.Text.is_text}
+use Rattle.cache_store.{specs.Contents.{Contents, responses_at}, specs.History.{Call, History, Step}}
+use Rattle.cache_store.{specs.History.Call.{Looked, Arrived, Removed}, specs.Lookups.{IsAnswer, age_of_stored}}
+use Rattle.cache_store.{specs.Served.Serves, specs.declared.limits.Limits.Limits, specs.Numbers.numbered}
+use Rattle.cache_store.{specs.declared.lookup.Lookup.Lookup, specs.declared.lookup.Lookup.TheVariants.Serve}
+use Rattle.cache_store.specs.declared.lookup.Lookup.TheVariants.{ServeAndRevalidate, Validate, ValidateOrServe}
 use Rattle.cache_store.specs.declared.lookup.Lookup.TheVariants.{Unavailable, Forward}
 use Rattle.cache_policy.specs.{Policies.Policy, Requests.IsGetOrHead, Requests.Request as Asked}
 use Rattle.cache_rules.specs.{Stored.fields_of_stored, declared.storing.Reception.Reception}

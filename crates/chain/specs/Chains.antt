@@ -5,10 +5,9 @@ use Rattle.cache_store.specs.Lookups.{IsFreshFor}
 use Rattle.cache_policy.specs.{Decisions.IsGoodEnough, Decisions.MayServeOnError, Fields.age_value, Fields.capped}
 use Rattle.cache_policy.specs.{declared.decision.Freshness.Freshness}
 use Rattle.cache_policy.specs.Policies.{Policy, asks as counted_of, tells}
-use Rattle.cache_rules.specs.{Stored.fields_of_stored, declared.stored.StoredResponse.StoredResponse}
-use Rattle.chain.specs.Caches.{Caching, IsFromStore, Origin, Reply}
-use Rattle.chain.specs.Servers.{IsCarried, IsSaid, IsSent, SaysCloseAtMost, Server}
-use Rattle.chain.specs.Ways.{IsPassedOn, received, sent_directly}
+use Rattle.cache_rules.{specs.Stored.fields_of_stored, specs.declared.stored.StoredResponse.StoredResponse}
+use Rattle.chain.{specs.Caches.{Caching, IsFromStore, Origin, Reply}, specs.Servers.{IsCarried, IsSaid, IsSent}}
+use Rattle.chain.{specs.Servers.{SaysCloseAtMost, Server}, specs.Ways.{IsPassedOn, received, sent_directly}}
 use Rattle.gateway_messages.specs.{FieldLines.fields_of as sent_fields, FieldLines.lines_under, Requests.IsForwarded}
 use Rattle.gateway_messages.specs.{Responses.IsForwardedResponse, Responses.Response, declared.gateway.Gateway.Gateway}
 use Rattle.gateway_messages.specs.{declared.request.ForwardedRequest.ForwardedRequest}

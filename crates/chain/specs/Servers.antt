@@ -1,17 +1,11 @@
 -- The server of a resource, and what it says about a request (RFC 9110).
 use Rattle.std.specs.Prelude.{◌≡◌, ◌≢◌, ℕ, Bool, true, false, List, [], ◌∷◌, All, Option, Some, codes}
 use Rattle.http_header.specs.Token.{lowercase}
-use Rattle.headers.specs.LineMap.{LineMap, fields_of, set, set_all}
-use Rattle.headers.specs.Lines.{Line}
+use Rattle.headers.{specs.LineMap.{LineMap, fields_of, set, set_all}, specs.Lines.Line}
 use Rattle.chain.specs.Caches.{Reply, unless_head}
-use Rattle.gateway_messages.specs.Forwarding.{own_names}
-use Rattle.gateway_messages.specs.HopByHop.{is_known}
-use Rattle.gateway_messages.specs.Spellings.{has_mark}
-use Rattle.decide_preconditions.specs.Plans.{parts_sent}
-use Rattle.decide_preconditions.specs.declared.part.Part.{Part}
-use Rattle.decide_resource.specs.Answers.{IsAnswer}
-use Rattle.decide_resource.specs.Requests.{Request}
-use Rattle.decide_resource.specs.declared.answer.Answer.{Answer}
+use Rattle.gateway_messages.{specs.Forwarding.own_names, specs.HopByHop.is_known, specs.Spellings.has_mark}
+use Rattle.decide_preconditions.{specs.Plans.parts_sent, specs.declared.part.Part.Part}
+use Rattle.decide_resource.{specs.Answers.IsAnswer, specs.Requests.Request, specs.declared.answer.Answer.Answer}
 use Rattle.decide_resource.specs.declared.answer.Sends.{Sends}
 use Rattle.decide_resource.specs.declared.answer.Sends.TheVariants as sends
 use Rattle.decide_resource.specs.declared.resource.Resource.{Resource}

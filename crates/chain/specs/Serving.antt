@@ -1,17 +1,16 @@
 -- What the calls of a cache do: answering a request from its store, and taking the response to one that it sent on.
 use Rattle.std.specs.Prelude.{◌≡◌, ◌⊎◌, ⊤, ℕ, Bool, true, false, List, [], ◌∷◌, OnErr, Option, Some, None, Result, Ok}
-use Rattle.std.specs.Prelude.{codes, string_bytes}
-use Rattle.std.specs.List.{list_any}
-use Rattle.headers.specs.{LineMap.LineMap, LineMap.field_of, LineMap.lines_at, Lines.Line}
-use Rattle.cache_store.specs.Changes.{FitsAlone, IsInserted, IsStoredAs, IsToStore}
-use Rattle.cache_store.specs.{Contents.Contents, Contents.size_of, History.Step, History.Call.Arrived}
-use Rattle.cache_store.specs.{declared.limits.Limits.Limits, declared.lookup.Lookup.Lookup}
+use Rattle.std.{specs.Prelude.{codes, string_bytes}, specs.List.list_any}
+use Rattle.headers.{specs.LineMap.{LineMap, field_of, lines_at}, specs.Lines.Line}
+use Rattle.cache_store.{specs.Changes.{FitsAlone, IsInserted, IsStoredAs, IsToStore}, specs.Contents.Contents}
+use Rattle.cache_store.{specs.Contents.size_of, specs.History.Step, specs.History.Call.Arrived}
+use Rattle.cache_store.{specs.declared.limits.Limits.Limits, specs.declared.lookup.Lookup.Lookup}
 use Rattle.cache_policy.specs.Policies.{Policy}
-use Rattle.cache_rules.specs.{declared.storing.Reception.Reception, declared.stored.StoredResponse.StoredResponse}
+use Rattle.cache_rules.{specs.declared.storing.Reception.Reception, specs.declared.stored.StoredResponse.StoredResponse}
 use Rattle.chain.specs.Caches.{IsNoted, IsPlain, IsSought, Reply, is_bare, key_of, special_names}
-use Rattle.chain.specs.{declared.cache.Action.Action, declared.cache.Pending.Pending, declared.cache.Received.Received}
-use Rattle.chain.specs.declared.cache.Action.TheVariants.{Serve, ServeAndFetch, Fetch, FetchOrServe, Forward}
-use Rattle.chain.specs.declared.cache.Action.TheVariants.{Unavailable}
+use Rattle.chain.{specs.declared.cache.Action.Action, specs.declared.cache.Pending.Pending}
+use Rattle.chain.{specs.declared.cache.Received.Received, specs.declared.cache.Action.TheVariants.Serve}
+use Rattle.chain.specs.declared.cache.Action.TheVariants.{ServeAndFetch, Fetch, FetchOrServe, Forward, Unavailable}
 use Rattle.decide_resource.specs.Requests.{Request}
 use Rattle.cache_store.specs.declared.lookup.Lookup.TheVariants as lookup
 

@@ -1,14 +1,12 @@
 //! A cache before other servers: which requests it answers from its store, and which responses it stores.
 ghost use Rattle.std.specs.Prelude.{◌≡◌, ◌==◌, ◌∷◌, [], ◌++◌, ◌⊎◌, ℕ, List, IfOk, IsErrOf, OnErr, MatchOption, codes};
-ghost use Rattle.std.specs.Prelude.{not, string_bytes};
-ghost use Rattle.std.specs.{Bool.MatchBool, List.list_all};
-ghost use Rattle.headers.specs.{LineMap.lines_at, Lines.Line};
-ghost use Rattle.cache_store.specs.{Contents.used, Kept.contents_of, Kept.policy_of_store};
+ghost use Rattle.std.{specs.Prelude.{not, string_bytes}, specs.Bool.MatchBool, specs.List.list_all};
+ghost use Rattle.headers.{specs.LineMap.lines_at, specs.Lines.Line};
+ghost use Rattle.cache_store.{specs.Contents.used, specs.Kept.{contents_of, policy_of_store}};
 ghost use Rattle.cache_policy.specs.Requests.{IsGetOrHead};
-ghost use Rattle.cache_rules.specs.{Fields.IsTooSmallFor, Storing.storing_fields};
-ghost use Rattle.chain.specs.Caches.{IsBareRead, IsPlain, key_of};
-ghost use Rattle.chain.specs.Serving.{HasBareHost, IsAction, IsActionOf, IsPending, IsTaken, has_special, is_there};
-ghost use Rattle.chain.specs.Serving.{reply_of};
+ghost use Rattle.cache_rules.{specs.Fields.IsTooSmallFor, specs.Storing.storing_fields};
+ghost use Rattle.chain.{specs.Caches.{IsBareRead, IsPlain, key_of}, specs.Serving.{HasBareHost, IsAction, IsActionOf}};
+ghost use Rattle.chain.specs.Serving.{IsPending, IsTaken, has_special, is_there, reply_of};
 ghost use Rattle.decide_resource.specs.Requests.{Request, request_of};
 
 use cache_policy::RequestHead as AskedHead;

@@ -1,18 +1,14 @@
 -- A list of methods or names encodes to a value whose elements are exactly these.
 use Rattle.std.proofs.Common.{◌≡◌, ℕ, ◌-◌, true, false, List, [], ◌∷◌, length, map, Some, IsTrue, refl, ap, subst, ◌∙◌}
-use Rattle.std.proofs.Common.{inl, inr, arith, leb}
-use Rattle.std.proofs.{Math.Seq.take-length, lemmas.Bool.Decides.nat_tests, lemmas.List.Elements.All-weaker}
-use Rattle.std.proofs.lemmas.Bool.{and_from, and_parts, cases_Bool, leb-true, ltb-true, ne_eqb}
-use Rattle.std.proofs.lemmas.List.Splits.{slice_split_at, slice_split_none}
+use Rattle.std.{proofs.Common.{inl, inr, arith, leb}, proofs.Math.Seq.take-length, proofs.lemmas.Bool.Decides.nat_tests}
+use Rattle.std.{proofs.lemmas.List.Elements.All-weaker, proofs.lemmas.Bool.{and_from, and_parts, cases_Bool, leb-true}}
+use Rattle.std.{proofs.lemmas.Bool.{ltb-true, ne_eqb}, proofs.lemmas.List.Splits.{slice_split_at, slice_split_none}}
 use Rattle.std.proofs.lemmas.List.Sums.{AllPass-from_list_all, list_all-from_AllPass, suffix_len_is}
-use Rattle.std.specs.Prelude.{codes, filter, nat_lt, ◌==◌}
-use Rattle.std.specs.List.{list_all, prefix_len, slice_split, suffix_len}
-use Rattle.http_header.specs.Token.{IsToken, is_token_byte, lowercase}
-use Rattle.http_header.proofs.TokenLemmas.{IsHeaderName-lowercase}
-use Rattle.headers.specs.{Lines.Line, Merge.merge, Places.comma, Text.is_blank, Text.trim}
-use Rattle.headers.specs.ListItem.{IsListOf, is_token, method_of, name_of, values}
-use Rattle.headers.proofs.TextLemmas.{token_no_blank}
-use Rattle.decide_cors.specs.{Browser.extracted, Browser.star, Elements.elements, Elements.is_filled}
+use Rattle.std.{specs.Prelude.{codes, filter, nat_lt, ◌==◌}, specs.List.{list_all, prefix_len, slice_split, suffix_len}}
+use Rattle.http_header.{specs.Token.{IsToken, is_token_byte, lowercase}, proofs.TokenLemmas.IsHeaderName-lowercase}
+use Rattle.headers.{specs.Lines.Line, specs.Merge.merge, specs.Places.comma, specs.Text.{is_blank, trim}}
+use Rattle.headers.{specs.ListItem.{IsListOf, is_token, method_of, name_of, values}, proofs.TextLemmas.token_no_blank}
+use Rattle.decide_cors.{specs.Browser.{extracted, star}, specs.Elements.{elements, is_filled}}
 
 is_token-from : (item : List ℕ) → is_token item ≡ true → IsToken item
 is_token-from item e =

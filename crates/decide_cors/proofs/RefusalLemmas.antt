@@ -1,9 +1,7 @@
 -- Which rules make a policy.
-use Rattle.std.proofs.Common.{◌≡◌, true, Result, Ok, Err}
-use Rattle.std.specs.Prelude.{IfOk}
-use Rattle.decide_cors.specs.{Policy.Policy, SentOrigins.are_sent, declared.error.RulesError.RulesError}
-use Rattle.decide_cors.specs.{declared.rules.CorsRules.CorsRules}
-use Rattle.decide_cors.specs.Rules.{IsLawful, IsPolicyOf, IsReadable, texts}
+use Rattle.std.{proofs.Common.{◌≡◌, true, Result, Ok, Err}, specs.Prelude.IfOk}
+use Rattle.decide_cors.{specs.Policy.Policy, specs.SentOrigins.are_sent, specs.declared.error.RulesError.RulesError}
+use Rattle.decide_cors.{specs.declared.rules.CorsRules.CorsRules, specs.Rules.{IsLawful, IsPolicyOf, IsReadable, texts}}
 
 -- a policy is made of rules that browsers read, and whose origins they send
 pub lawful_by : (rules : CorsRules) (result : Result Policy RulesError) → IsReadable rules

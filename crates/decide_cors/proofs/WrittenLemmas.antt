@@ -1,9 +1,7 @@
 -- The field lines that vectors of methods and of names encode to.
-use Rattle.std.proofs.Common.{◌≡◌, ℕ, List, [], ◌∷◌, length, sym, ◌∙◌}
-use Rattle.std.proofs.{lemmas.Iterator.items_from_drains, lemmas.Iterator.Adapters.YieldsList-from_vec}
-use Rattle.std.proofs.{lemmas.List.map-id}
-use Rattle.std.specs.{Iterator.Drains, declared.vec.IntoIter.IntoIter}
-use Rattle.std.specs.Vec.Iter.{into_iter_items, into_iter_len, into_iter_steps}
+use Rattle.std.{proofs.Common.{◌≡◌, ℕ, List, [], ◌∷◌, length, sym, ◌∙◌}, proofs.lemmas.Iterator.items_from_drains}
+use Rattle.std.{proofs.lemmas.Iterator.Adapters.YieldsList-from_vec, proofs.lemmas.List.map-id, specs.Iterator.Drains}
+use Rattle.std.{specs.declared.vec.IntoIter.IntoIter, specs.Vec.Iter.{into_iter_items, into_iter_len, into_iter_steps}}
 use Rattle.headers.specs.ListItem.{Reading, IsListOf, Lists, ListsValues}
 
 -- a vector's iterator gives its elements

@@ -1,8 +1,7 @@
 -- When a cache uses a stored response for another request (RFC 9111, section 4.1).
-use Rattle.std.specs.Prelude.{◌≡◌, Bool, List, IsTrue, codes, true}
-use Rattle.std.specs.List.{list_any}
-use Rattle.headers.specs.{LineMap.LineMap, Lines.Line}
-use Rattle.rfc_fields.specs.{Directives.is_same_token, Members.field_members}
+use Rattle.std.{specs.Prelude.{◌≡◌, Bool, List, IsTrue, codes, true}, specs.List.list_any}
+use Rattle.headers.{specs.LineMap.LineMap, specs.Lines.Line}
+use Rattle.rfc_fields.{specs.Directives.is_same_token, specs.Members.field_members}
 
 -- The field lines of Vary nominate the name, in any case: it is a member of one of them (RFC 9110, section 12.5.5). A
 -- member with a quote that has no end nominates nothing.

@@ -1,7 +1,6 @@
 -- The elements of a list field.
-use Rattle.std.specs.Prelude.{Bool, List, filter, length, map, nat_lt, ◌==◌}
-use Rattle.std.specs.List.{slice_split}
-use Rattle.headers.specs.{Lines.Line, Places.comma, Text.trim}
+use Rattle.std.{specs.Prelude.{Bool, List, filter, length, map, nat_lt, ◌==◌}, specs.List.slice_split}
+use Rattle.headers.{specs.Lines.Line, specs.Places.comma, specs.Text.trim}
 
 -- what is between the commas of a value
 abbrev pub pieces : Line → List Line

@@ -1,11 +1,10 @@
 //! Theorems about the definitions alone. To cite one in a proof, call it.
 ghost use Rattle.std.specs.Prelude.{◌≡◌, ◌≢◌, ◌↔◌, ◌⊎◌, ◌∷◌, [], ◌++◌, ℕ, List, None, IsTrue, codes};
-ghost use Rattle.headers.specs.{LineMap.LineMap, LineMap.fields_of, LineMap.set_all, Lines.Line};
-ghost use Rattle.decide_cors.specs.Answer.{AreSame, IsAnswer};
-ghost use Rattle.decide_cors.specs.Browser.{CorsCheck, IsExposed, IsOkStatus, IsPreflightFor, IsSentFor};
-ghost use Rattle.decide_cors.specs.Browser.{PreflightPasses, Request};
-ghost use Rattle.decide_cors.specs.{Cache.Serves, Kinds.IsKindOf, Policy.Policy, declared.kind.CorsKind.CorsKind};
-ghost use Rattle.decide_cors.specs.{declared.policy.CorsAnswer.CorsAnswer, declared.rules.CorsRules.CorsRules};
+ghost use Rattle.headers.{specs.LineMap.{LineMap, fields_of, set_all}, specs.Lines.Line};
+ghost use Rattle.decide_cors.{specs.Answer.{AreSame, IsAnswer}, specs.Browser.{CorsCheck, IsExposed, IsOkStatus}};
+ghost use Rattle.decide_cors.{specs.Browser.{IsPreflightFor, IsSentFor, PreflightPasses, Request}, specs.Cache.Serves};
+ghost use Rattle.decide_cors.{specs.Kinds.IsKindOf, specs.Policy.Policy, specs.declared.kind.CorsKind.CorsKind};
+ghost use Rattle.decide_cors.{specs.declared.policy.CorsAnswer.CorsAnswer, specs.declared.rules.CorsRules.CorsRules};
 ghost use Rattle.decide_cors.specs.Rules.{AllowsCredentials, AllowsOrigin, AllowsRequest, Exposes, IsLawful};
 ghost use Rattle.decide_cors.specs.Rules.{IsPolicyOf};
 

@@ -1,11 +1,10 @@
 -- Values that mean tokens, and lists whose elements were all tested.
 use Rattle.std.proofs.Common.{◌≡◌, ◌↔◌, ℕ, Bool, true, false, ◌==◌, List, [], ◌∷◌, ◌++◌, length, All, IsTrue, refl, sym}
-use Rattle.std.proofs.Common.{◌∙◌, ap, arith, ◌<◌}
-use Rattle.std.proofs.{lemmas.Bool.eqb-true, lemmas.Bool.false_from_ne_true, lemmas.List.append_cancel_right}
-use Rattle.std.specs.{Bool.MatchBool, List.AllWithin, List.HoldsAt, List.list_all}
+use Rattle.std.{proofs.Common.{◌∙◌, ap, arith, ◌<◌}, proofs.lemmas.Bool.{eqb-true, false_from_ne_true}}
+use Rattle.std.{proofs.lemmas.List.append_cancel_right, specs.Bool.MatchBool, specs.List.{AllWithin, HoldsAt, list_all}}
 use Rattle.http_header.specs.Token.{is_token_byte}
-use Rattle.rfc_fields.specs.{Grammar.quote, Values.IsValue, Values.ValueParts, Values.is_token, Values.octets_of}
-use Rattle.rfc_fields.specs.{Values.ValueParts.TokenText, Values.ValueParts.QuotedText, Members.field_members}
+use Rattle.rfc_fields.{specs.Grammar.quote, specs.Values.{IsValue, ValueParts, is_token, octets_of}}
+use Rattle.rfc_fields.{specs.Values.ValueParts.{TokenText, QuotedText}, specs.Members.field_members}
 use Rattle.headers.specs.Lines.{Line}
 use Rattle.decide_handshake.specs.Extensions.{IsExtensionList, MeansToken, UsesListed, is_among}
 

@@ -1,11 +1,10 @@
 -- Extensions (RFC 6455, section 9.1). Blanks may be between any two words of its grammar (RFC 2616, section 2.1).
 use Rattle.std.specs.Prelude.{◌≡◌, ◌⊎◌, ℕ, ◌==◌, Bool, true, false, List, [], bytes_eq, Option, Some, None, All, IsTrue}
-use Rattle.std.specs.Prelude.{codes}
-use Rattle.std.specs.List.{list_all, list_any, slice_split}
-use Rattle.headers.specs.{LineMap.LineMap, Lines.Line, Text.trim}
-use Rattle.rfc_fields.specs.{Cuts.cut, Directives.equals, Grammar.semicolon, Members.field_members, Scan.Member}
-use Rattle.rfc_fields.specs.Scan.Member.{Whole, Malformed}
-use Rattle.rfc_fields.specs.Values.{IsValue, ValueParts, is_token, octets_of}
+use Rattle.std.{specs.Prelude.codes, specs.List.{list_all, list_any, slice_split}}
+use Rattle.headers.{specs.LineMap.LineMap, specs.Lines.Line, specs.Text.trim}
+use Rattle.rfc_fields.{specs.Cuts.cut, specs.Directives.equals, specs.Grammar.semicolon, specs.Members.field_members}
+use Rattle.rfc_fields.{specs.Scan.Member, specs.Scan.Member.{Whole, Malformed}, specs.Values.{IsValue, ValueParts}}
+use Rattle.rfc_fields.specs.Values.{is_token, octets_of}
 use Rattle.decide_handshake.specs.Fields.{AbsentOr, HasMember}
 
 -- ( token / quoted-string ), which means a token

@@ -1,10 +1,9 @@
 -- Which origins a server allows (RFC 6455, sections 4.2.2 and 10.2).
-use Rattle.std.specs.Prelude.{◌≡◌, ◌⊎◌, ⊤, Bool, List, [], IsSomeAnd, IsTrue, bytes_eq, codes}
-use Rattle.std.specs.List.{list_any}
-use Rattle.http_header.specs.{FieldValue.FieldValue, Token.lowercase}
-use Rattle.headers.specs.{LineMap.LineMap, Lines.Line, Lines.only_line}
-use Rattle.decide_handshake.specs.declared.origins.Origins.{Origins}
-use Rattle.decide_handshake.specs.declared.origins.Origins.TheVariants.{Any, Listed}
+use Rattle.std.{specs.Prelude.{◌≡◌, ◌⊎◌, ⊤, Bool, List, [], IsSomeAnd, IsTrue, bytes_eq, codes}, specs.List.list_any}
+use Rattle.http_header.{specs.FieldValue.FieldValue, specs.Token.lowercase}
+use Rattle.headers.{specs.LineMap.LineMap, specs.Lines.{Line, only_line}}
+use Rattle.decide_handshake.{specs.declared.origins.Origins.Origins, specs.declared.origins.Origins.TheVariants.Any}
+use Rattle.decide_handshake.specs.declared.origins.Origins.TheVariants.{Listed}
 
 -- one of the origins is this text, ignoring the case of ASCII letters
 abbrev pub lists_origin : List FieldValue → Line → Bool

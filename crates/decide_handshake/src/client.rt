@@ -1,9 +1,8 @@
 //! The client's side of the handshake (RFC 6455, section 4.1).
-ghost use Rattle.std.specs.{Prelude.◌≡◌, Prelude.IfOk, Bool.MatchBool};
+ghost use Rattle.std.{specs.Prelude.{◌≡◌, IfOk}, specs.Bool.MatchBool};
 ghost use Rattle.websocket.specs.Handshake.{IsValidKey, base64};
 ghost use Rattle.headers.specs.LineMap.{fields_of, lines_at};
-ghost use Rattle.decide_handshake.specs.Client.{AcceptsKey, Checks, NamesWebsocket};
-ghost use Rattle.decide_handshake.specs.Messages.{request_fields};
+ghost use Rattle.decide_handshake.{specs.Client.{AcceptsKey, Checks, NamesWebsocket}, specs.Messages.request_fields};
 
 use crate::extensions::{has_extensions, uses_asked_extensions};
 use crate::fields::{

@@ -1,8 +1,7 @@
 //! Extensions (RFC 6455, section 9.1).
-ghost use Rattle.std.specs.{Prelude.◌≡◌, Prelude.◌↔◌, Prelude.IsTrue, Prelude.true, Bool.MatchBool};
-ghost use Rattle.headers.specs.{LineMap.lines_at, Lines.lines_of};
-ghost use Rattle.rfc_fields.specs.Members.{field_members, member_of};
-ghost use Rattle.rfc_fields.specs.Values.{is_token, octets_of, value_parts};
+ghost use Rattle.std.{specs.Prelude.{◌≡◌, ◌↔◌, IsTrue, true}, specs.Bool.MatchBool};
+ghost use Rattle.headers.{specs.LineMap.lines_at, specs.Lines.lines_of};
+ghost use Rattle.rfc_fields.{specs.Members.{field_members, member_of}, specs.Values.{is_token, octets_of, value_parts}};
 ghost use Rattle.decide_handshake.specs.Extensions.{HasExtensions, IsExtension, IsExtensionList, IsParameter};
 ghost use Rattle.decide_handshake.specs.Extensions.{MeansToken, UsesAskedExtensions, UsesListed, AreParameters};
 ghost use Rattle.decide_handshake.specs.Extensions.{extension_name, is_among, is_named};

@@ -1,8 +1,7 @@
 //! Fields that both sides check and set.
-ghost use Rattle.std.specs.Prelude.{◌≡◌, ◌∷◌, [], IfOk, codes, true};
-ghost use Rattle.std.specs.{Bool.MatchBool, List.list_all};
+ghost use Rattle.std.{specs.Prelude.{◌≡◌, ◌∷◌, [], IfOk, codes, true}, specs.Bool.MatchBool, specs.List.list_all};
 ghost use Rattle.http_header.specs.FieldValue.{plain_value};
-ghost use Rattle.headers.specs.{LineMap.field_of, LineMap.lines_at, Lines.lines_of};
+ghost use Rattle.headers.{specs.LineMap.{field_of, lines_at}, specs.Lines.lines_of};
 ghost use Rattle.rfc_fields.specs.Members.{field_members, member_of};
 ghost use Rattle.decide_handshake.specs.Fields.{HasMember, ListsUpgrade, ListsWebsocket, is_protocol};
 ghost use Rattle.decide_handshake.specs.Messages.{version_field};

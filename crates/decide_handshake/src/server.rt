@@ -2,10 +2,9 @@
 ghost use Rattle.std.specs.Prelude.{◌≡◌, ◌≢◌, [], IfErr, IfOk, MatchOption, MatchResult, codes, option_map};
 ghost use Rattle.std.specs.Bool.{MatchBool};
 ghost use Rattle.websocket.specs.Handshake.{accept_key_of};
-ghost use Rattle.headers.specs.{LineMap.field_of, LineMap.fields_of, LineMap.lines_at, Lines.Line};
-ghost use Rattle.decide_handshake.specs.Messages.{answer_fields, status_of, taken_lines};
-ghost use Rattle.decide_handshake.specs.Server.{Answers, HasHost, HasKey, HasVersion13, IsAccepted, IsFirst, IsHttp11};
-ghost use Rattle.decide_handshake.specs.Server.{IsRecent};
+ghost use Rattle.headers.{specs.LineMap.{field_of, fields_of, lines_at}, specs.Lines.Line};
+ghost use Rattle.decide_handshake.{specs.Messages.{answer_fields, status_of, taken_lines}, specs.Server.Answers};
+ghost use Rattle.decide_handshake.specs.Server.{HasHost, HasKey, HasVersion13, IsAccepted, IsFirst, IsHttp11, IsRecent};
 ghost use Rattle.decide_handshake.specs.declared.server.Answer.TheVariants.{Switch, UpgradeRequired};
 
 use crate::extensions::has_extensions;

@@ -1,9 +1,8 @@
 -- The first of the greatest score in a list.
 use Rattle.std.proofs.Common.{◌≡◌, ℕ, zero, suc, ◌+◌, ◌<◌, ◌≤◌, Bool, true, false, List, [], ◌∷◌, length, get_or}
-use Rattle.std.proofs.Common.{Option, Some, None, inl, inr, refl, sym, ◌∙◌, ap, arith}
-use Rattle.std.proofs.lemmas.Bool.{cases_order, ltb-false, ltb-true}
-use Rattle.std.specs.Prelude.{MatchOption, nat_lt, if◌then◌else◌}
-use Rattle.decide_negotiation.specs.{Choice.IsFirstOfGreatest, Choice.Picks, Choice.led, declared.choice.Leader.Leader}
+use Rattle.std.{proofs.Common.{Option, Some, None, inl, inr, refl, sym, ◌∙◌, ap, arith}, proofs.lemmas.Bool.cases_order}
+use Rattle.std.{proofs.lemmas.Bool.{ltb-false, ltb-true}, specs.Prelude.{MatchOption, nat_lt, if◌then◌else◌}}
+use Rattle.decide_negotiation.{specs.Choice.{IsFirstOfGreatest, Picks, led}, specs.declared.choice.Leader.Leader}
 
 -- a place within a list has one element
 pub at_place : {A : Type 0} (xs : List A) (k : ℕ) (a b : A) → k < length xs → get_or xs k a ≡ get_or xs k b

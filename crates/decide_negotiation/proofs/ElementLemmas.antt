@@ -1,14 +1,12 @@
 -- What is before and after the first semicolon of a text.
 use Rattle.std.proofs.Common.{◌≡◌, ◌∙◌, ◌≢◌, ℕ, ◌+◌, ◌≤◌, Bool, true, List, [], ◌∷◌, length, refl, sym, ap, arith, inl}
-use Rattle.std.proofs.Common.{inr, Option, Some, None}
-use Rattle.std.proofs.lemmas.Bool.{cases_Bool}
-use Rattle.std.specs.{Prelude.filter, Prelude.not, List.cons_option}
-use Rattle.rfc_fields.specs.{Directives.HasParameters, Grammar.semicolon, Scan.Member.Whole, Scan.Member.Malformed}
-use Rattle.rfc_fields.specs.Members.{is_member, members, members_of, trimmed}
-use Rattle.rfc_fields.specs.Scan.{Member, is_cut, pieces, push, state_after}
+use Rattle.std.{proofs.Common.{inr, Option, Some, None}, proofs.lemmas.Bool.cases_Bool, specs.Prelude.{filter, not}}
+use Rattle.std.specs.List.{cons_option}
+use Rattle.rfc_fields.{specs.Directives.HasParameters, specs.Grammar.semicolon, specs.Scan.Member.{Whole, Malformed}}
+use Rattle.rfc_fields.{specs.Members.{is_member, members, members_of, trimmed}, specs.Scan.{Member, is_cut, pieces}}
+use Rattle.rfc_fields.specs.Scan.{push, state_after}
 use Rattle.decide_negotiation.specs.Elements.{between_semicolons, first_of, members_after, others_of, own_parameters}
-use Rattle.decide_negotiation.specs.Elements.{value_of}
-use Rattle.decide_negotiation.specs.Parameters.{ParameterParts, is_weight, parameter_of}
+use Rattle.decide_negotiation.{specs.Elements.value_of, specs.Parameters.{ParameterParts, is_weight, parameter_of}}
 use Rattle.decide_negotiation.proofs.ParameterLemmas.{own, read}
 
 pub no_members : members true [] ≡ []

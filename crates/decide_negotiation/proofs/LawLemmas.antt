@@ -1,32 +1,31 @@
 -- What the definitions say, in the words of the RFCs.
 use Rattle.std.proofs.Common.{◌≡◌, ◌∙◌, ◌⊎◌, ℕ, zero, suc, ◌<◌, ◌≤◌, Bool, true, false, List, [], ◌∷◌, ◌++◌, get_or}
 use Rattle.std.proofs.Common.{Option, Some, None, inl, inr, refl, sym, ap, subst, arith, codes, fold, rules, tests}
-use Rattle.std.proofs.{Math.Bool.or-true, lemmas.Slice.Eq.bytes_eq-Decides}
-use Rattle.std.proofs.lemmas.Bool.{and_parts, cases_Bool, eqb-true, leb-false, leb-true, or_cases}
-use Rattle.std.specs.Prelude.{Any, Contains, filter_map, ◌&&◌, ◌==◌, nat_le, option_and_then}
-use Rattle.std.specs.{Bool.MatchBool, List.cons_option, List.list_all, List.list_any}
-use Rattle.http_header.specs.{FieldValue.FieldValue, Token.lowercase}
-use Rattle.headers_syntax.specs.{AsciiCase.SameButForCase, AsciiCase.same_name, Lines.Line}
-use Rattle.rfc_fields.specs.Members.{field_members, members}
-use Rattle.rfc_fields.specs.{Scan.Member, Scan.Member.Malformed, Values.octets_of}
+use Rattle.std.{proofs.Math.Bool.or-true, proofs.lemmas.Slice.Eq.bytes_eq-Decides, proofs.lemmas.Bool.and_parts}
+use Rattle.std.{proofs.lemmas.Bool.{cases_Bool, eqb-true, leb-false, leb-true, or_cases}, specs.Prelude.{Any, Contains}}
+use Rattle.std.{specs.Prelude.{filter_map, ◌&&◌, ◌==◌, nat_le, option_and_then}, specs.Bool.MatchBool}
+use Rattle.std.specs.List.{cons_option, list_all, list_any}
+use Rattle.http_header.{specs.FieldValue.FieldValue, specs.Token.lowercase}
+use Rattle.headers_syntax.{specs.AsciiCase.{SameButForCase, same_name}, specs.Lines.Line}
+use Rattle.rfc_fields.{specs.Members.{field_members, members}, specs.Scan.Member, specs.Scan.Member.Malformed}
+use Rattle.rfc_fields.specs.Values.{octets_of}
 use Rattle.decide_negotiation.specs.Choice.{Chooses, IsFirstOfGreatest, Picks, first_place, offer_rank}
 use Rattle.decide_negotiation.specs.Codings.{coding_quality, coding_says, encoding_quality, is_same_coding}
 use Rattle.decide_negotiation.specs.Codings.{member_quality, quality_of_all, quality_or, says_of, unlisted}
-use Rattle.decide_negotiation.specs.{Elements.ElementParts, Elements.bare_element_of, Preferences.strongest}
-use Rattle.decide_negotiation.specs.{declared.acceptability.Quality.Quality, declared.preference.Preference.Preference}
-use Rattle.decide_negotiation.specs.Languages.{covers, hyphen, is_front}
-use Rattle.decide_negotiation.specs.Laws.{EachCodingIsAccepted, ExcludesIdentity, HasOneChoice, HasOneLookup}
-use Rattle.decide_negotiation.specs.Laws.{HasTwoNames, IdentityIsExcludedByName, IsSameParameter, IsStarOrSame}
-use Rattle.decide_negotiation.specs.Laws.{ListedComesFirst, Matches, MostSpecificDecides, RangesCover, RangesMatch}
-use Rattle.decide_negotiation.specs.Laws.{TakesTheFirst}
-use Rattle.decide_negotiation.specs.Lookup.{Finds, IsDefault, IsLookedUp, LooksUp, LooksUpIn, accepts_any}
-use Rattle.decide_negotiation.specs.Lookup.{offer_nearness, range_weight}
+use Rattle.decide_negotiation.{specs.Elements.{ElementParts, bare_element_of}, specs.Preferences.strongest}
+use Rattle.decide_negotiation.specs.declared.acceptability.Quality.{Quality}
+use Rattle.decide_negotiation.{specs.declared.preference.Preference.Preference, specs.Languages.{covers, hyphen}}
+use Rattle.decide_negotiation.{specs.Languages.is_front, specs.Laws.{EachCodingIsAccepted, ExcludesIdentity}}
+use Rattle.decide_negotiation.specs.Laws.{HasOneChoice, HasOneLookup, HasTwoNames, IdentityIsExcludedByName}
+use Rattle.decide_negotiation.specs.Laws.{IsSameParameter, IsStarOrSame, ListedComesFirst, Matches, MostSpecificDecides}
+use Rattle.decide_negotiation.{specs.Laws.{RangesCover, RangesMatch, TakesTheFirst}, specs.Lookup.{Finds, IsDefault}}
+use Rattle.decide_negotiation.specs.Lookup.{IsLookedUp, LooksUp, LooksUpIn, accepts_any, offer_nearness, range_weight}
 use Rattle.decide_negotiation.specs.MediaRanges.{are_had, is_star, is_star_or_same, matches}
 use Rattle.decide_negotiation.specs.Parameters.{ParameterParts, is_same_parameter, is_same_value}
 use Rattle.decide_negotiation.specs.Qualities.{least, quality_in, rank, weighed}
 use Rattle.decide_negotiation.specs.declared.acceptability.Quality.TheVariants.{NotAcceptable, Unlisted, Weight}
-use Rattle.decide_negotiation.proofs.ChoiceLemmas.{at_place, picks_one, picks_some}
-use Rattle.decide_negotiation.proofs.LookupLemmas.{no_element, range_finds_nothing, star_finds_nothing}
+use Rattle.decide_negotiation.{proofs.ChoiceLemmas.{at_place, picks_one, picks_some}, proofs.LookupLemmas.no_element}
+use Rattle.decide_negotiation.proofs.LookupLemmas.{range_finds_nothing, star_finds_nothing}
 use Rattle.decide_negotiation.proofs.PreferenceLemmas.{one_best, strongest_is_best}
 
 pub most_specific : MostSpecificDecides

@@ -1,15 +1,13 @@
 -- The order of what elements say, and the strongest of a list.
 use Rattle.std.proofs.Common.{◌≡◌, ◌⊎◌, ℕ, zero, suc, ◌<◌, ◌≤◌, Bool, true, false, List, [], ◌∷◌, length, Option, Some}
-use Rattle.std.proofs.Common.{None, inl, inr, refl, sym, ◌∙◌, ap, arith}
-use Rattle.std.proofs.lemmas.Bool.{and_cases, and_parts, cases_order, eqb-false, eqb-true, ltb-false, ltb-true}
-use Rattle.std.proofs.lemmas.Bool.{or_cases, or_parts}
+use Rattle.std.{proofs.Common.{None, inl, inr, refl, sym, ◌∙◌, ap, arith}, proofs.lemmas.Bool.{and_cases, and_parts}}
+use Rattle.std.proofs.lemmas.Bool.{cases_order, eqb-false, eqb-true, ltb-false, ltb-true, or_cases, or_parts}
 use Rattle.std.proofs.lemmas.List.Elements.{All-cons, All-contains, All-head, All-nil, All-tail}
-use Rattle.std.specs.Prelude.{Contains, filter_map, nat_lt, ◌==◌, ◌&&◌, if◌then◌else◌}
-use Rattle.std.specs.List.{fold}
+use Rattle.std.{specs.Prelude.{Contains, filter_map, nat_lt, ◌==◌, ◌&&◌, if◌then◌else◌}, specs.List.fold}
 use Rattle.rfc_fields.specs.Scan.{Member}
 use Rattle.decide_negotiation.specs.Preferences.{AtMost, IsBest, IsStrongest, is_below, is_below_or, stronger}
-use Rattle.decide_negotiation.specs.Preferences.{strongest}
-use Rattle.decide_negotiation.specs.{Qualities.preferred, Qualities.weighed, declared.preference.Preference.Preference}
+use Rattle.decide_negotiation.{specs.Preferences.strongest, specs.Qualities.{preferred, weighed}}
+use Rattle.decide_negotiation.specs.declared.preference.Preference.{Preference}
 
 -- x is below y, or they are the same and the rest decides
 abbrev BelowOr : ℕ → ℕ → Type 0 → Type 0

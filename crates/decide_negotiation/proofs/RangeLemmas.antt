@@ -1,13 +1,12 @@
 -- No weight is above 1.
 use Rattle.std.proofs.Common.{◌≡◌, ℕ, ◌-◌, ◌≤◌, ◌*◌, ◌^◌, Bool, true, false, List, [], ◌∷◌, length, Option, Some, None}
-use Rattle.std.proofs.Common.{refl, arith, codes}
-use Rattle.std.proofs.lemmas.Bool.{and_parts, eqb-false, leb-true}
+use Rattle.std.{proofs.Common.{refl, arith, codes}, proofs.lemmas.Bool.{and_parts, eqb-false, leb-true}}
 use Rattle.std.specs.Prelude.{⊤, IfSome, filter_map, find, fold, nat_le, option_and_then, option_map, ◌&&◌, ◌==◌}
-use Rattle.std.specs.Prelude.{if◌then◌else◌}
-use Rattle.std.specs.{Char.is_ascii_digit, List.cons_option, Str.all_ascii_digits, Option.option_map_or}
+use Rattle.std.{specs.Prelude.if◌then◌else◌, specs.Char.is_ascii_digit, specs.List.cons_option}
+use Rattle.std.{specs.Str.all_ascii_digits, specs.Option.option_map_or}
 use Rattle.headers_syntax.specs.Number.{decimal_value}
-use Rattle.rfc_fields.specs.{Members.members, Scan.Member, Scan.Member.Whole, Scan.Member.Malformed, Values.ValueParts}
-use Rattle.rfc_fields.specs.{Values.is_token, Values.ValueParts.TokenText, Values.ValueParts.QuotedText}
+use Rattle.rfc_fields.{specs.Members.members, specs.Scan.Member, specs.Scan.Member.{Whole, Malformed}}
+use Rattle.rfc_fields.{specs.Values.{ValueParts, is_token}, specs.Values.ValueParts.{TokenText, QuotedText}}
 use Rattle.rfc_fields.specs.Weights.{fraction, one, thousandths, weight}
 use Rattle.decide_negotiation.specs.Codings.{coding_quality, coding_says, encoding_quality, member_quality}
 use Rattle.decide_negotiation.specs.Codings.{quality_of_all, quality_or, says_of, unlisted, is_same_coding}

@@ -2,11 +2,10 @@
 use Rattle.std.specs.Prelude.{ℕ, Bool, true, List, [], ◌∷◌, Option, Some, None, codes, fold, option_and_then}
 use Rattle.std.specs.Prelude.{if◌then◌else◌}
 use Rattle.headers_syntax.specs.AsciiCase.{same_name}
-use Rattle.rfc_fields.specs.{Members.members, Scan.Member, Scan.Member.Whole, Scan.Member.Malformed}
-use Rattle.decide_negotiation.specs.Elements.{ElementParts, bare_element_of}
-use Rattle.decide_negotiation.specs.{MediaRanges.is_star, Preferences.strongest}
-use Rattle.decide_negotiation.specs.{declared.preference.Preference.Preference, declared.acceptability.Quality.Quality}
-use Rattle.decide_negotiation.specs.Qualities.{least, weighed}
+use Rattle.rfc_fields.{specs.Members.members, specs.Scan.Member, specs.Scan.Member.{Whole, Malformed}}
+use Rattle.decide_negotiation.{specs.Elements.{ElementParts, bare_element_of}, specs.MediaRanges.is_star}
+use Rattle.decide_negotiation.{specs.Preferences.strongest, specs.declared.preference.Preference.Preference}
+use Rattle.decide_negotiation.{specs.declared.acceptability.Quality.Quality, specs.Qualities.{least, weighed}}
 use Rattle.decide_negotiation.specs.declared.acceptability.Quality.TheVariants.{NotAcceptable, Unlisted}
 
 -- `x-gzip` and `x-compress` are other names of `gzip` and `compress` (sections 8.4.1.1 and 8.4.1.3)

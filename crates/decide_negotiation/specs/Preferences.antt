@@ -1,7 +1,6 @@
 -- The preferences of elements for an offer, and which of them decides (RFC 9110, section 12.5.1).
 use Rattle.std.specs.Prelude.{◌≡◌, ◌⊎◌, ℕ, ◌<◌, ◌≤◌, Bool, ◌&&◌, ◌||◌, ◌==◌, List, [], All, Contains, filter_map}
-use Rattle.std.specs.Prelude.{Option, Some, None, MatchOption, nat_lt, if◌then◌else◌}
-use Rattle.std.specs.List.{fold}
+use Rattle.std.{specs.Prelude.{Option, Some, None, MatchOption, nat_lt, if◌then◌else◌}, specs.List.fold}
 use Rattle.rfc_fields.specs.Scan.{Member}
 use Rattle.decide_negotiation.specs.declared.preference.Preference.{Preference}
 

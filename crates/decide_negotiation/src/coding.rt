@@ -1,10 +1,9 @@
 //! Content codings.
 ghost use Rattle.std.specs.Prelude.{◌≡◌, true, codes};
-ghost use Rattle.headers_syntax.specs.{AsciiCase.same_name, Lines.lines_of};
+ghost use Rattle.headers_syntax.{specs.AsciiCase.same_name, specs.Lines.lines_of};
 ghost use Rattle.rfc_fields.specs.Members.{field_members, member_of};
 ghost use Rattle.decide_negotiation.specs.Codings.{coding_quality, encoding_quality, is_same_coding, member_quality};
-ghost use Rattle.decide_negotiation.specs.Codings.{registered, says_of, unlisted};
-ghost use Rattle.decide_negotiation.specs.Elements.{element_parts};
+ghost use Rattle.decide_negotiation.{specs.Codings.{registered, says_of, unlisted}, specs.Elements.element_parts};
 
 use crate::acceptability::{Quality, least, weighed};
 use crate::dimension::Dimension;

@@ -1,12 +1,10 @@
 //! Elements of a field: a range, its parameters and its weight (RFC 9110, section 12.4.2).
-ghost use Rattle.std.specs.Prelude.{◌≡◌, ◌<◌, ◌^◌, length, option_map};
-ghost use Rattle.std.specs.List.{list_all, list_any};
-ghost use Rattle.rfc_fields.specs.{Members.member_of, Members.members_left, Values.value_parts};
+ghost use Rattle.std.{specs.Prelude.{◌≡◌, ◌<◌, ◌^◌, length, option_map}, specs.List.{list_all, list_any}};
+ghost use Rattle.rfc_fields.{specs.Members.{member_of, members_left}, specs.Values.value_parts};
 ghost use Rattle.decide_negotiation.specs.Elements.{bare, bare_element_of, element_in, element_parts};
 ghost use Rattle.decide_negotiation.specs.Elements.{excluding_nothing, has_only_parameters, is_parameter};
 ghost use Rattle.decide_negotiation.specs.Elements.{members_after, own_parameters, parameters_of, value_of, weight_in};
-ghost use Rattle.decide_negotiation.specs.Elements.{weight_of, weight_or_least};
-ghost use Rattle.decide_negotiation.specs.MediaRanges.{are_had};
+ghost use Rattle.decide_negotiation.{specs.Elements.{weight_of, weight_or_least}, specs.MediaRanges.are_had};
 ghost use Rattle.decide_negotiation.specs.Parameters.{is_same_parameter, parameter_parts};
 
 use crate::parameter::{Parameter, parameter_of};

@@ -1,22 +1,15 @@
 -- The fields of an answer in place of those that a server has set.
 use Rattle.std.proofs.Common.{◌≡◌, ◌≢◌, ℕ, Bool, true, false, All, List, [], ◌∷◌, refl, sym, ap, ◌∙◌, subst, inl, inr}
-use Rattle.std.proofs.Common.{arith}
-use Rattle.std.specs.Prelude.{Option, Some, None, ◌++◌, bytes_eq, codes, decimal, min, if◌then◌else◌}
-use Rattle.std.proofs.lemmas.Bool.{cases_Bool}
-use Rattle.std.proofs.lemmas.Slice.Eq.{bytes_eq-Decides}
+use Rattle.std.{proofs.Common.arith, specs.Prelude.{Option, Some, None, ◌++◌, bytes_eq, codes, decimal, min}}
+use Rattle.std.{specs.Prelude.if◌then◌else◌, proofs.lemmas.Bool.cases_Bool, proofs.lemmas.Slice.Eq.bytes_eq-Decides}
 use Rattle.http_header.specs.FieldValue.{FieldValue}
-use Rattle.headers.specs.ContentBytes.{content_text}
-use Rattle.headers.specs.Date.{fixdate}
-use Rattle.headers.specs.LineMap.{Field, LineMap, set, set_all}
+use Rattle.headers.{specs.ContentBytes.content_text, specs.Date.fixdate, specs.LineMap.{Field, LineMap, set, set_all}}
 use Rattle.headers.specs.Lines.{Line}
-use Rattle.decide_preconditions.specs.Conditions.{modified_of}
-use Rattle.decide_preconditions.specs.Contents.{is_divisible}
-use Rattle.decide_preconditions.specs.Fields.{IsModifiedBy, SendsFields, etag_of, etag_sent, fields_removed}
-use Rattle.decide_preconditions.specs.Fields.{fields_sent, is_whole, keeps_encoding, length_sent, lines_sent}
-use Rattle.decide_preconditions.specs.Fields.{modified_sent, not_after, range_sent}
-use Rattle.decide_preconditions.specs.Fields.{sent_names, type_sent, units_sent}
-use Rattle.decide_preconditions.specs.declared.content.Content.{Content}
-use Rattle.decide_preconditions.specs.declared.plan.Plan.{Plan}
+use Rattle.decide_preconditions.{specs.Conditions.modified_of, specs.Contents.is_divisible, specs.Fields.IsModifiedBy}
+use Rattle.decide_preconditions.specs.Fields.{SendsFields, etag_of, etag_sent, fields_removed, fields_sent, is_whole}
+use Rattle.decide_preconditions.specs.Fields.{keeps_encoding, length_sent, lines_sent, modified_sent, not_after}
+use Rattle.decide_preconditions.specs.Fields.{range_sent, sent_names, type_sent, units_sent}
+use Rattle.decide_preconditions.{specs.declared.content.Content.Content, specs.declared.plan.Plan.Plan}
 use Rattle.decide_preconditions.specs.declared.resource.Resource.{Resource}
 
 -- another name keeps its field lines

@@ -2,14 +2,11 @@
 use Rattle.std.proofs.Common.{◌≡◌, ◌↔◌, ◌⊎◌, ℕ, List, Option, Some, None, inl, inr, refl, sym, ◌∙◌}
 use Rattle.std.specs.Prelude.{codes}
 use Rattle.headers.specs.LineMap.{LineMap, remove}
-use Rattle.decide_preconditions.specs.Plans.{IsPlan, IsPlanned, Reads}
-use Rattle.decide_preconditions.specs.Preconditions.{Answers, AreIgnored, IsGetOrHead, IsRead, IsUnconditional}
-use Rattle.decide_preconditions.specs.Preconditions.{ReadsMissing, StepsAnswer}
-use Rattle.decide_preconditions.specs.Selection.{Applies}
-use Rattle.decide_preconditions.specs.declared.limits.RangeLimits.{RangeLimits}
-use Rattle.decide_preconditions.specs.declared.plan.Plan.{Plan}
-use Rattle.decide_preconditions.specs.declared.plan.Plan.TheVariants.{NotModified, Failed, Full, Single}
-use Rattle.decide_preconditions.specs.declared.plan.Plan.TheVariants.{Multiple, Unsatisfiable}
+use Rattle.decide_preconditions.{specs.Plans.{IsPlan, IsPlanned, Reads}, specs.Preconditions.{Answers, AreIgnored}}
+use Rattle.decide_preconditions.specs.Preconditions.{IsGetOrHead, IsRead, IsUnconditional, ReadsMissing, StepsAnswer}
+use Rattle.decide_preconditions.{specs.Selection.Applies, specs.declared.limits.RangeLimits.RangeLimits}
+use Rattle.decide_preconditions.{specs.declared.plan.Plan.Plan, specs.declared.plan.Plan.TheVariants.NotModified}
+use Rattle.decide_preconditions.specs.declared.plan.Plan.TheVariants.{Failed, Full, Single, Multiple, Unsatisfiable}
 use Rattle.decide_preconditions.specs.declared.precondition.Precondition.{Precondition}
 use Rattle.decide_preconditions.specs.declared.precondition.Precondition.TheVariants as precondition
 use Rattle.decide_preconditions.specs.declared.resource.Resource.{Resource}

@@ -1,17 +1,13 @@
 -- Numerals: the greatest number that is kept, and their order by their digits.
-use Rattle.std.proofs.Common.{◌≡◌, ℕ, ◌+◌, ◌-◌, ◌*◌, ◌<◌, ◌≤◌, true, false, ◌==◌, nat_lt, nat_le, min}
-use Rattle.std.specs.Prelude.{⊤}
-use Rattle.std.proofs.Common.{List, [], ◌∷◌, length, take, get_or, refl, sym, ap, ◌∙◌, arith, inl, inr}
-use Rattle.std.specs.Char.{digit_value, is_ascii_digit}
-use Rattle.std.specs.List.{list_all}
-use Rattle.std.specs.Str.Parse.{digits_value, digits_value_after}
-use Rattle.std.proofs.lemmas.Bool.{cases_Bool, and_parts, eqb-true, eqb-false, eq-eqb, ne_eqb, ltb-true, ltb-false}
-use Rattle.std.proofs.lemmas.Bool.{lt-ltb, le-ltb, le-leb, lt-leb, cases_order}
-use Rattle.std.proofs.lemmas.Bool.Decides.{nat_tests}
-use Rattle.std.proofs.lemmas.Int.Digits.{digits_value_more}
+use Rattle.std.proofs.Common.{◌≡◌, ℕ, ◌+◌, ◌-◌, ◌*◌, ◌<◌, ◌≤◌, true, false, ◌==◌, nat_lt, nat_le, min, List, [], ◌∷◌}
+use Rattle.std.{proofs.Common.{length, take, get_or, refl, sym, ap, ◌∙◌, arith, inl, inr}, specs.Prelude.⊤}
+use Rattle.std.{specs.Char.{digit_value, is_ascii_digit}, specs.List.list_all, specs.Str.Parse.digits_value}
+use Rattle.std.{specs.Str.Parse.digits_value_after, proofs.lemmas.Bool.{cases_Bool, and_parts, eqb-true, eqb-false}}
+use Rattle.std.proofs.lemmas.Bool.{eq-eqb, ne_eqb, ltb-true, ltb-false, lt-ltb, le-ltb, le-leb, lt-leb, cases_order}
+use Rattle.std.{proofs.lemmas.Bool.Decides.nat_tests, proofs.lemmas.Int.Digits.digits_value_more}
 use Rattle.std.proofs.lemmas.List.Sums.{AllPass-from_list_all}
-use Rattle.decide_preconditions.specs.NumeralOrder.{is_below, is_ordered, without_zeros}
-use Rattle.decide_preconditions.specs.RangeSets.{capped, greatest, is_numeral}
+use Rattle.decide_preconditions.{specs.NumeralOrder.{is_below, is_ordered, without_zeros}, specs.RangeSets.capped}
+use Rattle.decide_preconditions.specs.RangeSets.{greatest, is_numeral}
 
 digit_low : (b : ℕ) → is_ascii_digit b ≡ true → (48 ≤ b) × (b ≤ 57)
 digit_low b h = (grind (arith, nat_tests), grind (arith, nat_tests))

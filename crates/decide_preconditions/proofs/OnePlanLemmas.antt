@@ -1,28 +1,21 @@
 -- A request has one plan at most.
-use Rattle.std.proofs.Common.{◌≡◌, ◌≢◌, ◌↔◌, ℕ, ◌<◌, true, false, List, [], ◌∷◌, Option, Some, None, Any, length}
-use Rattle.std.proofs.Common.{refl, sym}
-use Rattle.std.proofs.Common.{ap, ◌∙◌, subst, inl, inr, arith}
-use Rattle.std.proofs.lemmas.List.Elements.{All-nil}
+use Rattle.std.proofs.Common.{◌≡◌, ◌≢◌, ◌↔◌, ℕ, ◌<◌, true, false, List, [], ◌∷◌, Option, Some, None, Any, length, refl}
+use Rattle.std.{proofs.Common.{sym, ap, ◌∙◌, subst, inl, inr, arith}, proofs.lemmas.List.Elements.All-nil}
 use Rattle.headers.specs.LineMap.{LineMap}
-use Rattle.decide_preconditions.specs.Fields.{status_of}
-use Rattle.decide_preconditions.specs.Parts.{AreCoalesced, Holds, IsJoined, IsPartOf}
+use Rattle.decide_preconditions.{specs.Fields.status_of, specs.Parts.{AreCoalesced, Holds, IsJoined, IsPartOf}}
 use Rattle.decide_preconditions.specs.Plans.{IsPlan, IsPlanned, IsSamePlan, SendsParts, parts_sent}
-use Rattle.decide_preconditions.specs.Preconditions.{Answers, IsGetOrHead}
-use Rattle.decide_preconditions.specs.Selection.{Applies, ArePartsAsked, IsAsked, Selects}
-use Rattle.decide_preconditions.specs.Limits.{are_too_many}
-use Rattle.decide_preconditions.specs.declared.limits.RangeLimits.{RangeLimits}
-use Rattle.decide_preconditions.specs.declared.part.Part.{Part}
-use Rattle.decide_preconditions.specs.declared.plan.Plan.{Plan}
-use Rattle.decide_preconditions.specs.declared.plan.Plan.TheVariants.{NotModified, Failed, Full, Single}
-use Rattle.decide_preconditions.specs.declared.plan.Plan.TheVariants.{Multiple, Unsatisfiable}
+use Rattle.decide_preconditions.{specs.Preconditions.{Answers, IsGetOrHead}, specs.Selection.{Applies, ArePartsAsked}}
+use Rattle.decide_preconditions.{specs.Selection.{IsAsked, Selects}, specs.Limits.are_too_many}
+use Rattle.decide_preconditions.{specs.declared.limits.RangeLimits.RangeLimits, specs.declared.part.Part.Part}
+use Rattle.decide_preconditions.{specs.declared.plan.Plan.Plan, specs.declared.plan.Plan.TheVariants.NotModified}
+use Rattle.decide_preconditions.specs.declared.plan.Plan.TheVariants.{Failed, Full, Single, Multiple, Unsatisfiable}
 use Rattle.decide_preconditions.specs.declared.precondition.Precondition.{Precondition}
 use Rattle.decide_preconditions.specs.declared.precondition.Precondition.TheVariants as precondition
 use Rattle.decide_preconditions.specs.declared.resource.Resource.{Resource}
 use Rattle.decide_preconditions.specs.declared.resource.Resource.TheVariants.{Current}
 use Rattle.decide_preconditions.specs.declared.resource.Validators.{Validators}
 use Rattle.decide_preconditions.specs.declared.selection.Selection.TheVariants as selection
-use Rattle.decide_preconditions.proofs.PartLemmas.{coalesced_once}
-use Rattle.decide_preconditions.proofs.PreconditionLemmas.{one_answer}
+use Rattle.decide_preconditions.{proofs.PartLemmas.coalesced_once, proofs.PreconditionLemmas.one_answer}
 use Rattle.decide_preconditions.proofs.SelectionLemmas.{same_set}
 use Rattle.std.proofs.lemmas.Bool.{both_ways}
 

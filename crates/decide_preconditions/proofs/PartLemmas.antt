@@ -1,21 +1,16 @@
 -- Parts that are in order, joined where they overlap or are close.
-use Rattle.std.proofs.Common.{◌≡◌, ℕ, suc, ◌+◌, ◌<◌, ◌≤◌, ◌↔◌, nat_le, nat_lt, max, List, [], ◌∷◌, length}
-use Rattle.std.proofs.Common.{get_or}
-use Rattle.std.proofs.Common.{refl, sym, ap, ◌∙◌, subst, arith, inl, inr, ◌⊎◌, ⊎_elim, All, Any, sum_by}
-use Rattle.std.specs.Prelude.{AllPairs, Bool, true, false, ⊤, if◌then◌else◌}
-use Rattle.std.specs.Bool.{MatchBool}
-use Rattle.std.specs.List.Retain.{DedupsFrom, IsDeduped}
-use Rattle.std.specs.List.Sorted.{IsPermutation, IsNonDecreasingBy}
+use Rattle.std.proofs.Common.{◌≡◌, ℕ, suc, ◌+◌, ◌<◌, ◌≤◌, ◌↔◌, nat_le, nat_lt, max, List, [], ◌∷◌, length, get_or, refl}
+use Rattle.std.proofs.Common.{sym, ap, ◌∙◌, subst, arith, inl, inr, ◌⊎◌, ⊎_elim, All, Any, sum_by}
+use Rattle.std.{specs.Prelude.{AllPairs, Bool, true, false, ⊤, if◌then◌else◌}, specs.Bool.MatchBool}
+use Rattle.std.{specs.List.Retain.{DedupsFrom, IsDeduped}, specs.List.Sorted.{IsPermutation, IsNonDecreasingBy}}
 use Rattle.std.proofs.lemmas.Bool.{cases_Bool, leb-true, leb-false, ltb-true, ltb-false}
-use Rattle.std.proofs.lemmas.List.{get_or_default}
-use Rattle.std.proofs.lemmas.List.Elements.{All-nil, All-cons, All-head, All-tail, All-weaker}
-use Rattle.std.proofs.lemmas.List.Kept.{AllPairs-cons}
-use Rattle.std.proofs.lemmas.List.Sums.{sum_by-cons}
-use Rattle.std.proofs.lemmas.List.Sorted.{All-permutation, Contains-permutation, IsPermutation-sym}
-use Rattle.std.proofs.lemmas.List.Sorted.{IsNonDecreasingBy-drop}
+use Rattle.std.{proofs.lemmas.List.get_or_default, proofs.lemmas.List.Elements.{All-nil, All-cons, All-head, All-tail}}
+use Rattle.std.{proofs.lemmas.List.Elements.All-weaker, proofs.lemmas.List.Kept.AllPairs-cons}
+use Rattle.std.{proofs.lemmas.List.Sums.sum_by-cons, proofs.lemmas.List.Sorted.{All-permutation, Contains-permutation}}
+use Rattle.std.proofs.lemmas.List.Sorted.{IsPermutation-sym, IsNonDecreasingBy-drop}
 use Rattle.headers.proofs.RangeLemmas.{any_cases, any_here, any_later}
-use Rattle.decide_preconditions.specs.Merged.{joined, merged, merged_from}
-use Rattle.decide_preconditions.specs.Parts.{AreCoalesced, Holds, IsApartBefore, IsJoined, IsPartOf, part_size}
+use Rattle.decide_preconditions.{specs.Merged.{joined, merged, merged_from}, specs.Parts.{AreCoalesced, Holds}}
+use Rattle.decide_preconditions.specs.Parts.{IsApartBefore, IsJoined, IsPartOf, part_size}
 use Rattle.decide_preconditions.specs.declared.part.Part.{Part}
 
 any_moved : {X : Type 0} (P : X → Type 0) (xs ys : List X) → IsPermutation xs ys → Any P xs → Any P ys

@@ -1,14 +1,10 @@
 -- What a plan says of its parts.
-use Rattle.std.proofs.Common.{ℕ, ◌<◌, ◌^◌, List, [], arith}
-use Rattle.std.proofs.lemmas.List.Elements.{All-head}
+use Rattle.std.{proofs.Common.{ℕ, ◌<◌, ◌^◌, List, [], arith}, proofs.lemmas.List.Elements.All-head}
 use Rattle.headers.specs.LineMap.{LineMap}
-use Rattle.decide_preconditions.specs.Fields.{IsSized}
-use Rattle.decide_preconditions.specs.Parts.{IsPartOf}
-use Rattle.decide_preconditions.specs.Plans.{IsPlan}
-use Rattle.decide_preconditions.specs.declared.limits.RangeLimits.{RangeLimits}
-use Rattle.decide_preconditions.specs.declared.plan.Plan.{Plan}
-use Rattle.decide_preconditions.specs.declared.plan.Plan.TheVariants.{NotModified, Failed, Full, Single}
-use Rattle.decide_preconditions.specs.declared.plan.Plan.TheVariants.{Multiple, Unsatisfiable}
+use Rattle.decide_preconditions.{specs.Fields.IsSized, specs.Parts.IsPartOf, specs.Plans.IsPlan}
+use Rattle.decide_preconditions.{specs.declared.limits.RangeLimits.RangeLimits, specs.declared.plan.Plan.Plan}
+use Rattle.decide_preconditions.specs.declared.plan.Plan.TheVariants.{NotModified, Failed, Full, Single, Multiple}
+use Rattle.decide_preconditions.specs.declared.plan.Plan.TheVariants.{Unsatisfiable}
 use Rattle.decide_preconditions.specs.declared.resource.Resource.{Resource}
 
 module _ (present : ℕ) (method : List ℕ) (request : LineMap) (resource : Resource) (len : ℕ)

@@ -1,23 +1,16 @@
 -- Cuts, elements and parts of a range-set.
-use Rattle.std.proofs.Common.{◌≡◌, ℕ, ◌↔◌, Bool, true, false, not, ◌==◌, nat_lt, nat_le}
-use Rattle.std.proofs.Common.{List, [], ◌∷◌, length, Option, Some, None, MatchOption}
-use Rattle.std.proofs.Common.{sym, ap, ◌∙◌, arith, inl, inr, ⊎_elim, All, Any, filter_map}
-use Rattle.std.specs.Bool.{MatchBool}
-use Rattle.std.specs.Prelude.{is_some}
-use Rattle.std.specs.List.{cons_option, list_any, position_or_len, before_first, after_first}
-use Rattle.std.specs.Option.{option_and_then}
-use Rattle.std.proofs.lemmas.Bool.{cases_Bool, leb-true, leb-false, ltb-true, ltb-false}
-use Rattle.std.proofs.lemmas.List.Elements.{All-nil, All-cons}
-use Rattle.std.proofs.lemmas.List.Splits.{slice_split_first, slice_split_none}
+use Rattle.std.proofs.Common.{◌≡◌, ℕ, ◌↔◌, Bool, true, false, not, ◌==◌, nat_lt, nat_le, List, [], ◌∷◌, length, Option}
+use Rattle.std.proofs.Common.{Some, None, MatchOption, sym, ap, ◌∙◌, arith, inl, inr, ⊎_elim, All, Any, filter_map}
+use Rattle.std.{specs.Bool.MatchBool, specs.Prelude.is_some, specs.List.{cons_option, list_any, position_or_len}}
+use Rattle.std.{specs.List.{before_first, after_first}, specs.Option.option_and_then, proofs.lemmas.Bool.cases_Bool}
+use Rattle.std.{proofs.lemmas.Bool.{leb-true, leb-false, ltb-true, ltb-false}, proofs.lemmas.List.Elements.All-nil}
+use Rattle.std.{proofs.lemmas.List.Elements.All-cons, proofs.lemmas.List.Splits.{slice_split_first, slice_split_none}}
 use Rattle.std.proofs.lemmas.List.Sums.{fails_before_first}
-use Rattle.headers.specs.ByteRanges.{pieces}
-use Rattle.headers.proofs.RangeLemmas.{any_cases, any_here, any_later}
+use Rattle.headers.{specs.ByteRanges.pieces, proofs.RangeLemmas.{any_cases, any_here, any_later}}
 use Rattle.rfc_fields.specs.Cuts.{cut}
-use Rattle.decide_preconditions.specs.Parts.{Holds, IsPartOf}
-use Rattle.decide_preconditions.specs.RangeSets.{RangeSpec, part_in, part_of, spec_of}
-use Rattle.decide_preconditions.specs.RangeSets.{Covers, selects_some}
-use Rattle.decide_preconditions.specs.RangeSets.RangeSpec.{Between, From, Suffix}
-use Rattle.decide_preconditions.specs.declared.part.Part.{Part}
+use Rattle.decide_preconditions.{specs.Parts.{Holds, IsPartOf}, specs.RangeSets.{RangeSpec, part_in, part_of, spec_of}}
+use Rattle.decide_preconditions.{specs.RangeSets.{Covers, selects_some}, specs.RangeSets.RangeSpec.{Between, From}}
+use Rattle.decide_preconditions.{specs.RangeSets.RangeSpec.Suffix, specs.declared.part.Part.Part}
 
 -- ---- cuts
 

@@ -1,16 +1,12 @@
 -- What follows from the rows of `Selects`.
-use Rattle.std.proofs.Common.{◌≡◌, ℕ, ◌+◌, ◌*◌, ◌<◌, ◌≤◌, Bool, true, false, ◌||◌, List}
-use Rattle.std.proofs.Common.{ap, ◌∙◌}
-use Rattle.std.proofs.Common.{subst, ◌↔◌, Any, inl, inr, length, arith, sum_by, nat_lt}
-use Rattle.std.proofs.Math.Bool.{or-true}
+use Rattle.std.proofs.Common.{◌≡◌, ℕ, ◌+◌, ◌*◌, ◌<◌, ◌≤◌, Bool, true, false, ◌||◌, List, ap, ◌∙◌, subst, ◌↔◌, Any, inl}
+use Rattle.std.{proofs.Common.{inr, length, arith, sum_by, nat_lt}, proofs.Math.Bool.or-true}
 use Rattle.std.proofs.lemmas.Bool.{cases_Bool, both_ways, and_from, lt-ltb, ltb-false}
 use Rattle.headers.specs.LineMap.{LineMap}
-use Rattle.decide_preconditions.specs.Limits.{are_too_many}
-use Rattle.decide_preconditions.specs.Parts.{AreCoalesced, Holds, IsJoined, part_size}
+use Rattle.decide_preconditions.{specs.Limits.are_too_many, specs.Parts.{AreCoalesced, Holds, IsJoined, part_size}}
 use Rattle.decide_preconditions.specs.Selection.{Applies, ArePartsAsked, AsksFor, AsksForTooMany, IsAsked}
 use Rattle.decide_preconditions.specs.Selection.{IsSameSelection, Selects}
-use Rattle.decide_preconditions.specs.declared.limits.RangeLimits.{RangeLimits}
-use Rattle.decide_preconditions.specs.declared.part.Part.{Part}
+use Rattle.decide_preconditions.{specs.declared.limits.RangeLimits.RangeLimits, specs.declared.part.Part.Part}
 use Rattle.decide_preconditions.specs.declared.resource.Validators.{Validators}
 use Rattle.decide_preconditions.specs.declared.selection.Selection.{Selection}
 use Rattle.decide_preconditions.specs.declared.selection.Selection.TheVariants.{Whole, Parts, Unsatisfiable}

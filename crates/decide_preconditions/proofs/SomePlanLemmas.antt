@@ -1,8 +1,7 @@
 -- Every request has a plan, or none.
 use Rattle.std.proofs.Common.{ℕ, List, inl, inr, refl}
 use Rattle.headers.specs.LineMap.{LineMap}
-use Rattle.decide_preconditions.specs.Plans.{HasPlan}
-use Rattle.decide_preconditions.specs.Preconditions.{Answers}
+use Rattle.decide_preconditions.{specs.Plans.HasPlan, specs.Preconditions.Answers}
 use Rattle.decide_preconditions.specs.declared.limits.RangeLimits.{RangeLimits}
 use Rattle.decide_preconditions.specs.declared.precondition.Precondition.{Precondition}
 use Rattle.decide_preconditions.specs.declared.precondition.Precondition.TheVariants.{Perform, NotModified, Failed}

@@ -1,27 +1,18 @@
 -- Every request has a selection.
-use Rattle.std.proofs.Common.{◌≡◌, ◌↔◌, ◌⊎◌, ⊎_elim, ℕ, ◌≤◌, nat_le, List, [], ◌∷◌, Option, Some}
-use Rattle.std.proofs.Common.{None}
-use Rattle.std.proofs.Common.{All, length, arith, inl, inr, filter_map, refl}
-use Rattle.std.specs.Prelude.{codes, if◌then◌else◌}
+use Rattle.std.proofs.Common.{◌≡◌, ◌↔◌, ◌⊎◌, ⊎_elim, ℕ, ◌≤◌, nat_le, List, [], ◌∷◌, Option, Some, None, All, length}
+use Rattle.std.{proofs.Common.{arith, inl, inr, filter_map, refl}, specs.Prelude.{codes, if◌then◌else◌}}
 use Rattle.std.proofs.lemmas.Bool.{both_ways, cases_Bool, cases_lt, leb-true, leb-false}
 use Rattle.std.proofs.lemmas.List.Elements.{All-cons, All-head, All-tail}
-use Rattle.headers.proofs.RangeLemmas.{any_cases, any_here, any_later}
-use Rattle.headers.specs.LineMap.{LineMap}
-use Rattle.decide_preconditions.specs.Limits.{are_too_many}
-use Rattle.decide_preconditions.specs.Merged.{merged}
-use Rattle.decide_preconditions.specs.Parts.{AreCoalesced, Holds, IsJoined, IsPartOf}
-use Rattle.decide_preconditions.specs.RangeSets.{elements, part_in}
+use Rattle.headers.{proofs.RangeLemmas.{any_cases, any_here, any_later}, specs.LineMap.LineMap}
+use Rattle.decide_preconditions.{specs.Limits.are_too_many, specs.Merged.merged, specs.Parts.{AreCoalesced, Holds}}
+use Rattle.decide_preconditions.{specs.Parts.{IsJoined, IsPartOf}, specs.RangeSets.{elements, part_in}}
 use Rattle.decide_preconditions.specs.Selection.{Applies, AsksFor, HasSelection, IsAsked, IsIgnored, if_range_lets}
-use Rattle.decide_preconditions.specs.Selection.{set_asked}
-use Rattle.decide_preconditions.specs.declared.limits.RangeLimits.{RangeLimits}
-use Rattle.decide_preconditions.specs.declared.part.Part.{Part}
-use Rattle.decide_preconditions.specs.declared.resource.Validators.{Validators}
-use Rattle.decide_preconditions.proofs.PartLemmas.{HeldBy, IsJoined-same, Rises, held_joins, joined_held}
-use Rattle.decide_preconditions.proofs.PartLemmas.{joined_weaker, merged_apart, merged_holds, merged_within}
-use Rattle.decide_preconditions.proofs.PartLemmas.{none_apart}
-use Rattle.decide_preconditions.proofs.PreconditionLemmas.{same_or_not}
-use Rattle.decide_preconditions.proofs.RangeSetLemmas.{parts_cover, parts_within}
-use Rattle.decide_preconditions.proofs.SelectionLemmas.{none_asked}
+use Rattle.decide_preconditions.{specs.Selection.set_asked, specs.declared.limits.RangeLimits.RangeLimits}
+use Rattle.decide_preconditions.{specs.declared.part.Part.Part, specs.declared.resource.Validators.Validators}
+use Rattle.decide_preconditions.proofs.PartLemmas.{HeldBy, IsJoined-same, Rises, held_joins, joined_held, joined_weaker}
+use Rattle.decide_preconditions.proofs.PartLemmas.{merged_apart, merged_holds, merged_within, none_apart}
+use Rattle.decide_preconditions.{proofs.PreconditionLemmas.same_or_not, proofs.RangeSetLemmas.parts_cover}
+use Rattle.decide_preconditions.{proofs.RangeSetLemmas.parts_within, proofs.SelectionLemmas.none_asked}
 
 -- ---- parts in order
 

@@ -1,13 +1,10 @@
 -- The comparison of entity tags.
 use Rattle.std.proofs.Common.{◌≡◌, ◌↔◌, Bool, true, false, not, ◌&&◌, refl, sym, ap, ◌∙◌, IsTrue}
-use Rattle.std.specs.Prelude.{bytes_eq}
-use Rattle.std.proofs.lemmas.Bool.{and_parts, and_from, not-true}
+use Rattle.std.{specs.Prelude.bytes_eq, proofs.lemmas.Bool.{and_parts, and_from, not-true}}
 use Rattle.std.proofs.lemmas.Slice.Eq.{bytes_eq-Decides}
-use Rattle.headers.specs.EntityTag.{AreTags, StronglyEqual, TagParts, WeaklyEqual, is_tag, parts_of}
-use Rattle.headers.specs.Lines.{Line}
+use Rattle.headers.{specs.EntityTag.{AreTags, StronglyEqual, TagParts, WeaklyEqual, is_tag, parts_of}, specs.Lines.Line}
 use Rattle.headers_syntax.proofs.EntityTagLemmas.{IsTag-from_is_tag, is_tag-true, parts_of-tag}
-use Rattle.decide_preconditions.specs.Tags.{are_equal}
-use Rattle.decide_preconditions.specs.declared.tags.Comparison.TheVariants.{Strong, Weak}
+use Rattle.decide_preconditions.{specs.Tags.are_equal, specs.declared.tags.Comparison.TheVariants.{Strong, Weak}}
 
 strong_from : (a b : Line) → AreTags StronglyEqual a b → are_equal Strong a b ≡ true
 strong_from a b h =

@@ -1,15 +1,12 @@
 -- The response to a request for a representation (RFC 9110, sections 13.2.2, 14.2 and 15).
 use Rattle.std.specs.Prelude.{◌≡◌, ◌≢◌, ◌⊎◌, ⊤, ℕ, ◌<◌, false, List, [], ◌∷◌, length, Option, Some, None}
 use Rattle.headers.specs.LineMap.{LineMap}
-use Rattle.decide_preconditions.specs.Fields.{status_of}
-use Rattle.decide_preconditions.specs.Limits.{are_too_many}
-use Rattle.decide_preconditions.specs.Preconditions.{Answers, IsGetOrHead}
-use Rattle.decide_preconditions.specs.Selection.{AsksFor, AsksForSome, HasSelection, Selects}
-use Rattle.decide_preconditions.specs.declared.limits.RangeLimits.{RangeLimits}
-use Rattle.decide_preconditions.specs.declared.part.Part.{Part}
-use Rattle.decide_preconditions.specs.declared.plan.Plan.{Plan}
-use Rattle.decide_preconditions.specs.declared.plan.Plan.TheVariants.{NotModified, Failed, Full, Single}
-use Rattle.decide_preconditions.specs.declared.plan.Plan.TheVariants.{Multiple, Unsatisfiable}
+use Rattle.decide_preconditions.{specs.Fields.status_of, specs.Limits.are_too_many, specs.Preconditions.Answers}
+use Rattle.decide_preconditions.{specs.Preconditions.IsGetOrHead, specs.Selection.{AsksFor, AsksForSome, HasSelection}}
+use Rattle.decide_preconditions.{specs.Selection.Selects, specs.declared.limits.RangeLimits.RangeLimits}
+use Rattle.decide_preconditions.{specs.declared.part.Part.Part, specs.declared.plan.Plan.Plan}
+use Rattle.decide_preconditions.specs.declared.plan.Plan.TheVariants.{NotModified, Failed, Full, Single, Multiple}
+use Rattle.decide_preconditions.specs.declared.plan.Plan.TheVariants.{Unsatisfiable}
 use Rattle.decide_preconditions.specs.declared.precondition.Precondition.TheVariants as precondition
 use Rattle.decide_preconditions.specs.declared.resource.Resource.{Resource}
 use Rattle.decide_preconditions.specs.declared.resource.Resource.TheVariants.{Missing, Current}

@@ -1,10 +1,9 @@
 -- The result of the preconditions of a request (RFC 9110, section 13.2.2).
 use Rattle.std.specs.Prelude.{◌≡◌, ◌⊎◌, ℕ, List, codes}
 use Rattle.headers.specs.LineMap.{LineMap}
-use Rattle.decide_preconditions.specs.Conditions.{IsPresent, IfMatchIsTrue, IfNoneMatchIsFalse}
-use Rattle.decide_preconditions.specs.Conditions.{IfNoneMatchMayBeFalse, ModifiedSinceIsFalse, ModifiedSinceLets}
-use Rattle.decide_preconditions.specs.Conditions.{UnmodifiedSinceIsFalse, UnmodifiedSinceLets}
-use Rattle.decide_preconditions.specs.declared.resource.Resource.{Resource}
+use Rattle.decide_preconditions.specs.Conditions.{IsPresent, IfMatchIsTrue, IfNoneMatchIsFalse, IfNoneMatchMayBeFalse}
+use Rattle.decide_preconditions.specs.Conditions.{ModifiedSinceIsFalse, ModifiedSinceLets, UnmodifiedSinceIsFalse}
+use Rattle.decide_preconditions.{specs.Conditions.UnmodifiedSinceLets, specs.declared.resource.Resource.Resource}
 use Rattle.decide_preconditions.specs.declared.resource.Resource.TheVariants.{Missing, Current}
 use Rattle.decide_preconditions.specs.declared.precondition.Precondition.{Precondition}
 use Rattle.decide_preconditions.specs.declared.precondition.Precondition.TheVariants.{Perform, NotModified, Failed}

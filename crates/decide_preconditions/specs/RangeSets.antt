@@ -1,14 +1,9 @@
 -- The byte ranges in a range-set (RFC 9110, sections 14.1.1 and 14.1.2).
-use Rattle.std.specs.Prelude.{ℕ, ◌+◌, ◌-◌, ◌^◌, ◌<◌, ◌≤◌, Bool, ◌&&◌, ◌==◌, nat_lt, nat_le, min, List, [], ◌∷◌}
-use Rattle.std.specs.Prelude.{length}
-use Rattle.std.specs.Prelude.{Option, Some, None, if◌then◌else◌, is_some}
-use Rattle.std.specs.Char.{is_ascii_digit}
-use Rattle.std.specs.List.{list_all, filter_map}
-use Rattle.std.specs.Option.{option_and_then}
-use Rattle.std.specs.Str.Parse.{digits_value}
+use Rattle.std.specs.Prelude.{ℕ, ◌+◌, ◌-◌, ◌^◌, ◌<◌, ◌≤◌, Bool, ◌&&◌, ◌==◌, nat_lt, nat_le, min, List, [], ◌∷◌, length}
+use Rattle.std.{specs.Prelude.{Option, Some, None, if◌then◌else◌, is_some}, specs.Char.is_ascii_digit}
+use Rattle.std.{specs.List.{list_all, filter_map}, specs.Option.option_and_then, specs.Str.Parse.digits_value}
 use denote.Ref.{Bor}
-use Rattle.headers.specs.ByteRanges.{dash, pieces, pieces_left}
-use Rattle.headers.specs.Text.{trim}
+use Rattle.headers.{specs.ByteRanges.{dash, pieces, pieces_left}, specs.Text.trim}
 use Rattle.rfc_fields.specs.Cuts.{cut}
 use Rattle.decide_preconditions.specs.declared.part.Part.{Part}
 

@@ -1,14 +1,9 @@
 -- Entity tags in a request (RFC 9110, sections 8.8.3, 13.1.1 and 13.1.2).
-use Rattle.std.specs.Prelude.{Bool, false, ◌&&◌, ◌||◌, not, List, Option, Some, None, bytes_eq}
-use Rattle.std.specs.List.{list_all, list_any}
-use Rattle.std.specs.Option.{option_map_or}
+use Rattle.std.{specs.Prelude.{Bool, false, ◌&&◌, ◌||◌, not, List, Option, Some, None, bytes_eq}, specs.List.list_all}
+use Rattle.std.{specs.List.list_any, specs.Option.option_map_or}
 use Rattle.http_header.specs.FieldValue.{FieldValue}
-use Rattle.rfc_fields.specs.Members.{field_members}
-use Rattle.rfc_fields.specs.Scan.{Member}
-use Rattle.rfc_fields.specs.Scan.Member.{Whole, Malformed}
-use Rattle.headers.specs.EntityTag.{is_tag, parts_of}
-use Rattle.headers.specs.EntityTagRange.{star}
-use Rattle.headers.specs.Lines.{Line, only_line}
+use Rattle.rfc_fields.{specs.Members.field_members, specs.Scan.Member, specs.Scan.Member.{Whole, Malformed}}
+use Rattle.headers.{specs.EntityTag.{is_tag, parts_of}, specs.EntityTagRange.star, specs.Lines.{Line, only_line}}
 use Rattle.decide_preconditions.specs.declared.resource.Resource.{Resource}
 use Rattle.decide_preconditions.specs.declared.resource.Resource.TheVariants.{Missing, Current}
 use Rattle.decide_preconditions.specs.declared.tags.Comparison.{Comparison}

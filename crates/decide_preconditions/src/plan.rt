@@ -1,8 +1,7 @@
 //! What the response to a request for a representation has.
 ghost use Rattle.std.specs.Prelude.{◌≡◌, IfOk, OnErr};
 ghost use Rattle.headers.specs.LineMap.{lines_at};
-ghost use Rattle.decide_preconditions.specs.Plans.{IsPlanned, IsSentAs, ReadsSome};
-ghost use Rattle.decide_preconditions.specs.Fields.{status_of};
+ghost use Rattle.decide_preconditions.{specs.Plans.{IsPlanned, IsSentAs, ReadsSome}, specs.Fields.status_of};
 
 use crate::limits::RangeLimits;
 use crate::part::Part;

@@ -1,10 +1,7 @@
 //! Preconditions (RFC 9110, section 13).
-ghost use Rattle.std.specs.Prelude.{◌≡◌, ◌⊎◌};
-ghost use Rattle.std.specs.Bool.{MatchBool};
-ghost use Rattle.headers.specs.LineMap.{lines_at};
-ghost use Rattle.headers.specs.Lines.{lines_of};
-ghost use Rattle.decide_preconditions.specs.Conditions.{date_in, modified_of};
-ghost use Rattle.decide_preconditions.specs.Conditions.{ModifiedSinceIsFalse, ModifiedSinceLets};
+ghost use Rattle.std.{specs.Prelude.{◌≡◌, ◌⊎◌}, specs.Bool.MatchBool};
+ghost use Rattle.headers.{specs.LineMap.lines_at, specs.Lines.lines_of};
+ghost use Rattle.decide_preconditions.specs.Conditions.{date_in, modified_of, ModifiedSinceIsFalse, ModifiedSinceLets};
 ghost use Rattle.decide_preconditions.specs.Conditions.{UnmodifiedSinceIsFalse, UnmodifiedSinceLets};
 ghost use Rattle.decide_preconditions.specs.Preconditions.{Answers, AreIgnored, IsGetOrHead, IsRead, IsStoredByDate};
 ghost use Rattle.decide_preconditions.specs.Preconditions.{IsStoredByTag, IsUnconditional, MayBeThere, ReadsMissing};

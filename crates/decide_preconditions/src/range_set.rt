@@ -1,17 +1,12 @@
 //! The range-set of a Range, in bytes (RFC 9110, sections 14.1.1 and 14.1.2).
-ghost use Rattle.std.specs.Prelude.{◌≡◌, ℕ, true, IfOk, is_some, length, nat_le, nat_lt};
-ghost use Rattle.std.specs.Char.{is_ascii_digit};
-ghost use Rattle.std.specs.Iterator.{YieldsFirstBy};
-ghost use Rattle.std.specs.Bool.{MatchBool};
-ghost use Rattle.std.specs.List.{filter_map, list_all, list_any};
-ghost use Rattle.decide_preconditions.specs.Selection.{IsAsked};
-ghost use Rattle.std.specs.Option.{option_and_then};
-ghost use Rattle.std.specs.Str.Parse.{digits_value};
+ghost use Rattle.std.{specs.Prelude.{◌≡◌, ℕ, true, IfOk, is_some, length, nat_le, nat_lt}, specs.Char.is_ascii_digit};
+ghost use Rattle.std.{specs.Iterator.YieldsFirstBy, specs.Bool.MatchBool, specs.List.{filter_map, list_all, list_any}};
+ghost use Rattle.std.{specs.Option.option_and_then, specs.Str.Parse.digits_value};
+ghost use Rattle.decide_preconditions.{specs.Selection.IsAsked, specs.NumeralOrder.{is_below, is_ordered}};
+ghost use Rattle.decide_preconditions.{specs.NumeralOrder.without_zeros, specs.RangeSets.{capped, elements}};
+ghost use Rattle.decide_preconditions.specs.RangeSets.{is_numeral, is_range_set, is_range_spec, part_in, part_of};
+ghost use Rattle.decide_preconditions.specs.RangeSets.{part_to, selects_some, spec_between, Suffix};
 ghost use Rattle.headers.specs.ByteRanges.{pieces_left};
-ghost use Rattle.decide_preconditions.specs.NumeralOrder.{is_below, is_ordered, without_zeros};
-ghost use Rattle.decide_preconditions.specs.RangeSets.{capped, elements, is_numeral};
-ghost use Rattle.decide_preconditions.specs.RangeSets.{is_range_set, is_range_spec, part_in, part_of, part_to};
-ghost use Rattle.decide_preconditions.specs.RangeSets.{selects_some, spec_between, Suffix};
 
 use crate::part::Part;
 use headers::trim;

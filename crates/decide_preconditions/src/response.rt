@@ -1,8 +1,7 @@
 //! Responses to requests for a representation.
 ghost use Rattle.std.specs.Prelude.{◌≡◌, IfOk, OnErr};
 ghost use Rattle.headers.specs.LineMap.{lines_at};
-ghost use Rattle.decide_preconditions.specs.Fields.{is_known_by};
-ghost use Rattle.decide_preconditions.specs.Responses.{IsAnswered, IsPlannedAtAll};
+ghost use Rattle.decide_preconditions.{specs.Fields.is_known_by, specs.Responses.{IsAnswered, IsPlannedAtAll}};
 
 use crate::boundary::Boundary;
 use crate::content::Content;

@@ -1,12 +1,9 @@
 -- Allow lists the methods that a resource has.
-use Rattle.std.proofs.Common.{◌≡◌, ◌↔◌, ℕ, Bool, true, false, cond, List, [], ◌∷◌, Option, Some, refl, sym}
-use Rattle.std.proofs.Common.{◌∙◌, ap, bytes_eq}
-use Rattle.std.specs.Prelude.{◌||◌, not, Contains, codes, find, flat_map, is_some, if◌then◌else◌}
-use Rattle.std.specs.Cmp.{IsEquivalence}
-use Rattle.std.specs.List.{list_any}
-use Rattle.std.proofs.lemmas.List.Folds.{list_any-append}
-use Rattle.std.proofs.lemmas.Map.Views.{Contains-from_any, list_any-from_Contains}
-use Rattle.std.proofs.lemmas.Slice.Eq.{bytes_eq-Decides}
+use Rattle.std.proofs.Common.{◌≡◌, ◌↔◌, ℕ, Bool, true, false, cond, List, [], ◌∷◌, Option, Some, refl, sym, ◌∙◌, ap}
+use Rattle.std.{proofs.Common.bytes_eq, specs.Prelude.{◌||◌, not, Contains, codes, find, flat_map, is_some}}
+use Rattle.std.{specs.Prelude.if◌then◌else◌, specs.Cmp.IsEquivalence, specs.List.list_any}
+use Rattle.std.{proofs.lemmas.List.Folds.list_any-append, proofs.lemmas.Map.Views.Contains-from_any}
+use Rattle.std.{proofs.lemmas.Map.Views.list_any-from_Contains, proofs.lemmas.Slice.Eq.bytes_eq-Decides}
 use Rattle.decide_resource.specs.Applies.{has_method, methods, methods_of, rule_for, ruled}
 use Rattle.decide_resource.specs.declared.resource.MethodRule.{MethodRule}
 

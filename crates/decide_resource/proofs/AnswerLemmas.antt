@@ -1,37 +1,24 @@
 -- A request has one answer.
-use Rattle.std.proofs.Common.{◌≡◌, ℕ, Bool, true, false, List, ◌++◌, Option, Some, None, refl, sym, ◌∙◌, ap}
-use Rattle.std.proofs.Common.{subst}
+use Rattle.std.proofs.Common.{◌≡◌, ℕ, Bool, true, false, List, ◌++◌, Option, Some, None, refl, sym, ◌∙◌, ap, subst}
 use Rattle.http_header.specs.FieldValue.{FieldValue}
-use Rattle.headers.specs.LineMap.{Field, LineMap}
-use Rattle.headers.specs.Lines.{Line}
-use Rattle.decide_cors.specs.Policy.{Policy}
-use Rattle.decide_cors.proofs.SameLemmas.{same_lines}
+use Rattle.headers.{specs.LineMap.{Field, LineMap}, specs.Lines.Line}
+use Rattle.decide_cors.{specs.Policy.Policy, proofs.SameLemmas.same_lines}
 use Rattle.decide_negotiation.proofs.ChoiceLemmas.{picks_one, picks_some}
-use Rattle.decide_preconditions.specs.Contents.{divisible_len, limits_of}
-use Rattle.decide_preconditions.specs.Fields.{fields_sent, is_known_by}
-use Rattle.decide_preconditions.specs.Plans.{IsSamePlan}
-use Rattle.decide_preconditions.specs.Responses.{IsAnswered}
-use Rattle.decide_preconditions.specs.declared.content.Content.{Content}
-use Rattle.decide_preconditions.specs.declared.plan.Plan.{Plan}
+use Rattle.decide_preconditions.{specs.Contents.{divisible_len, limits_of}, specs.Fields.{fields_sent, is_known_by}}
+use Rattle.decide_preconditions.{specs.Plans.IsSamePlan, specs.Responses.IsAnswered}
+use Rattle.decide_preconditions.{specs.declared.content.Content.Content, specs.declared.plan.Plan.Plan}
 use Rattle.decide_preconditions.specs.declared.plan.Plan.TheVariants.{Multiple}
 use Rattle.decide_preconditions.specs.declared.resource.Resource.{Resource as Target}
-use Rattle.decide_preconditions.specs.declared.response.Response.{Response}
-use Rattle.decide_preconditions.proofs.OnePlanLemmas.{one_plan}
+use Rattle.decide_preconditions.{specs.declared.response.Response.Response, proofs.OnePlanLemmas.one_plan}
 use Rattle.decide_resource.specs.Answers.{AreSame, AreSent, Gives, GivesIf, Goes, GoesOn, IsAnswer, IsSelected}
-use Rattle.decide_resource.specs.Answers.{IsShared, Stops}
-use Rattle.decide_resource.specs.Answers.{at_place, content_of, is_admitted, is_sent, place_in, response_fields}
-use Rattle.decide_resource.specs.Answers.{sent_for}
-use Rattle.decide_resource.specs.Answers.{status_sent, target_of, varying, with_metadata}
-use Rattle.decide_resource.specs.Fields.{vary_fields, vary_lines}
-use Rattle.decide_resource.specs.Representations.{score}
-use Rattle.decide_resource.specs.Requests.{Request}
-use Rattle.decide_resource.specs.declared.answer.Answer.{Answer}
-use Rattle.decide_resource.specs.declared.answer.Sends.{Sends}
+use Rattle.decide_resource.specs.Answers.{IsShared, Stops, at_place, content_of, is_admitted, is_sent, place_in}
+use Rattle.decide_resource.specs.Answers.{response_fields, sent_for, status_sent, target_of, varying, with_metadata}
+use Rattle.decide_resource.{specs.Fields.{vary_fields, vary_lines}, specs.Representations.score, specs.Requests.Request}
+use Rattle.decide_resource.{specs.declared.answer.Answer.Answer, specs.declared.answer.Sends.Sends}
 use Rattle.decide_resource.specs.declared.answer.Sends.TheVariants as sends
 use Rattle.decide_resource.specs.declared.reason.Reason.{Reason}
 use Rattle.decide_resource.specs.declared.representation.Representation.{Representation}
-use Rattle.decide_resource.specs.declared.resource.Resource.{Resource}
-use Rattle.decide_resource.proofs.OneReasonLemmas.{one_reason}
+use Rattle.decide_resource.{specs.declared.resource.Resource.Resource, proofs.OneReasonLemmas.one_reason}
 use Rattle.decide_resource.proofs.PlanLemmas.{same_by_plan}
 
 pub one_place : (resource : Resource) (fields : LineMap) (a b : Option ℕ) → IsSelected resource fields a

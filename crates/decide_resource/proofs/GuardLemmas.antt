@@ -1,40 +1,28 @@
 -- A method that is performed replaces what its request names, and conditions decide last.
 use Rattle.std.proofs.Common.{◌≡◌, ◌≢◌, ◌⊎◌, ◌<◌, ℕ, Bool, true, false, List, [], ◌∷◌, Option, Some, None, refl, sym}
-use Rattle.std.proofs.Common.{◌∙◌, ap, subst, inl, inr, arith, bytes_eq, lit<}
-use Rattle.std.specs.Prelude.{◌&&◌, ◌||◌, not, codes}
-use Rattle.std.proofs.lemmas.Bool.{and_parts, both_ways, or_cases}
-use Rattle.std.proofs.lemmas.Slice.Eq.{bytes_eq-Decides}
-use Rattle.headers.specs.LineMap.{Field, LineMap}
-use Rattle.headers.specs.Lines.{Line}
-use Rattle.headers.specs.Typed.{HasLine}
+use Rattle.std.{proofs.Common.{◌∙◌, ap, subst, inl, inr, arith, bytes_eq, lit<}, specs.Prelude.{◌&&◌, ◌||◌, not, codes}}
+use Rattle.std.{proofs.lemmas.Bool.{and_parts, both_ways, or_cases}, proofs.lemmas.Slice.Eq.bytes_eq-Decides}
+use Rattle.headers.{specs.LineMap.{Field, LineMap}, specs.Lines.Line, specs.Typed.HasLine}
 use Rattle.decide_preconditions.specs.Preconditions.{Answers, AreIgnored, IsGetOrHead, IsUnconditional, StepsAnswer}
 use Rattle.decide_preconditions.specs.Tags.{is_star}
 use Rattle.decide_preconditions.specs.declared.precondition.Precondition.TheVariants as precondition
 use Rattle.decide_preconditions.specs.declared.resource.Resource.{Resource as Target}
 use Rattle.decide_preconditions.specs.declared.resource.Resource.TheVariants as target
-use Rattle.decide_preconditions.specs.declared.response.Response.{Response}
-use Rattle.decide_preconditions.specs.Responses.{IsAnswered}
+use Rattle.decide_preconditions.{specs.declared.response.Response.Response, specs.Responses.IsAnswered}
 use Rattle.decide_resource.specs.Answers.{GivesIf, IsAnswer, IsSelected, at_place, content_of, is_admitted, is_sent}
-use Rattle.decide_resource.specs.Answers.{sent_for, target_of}
-use Rattle.decide_resource.specs.Applies.{applies, is_guarded, is_present, is_read, is_unacceptable, needs_condition}
-use Rattle.decide_resource.specs.Applies.{rule, rule_for, takes_type}
-use Rattle.decide_resource.specs.Guards.{ReplacesListed, ReplacesNamed, ReplacesNothing}
-use Rattle.decide_resource.specs.Reasons.{IsFirst, stage}
-use Rattle.decide_resource.specs.Representations.{score}
-use Rattle.decide_resource.specs.Requests.{Request, unconditional}
-use Rattle.decide_resource.specs.declared.answer.Answer.{Answer}
-use Rattle.decide_resource.specs.declared.answer.Sends.{Sends}
+use Rattle.decide_resource.{specs.Answers.{sent_for, target_of}, specs.Applies.{applies, is_guarded, is_present}}
+use Rattle.decide_resource.specs.Applies.{is_read, is_unacceptable, needs_condition, rule, rule_for, takes_type}
+use Rattle.decide_resource.{specs.Guards.{ReplacesListed, ReplacesNamed, ReplacesNothing}, specs.Reasons.IsFirst}
+use Rattle.decide_resource.{specs.Reasons.stage, specs.Representations.score, specs.Requests.{Request, unconditional}}
+use Rattle.decide_resource.{specs.declared.answer.Answer.Answer, specs.declared.answer.Sends.Sends}
 use Rattle.decide_resource.specs.declared.answer.Sends.TheVariants as sends
-use Rattle.decide_resource.specs.declared.reason.Reason.{Reason}
-use Rattle.decide_resource.specs.declared.reason.Reason.TheVariants.{InvalidHost, Misdirected, UnknownMethod}
-use Rattle.decide_resource.specs.declared.reason.Reason.TheVariants.{MethodNotAllowed, Options, UnmetExpectation}
-use Rattle.decide_resource.specs.declared.reason.Reason.TheVariants.{PartialContent}
-use Rattle.decide_resource.specs.declared.reason.Reason.TheVariants.{Moved, Gone, NotFound, LengthRequired}
-use Rattle.decide_resource.specs.declared.reason.Reason.TheVariants.{ContentTooLarge, UnsupportedMediaType}
-use Rattle.decide_resource.specs.declared.reason.Reason.TheVariants.{UnsupportedCoding, NotAcceptable}
-use Rattle.decide_resource.specs.declared.reason.Reason.TheVariants.{PreconditionRequired, Admitted}
-use Rattle.decide_resource.specs.declared.resource.Resource.{Resource}
-use Rattle.decide_resource.proofs.OneReasonLemmas.{one_reason}
+use Rattle.decide_resource.{specs.declared.reason.Reason.Reason, specs.declared.reason.Reason.TheVariants.InvalidHost}
+use Rattle.decide_resource.specs.declared.reason.Reason.TheVariants.{Misdirected, UnknownMethod, MethodNotAllowed}
+use Rattle.decide_resource.specs.declared.reason.Reason.TheVariants.{Options, UnmetExpectation, PartialContent, Moved}
+use Rattle.decide_resource.specs.declared.reason.Reason.TheVariants.{Gone, NotFound, LengthRequired, ContentTooLarge}
+use Rattle.decide_resource.specs.declared.reason.Reason.TheVariants.{UnsupportedMediaType, UnsupportedCoding}
+use Rattle.decide_resource.specs.declared.reason.Reason.TheVariants.{NotAcceptable, PreconditionRequired, Admitted}
+use Rattle.decide_resource.{specs.declared.resource.Resource.Resource, proofs.OneReasonLemmas.one_reason}
 
 -- ---- what a guard lets pass
 

@@ -1,39 +1,26 @@
 -- A HEAD is answered as a GET without Range.
-use Rattle.std.proofs.Common.{◌≡◌, ℕ, Bool, true, false, List, Option, Some, None, refl}
-use Rattle.std.proofs.Common.{◌∙◌}
-use Rattle.std.specs.Prelude.{codes}
+use Rattle.std.{proofs.Common.{◌≡◌, ℕ, Bool, true, false, List, Option, Some, None, refl, ◌∙◌}, specs.Prelude.codes}
 use Rattle.http_header.specs.FieldValue.{FieldValue}
-use Rattle.headers.specs.LineMap.{Field}
-use Rattle.headers.specs.Lines.{Line}
-use Rattle.decide_cors.specs.Kinds.{IsKindOf}
-use Rattle.decide_cors.specs.Policy.{Policy}
-use Rattle.decide_cors.specs.declared.kind.CorsKind.{CorsKind}
+use Rattle.headers.{specs.LineMap.Field, specs.Lines.Line}
+use Rattle.decide_cors.{specs.Kinds.IsKindOf, specs.Policy.Policy, specs.declared.kind.CorsKind.CorsKind}
 use Rattle.decide_cors.specs.declared.kind.CorsKind.TheVariants.{Preflight, Plain, NoOrigin}
-use Rattle.decide_preconditions.specs.Contents.{divisible_len, limits_of}
-use Rattle.decide_preconditions.specs.Responses.{IsAnswered}
+use Rattle.decide_preconditions.{specs.Contents.{divisible_len, limits_of}, specs.Responses.IsAnswered}
 use Rattle.decide_preconditions.specs.declared.content.Content.{Content}
 use Rattle.decide_preconditions.specs.declared.resource.Resource.{Resource as Target}
-use Rattle.decide_preconditions.specs.declared.response.Response.{Response}
-use Rattle.decide_preconditions.proofs.HeadLemmas.{head_as_get}
-use Rattle.decide_resource.specs.Answers.{GivesIf, IsAnswer, IsSelected, IsShared, at_place}
-use Rattle.decide_resource.specs.Answers.{content_of, is_admitted, response_fields, target_of}
-use Rattle.decide_resource.specs.Applies.{applies, is_unacceptable, rule_for, takes_type}
-use Rattle.decide_resource.specs.Fields.{reason_fields, vary_lines}
-use Rattle.decide_resource.specs.Representations.{score}
-use Rattle.decide_resource.specs.Requests.{Request, get_of, head_of}
-use Rattle.decide_resource.specs.declared.answer.Answer.{Answer}
-use Rattle.decide_resource.specs.declared.answer.Sends.{Sends}
-use Rattle.decide_resource.specs.declared.reason.Reason.{Reason}
-use Rattle.decide_resource.specs.declared.reason.Reason.TheVariants.{InvalidHost, Misdirected, UnknownMethod}
-use Rattle.decide_resource.specs.declared.reason.Reason.TheVariants.{MethodNotAllowed, Options, UnmetExpectation}
-use Rattle.decide_resource.specs.declared.reason.Reason.TheVariants.{PartialContent}
-use Rattle.decide_resource.specs.declared.reason.Reason.TheVariants.{Moved, Gone, NotFound, LengthRequired}
-use Rattle.decide_resource.specs.declared.reason.Reason.TheVariants.{ContentTooLarge, UnsupportedMediaType}
-use Rattle.decide_resource.specs.declared.reason.Reason.TheVariants.{UnsupportedCoding, NotAcceptable}
-use Rattle.decide_resource.specs.declared.reason.Reason.TheVariants.{PreconditionRequired, Admitted}
+use Rattle.decide_preconditions.{specs.declared.response.Response.Response, proofs.HeadLemmas.head_as_get}
+use Rattle.decide_resource.specs.Answers.{GivesIf, IsAnswer, IsSelected, IsShared, at_place, content_of, is_admitted}
+use Rattle.decide_resource.{specs.Answers.{response_fields, target_of}, specs.Applies.{applies, is_unacceptable}}
+use Rattle.decide_resource.{specs.Applies.{rule_for, takes_type}, specs.Fields.{reason_fields, vary_lines}}
+use Rattle.decide_resource.{specs.Representations.score, specs.Requests.{Request, get_of, head_of}}
+use Rattle.decide_resource.{specs.declared.answer.Answer.Answer, specs.declared.answer.Sends.Sends}
+use Rattle.decide_resource.{specs.declared.reason.Reason.Reason, specs.declared.reason.Reason.TheVariants.InvalidHost}
+use Rattle.decide_resource.specs.declared.reason.Reason.TheVariants.{Misdirected, UnknownMethod, MethodNotAllowed}
+use Rattle.decide_resource.specs.declared.reason.Reason.TheVariants.{Options, UnmetExpectation, PartialContent, Moved}
+use Rattle.decide_resource.specs.declared.reason.Reason.TheVariants.{Gone, NotFound, LengthRequired, ContentTooLarge}
+use Rattle.decide_resource.specs.declared.reason.Reason.TheVariants.{UnsupportedMediaType, UnsupportedCoding}
+use Rattle.decide_resource.specs.declared.reason.Reason.TheVariants.{NotAcceptable, PreconditionRequired, Admitted}
 use Rattle.decide_resource.specs.declared.representation.Representation.{Representation}
-use Rattle.decide_resource.specs.declared.resource.Resource.{Resource}
-use Rattle.decide_resource.proofs.PickLemmas.{first_alike, picks_alike}
+use Rattle.decide_resource.{specs.declared.resource.Resource.Resource, proofs.PickLemmas.{first_alike, picks_alike}}
 
 module _ (resource : Resource) (request : Request) where
   apply_alike : (reason : Reason) → applies resource (get_of request) reason ≡ applies resource (head_of request) reason

@@ -1,26 +1,19 @@
 -- An answer depends on the representations, and not on where their list is stored.
 use Rattle.std.proofs.Common.{◌≡◌, ℕ, Bool, true, false, ◌&&◌, List, Option, refl, sym, ap, subst, ◌∙◌}
-use Rattle.std.specs.Prelude.{length, nat_lt}
-use Rattle.std.specs.Global.{Vec}
+use Rattle.std.{specs.Prelude.{length, nat_lt}, specs.Global.Vec}
 use Rattle.headers.specs.LineMap.{Field, LineMap}
 use Rattle.decide_negotiation.specs.Choice.{Picks}
 use Rattle.decide_resource.specs.Answers.{Gives, GivesIf, Goes, GoesOn, IsAnswer, IsSelected, Stops, at_place}
-use Rattle.decide_resource.specs.Answers.{is_admitted, place_in}
-use Rattle.decide_resource.specs.Applies.{applies, is_current, is_read, is_unacceptable}
-use Rattle.decide_resource.specs.Fields.{reason_fields}
-use Rattle.decide_resource.specs.Reasons.{IsFirst}
-use Rattle.decide_resource.specs.Representations.{are_unacceptable, score}
-use Rattle.decide_resource.specs.Requests.{Request}
-use Rattle.decide_resource.specs.declared.answer.Answer.{Answer}
-use Rattle.decide_resource.specs.declared.answer.Sends.{Sends}
-use Rattle.decide_resource.specs.declared.reason.Reason.{Reason}
-use Rattle.decide_resource.specs.declared.reason.Reason.TheVariants.{InvalidHost, Misdirected, UnknownMethod}
-use Rattle.decide_resource.specs.declared.reason.Reason.TheVariants.{MethodNotAllowed, Options, UnmetExpectation}
-use Rattle.decide_resource.specs.declared.reason.Reason.TheVariants.{PartialContent}
-use Rattle.decide_resource.specs.declared.reason.Reason.TheVariants.{Moved, Gone, NotFound, LengthRequired}
-use Rattle.decide_resource.specs.declared.reason.Reason.TheVariants.{ContentTooLarge, UnsupportedMediaType}
-use Rattle.decide_resource.specs.declared.reason.Reason.TheVariants.{UnsupportedCoding, NotAcceptable}
-use Rattle.decide_resource.specs.declared.reason.Reason.TheVariants.{PreconditionRequired, Admitted}
+use Rattle.decide_resource.{specs.Answers.{is_admitted, place_in}, specs.Applies.{applies, is_current, is_read}}
+use Rattle.decide_resource.{specs.Applies.is_unacceptable, specs.Fields.reason_fields, specs.Reasons.IsFirst}
+use Rattle.decide_resource.{specs.Representations.{are_unacceptable, score}, specs.Requests.Request}
+use Rattle.decide_resource.{specs.declared.answer.Answer.Answer, specs.declared.answer.Sends.Sends}
+use Rattle.decide_resource.{specs.declared.reason.Reason.Reason, specs.declared.reason.Reason.TheVariants.InvalidHost}
+use Rattle.decide_resource.specs.declared.reason.Reason.TheVariants.{Misdirected, UnknownMethod, MethodNotAllowed}
+use Rattle.decide_resource.specs.declared.reason.Reason.TheVariants.{Options, UnmetExpectation, PartialContent, Moved}
+use Rattle.decide_resource.specs.declared.reason.Reason.TheVariants.{Gone, NotFound, LengthRequired, ContentTooLarge}
+use Rattle.decide_resource.specs.declared.reason.Reason.TheVariants.{UnsupportedMediaType, UnsupportedCoding}
+use Rattle.decide_resource.specs.declared.reason.Reason.TheVariants.{NotAcceptable, PreconditionRequired, Admitted}
 use Rattle.decide_resource.specs.declared.representation.Representation.{Representation}
 use Rattle.decide_resource.specs.declared.resource.Resource.{Resource}
 

@@ -1,40 +1,31 @@
 -- What a resource answers depends on the members of Accept, Accept-Language and Accept-Encoding, and not on the field
 -- lines in which they are.
-use Rattle.std.proofs.Common.{◌≡◌, ◌↔◌, ℕ, Bool, true, false, List, [], ◌∷◌, Option, Some, None, refl, sym, ◌∙◌}
-use Rattle.std.proofs.Common.{ap, inl, inr, arith, bytes_eq}
-use Rattle.std.specs.Prelude.{◌==◌, ◌&&◌, codes, if◌then◌else◌, length, nat_lt, option_map}
+use Rattle.std.proofs.Common.{◌≡◌, ◌↔◌, ℕ, Bool, true, false, List, [], ◌∷◌, Option, Some, None, refl, sym, ◌∙◌, ap}
+use Rattle.std.{proofs.Common.{inl, inr, arith, bytes_eq}, specs.Prelude.{◌==◌, ◌&&◌, codes, if◌then◌else◌, length}}
+use Rattle.std.specs.Prelude.{nat_lt, option_map}
 use Rattle.http_header.specs.FieldValue.{FieldValue}
-use Rattle.headers.specs.LineMap.{Field, LineMap}
-use Rattle.headers.specs.Lines.{Line}
+use Rattle.headers.{specs.LineMap.{Field, LineMap}, specs.Lines.Line}
 use Rattle.decide_cors.specs.Answer.{IsAnswer as IsPolicyAnswer}
-use Rattle.decide_cors.specs.Kinds.{IsKindOf}
-use Rattle.decide_cors.specs.Policy.{Policy}
-use Rattle.decide_cors.specs.declared.kind.CorsKind.{CorsKind}
+use Rattle.decide_cors.{specs.Kinds.IsKindOf, specs.Policy.Policy, specs.declared.kind.CorsKind.CorsKind}
 use Rattle.decide_cors.specs.declared.kind.CorsKind.TheVariants.{Preflight, Plain, NoOrigin}
 use Rattle.decide_cors.specs.declared.policy.CorsAnswer.{CorsAnswer}
 use Rattle.rfc_fields.specs.Scan.{Member}
-use Rattle.decide_negotiation.specs.Codings.{encoding_quality}
-use Rattle.decide_negotiation.specs.Languages.{language_says}
-use Rattle.decide_negotiation.specs.MediaRanges.{media_type_says}
-use Rattle.decide_negotiation.specs.Qualities.{quality_by, quality_in, rank}
+use Rattle.decide_negotiation.{specs.Codings.encoding_quality, specs.Languages.language_says}
+use Rattle.decide_negotiation.{specs.MediaRanges.media_type_says, specs.Qualities.{quality_by, quality_in, rank}}
 use Rattle.decide_negotiation.specs.declared.acceptability.Quality.{Quality}
 use Rattle.decide_preconditions.specs.declared.response.Response.{Response}
 use Rattle.decide_resource.specs.Answers.{GivesIf, IsAnswer, IsShared, at_place, content_of, is_admitted}
-use Rattle.decide_resource.specs.Answers.{response_fields, target_of, varying}
-use Rattle.decide_resource.specs.Applies.{applies, is_current, is_read, is_unacceptable, takes_type}
-use Rattle.decide_resource.specs.Fields.{reason_fields, vary_lines}
-use Rattle.decide_resource.specs.Representations.{are_unacceptable, coding_of, joined, rank_by, score}
-use Rattle.decide_resource.specs.Requests.{Request}
-use Rattle.decide_resource.specs.Vary.{AreAlike, AskAlike, ChooseAlike, ListAlike, SelectTheSame}
-use Rattle.decide_resource.specs.declared.answer.Answer.{Answer}
-use Rattle.decide_resource.specs.declared.answer.Sends.{Sends}
-use Rattle.decide_resource.specs.declared.reason.Reason.{Reason}
-use Rattle.decide_resource.specs.declared.reason.Reason.TheVariants.{NotAcceptable}
+use Rattle.decide_resource.{specs.Answers.{response_fields, target_of, varying}, specs.Applies.{applies, is_current}}
+use Rattle.decide_resource.{specs.Applies.{is_read, is_unacceptable, takes_type}, specs.Fields.reason_fields}
+use Rattle.decide_resource.{specs.Fields.vary_lines, specs.Representations.{are_unacceptable, coding_of, joined}}
+use Rattle.decide_resource.{specs.Representations.{rank_by, score}, specs.Requests.Request, specs.Vary.AreAlike}
+use Rattle.decide_resource.specs.Vary.{AskAlike, ChooseAlike, ListAlike, SelectTheSame}
+use Rattle.decide_resource.{specs.declared.answer.Answer.Answer, specs.declared.answer.Sends.Sends}
+use Rattle.decide_resource.{specs.declared.reason.Reason.Reason, specs.declared.reason.Reason.TheVariants.NotAcceptable}
 use Rattle.decide_resource.specs.declared.representation.Negotiation.{Negotiation}
 use Rattle.decide_resource.specs.declared.representation.Representation.{Representation}
-use Rattle.decide_resource.specs.declared.resource.Resource.{Resource}
-use Rattle.decide_resource.proofs.OtherFieldLemmas.{alike_back, other_fields}
-use Rattle.decide_resource.proofs.PickLemmas.{first_alike, picks_alike}
+use Rattle.decide_resource.{specs.declared.resource.Resource.Resource, proofs.OtherFieldLemmas.alike_back}
+use Rattle.decide_resource.{proofs.OtherFieldLemmas.other_fields, proofs.PickLemmas.{first_alike, picks_alike}}
 use Rattle.decide_resource.proofs.SamePlanLemmas.{answered}
 
 rank_same : (gives : List Member → List ℕ → Quality) (used : Bool) (lines others : List Line) (offer : Option Line)

@@ -1,24 +1,15 @@
 -- An answer depends on the fields that decisions read, and on no other.
-use Rattle.std.proofs.Common.{◌≡◌, ◌↔◌, ℕ, List, Option, Some, None, sym, ◌∙◌, ap, subst}
-use Rattle.std.specs.Prelude.{codes}
-use Rattle.headers.specs.LineMap.{Field, LineMap}
-use Rattle.headers.specs.Lines.{Line}
-use Rattle.headers.specs.Typed.{HasLine}
+use Rattle.std.{proofs.Common.{◌≡◌, ◌↔◌, ℕ, List, Option, Some, None, sym, ◌∙◌, ap, subst}, specs.Prelude.codes}
+use Rattle.headers.{specs.LineMap.{Field, LineMap}, specs.Lines.Line, specs.Typed.HasLine}
 use Rattle.decide_cors.specs.Answer.{IsAnswer as IsPolicyAnswer, allows}
-use Rattle.decide_cors.specs.Fields.{fields_sent, granted}
-use Rattle.decide_cors.specs.Kinds.{IsKindOf, is_preflight}
-use Rattle.decide_cors.specs.Policy.{Policy}
-use Rattle.decide_cors.specs.declared.kind.CorsKind.{CorsKind}
-use Rattle.decide_cors.specs.declared.kind.CorsKind.TheVariants.{Preflight, Plain, NoOrigin}
+use Rattle.decide_cors.{specs.Fields.{fields_sent, granted}, specs.Kinds.{IsKindOf, is_preflight}, specs.Policy.Policy}
+use Rattle.decide_cors.{specs.declared.kind.CorsKind.CorsKind, specs.declared.kind.CorsKind.TheVariants.Preflight}
+use Rattle.decide_cors.specs.declared.kind.CorsKind.TheVariants.{Plain, NoOrigin}
 use Rattle.decide_cors.specs.declared.policy.CorsAnswer.{CorsAnswer}
-use Rattle.decide_resource.specs.Answers.{IsAnswer, IsShared, is_admitted, varying}
-use Rattle.decide_resource.specs.Fields.{vary_lines}
-use Rattle.decide_resource.specs.Requests.{Request}
-use Rattle.decide_resource.specs.Vary.{AreAlike, ChooseAlike}
-use Rattle.decide_resource.specs.declared.answer.Answer.{Answer}
-use Rattle.decide_resource.specs.declared.resource.Resource.{Resource}
-use Rattle.decide_resource.proofs.SamePlanLemmas.{back}
-use Rattle.decide_resource.proofs.SelectionLemmas.{SelectAlike}
+use Rattle.decide_resource.{specs.Answers.{IsAnswer, IsShared, is_admitted, varying}, specs.Fields.vary_lines}
+use Rattle.decide_resource.{specs.Requests.Request, specs.Vary.{AreAlike, ChooseAlike}}
+use Rattle.decide_resource.{specs.declared.answer.Answer.Answer, specs.declared.resource.Resource.Resource}
+use Rattle.decide_resource.{proofs.SamePlanLemmas.back, proofs.SelectionLemmas.SelectAlike}
 use Rattle.decide_resource.proofs.VaryLemmas.{gives_alike, same_first}
 
 kind_alike : (method : List ℕ) (r s : LineMap) (kind : CorsKind) → r (codes "origin") ≡ s (codes "origin")

@@ -1,45 +1,33 @@
 -- Allow, ETag and Last-Modified of an answer.
-use Rattle.std.proofs.Common.{◌≡◌, ◌≢◌, ◌↔◌, ◌⊎◌, ℕ, Bool, true, false, List, [], ◌∷◌, ◌++◌, Option, Some, None}
-use Rattle.std.proofs.Common.{refl, sym, ◌∙◌, ap, subst, inl, inr, lit≤, arith}
-use Rattle.std.specs.Prelude.{◌||◌, Contains, codes, if◌then◌else◌, is_some, not}
-use Rattle.std.proofs.lemmas.Bool.{cases_order}
+use Rattle.std.proofs.Common.{◌≡◌, ◌≢◌, ◌↔◌, ◌⊎◌, ℕ, Bool, true, false, List, [], ◌∷◌, ◌++◌, Option, Some, None, refl}
+use Rattle.std.{proofs.Common.{sym, ◌∙◌, ap, subst, inl, inr, lit≤, arith}, specs.Prelude.{◌||◌, Contains, codes}}
+use Rattle.std.{specs.Prelude.{if◌then◌else◌, is_some, not}, proofs.lemmas.Bool.cases_order}
 use Rattle.http_header.specs.FieldValue.{FieldValue}
-use Rattle.headers.specs.Date.{fixdate}
-use Rattle.headers.specs.LineMap.{Field, LineMap, fields_of, set, set_all}
-use Rattle.headers.specs.Lines.{Line}
-use Rattle.headers.specs.Merge.{merge}
-use Rattle.headers.specs.Places.{comma}
+use Rattle.headers.{specs.Date.fixdate, specs.LineMap.{Field, LineMap, fields_of, set, set_all}, specs.Lines.Line}
+use Rattle.headers.{specs.Merge.merge, specs.Places.comma}
 use Rattle.decide_cors.specs.Browser.{IsPreflightFor, PreflightPasses, Request as Sent}
-use Rattle.decide_cors.specs.Fields.{covers_origin, grant_fields, granted, vary_sent}
-use Rattle.decide_cors.specs.Kinds.{is_preflight}
-use Rattle.decide_cors.specs.Policy.{Policy}
-use Rattle.decide_cors.specs.Rules.{AllowsRequest, IsLawful, IsPolicyOf}
+use Rattle.decide_cors.{specs.Fields.{covers_origin, grant_fields, granted, vary_sent}, specs.Kinds.is_preflight}
+use Rattle.decide_cors.{specs.Policy.Policy, specs.Rules.{AllowsRequest, IsLawful, IsPolicyOf}}
 use Rattle.decide_cors.specs.declared.rules.CorsRules.{CorsRules}
-use Rattle.decide_preconditions.specs.Conditions.{modified_of}
-use Rattle.decide_preconditions.specs.Fields.{etag_of, fields_sent, is_known_by, lines_sent, modified_without, not_after}
-use Rattle.decide_preconditions.specs.Responses.{IsAnswered}
-use Rattle.decide_preconditions.specs.declared.content.Content.{Content}
-use Rattle.decide_preconditions.specs.declared.plan.Plan.{Plan}
+use Rattle.decide_preconditions.{specs.Conditions.modified_of, specs.Fields.{etag_of, fields_sent, is_known_by}}
+use Rattle.decide_preconditions.{specs.Fields.{lines_sent, modified_without, not_after}, specs.Responses.IsAnswered}
+use Rattle.decide_preconditions.{specs.declared.content.Content.Content, specs.declared.plan.Plan.Plan}
 use Rattle.decide_preconditions.specs.declared.plan.Plan.TheVariants.{Full, NotModified}
 use Rattle.decide_preconditions.specs.declared.resource.Resource.{Resource as Target}
 use Rattle.decide_preconditions.specs.declared.response.Response.{Response}
 use Rattle.decide_resource.specs.Answers.{GivesIf, IsAnswer, IsShared, Stops, at_place, content_of, is_admitted}
 use Rattle.decide_resource.specs.Answers.{is_sent, response_fields, sent_for, target_of, with_metadata}
-use Rattle.decide_resource.specs.Applies.{applies, methods, rule_for}
-use Rattle.decide_resource.specs.Fields.{allow_field, offered_fields, types_fields, vary_fields, vary_lines}
-use Rattle.decide_resource.specs.Reasons.{Before, IsFirst, stage}
-use Rattle.decide_resource.specs.Requests.{Request, unconditional}
-use Rattle.decide_resource.specs.declared.answer.Answer.{Answer}
-use Rattle.decide_resource.specs.declared.answer.Sends.{Sends}
+use Rattle.decide_resource.{specs.Applies.{applies, methods, rule_for}, specs.Fields.{allow_field, offered_fields}}
+use Rattle.decide_resource.{specs.Fields.{types_fields, vary_fields, vary_lines}, specs.Reasons.{Before, IsFirst}}
+use Rattle.decide_resource.{specs.Reasons.stage, specs.Requests.{Request, unconditional}}
+use Rattle.decide_resource.{specs.declared.answer.Answer.Answer, specs.declared.answer.Sends.Sends}
 use Rattle.decide_resource.specs.declared.answer.Sends.TheVariants as sends
 use Rattle.decide_resource.specs.declared.reason.Reason.{Reason}
 use Rattle.decide_resource.specs.declared.reason.Reason.TheVariants.{MethodNotAllowed, NotAcceptable, Options}
 use Rattle.decide_resource.specs.declared.reason.Reason.TheVariants.{UnknownMethod, UnmetExpectation}
 use Rattle.decide_resource.specs.declared.representation.Representation.{Representation}
-use Rattle.decide_resource.specs.declared.resource.MethodRule.{MethodRule}
-use Rattle.decide_resource.specs.declared.resource.Resource.{Resource}
-use Rattle.decide_resource.proofs.AllowLemmas.{allow_is_exact, allow_lists}
-use Rattle.decide_resource.proofs.ConditionLemmas.{same_place}
+use Rattle.decide_resource.{specs.declared.resource.MethodRule.MethodRule, specs.declared.resource.Resource.Resource}
+use Rattle.decide_resource.{proofs.AllowLemmas.{allow_is_exact, allow_lists}, proofs.ConditionLemmas.same_place}
 use Rattle.decide_resource.proofs.SharedLemmas.{preflight_of_answer, set_all-append}
 
 -- ---- what neither Vary nor a policy sets

@@ -1,8 +1,7 @@
 -- What is chosen by equal tests and scores is the same.
 use Rattle.std.proofs.Common.{◌≡◌, ℕ, Bool, List, get_or, Option, Some, None, sym, ◌∙◌, arith}
 use Rattle.decide_negotiation.specs.Choice.{Picks}
-use Rattle.decide_resource.specs.Reasons.{IsFirst}
-use Rattle.decide_resource.specs.declared.reason.Reason.{Reason}
+use Rattle.decide_resource.{specs.Reasons.IsFirst, specs.declared.reason.Reason.Reason}
 
 pub first_alike : (p q : Reason → Bool) → ((r : Reason) → p r ≡ q r) → (reason : Reason) → IsFirst p reason
     → IsFirst q reason

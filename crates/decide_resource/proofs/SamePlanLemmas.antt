@@ -1,26 +1,19 @@
 -- Requests with the same conditions and the same range have the same plan.
-use Rattle.std.proofs.Common.{◌≡◌, ◌⊎◌, ℕ, true, false, List, [], ◌∷◌, Option, Some, None, sym, ◌∙◌, ap, subst}
-use Rattle.std.proofs.Common.{inl, inr, length, bytes_eq}
-use Rattle.std.specs.Prelude.{codes, if◌then◌else◌, nat_lt, ◌==◌}
+use Rattle.std.proofs.Common.{◌≡◌, ◌⊎◌, ℕ, true, false, List, [], ◌∷◌, Option, Some, None, sym, ◌∙◌, ap, subst, inl}
+use Rattle.std.{proofs.Common.{inr, length, bytes_eq}, specs.Prelude.{codes, if◌then◌else◌, nat_lt, ◌==◌}}
 use Rattle.std.specs.Option.{option_and_then, option_map_or}
 use Rattle.http_header.specs.FieldValue.{FieldValue}
-use Rattle.headers.specs.LineMap.{LineMap}
-use Rattle.headers.specs.Lines.{Line}
+use Rattle.headers.{specs.LineMap.LineMap, specs.Lines.Line}
 use Rattle.decide_preconditions.specs.Conditions.{IfNoneMatchIsFalse, ModifiedSinceLets, only_text}
-use Rattle.decide_preconditions.specs.Contents.{divisible_len, limits_of}
-use Rattle.decide_preconditions.specs.Fields.{fields_sent}
-use Rattle.decide_preconditions.specs.Plans.{IsPlan, Reads, SendsParts}
-use Rattle.decide_preconditions.specs.Preconditions.{Answers, HasIfNoneMatch, IsRead, IsStoredByDate}
-use Rattle.decide_preconditions.specs.Preconditions.{IsStoredByTag, MayBeThere}
-use Rattle.decide_preconditions.specs.Preconditions.{StateIsKept, StateIsLost, StepsAnswer}
-use Rattle.decide_preconditions.specs.Responses.{IsAnswered}
+use Rattle.decide_preconditions.{specs.Contents.{divisible_len, limits_of}, specs.Fields.fields_sent}
+use Rattle.decide_preconditions.{specs.Plans.{IsPlan, Reads, SendsParts}, specs.Preconditions.{Answers, HasIfNoneMatch}}
+use Rattle.decide_preconditions.specs.Preconditions.{IsRead, IsStoredByDate, IsStoredByTag, MayBeThere, StateIsKept}
+use Rattle.decide_preconditions.{specs.Preconditions.{StateIsLost, StepsAnswer}, specs.Responses.IsAnswered}
 use Rattle.decide_preconditions.specs.Selection.{Applies, AsksFor, Selects, is_exactly, range_set_of}
-use Rattle.decide_preconditions.specs.declared.content.Content.{Content}
-use Rattle.decide_preconditions.specs.declared.limits.RangeLimits.{RangeLimits}
-use Rattle.decide_preconditions.specs.declared.part.Part.{Part}
-use Rattle.decide_preconditions.specs.declared.plan.Plan.{Plan}
-use Rattle.decide_preconditions.specs.declared.plan.Plan.TheVariants.{NotModified, Failed, Full, Single}
-use Rattle.decide_preconditions.specs.declared.plan.Plan.TheVariants.{Multiple, Unsatisfiable}
+use Rattle.decide_preconditions.{specs.declared.content.Content.Content, specs.declared.limits.RangeLimits.RangeLimits}
+use Rattle.decide_preconditions.{specs.declared.part.Part.Part, specs.declared.plan.Plan.Plan}
+use Rattle.decide_preconditions.specs.declared.plan.Plan.TheVariants.{NotModified, Failed, Full, Single, Multiple}
+use Rattle.decide_preconditions.specs.declared.plan.Plan.TheVariants.{Unsatisfiable}
 use Rattle.decide_preconditions.specs.declared.precondition.Precondition.{Precondition}
 use Rattle.decide_preconditions.specs.declared.precondition.Precondition.TheVariants as precondition
 use Rattle.decide_preconditions.specs.declared.resource.Resource.{Resource}

@@ -2,13 +2,10 @@
 use Rattle.std.proofs.Common.{◌≡◌, ℕ, Bool, true, false, List, [], ◌∷◌, Option, Some, None, refl, ◌∙◌, ap}
 use Rattle.std.specs.Prelude.{◌==◌, ◌&&◌, codes, option_map}
 use Rattle.http_header.specs.FieldValue.{FieldValue}
-use Rattle.headers.specs.LineMap.{LineMap}
-use Rattle.headers.specs.Lines.{Line}
+use Rattle.headers.{specs.LineMap.LineMap, specs.Lines.Line}
 use Rattle.rfc_fields.specs.Scan.{Member}
-use Rattle.decide_negotiation.specs.Codings.{encoding_quality}
-use Rattle.decide_negotiation.specs.Languages.{language_says}
-use Rattle.decide_negotiation.specs.MediaRanges.{media_type_says}
-use Rattle.decide_negotiation.specs.Qualities.{quality_by, quality_in, rank}
+use Rattle.decide_negotiation.{specs.Codings.encoding_quality, specs.Languages.language_says}
+use Rattle.decide_negotiation.{specs.MediaRanges.media_type_says, specs.Qualities.{quality_by, quality_in, rank}}
 use Rattle.decide_negotiation.specs.declared.acceptability.Quality.{Quality}
 use Rattle.decide_resource.specs.Representations.{are_unacceptable, coding_of, joined, rank_by, score}
 use Rattle.decide_resource.specs.declared.representation.Negotiation.{Negotiation}

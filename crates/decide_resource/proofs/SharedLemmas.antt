@@ -3,14 +3,11 @@ use Rattle.std.proofs.Common.{◌≡◌, ◌↔◌, ℕ, List, [], ◌∷◌, �
 use Rattle.std.specs.Prelude.{codes}
 use Rattle.headers.specs.LineMap.{Field, LineMap, fields_of, set, set_all}
 use Rattle.decide_cors.specs.Browser.{CorsCheck, IsOkStatus, IsPreflightFor, PreflightPasses, Request as Sent}
-use Rattle.decide_cors.specs.Policy.{Policy}
-use Rattle.decide_cors.specs.Rules.{AllowsCredentials, AllowsOrigin, AllowsRequest, IsLawful, IsPolicyOf}
-use Rattle.decide_cors.specs.declared.rules.CorsRules.{CorsRules}
+use Rattle.decide_cors.{specs.Policy.Policy, specs.Rules.{AllowsCredentials, AllowsOrigin, AllowsRequest, IsLawful}}
+use Rattle.decide_cors.{specs.Rules.IsPolicyOf, specs.declared.rules.CorsRules.CorsRules}
 use Rattle.decide_cors.proofs.CheckLemmas.{check_is_policy, preflight_is_policy}
-use Rattle.decide_resource.specs.Answers.{IsAnswer, IsShared, varying}
-use Rattle.decide_resource.specs.Fields.{vary_fields, vary_lines}
-use Rattle.decide_resource.specs.Requests.{Request}
-use Rattle.decide_resource.specs.declared.answer.Answer.{Answer}
+use Rattle.decide_resource.{specs.Answers.{IsAnswer, IsShared, varying}, specs.Fields.{vary_fields, vary_lines}}
+use Rattle.decide_resource.{specs.Requests.Request, specs.declared.answer.Answer.Answer}
 use Rattle.decide_resource.specs.declared.resource.Resource.{Resource}
 
 pub set_all-append : (m : LineMap) (xs ys : List Field) → set_all m (xs ++ ys) ≡ set_all (set_all m xs) ys

@@ -1,54 +1,37 @@
 -- What Vary tells a cache.
-use Rattle.std.proofs.Common.{◌≡◌, ◌≢◌, ℕ, ◌<◌, Bool, true, false, List, [], ◌∷◌, ◌++◌, Option, Some, None, refl}
-use Rattle.std.proofs.Common.{sym, ◌∙◌, ap, subst, inl, inr, arith, bytes_eq, lit<}
-use Rattle.std.specs.Prelude.{◌&&◌, ◌||◌, codes, if◌then◌else◌, is_some, nat_lt, length, not}
-use Rattle.std.proofs.lemmas.Bool.{cases_Bool}
-use Rattle.std.proofs.lemmas.Grind.{flat_map-append}
-use Rattle.std.proofs.lemmas.List.Folds.{list_any-append}
+use Rattle.std.proofs.Common.{◌≡◌, ◌≢◌, ℕ, ◌<◌, Bool, true, false, List, [], ◌∷◌, ◌++◌, Option, Some, None, refl, sym}
+use Rattle.std.{proofs.Common.{◌∙◌, ap, subst, inl, inr, arith, bytes_eq, lit<}, specs.Prelude.{◌&&◌, ◌||◌, codes}}
+use Rattle.std.{specs.Prelude.{if◌then◌else◌, is_some, nat_lt, length, not}, proofs.lemmas.Bool.cases_Bool}
+use Rattle.std.{proofs.lemmas.Grind.flat_map-append, proofs.lemmas.List.Folds.list_any-append}
 use Rattle.std.proofs.lemmas.Slice.Eq.{bytes_eq-Decides}
-use Rattle.headers.specs.LineMap.{Field, LineMap, fields_of, set_all}
-use Rattle.headers.specs.Lines.{Line}
-use Rattle.rfc_fields.specs.Directives.{is_same_token}
-use Rattle.rfc_fields.specs.Members.{field_members, members}
-use Rattle.rfc_fields.specs.Scan.{pieces, push}
+use Rattle.headers.{specs.LineMap.{Field, LineMap, fields_of, set_all}, specs.Lines.Line}
+use Rattle.rfc_fields.{specs.Directives.is_same_token, specs.Members.{field_members, members}, specs.Scan.pieces}
+use Rattle.rfc_fields.specs.Scan.{push}
 use Rattle.gateway_messages.specs.declared.protocol.Protocol.{Protocol}
-use Rattle.decide_cors.specs.Cache.{Serves, nominates}
-use Rattle.decide_cors.specs.Fields.{covers_origin, grant_fields, granted, vary_sent}
-use Rattle.decide_cors.specs.Kinds.{is_preflight}
-use Rattle.decide_cors.specs.Policy.{Policy}
-use Rattle.decide_cors.proofs.SameLemmas.{never_pre, same_by}
-use Rattle.decide_resource.specs.Answers.{AreSame, GivesIf, IsAnswer, IsShared, at_place, content_of}
-use Rattle.decide_resource.specs.Answers.{is_admitted, response_fields, target_of, varying}
-use Rattle.decide_preconditions.specs.Responses.{IsAnswered}
-use Rattle.decide_preconditions.specs.declared.response.Response.{Response}
-use Rattle.decide_resource.specs.Applies.{applies, is_current, is_present, is_read, is_unacceptable, rule_for}
-use Rattle.decide_resource.specs.Applies.{is_unsupported_part, takes_parts, takes_type}
-use Rattle.decide_resource.specs.Fields.{depends_on_selection, describes, line_if, metadata_fields, reason_fields, selecting}
-use Rattle.decide_resource.specs.Fields.{vary_fields, vary_lines}
-use Rattle.decide_resource.specs.Reasons.{IsFirst, stage}
-use Rattle.decide_resource.specs.Representations.{are_unacceptable, score}
-use Rattle.decide_resource.specs.Requests.{Request}
-use Rattle.decide_resource.specs.Vary.{AreAlike}
-use Rattle.decide_resource.specs.declared.answer.Answer.{Answer}
-use Rattle.decide_resource.specs.declared.answer.Sends.{Sends}
-use Rattle.decide_resource.specs.declared.reason.Reason.{Reason}
+use Rattle.decide_cors.{specs.Cache.{Serves, nominates}, specs.Fields.{covers_origin, grant_fields, granted, vary_sent}}
+use Rattle.decide_cors.{specs.Kinds.is_preflight, specs.Policy.Policy, proofs.SameLemmas.{never_pre, same_by}}
+use Rattle.decide_resource.specs.Answers.{AreSame, GivesIf, IsAnswer, IsShared, at_place, content_of, is_admitted}
+use Rattle.decide_resource.{specs.Answers.{response_fields, target_of, varying}, specs.Applies.{applies, is_current}}
+use Rattle.decide_resource.specs.Applies.{is_present, is_read, is_unacceptable, rule_for, is_unsupported_part}
+use Rattle.decide_resource.{specs.Applies.{takes_parts, takes_type}, specs.Fields.{depends_on_selection, describes}}
+use Rattle.decide_resource.specs.Fields.{line_if, metadata_fields, reason_fields, selecting, vary_fields, vary_lines}
+use Rattle.decide_resource.{specs.Reasons.{IsFirst, stage}, specs.Representations.{are_unacceptable, score}}
+use Rattle.decide_resource.{specs.Requests.Request, specs.Vary.AreAlike, specs.declared.answer.Answer.Answer}
+use Rattle.decide_resource.{specs.declared.answer.Sends.Sends, specs.declared.reason.Reason.Reason}
 use Rattle.decide_resource.specs.declared.reason.Reason.TheVariants.{InvalidHost, Misdirected, UnknownMethod}
 use Rattle.decide_resource.specs.declared.reason.Reason.TheVariants.{MethodNotAllowed, Options, UnmetExpectation}
-use Rattle.decide_resource.specs.declared.reason.Reason.TheVariants.{PartialContent}
-use Rattle.decide_resource.specs.declared.reason.Reason.TheVariants.{Moved, Gone, NotFound, LengthRequired}
-use Rattle.decide_resource.specs.declared.reason.Reason.TheVariants.{ContentTooLarge, UnsupportedMediaType}
-use Rattle.decide_resource.specs.declared.reason.Reason.TheVariants.{UnsupportedCoding, NotAcceptable}
-use Rattle.decide_resource.specs.declared.reason.Reason.TheVariants.{PreconditionRequired, Admitted}
+use Rattle.decide_resource.specs.declared.reason.Reason.TheVariants.{PartialContent, Moved, Gone, NotFound}
+use Rattle.decide_resource.specs.declared.reason.Reason.TheVariants.{LengthRequired, ContentTooLarge}
+use Rattle.decide_resource.specs.declared.reason.Reason.TheVariants.{UnsupportedMediaType, UnsupportedCoding}
+use Rattle.decide_resource.specs.declared.reason.Reason.TheVariants.{NotAcceptable, PreconditionRequired, Admitted}
 use Rattle.decide_resource.specs.declared.representation.Negotiation.{Negotiation}
 use Rattle.decide_resource.specs.declared.representation.Representation.{Representation}
 use Rattle.decide_resource.specs.declared.request.RequestContent.{RequestContent}
-use Rattle.decide_resource.specs.declared.resource.Resource.{Resource}
-use Rattle.decide_resource.proofs.AnswerLemmas.{gives_same}
-use Rattle.decide_resource.proofs.OneReasonLemmas.{one_reason}
-use Rattle.decide_resource.proofs.PickLemmas.{first_alike, picks_alike}
-use Rattle.decide_resource.proofs.SamePlanLemmas.{answered}
-use Rattle.decide_resource.proofs.SelectionLemmas.{SelectAlike, score_alike, unacceptable_alike}
-use Rattle.decide_resource.proofs.SharedLemmas.{set_all-append}
+use Rattle.decide_resource.{specs.declared.resource.Resource.Resource, proofs.AnswerLemmas.gives_same}
+use Rattle.decide_resource.{proofs.OneReasonLemmas.one_reason, proofs.PickLemmas.{first_alike, picks_alike}}
+use Rattle.decide_resource.{proofs.SamePlanLemmas.answered, proofs.SelectionLemmas.{SelectAlike, score_alike}}
+use Rattle.decide_resource.{proofs.SelectionLemmas.unacceptable_alike, proofs.SharedLemmas.set_all-append}
+use Rattle.decide_preconditions.{specs.Responses.IsAnswered, specs.declared.response.Response.Response}
 
 -- ---- what Vary names
 

@@ -1,35 +1,24 @@
 -- What a request is answered (RFC 9110).
-use Rattle.std.specs.Prelude.{◌≡◌, ℕ, Bool, true, false, List, [], ◌∷◌, ◌++◌, slice_get, Option, Some, None}
-use Rattle.std.specs.Prelude.{codes, option_map}
-use Rattle.std.specs.Prelude.{bytes_eq, if◌then◌else◌, ⊤}
-use Rattle.headers.specs.LineMap.{Field, LineMap, fields_of}
-use Rattle.headers.specs.Lines.{Line}
+use Rattle.std.specs.Prelude.{◌≡◌, ℕ, Bool, true, false, List, [], ◌∷◌, ◌++◌, slice_get, Option, Some, None, codes}
+use Rattle.std.specs.Prelude.{option_map, bytes_eq, if◌then◌else◌, ⊤}
+use Rattle.headers.{specs.LineMap.{Field, LineMap, fields_of}, specs.Lines.Line}
 use Rattle.decide_cors.specs.Answer.{IsAnswer as IsPolicyAnswer}
-use Rattle.decide_cors.specs.Policy.{Policy}
-use Rattle.decide_cors.specs.declared.policy.CorsAnswer.{CorsAnswer}
+use Rattle.decide_cors.{specs.Policy.Policy, specs.declared.policy.CorsAnswer.CorsAnswer}
 use Rattle.decide_negotiation.specs.Choice.{Picks}
-use Rattle.decide_preconditions.specs.Fields.{is_known_by}
-use Rattle.decide_preconditions.specs.Plans.{IsSamePlan}
-use Rattle.decide_preconditions.specs.Responses.{IsAnswered}
-use Rattle.decide_preconditions.specs.declared.content.Content.{Content}
-use Rattle.decide_preconditions.specs.declared.plan.Plan.{Plan}
+use Rattle.decide_preconditions.{specs.Fields.is_known_by, specs.Plans.IsSamePlan, specs.Responses.IsAnswered}
+use Rattle.decide_preconditions.{specs.declared.content.Content.Content, specs.declared.plan.Plan.Plan}
 use Rattle.decide_preconditions.specs.declared.resource.Resource.{Resource as Target}
 use Rattle.decide_preconditions.specs.declared.resource.Resource.TheVariants as target
 use Rattle.decide_preconditions.specs.declared.response.Response.{Response}
-use Rattle.decide_resource.specs.Applies.{applies}
-use Rattle.decide_resource.specs.Fields.{describes, metadata_fields, reason_fields, status_of, vary_fields, vary_lines}
-use Rattle.decide_resource.specs.Reasons.{IsFirst}
-use Rattle.decide_resource.specs.Representations.{score}
-use Rattle.decide_resource.specs.Requests.{Request}
-use Rattle.decide_resource.specs.declared.answer.Answer.{Answer}
+use Rattle.decide_resource.{specs.Applies.applies, specs.Fields.{describes, metadata_fields, reason_fields, status_of}}
+use Rattle.decide_resource.{specs.Fields.{vary_fields, vary_lines}, specs.Reasons.IsFirst, specs.Representations.score}
+use Rattle.decide_resource.{specs.Requests.Request, specs.declared.answer.Answer.Answer}
 use Rattle.decide_resource.specs.declared.answer.Sends.{Sends}
 use Rattle.decide_resource.specs.declared.answer.Sends.TheVariants as sends
-use Rattle.decide_resource.specs.declared.reason.Reason.{Reason}
-use Rattle.decide_resource.specs.declared.reason.Reason.TheVariants.{NotAcceptable}
+use Rattle.decide_resource.{specs.declared.reason.Reason.Reason, specs.declared.reason.Reason.TheVariants.NotAcceptable}
 use Rattle.decide_resource.specs.declared.reason.Reason.TheVariants.{Admitted}
 use Rattle.decide_resource.specs.declared.representation.Representation.{Representation}
-use Rattle.decide_resource.specs.declared.resource.Resource.{Resource}
-use Rattle.decide_resource.specs.declared.resource.State.{State}
+use Rattle.decide_resource.{specs.declared.resource.Resource.Resource, specs.declared.resource.State.State}
 use Rattle.decide_resource.specs.declared.resource.State.TheVariants as state
 
 -- ---- the representation that a request selects (section 12.1)

@@ -1,34 +1,25 @@
 -- When a reason applies to a request (RFC 9110).
 use Rattle.std.specs.Prelude.{ℕ, ◌==◌, Bool, true, false, not, ◌&&◌, ◌||◌, List, [], ◌∷◌, ◌++◌, Option, Some, None}
 use Rattle.std.specs.Prelude.{bytes_eq, codes, drop, find, flat_map, is_some, length, nat_le, nat_lt, take}
-use Rattle.std.specs.Prelude.{if◌then◌else◌}
-use Rattle.std.specs.Char.{is_ascii_digit}
-use Rattle.std.specs.List.{list_all, list_any}
+use Rattle.std.{specs.Prelude.if◌then◌else◌, specs.Char.is_ascii_digit, specs.List.{list_all, list_any}}
 use Rattle.std.specs.Option.{option_map_or}
 use Rattle.http_header.specs.FieldValue.{FieldValue}
-use Rattle.headers.specs.LineMap.{LineMap, lines_at}
-use Rattle.headers.specs.Lines.{Line, only_line}
-use Rattle.gateway_messages.specs.Expectations.{has_known_expectation}
-use Rattle.gateway_messages.specs.Requests.{has_host}
-use Rattle.decide_negotiation.specs.Codings.{encoding_quality}
-use Rattle.decide_negotiation.specs.MediaRanges.{media_type_says}
+use Rattle.headers.{specs.LineMap.{LineMap, lines_at}, specs.Lines.{Line, only_line}}
+use Rattle.gateway_messages.{specs.Expectations.has_known_expectation, specs.Requests.has_host}
+use Rattle.decide_negotiation.{specs.Codings.encoding_quality, specs.MediaRanges.media_type_says}
 use Rattle.decide_negotiation.specs.Qualities.{quality_by, quality_in, rank}
 use Rattle.decide_preconditions.specs.Tags.{is_star}
 use Rattle.headers_syntax.specs.AsciiCase.{same_name}
-use Rattle.decide_resource.specs.Representations.{are_unacceptable}
-use Rattle.decide_resource.specs.Requests.{Request}
-use Rattle.decide_resource.specs.declared.reason.Reason.{Reason}
-use Rattle.decide_resource.specs.declared.reason.Reason.TheVariants.{InvalidHost, Misdirected, UnknownMethod}
-use Rattle.decide_resource.specs.declared.reason.Reason.TheVariants.{MethodNotAllowed, Options, UnmetExpectation}
-use Rattle.decide_resource.specs.declared.reason.Reason.TheVariants.{PartialContent}
-use Rattle.decide_resource.specs.declared.reason.Reason.TheVariants.{Moved, Gone, NotFound, LengthRequired}
-use Rattle.decide_resource.specs.declared.reason.Reason.TheVariants.{ContentTooLarge, UnsupportedMediaType}
-use Rattle.decide_resource.specs.declared.reason.Reason.TheVariants.{UnsupportedCoding, NotAcceptable}
-use Rattle.decide_resource.specs.declared.reason.Reason.TheVariants.{PreconditionRequired, Admitted}
+use Rattle.decide_resource.{specs.Representations.are_unacceptable, specs.Requests.Request}
+use Rattle.decide_resource.{specs.declared.reason.Reason.Reason, specs.declared.reason.Reason.TheVariants.InvalidHost}
+use Rattle.decide_resource.specs.declared.reason.Reason.TheVariants.{Misdirected, UnknownMethod, MethodNotAllowed}
+use Rattle.decide_resource.specs.declared.reason.Reason.TheVariants.{Options, UnmetExpectation, PartialContent, Moved}
+use Rattle.decide_resource.specs.declared.reason.Reason.TheVariants.{Gone, NotFound, LengthRequired, ContentTooLarge}
+use Rattle.decide_resource.specs.declared.reason.Reason.TheVariants.{UnsupportedMediaType, UnsupportedCoding}
+use Rattle.decide_resource.specs.declared.reason.Reason.TheVariants.{NotAcceptable, PreconditionRequired, Admitted}
 use Rattle.decide_resource.specs.declared.request.RequestContent.{RequestContent}
 use Rattle.decide_resource.specs.declared.request.RequestContent.TheVariants as sent
-use Rattle.decide_resource.specs.declared.resource.MethodRule.{MethodRule}
-use Rattle.decide_resource.specs.declared.resource.Resource.{Resource}
+use Rattle.decide_resource.{specs.declared.resource.MethodRule.MethodRule, specs.declared.resource.Resource.Resource}
 use Rattle.decide_resource.specs.declared.resource.State.{State}
 use Rattle.decide_resource.specs.declared.resource.State.TheVariants as state
 

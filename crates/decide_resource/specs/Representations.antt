@@ -1,15 +1,10 @@
 -- Which representation a request selects (RFC 9110, section 12.1).
 use Rattle.std.specs.Prelude.{ℕ, ◌+◌, ◌*◌, ◌==◌, Bool, true, false, ◌||◌, List, Option, Some, None, codes, option_map}
-use Rattle.std.specs.Prelude.{if◌then◌else◌}
-use Rattle.std.specs.List.{list_all}
-use Rattle.std.specs.Option.{option_map_or}
-use Rattle.headers.specs.LineMap.{LineMap}
-use Rattle.headers.specs.Lines.{Line}
+use Rattle.std.{specs.Prelude.if◌then◌else◌, specs.List.list_all, specs.Option.option_map_or}
+use Rattle.headers.{specs.LineMap.LineMap, specs.Lines.Line}
 use Rattle.rfc_fields.specs.Scan.{Member}
-use Rattle.decide_negotiation.specs.Codings.{encoding_quality}
-use Rattle.decide_negotiation.specs.Languages.{language_says}
-use Rattle.decide_negotiation.specs.MediaRanges.{media_type_says}
-use Rattle.decide_negotiation.specs.Qualities.{quality_by, quality_in, rank}
+use Rattle.decide_negotiation.{specs.Codings.encoding_quality, specs.Languages.language_says}
+use Rattle.decide_negotiation.{specs.MediaRanges.media_type_says, specs.Qualities.{quality_by, quality_in, rank}}
 use Rattle.decide_negotiation.specs.declared.acceptability.Quality.{Quality}
 use Rattle.decide_resource.specs.declared.representation.Negotiation.{Negotiation}
 use Rattle.decide_resource.specs.declared.representation.Representation.{Representation}

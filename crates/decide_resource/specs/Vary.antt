@@ -1,8 +1,6 @@
 -- Which requests a cache may take for one by Vary (RFC 9110, section 12.5.5; RFC 9111, section 4.1).
 use Rattle.std.specs.Prelude.{◌≡◌, ◌⊎◌, List, true, codes}
-use Rattle.headers.specs.LineMap.{LineMap}
-use Rattle.headers.specs.Lines.{Line}
-use Rattle.headers.specs.Typed.{HasLine}
+use Rattle.headers.{specs.LineMap.LineMap, specs.Lines.Line, specs.Typed.HasLine}
 use Rattle.rfc_fields.specs.Members.{field_members}
 use Rattle.decide_resource.specs.Requests.{Request}
 

@@ -1,8 +1,7 @@
 //! The methods of a resource.
 ghost use Rattle.std.specs.Prelude.{◌≡◌, ◌∷◌, ◌++◌, [], IfOk, OnOk};
 ghost use Rattle.headers.specs.LineMap.{field_of};
-ghost use Rattle.decide_resource.specs.Applies.{methods, methods_of};
-ghost use Rattle.decide_resource.specs.Fields.{allow_field};
+ghost use Rattle.decide_resource.{specs.Applies.{methods, methods_of}, specs.Fields.allow_field};
 
 use crate::resource::MethodRule;
 use headers::{Allow, Encoded, encoding};

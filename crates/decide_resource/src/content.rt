@@ -1,6 +1,5 @@
 //! The content of a request, and its preconditions.
-ghost use Rattle.std.specs.Prelude.{◌≡◌, ◌&&◌, codes, false, nat_lt, not, option_copied};
-ghost use Rattle.std.specs.List.{list_all};
+ghost use Rattle.std.{specs.Prelude.{◌≡◌, ◌&&◌, codes, false, nat_lt, not, option_copied}, specs.List.list_all};
 ghost use Rattle.std.specs.Option.{option_map_or};
 ghost use Rattle.headers.specs.LineMap.{lines_at};
 ghost use Rattle.decide_preconditions.specs.Tags.{is_star};

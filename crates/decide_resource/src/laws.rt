@@ -1,31 +1,23 @@
 //! Theorems about the definitions alone. To cite one in a proof, call it.
 ghost use Rattle.std.specs.Prelude.{◌≡◌, ◌≢◌, ◌↔◌, ◌⊎◌, ◌∷◌, [], ℕ, Contains, Option, Some, codes, false, true};
-ghost use Rattle.headers.specs.LineMap.{LineMap, fields_of, set_all};
-ghost use Rattle.headers.specs.Merge.{merge};
-ghost use Rattle.headers.specs.Places.{comma};
+ghost use Rattle.headers.{specs.LineMap.{LineMap, fields_of, set_all}, specs.Merge.merge, specs.Places.comma};
 ghost use Rattle.decide_cors.specs.Browser.{CorsCheck, IsOkStatus, IsPreflightFor, PreflightPasses};
 ghost use Rattle.decide_cors.specs.Browser.{Request as Sent};
-ghost use Rattle.decide_cors.specs.Cache.{Serves};
-ghost use Rattle.decide_cors.specs.Policy.{Policy};
-ghost use Rattle.decide_cors.specs.Rules.{AllowsCredentials, AllowsOrigin, AllowsRequest, IsLawful};
-ghost use Rattle.decide_cors.specs.Rules.{IsPolicyOf};
+ghost use Rattle.decide_cors.{specs.Cache.Serves, specs.Policy.Policy, specs.Rules.{AllowsCredentials, AllowsOrigin}};
+ghost use Rattle.decide_cors.specs.Rules.{AllowsRequest, IsLawful, IsPolicyOf};
 ghost use Rattle.decide_cors.specs.declared.rules.CorsRules.{CorsRules};
-ghost use Rattle.decide_resource.specs.Answers.{AreSame, IsAnswer, IsSelected};
-ghost use Rattle.decide_resource.specs.Applies.{applies, is_read, methods, needs_condition, rule};
-ghost use Rattle.decide_resource.specs.Guards.{ReplacesNamed};
-ghost use Rattle.decide_resource.specs.Reasons.{Before, IsFirst};
-ghost use Rattle.decide_resource.specs.Requests.{Request, get_of, head_of, unconditional};
-ghost use Rattle.decide_resource.specs.Vary.{AreAlike, ChooseAlike, SelectTheSame};
-ghost use Rattle.decide_preconditions.specs.Preconditions.{IsUnconditional};
-ghost use Rattle.decide_preconditions.specs.declared.plan.Plan.{Plan};
-ghost use Rattle.decide_preconditions.specs.declared.plan.Plan.TheVariants.{Full, NotModified};
-ghost use Rattle.decide_resource.specs.declared.answer.Answer.{Answer};
-ghost use Rattle.decide_resource.specs.declared.answer.Sends.TheVariants.{Perform, Planned};
-ghost use Rattle.decide_resource.specs.declared.reason.Reason.{Reason};
+ghost use Rattle.decide_resource.{specs.Answers.{AreSame, IsAnswer, IsSelected}, specs.Applies.{applies, is_read}};
+ghost use Rattle.decide_resource.{specs.Applies.{methods, needs_condition, rule}, specs.Guards.ReplacesNamed};
+ghost use Rattle.decide_resource.{specs.Reasons.{Before, IsFirst}, specs.Requests.{Request, get_of, head_of}};
+ghost use Rattle.decide_resource.{specs.Requests.unconditional, specs.Vary.{AreAlike, ChooseAlike, SelectTheSame}};
+ghost use Rattle.decide_resource.{specs.declared.answer.Answer.Answer, specs.declared.answer.Sends.TheVariants.Perform};
+ghost use Rattle.decide_resource.{specs.declared.answer.Sends.TheVariants.Planned, specs.declared.reason.Reason.Reason};
 ghost use Rattle.decide_resource.specs.declared.reason.Reason.TheVariants.{Admitted, MethodNotAllowed, Options};
 ghost use Rattle.decide_resource.specs.declared.reason.Reason.TheVariants.{PreconditionRequired, UnknownMethod};
 ghost use Rattle.decide_resource.specs.declared.reason.Reason.TheVariants.{UnmetExpectation};
 ghost use Rattle.decide_resource.specs.declared.resource.Resource.{Resource};
+ghost use Rattle.decide_preconditions.{specs.Preconditions.IsUnconditional, specs.declared.plan.Plan.Plan};
+ghost use Rattle.decide_preconditions.specs.declared.plan.Plan.TheVariants.{Full, NotModified};
 
 /// Theorem: every request has exactly one first reason: reasons of one stage exclude each other.
 pub fn request_has_one_reason()

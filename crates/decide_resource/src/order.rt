@@ -1,7 +1,6 @@
 //! Which reason decides.
 ghost use Rattle.std.specs.Prelude.{◌≡◌, find, option_copied};
-ghost use Rattle.decide_resource.specs.Applies.{applies, applies_by, is_unacceptable, rule};
-ghost use Rattle.decide_resource.specs.Reasons.{IsFirst};
+ghost use Rattle.decide_resource.{specs.Applies.{applies, applies_by, is_unacceptable, rule}, specs.Reasons.IsFirst};
 ghost use Rattle.decide_resource.specs.Requests.{request_of};
 
 use crate::content::{

@@ -2,13 +2,10 @@
 ghost use Rattle.std.specs.Prelude.{◌≡◌, [], ◌++◌, ◌∷◌, IfOk, OnOk, codes, option_copied, option_map, length};
 ghost use Rattle.std.specs.Option.{option_map_or};
 ghost use Rattle.http_header.specs.HeaderMap.{get_all};
-ghost use Rattle.headers.specs.LineMap.{field_of, fields_of, lines_at};
-ghost use Rattle.headers.specs.Lines.{lines_of};
-ghost use Rattle.decide_resource.specs.Answers.{sent_for};
-ghost use Rattle.decide_resource.specs.Applies.{rule};
-ghost use Rattle.decide_resource.specs.Fields.{accept_encoding_fields, accept_fields, allow_field, lines_of_value};
-ghost use Rattle.decide_resource.specs.Fields.{codings_told, describes, location_fields};
-ghost use Rattle.decide_resource.specs.Fields.{metadata_fields, moved_status, reason_fields};
+ghost use Rattle.headers.{specs.LineMap.{field_of, fields_of, lines_at}, specs.Lines.lines_of};
+ghost use Rattle.decide_resource.{specs.Answers.sent_for, specs.Applies.rule, specs.Fields.accept_encoding_fields};
+ghost use Rattle.decide_resource.specs.Fields.{accept_fields, allow_field, lines_of_value, codings_told, describes};
+ghost use Rattle.decide_resource.specs.Fields.{location_fields, metadata_fields, moved_status, reason_fields};
 ghost use Rattle.decide_resource.specs.Fields.{offered_fields, redirect_status, status_of, types_fields};
 ghost use Rattle.decide_resource.specs.Requests.{request_of};
 

@@ -1,11 +1,8 @@
 //! Vary, and what a policy says to requests from other origins.
 ghost use Rattle.std.specs.Prelude.{◌≡◌, ◌++◌, ◌∷◌, [], List, IfOk, OnOk, Some, codes};
-ghost use Rattle.headers.specs.LineMap.{Field, fields_of, lines_at};
-ghost use Rattle.headers.specs.Lines.{lines_of};
-ghost use Rattle.decide_resource.specs.Answers.{IsShared};
-ghost use Rattle.decide_resource.specs.Fields.{depends_on_selection, line_if, selecting, vary_fields};
-ghost use Rattle.decide_resource.specs.Fields.{vary_lines};
-ghost use Rattle.decide_resource.specs.Requests.{request_of};
+ghost use Rattle.headers.{specs.LineMap.{Field, fields_of, lines_at}, specs.Lines.lines_of};
+ghost use Rattle.decide_resource.{specs.Answers.IsShared, specs.Fields.{depends_on_selection, line_if, selecting}};
+ghost use Rattle.decide_resource.{specs.Fields.{vary_fields, vary_lines}, specs.Requests.request_of};
 
 use crate::reason::Reason;
 use crate::representation::Negotiation;

@@ -1,15 +1,11 @@
 //! The target of a request: its host, the method and the state of the resource.
 ghost use Rattle.std.specs.Prelude.{◌≡◌, ◌&&◌, bytes_eq, codes, not, option_map, option_copied};
-ghost use Rattle.std.specs.Char.{is_ascii_digit};
-ghost use Rattle.std.specs.List.{list_all, list_any};
-ghost use Rattle.std.specs.Option.{option_map_or};
-ghost use Rattle.headers.specs.LineMap.{lines_at};
-ghost use Rattle.headers.specs.Lines.{only_line};
+ghost use Rattle.std.{specs.Char.is_ascii_digit, specs.List.{list_all, list_any}, specs.Option.option_map_or};
+ghost use Rattle.headers.{specs.LineMap.lines_at, specs.Lines.only_line};
 ghost use Rattle.headers_syntax.specs.AsciiCase.{same_name};
 ghost use Rattle.decide_resource.specs.Applies.{creates, has_method_by, has_moved, host_named, is_absent, is_at_host};
 ghost use Rattle.decide_resource.specs.Applies.{is_current, is_gone, is_misdirected, is_own, is_port, is_read};
-ghost use Rattle.decide_resource.specs.Applies.{is_standard, rule_for, ruled};
-ghost use Rattle.decide_resource.specs.Requests.{request_of};
+ghost use Rattle.decide_resource.{specs.Applies.{is_standard, rule_for, ruled}, specs.Requests.request_of};
 
 use crate::request::RequestHead;
 use crate::resource::{MethodRule, Resource, State};

@@ -1,20 +1,17 @@
 -- How a request for what is nowhere is answered.
 use Rattle.std.proofs.Common.{◌≡◌, ◌≢◌, ◌⊎◌, ℕ, Bool, true, false, cond, List, [], ◌∷◌, Option, Some, refl, sym, ◌∙◌}
-use Rattle.std.proofs.Common.{ap, subst, inl, inr, lit<, bytes_eq}
-use Rattle.std.proofs.lemmas.Slice.Eq.{bytes_eq-Decides}
-use Rattle.std.specs.Prelude.{◌&&◌, ◌||◌, not, codes, find}
-use Rattle.std.specs.List.{list_all, list_any}
+use Rattle.std.{proofs.Common.{ap, subst, inl, inr, lit<, bytes_eq}, proofs.lemmas.Slice.Eq.bytes_eq-Decides}
+use Rattle.std.{specs.Prelude.{◌&&◌, ◌||◌, not, codes, find}, specs.List.{list_all, list_any}}
 use Rattle.headers.specs.LineMap.{Field}
-use Rattle.decide_resource.specs.{Answers.Gives, Answers.IsAnswer, Reasons.Before, Reasons.IsFirst, Requests.Request}
-use Rattle.decide_resource.specs.{declared.answer.Answer.Answer, declared.answer.Sends.Sends}
-use Rattle.decide_resource.specs.{declared.reason.Reason.Reason, declared.resource.MethodRule.MethodRule}
-use Rattle.decide_resource.specs.{declared.resource.Resource.Resource, declared.resource.State.State}
+use Rattle.decide_resource.{specs.Answers.{Gives, IsAnswer}, specs.Reasons.{Before, IsFirst}, specs.Requests.Request}
+use Rattle.decide_resource.{specs.declared.answer.Answer.Answer, specs.declared.answer.Sends.Sends}
+use Rattle.decide_resource.{specs.declared.reason.Reason.Reason, specs.declared.resource.MethodRule.MethodRule}
+use Rattle.decide_resource.{specs.declared.resource.Resource.Resource, specs.declared.resource.State.State}
 use Rattle.decide_resource.specs.Applies.{applies, creates, has_method, has_moved, is_absent, is_gone, rule_for, ruled}
-use Rattle.decide_resource.specs.Applies.{standard_methods}
-use Rattle.decide_resource.specs.declared.reason.Reason.TheVariants.{InvalidHost, Misdirected, UnknownMethod}
-use Rattle.decide_resource.specs.declared.reason.Reason.TheVariants.{MethodNotAllowed, Options, UnmetExpectation}
-use Rattle.decide_resource.specs.declared.reason.Reason.TheVariants.{PartialContent, Moved, Gone, NotFound}
-use Rattle.decide_resource.specs.declared.reason.Reason.TheVariants.{LengthRequired, ContentTooLarge}
+use Rattle.decide_resource.{specs.Applies.standard_methods, specs.declared.reason.Reason.TheVariants.InvalidHost}
+use Rattle.decide_resource.specs.declared.reason.Reason.TheVariants.{Misdirected, UnknownMethod, MethodNotAllowed}
+use Rattle.decide_resource.specs.declared.reason.Reason.TheVariants.{Options, UnmetExpectation, PartialContent, Moved}
+use Rattle.decide_resource.specs.declared.reason.Reason.TheVariants.{Gone, NotFound, LengthRequired, ContentTooLarge}
 use Rattle.decide_resource.specs.declared.reason.Reason.TheVariants.{UnsupportedMediaType, UnsupportedCoding}
 use Rattle.decide_resource.specs.declared.reason.Reason.TheVariants.{NotAcceptable, PreconditionRequired, Admitted}
 use Rattle.decide_routes.specs.Routes.{IsNowhere}

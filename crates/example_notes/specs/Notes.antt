@@ -1,9 +1,7 @@
 -- Notes, what changes them, and their texts.
 use Rattle.std.specs.Prelude.{◌≡◌, ℕ, ◌+◌, List, [], ◌∷◌, ◌++◌, Option, Some, None, codes, decimal, flat_map}
-use Rattle.std.specs.BTreeMap.{Updates, get, keys}
-use Rattle.std.specs.Ordering.{nat_cmp}
-use Rattle.example_notes.specs.declared.notes.Note.{Note}
-use Rattle.example_notes.specs.declared.notes.Notes.{Notes}
+use Rattle.std.{specs.BTreeMap.{Updates, get, keys}, specs.Ordering.nat_cmp}
+use Rattle.example_notes.{specs.declared.notes.Note.Note, specs.declared.notes.Notes.Notes}
 
 -- ---- notes
 

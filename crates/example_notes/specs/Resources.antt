@@ -3,11 +3,9 @@ use Rattle.std.specs.Prelude.{◌≡◌, ℕ, Bool, true, false, List, [], ◌�
 use Rattle.std.specs.Prelude.{option_map}
 use Rattle.http_header.specs.FieldValue.{plain_value}
 use Rattle.decide_resource.specs.declared.representation.Representation.{Representation}
-use Rattle.decide_resource.specs.declared.resource.Resource.{Resource}
-use Rattle.decide_resource.specs.declared.resource.State.{State}
+use Rattle.decide_resource.{specs.declared.resource.Resource.Resource, specs.declared.resource.State.State}
 use Rattle.decide_resource.specs.declared.resource.State.TheVariants as state
-use Rattle.example_notes.specs.Notes.{tag_of}
-use Rattle.example_notes.specs.declared.notes.Note.{Note}
+use Rattle.example_notes.{specs.Notes.tag_of, specs.declared.notes.Note.Note}
 
 -- a text as a representation: JSON of its length, with its version as a strong tag, sent whole
 pub record IsJsonOf (note : Note) (representation : Representation) : Type 0 where

@@ -1,11 +1,7 @@
 -- What a path leads to.
-use Rattle.std.specs.Prelude.{◌≡◌, ℕ, ◌<◌, ◌^◌, Bool, true, false, not, ◌&&◌, List, [], ◌∷◌, Option, Some, None}
-use Rattle.std.specs.Prelude.{codes, nat_lt}
-use Rattle.std.specs.Str.Parse.{IsNumeral, digits_value, without_leading_plus}
-use Rattle.matchit.specs.Params.{AllText, named, walk}
-use Rattle.matchit.specs.Router.{RouteOf}
-use Rattle.matchit.specs.Rows.{RowsOf}
-use Rattle.matchit.specs.Seek.{first}
+use Rattle.std.specs.Prelude.{◌≡◌, ℕ, ◌<◌, ◌^◌, Bool, true, false, not, ◌&&◌, List, [], ◌∷◌, Option, Some, None, codes}
+use Rattle.std.{specs.Prelude.nat_lt, specs.Str.Parse.{IsNumeral, digits_value, without_leading_plus}}
+use Rattle.matchit.{specs.Params.{AllText, named, walk}, specs.Router.RouteOf, specs.Rows.RowsOf, specs.Seek.first}
 use Rattle.example_notes.specs.declared.target.Place.{Place}
 use Rattle.example_notes.specs.declared.target.Place.TheVariants as place
 use Rattle.example_notes.specs.declared.target.Target.{Target}

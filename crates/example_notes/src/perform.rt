@@ -1,10 +1,8 @@
 //! What methods do to the notes.
-ghost use Rattle.std.specs.Prelude.{◌≡◌, ◌+◌, ◌∷◌, [], IfOk, IsTrue, codes};
-ghost use Rattle.std.specs.Bool.{MatchBool};
+ghost use Rattle.std.{specs.Prelude.{◌≡◌, ◌+◌, ◌∷◌, [], IfOk, IsTrue, codes}, specs.Bool.MatchBool};
 ghost use Rattle.std.specs.String.{string_bytes};
 ghost use Rattle.headers.specs.LineMap.{field_of};
-ghost use Rattle.example_notes.specs.Notes.{Writes, tag_of};
-ghost use Rattle.example_notes.specs.Plans.{HasDone, IsJson, Performs, Stores, Takes};
+ghost use Rattle.example_notes.{specs.Notes.{Writes, tag_of}, specs.Plans.{HasDone, IsJson, Performs, Stores, Takes}};
 ghost use Rattle.example_notes.specs.declared.target.Target.TheVariants as target;
 
 use crate::notes::Notes;

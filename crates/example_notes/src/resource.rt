@@ -1,6 +1,5 @@
 //! The collection and its notes as resources: which methods they have, and what they represent.
-ghost use Rattle.std.specs.Prelude.{◌≡◌, IfOk, false, map, option_copied};
-ghost use Rattle.std.specs.Result.{result_ok};
+ghost use Rattle.std.{specs.Prelude.{◌≡◌, IfOk, false, map, option_copied}, specs.Result.result_ok};
 ghost use Rattle.example_notes.specs.Resources.{IsJsonOf, IsResource, collection_methods, note_methods};
 
 use crate::notes::Note;

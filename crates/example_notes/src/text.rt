@@ -1,6 +1,5 @@
 //! The texts of the collection and of the fields.
-ghost use Rattle.std.specs.Prelude.{◌≡◌, IfOk};
-ghost use Rattle.std.specs.String.{string_bytes};
+ghost use Rattle.std.{specs.Prelude.{◌≡◌, IfOk}, specs.String.string_bytes};
 ghost use Rattle.example_notes.specs.Notes.{list_text, path_of, tag_of};
 
 use crate::notes::Notes;

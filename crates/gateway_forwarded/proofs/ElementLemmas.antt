@@ -1,23 +1,15 @@
 -- Values: they are valid, and mean the octets that they were written for.
-use Rattle.std.proofs.Common.{◌≡◌, ℕ, Bool, true, false, not, List, [], ◌∷◌, ◌++◌, Option, Some, None, refl, sym}
-use Rattle.std.proofs.Common.{◌∙◌, ap, IsTrue, codes, inl, inr}
-use Rattle.std.specs.Prelude.{◌&&◌, ◌||◌, ◌==◌, if◌then◌else◌}
-use Rattle.std.specs.List.{flat_map}
-use Rattle.std.specs.Option.{option_map_or}
-use Rattle.std.proofs.lemmas.Bool.{cases_Bool, eqb-true, or_parts}
+use Rattle.std.proofs.Common.{◌≡◌, ℕ, Bool, true, false, not, List, [], ◌∷◌, ◌++◌, Option, Some, None, refl, sym, ◌∙◌}
+use Rattle.std.{proofs.Common.{ap, IsTrue, codes, inl, inr}, specs.Prelude.{◌&&◌, ◌||◌, ◌==◌, if◌then◌else◌}}
+use Rattle.std.{specs.List.flat_map, specs.Option.option_map_or, proofs.lemmas.Bool.{cases_Bool, eqb-true, or_parts}}
 use Rattle.std.proofs.lemmas.List.Elements.{All-append, All-cons, All-head, All-nil, All-tail}
-use Rattle.http_header.specs.FieldValue.{IsFieldValue}
-use Rattle.http_header.specs.Token.{is_value_byte}
-use Rattle.http_header.proofs.TokenLemmas.{AllPass-from_test}
+use Rattle.http_header.{specs.FieldValue.IsFieldValue, specs.Token.is_value_byte, proofs.TokenLemmas.AllPass-from_test}
 use Rattle.headers.specs.Lines.{Line}
-use Rattle.rfc_fields.specs.Grammar.{backslash, quote}
-use Rattle.rfc_fields.specs.Values.{escape_after, is_qdtext, is_quoted_text, is_skipped, is_token, is_value}
-use Rattle.rfc_fields.specs.Values.{octets_from, octets_of, value_text}
-use Rattle.gateway_forwarded.specs.Arrivals.{scheme_text}
-use Rattle.gateway_forwarded.specs.Elements.{escaped, optional_pair, pair_text, quoted_text, value_of}
-use Rattle.gateway_forwarded.specs.declared.arrival.Scheme.{Scheme}
-use Rattle.gateway_forwarded.specs.declared.arrival.Scheme.TheVariants.{Http, Https}
-use Rattle.gateway_forwarded.proofs.NodeLemmas.{join_valid}
+use Rattle.rfc_fields.{specs.Grammar.{backslash, quote}, specs.Values.{escape_after, is_qdtext, is_quoted_text}}
+use Rattle.rfc_fields.specs.Values.{is_skipped, is_token, is_value, octets_from, octets_of, value_text}
+use Rattle.gateway_forwarded.{specs.Arrivals.scheme_text, specs.Elements.{escaped, optional_pair, pair_text}}
+use Rattle.gateway_forwarded.{specs.Elements.{quoted_text, value_of}, specs.declared.arrival.Scheme.Scheme}
+use Rattle.gateway_forwarded.{specs.declared.arrival.Scheme.TheVariants.{Http, Https}, proofs.NodeLemmas.join_valid}
 
 abbrev IsValueByte : ℕ → Type 0
 IsValueByte b = IsTrue (is_value_byte b)

@@ -1,10 +1,8 @@
 -- How a request arrived at a gateway.
 use Rattle.std.specs.Prelude.{Bool, Option, option_map, codes}
 use Rattle.headers.specs.Lines.{Line}
-use Rattle.gateway_forwarded.specs.declared.arrival.Arrival.{Arrival}
-use Rattle.gateway_forwarded.specs.declared.arrival.Scheme.{Scheme}
-use Rattle.gateway_forwarded.specs.declared.arrival.Scheme.TheVariants.{Http, Https}
-use Rattle.gateway_forwarded.specs.declared.node.Node.{Node}
+use Rattle.gateway_forwarded.{specs.declared.arrival.Arrival.Arrival, specs.declared.arrival.Scheme.Scheme}
+use Rattle.gateway_forwarded.{specs.declared.arrival.Scheme.TheVariants.{Http, Https}, specs.declared.node.Node.Node}
 
 abbrev pub scheme_text : Scheme → Line
 scheme_text Http = codes "http"

@@ -1,14 +1,10 @@
 -- The field lines that tell the next server how a request arrived.
 use Rattle.std.specs.Prelude.{ℕ, Bool, true, false, ◌&&◌, List, [], ◌∷◌, ◌++◌, Option, codes, option_to_list}
-use Rattle.std.specs.Prelude.{if◌then◌else◌}
-use Rattle.std.specs.List.{list_all}
-use Rattle.headers.specs.LineMap.{Field, LineMap}
-use Rattle.headers.specs.Lines.{Line}
+use Rattle.std.{specs.Prelude.if◌then◌else◌, specs.List.list_all}
+use Rattle.headers.{specs.LineMap.{Field, LineMap}, specs.Lines.Line}
 use Rattle.rfc_fields.specs.Members.{is_well_formed}
-use Rattle.gateway_forwarded.specs.Arrivals.{ArrivalParts, scheme_text}
-use Rattle.gateway_forwarded.specs.Elements.{element_text}
-use Rattle.gateway_forwarded.specs.Nodes.{bare_text}
-use Rattle.gateway_forwarded.specs.declared.fields.Forwarding.{Forwarding}
+use Rattle.gateway_forwarded.{specs.Arrivals.{ArrivalParts, scheme_text}, specs.Elements.element_text}
+use Rattle.gateway_forwarded.{specs.Nodes.bare_text, specs.declared.fields.Forwarding.Forwarding}
 use Rattle.gateway_forwarded.specs.declared.fields.Received.{Received}
 use Rattle.gateway_forwarded.specs.declared.fields.Received.TheVariants.{Dropped, KeptFromTrusted}
 

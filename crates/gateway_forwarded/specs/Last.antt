@@ -1,13 +1,9 @@
 -- The element that a gateway adds to Forwarded is the last.
-use Rattle.std.specs.Prelude.{◌≡◌, true, List, [], ◌∷◌, ◌++◌, Some}
-use Rattle.std.specs.List.{list_all}
+use Rattle.std.{specs.Prelude.{◌≡◌, true, List, [], ◌∷◌, ◌++◌, Some}, specs.List.list_all}
 use Rattle.http_header.specs.FieldValue.{IsFieldValue}
 use Rattle.headers.specs.Lines.{Line}
-use Rattle.rfc_fields.specs.Members.{combined, field_members, is_well_formed, members}
-use Rattle.rfc_fields.specs.Scan.Member.{Whole}
-use Rattle.gateway_forwarded.specs.Arrivals.{ArrivalParts}
-use Rattle.gateway_forwarded.specs.Nodes.{node_text}
-use Rattle.gateway_forwarded.specs.declared.node.Node.{Node}
+use Rattle.rfc_fields.{specs.Members.{combined, field_members, is_well_formed, members}, specs.Scan.Member.Whole}
+use Rattle.gateway_forwarded.{specs.Arrivals.ArrivalParts, specs.Nodes.node_text, specs.declared.node.Node.Node}
 
 -- the values of an `Arrival` are allowed in a field
 pub record IsTold (arrival : ArrivalParts) : Type 0 where

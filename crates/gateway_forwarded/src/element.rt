@@ -2,9 +2,8 @@
 ghost use Rattle.std.specs.Prelude.{◌≡◌, ◌++◌, IfOk, OnOk, codes, option_map};
 ghost use Rattle.http_header.specs.FieldValue.{IsFieldValue, plain_value};
 ghost use Rattle.rfc_fields.specs.Values.{value_text};
-ghost use Rattle.gateway_forwarded.specs.Arrivals.{arrival_parts};
-ghost use Rattle.gateway_forwarded.specs.Elements.{element_text, escaped, optional_pair, pair_text};
-ghost use Rattle.gateway_forwarded.specs.Elements.{quoted_text, value_of};
+ghost use Rattle.gateway_forwarded.{specs.Arrivals.arrival_parts, specs.Elements.{element_text, escaped}};
+ghost use Rattle.gateway_forwarded.specs.Elements.{optional_pair, pair_text, quoted_text, value_of};
 ghost use Rattle.gateway_forwarded.specs.Nodes.{node_text};
 
 use crate::arrival::Arrival;

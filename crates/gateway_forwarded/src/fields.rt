@@ -1,15 +1,12 @@
 //! The fields that tell the next server how a request arrived.
 ghost use Rattle.std.specs.Prelude.{◌≡◌, ◌++◌, ◌∷◌, [], IfOk, OnOk, codes, map, option_map, option_to_list};
-ghost use Rattle.std.specs.Prelude.{if◌then◌else◌};
-ghost use Rattle.std.specs.List.{list_all};
+ghost use Rattle.std.{specs.Prelude.if◌then◌else◌, specs.List.list_all};
 ghost use Rattle.http_header.specs.FieldValue.{plain_value};
-ghost use Rattle.headers.specs.LineMap.{fields_of, lines_at};
-ghost use Rattle.headers.specs.Lines.{lines_of};
+ghost use Rattle.headers.{specs.LineMap.{fields_of, lines_at}, specs.Lines.lines_of};
 ghost use Rattle.rfc_fields.specs.Members.{is_well_formed};
-ghost use Rattle.gateway_forwarded.specs.Arrivals.{arrival_parts, scheme_text};
-ghost use Rattle.gateway_forwarded.specs.Fields.{believes, client_lines, first_told, forwarded_lines};
-ghost use Rattle.gateway_forwarded.specs.Fields.{forwarding_fields, host_lines, is_believed, kept_if, scheme_lines};
-ghost use Rattle.gateway_forwarded.specs.Nodes.{bare_text};
+ghost use Rattle.gateway_forwarded.{specs.Arrivals.{arrival_parts, scheme_text}, specs.Fields.{believes, client_lines}};
+ghost use Rattle.gateway_forwarded.specs.Fields.{first_told, forwarded_lines, forwarding_fields, host_lines};
+ghost use Rattle.gateway_forwarded.{specs.Fields.{is_believed, kept_if, scheme_lines}, specs.Nodes.bare_text};
 
 use crate::arrival::{Arrival, Scheme};
 use crate::element::element;

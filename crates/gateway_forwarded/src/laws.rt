@@ -3,10 +3,8 @@ ghost use Rattle.std.specs.Prelude.{◌≡◌, List, true};
 ghost use Rattle.http_header.specs.FieldValue.{IsFieldValue};
 ghost use Rattle.headers.specs.Lines.{Line};
 ghost use Rattle.rfc_fields.specs.Values.{is_value, octets_of};
-ghost use Rattle.gateway_forwarded.specs.Arrivals.{ArrivalParts};
-ghost use Rattle.gateway_forwarded.specs.Elements.{element_text, value_of};
-ghost use Rattle.gateway_forwarded.specs.Fields.{forwarded_lines};
-ghost use Rattle.gateway_forwarded.specs.Last.{EndsWith, IsTold};
+ghost use Rattle.gateway_forwarded.{specs.Arrivals.ArrivalParts, specs.Elements.{element_text, value_of}};
+ghost use Rattle.gateway_forwarded.{specs.Fields.forwarded_lines, specs.Last.{EndsWith, IsTold}};
 ghost use Rattle.gateway_forwarded.specs.declared.fields.Forwarding.{Forwarding};
 
 use rfc_fields::laws::{joined_lines_keep_members, lists_parse_one_way};

@@ -1,6 +1,5 @@
 //! Nodes: clients and gateways.
-ghost use Rattle.std.specs.Prelude.{◌≡◌, ◌++◌, IfOk, OnOk, Some};
-ghost use Rattle.std.specs.Net.Addr.{ipv4_octets, ipv6_segments};
+ghost use Rattle.std.{specs.Prelude.{◌≡◌, ◌++◌, IfOk, OnOk, Some}, specs.Net.Addr.{ipv4_octets, ipv6_segments}};
 ghost use Rattle.std.specs.Net.Text.{ipv4_text, ipv6_text};
 ghost use Rattle.http_header.specs.FieldValue.{IsFieldValue};
 ghost use Rattle.gateway_forwarded.specs.Nodes.{bare_text, bracketed_text, name_text, node_text, port_text};

@@ -1,6 +1,5 @@
 //! Identifiers that hide a node.
-ghost use Rattle.std.specs.Prelude.{◌≡◌, ◌↔◌, IfOk, OnOk, true};
-ghost use Rattle.std.specs.List.{list_all};
+ghost use Rattle.std.{specs.Prelude.{◌≡◌, ◌↔◌, IfOk, OnOk, true}, specs.List.list_all};
 ghost use Rattle.http_header.specs.FieldValue.{IsFieldValue};
 ghost use Rattle.headers.specs.Refusal.{IsInvalid};
 ghost use Rattle.gateway_forwarded.specs.Nodes.{is_obfuscated, is_obfuscated_byte};

@@ -1,20 +1,19 @@
 -- What is forwarded, name by name.
 use Rattle.std.proofs.Common.{◌≡◌, ◌≢◌, ℕ, Bool, true, false, ◌&&◌, List, [], ◌∷◌, ◌++◌, refl, sym, ◌∙◌, ap, lit<, map}
-use Rattle.std.proofs.Common.{filter, subst, Option, Some, None}
-use Rattle.std.proofs.{Math.Bool.or-true, lemmas.Bool.or_parts, lemmas.List.append-nil}
-use Rattle.std.specs.Prelude.{All, bytes_eq, codes, decimal, if◌then◌else◌, is_some, option_map, option_to_list}
-use Rattle.std.specs.List.{list_any}
-use Rattle.http_header.specs.{FieldValue.FieldValue, HeaderMap.Entries, HeaderMap.IsUnique, HeaderMap.pairs}
-use Rattle.headers.specs.{Date.fixdate, LineMap.lines_at, Lines.Line}
+use Rattle.std.{proofs.Common.{filter, subst, Option, Some, None}, proofs.Math.Bool.or-true}
+use Rattle.std.{proofs.lemmas.Bool.or_parts, proofs.lemmas.List.append-nil, specs.Prelude.{All, bytes_eq, codes}}
+use Rattle.std.{specs.Prelude.{decimal, if◌then◌else◌, is_some, option_map, option_to_list}, specs.List.list_any}
+use Rattle.http_header.{specs.FieldValue.FieldValue, specs.HeaderMap.{Entries, IsUnique, pairs}}
+use Rattle.headers.{specs.Date.fixdate, specs.LineMap.lines_at, specs.Lines.Line}
 use Rattle.rfc_fields.specs.Scan.{Member}
-use Rattle.gateway_messages.specs.FieldLines.{Field, field_of, lines_under}
-use Rattle.gateway_messages.specs.Forwarding.{Forwards, IsEndToEnd, IsHopByHop, Message, field_if, framing_names}
-use Rattle.gateway_messages.specs.Forwarding.{goes_on, is_replaced, is_rewritten, own_fields, own_names, replaced}
-use Rattle.gateway_messages.specs.{Framing.coding_line, Framing.length_line, Spellings.has_mark, Spellings.is_misspelt}
-use Rattle.gateway_messages.specs.{Via.via_line, declared.gateway.Gateway.Gateway}
+use Rattle.gateway_messages.{specs.FieldLines.{Field, field_of, lines_under}, specs.Forwarding.{Forwards, IsEndToEnd}}
+use Rattle.gateway_messages.specs.Forwarding.{IsHopByHop, Message, field_if, framing_names, goes_on, is_replaced}
+use Rattle.gateway_messages.specs.Forwarding.{is_rewritten, own_fields, own_names, replaced}
+use Rattle.gateway_messages.{specs.Framing.{coding_line, length_line}, specs.Spellings.{has_mark, is_misspelt}}
+use Rattle.gateway_messages.{specs.Via.via_line, specs.declared.gateway.Gateway.Gateway}
 use Rattle.gateway_messages.specs.HopByHop.{connection_options, is_hop_by_hop, is_known, is_named, names_protected}
-use Rattle.gateway_messages.specs.HopByHop.{protected_fields}
-use Rattle.gateway_messages.proofs.ReceivedLemmas.{differ, lines_under-append, lines_under-filter, received_lines}
+use Rattle.gateway_messages.{specs.HopByHop.protected_fields, proofs.ReceivedLemmas.{differ, lines_under-append}}
+use Rattle.gateway_messages.proofs.ReceivedLemmas.{lines_under-filter, received_lines}
 use Rattle.gateway_messages.proofs.SpellingLemmas.{well_spelt}
 
 -- ---- what the gateway writes

@@ -5,13 +5,12 @@ use Rattle.std.proofs.Common.{arith, inl, inr, codes, cond, decimal, suc, append
 use Rattle.std.proofs.Math.Seq.{drop-append-add, drop-append_seam, drop-cons, take-append_seam}
 use Rattle.std.proofs.NetLemmas.Ipv6.{EndsGroups-nil, read_ipv6_complete, read_ipv6_sound}
 use Rattle.std.proofs.lemmas.Bool.{and_from, and_left, and_parts, cases_Bool, eqb-true, false≢true, or_cases, or_left}
-use Rattle.std.proofs.lemmas.Bool.{or_right}
-use Rattle.std.proofs.{lemmas.Bool.Decides.nat_tests, lemmas.Fmt.decimal_is_IsNumeral, lemmas.List.take-append-drop}
-use Rattle.std.proofs.{lemmas.List.Folds.length-prefix_len, lemmas.List.Sums.prefix_len_stops}
-use Rattle.std.specs.Prelude.{◌==◌, ◌||◌, ◌&&◌, ◌↔◌, is_ok, is_some, nat_lt}
-use Rattle.std.specs.{Char.is_ascii_digit, Char.is_ascii_hexdigit, Net.Reader.read_ipv6, Net.Reader.whole_value}
-use Rattle.std.specs.{Str.Parse.AllDigits, declared.net.ipv6_addr.Ipv6Addr.Ipv6Addr}
-use Rattle.std.specs.List.{concat, list_all, prefix_len}
+use Rattle.std.{proofs.lemmas.Bool.or_right, proofs.lemmas.Bool.Decides.nat_tests}
+use Rattle.std.{proofs.lemmas.Fmt.decimal_is_IsNumeral, proofs.lemmas.List.take-append-drop}
+use Rattle.std.{proofs.lemmas.List.Folds.length-prefix_len, proofs.lemmas.List.Sums.prefix_len_stops}
+use Rattle.std.{specs.Prelude.{◌==◌, ◌||◌, ◌&&◌, ◌↔◌, is_ok, is_some, nat_lt}, specs.Char.is_ascii_digit}
+use Rattle.std.{specs.Char.is_ascii_hexdigit, specs.Net.Reader.{read_ipv6, whole_value}, specs.Str.Parse.AllDigits}
+use Rattle.std.{specs.declared.net.ipv6_addr.Ipv6Addr.Ipv6Addr, specs.List.{concat, list_all, prefix_len}}
 use Rattle.std.specs.Net.Grammar.{IsColonHex, IsDotted, IsGroupsAfter, IsIpv6Text, Parses}
 use Rattle.headers.specs.Lines.{Line}
 use Rattle.gateway_messages.specs.HostTests.{begins_encoded, begins_part, is_address, is_dotted_address}
@@ -19,7 +18,7 @@ use Rattle.gateway_messages.specs.HostTests.{is_future_address, is_host, is_ipv6
 use Rattle.gateway_messages.specs.HostTests.{is_port, is_reg_name, is_versioned, literal_len, name_len, version_len}
 use Rattle.gateway_messages.specs.Hosts.{HasHost, IsAddress, IsFutureAddress, IsHost, IsRegName, IsUriHost, has_digits}
 use Rattle.gateway_messages.specs.Hosts.{is_address_byte, is_encoded, is_name_byte, is_name_part, port_text}
-use Rattle.gateway_messages.specs.{Requests.has_host, declared.protocol.Protocol.Protocol}
+use Rattle.gateway_messages.{specs.Requests.has_host, specs.declared.protocol.Protocol.Protocol}
 use Rattle.gateway_messages.specs.declared.protocol.Protocol.TheVariants.{Http10, Http11}
 
 -- ---- the bytes before the first that fails a test

@@ -1,16 +1,14 @@
 -- The field line that a gateway adds to Via names it.
 use Rattle.std.proofs.Common.{◌≡◌, ℕ, true, false, ◌||◌, List, [], ◌∷◌, ◌++◌, refl, ◌∙◌, ap, codes, IsTrue, arith}
-use Rattle.std.proofs.Common.{subst}
-use Rattle.std.proofs.{Math.Bool.or-true, lemmas.List.Elements.All-weaker, lemmas.List.Folds.list_any-append}
-use Rattle.std.proofs.{lemmas.List.Splits.slice_split_none, lemmas.Bool.Decides.nat_tests}
-use Rattle.std.proofs.{lemmas.Slice.Eq.bytes_eq-Decides, lemmas.Bool.ne_eqb}
-use Rattle.std.specs.{Prelude.◌==◌, List.slice_split}
-use Rattle.http_header.specs.Token.{IsToken, is_token_byte, lowercase}
-use Rattle.http_header.proofs.TokenLemmas.{token_byte_range}
-use Rattle.headers.specs.{LineMap.LineMap, Lines.Line}
-use Rattle.gateway_messages.specs.Forwarding.{Forwards, Message}
-use Rattle.gateway_messages.specs.Via.{ends_word, is_loop, names_gateway, via_line}
-use Rattle.gateway_messages.specs.{declared.gateway.Gateway.Gateway, declared.protocol.Protocol.Protocol}
+use Rattle.std.{proofs.Common.subst, proofs.Math.Bool.or-true, proofs.lemmas.List.Elements.All-weaker}
+use Rattle.std.{proofs.lemmas.List.Folds.list_any-append, proofs.lemmas.List.Splits.slice_split_none}
+use Rattle.std.{proofs.lemmas.Bool.Decides.nat_tests, proofs.lemmas.Slice.Eq.bytes_eq-Decides}
+use Rattle.std.{proofs.lemmas.Bool.ne_eqb, specs.Prelude.◌==◌, specs.List.slice_split}
+use Rattle.http_header.{specs.Token.{IsToken, is_token_byte, lowercase}, proofs.TokenLemmas.token_byte_range}
+use Rattle.headers.{specs.LineMap.LineMap, specs.Lines.Line}
+use Rattle.gateway_messages.{specs.Forwarding.{Forwards, Message}, specs.Via.{ends_word, is_loop, names_gateway}}
+use Rattle.gateway_messages.{specs.Via.via_line, specs.declared.gateway.Gateway.Gateway}
+use Rattle.gateway_messages.specs.declared.protocol.Protocol.{Protocol}
 use Rattle.gateway_messages.specs.declared.protocol.Protocol.TheVariants.{Http10, Http11}
 
 no_comma : (b : ℕ) → IsTrue (is_token_byte b) → (b == 44) ≡ false

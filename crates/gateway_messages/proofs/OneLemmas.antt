@@ -1,15 +1,13 @@
 -- A message states one framing at most, and a request has one outcome.
 use Rattle.std.proofs.Common.{◌≡◌, ◌⊎◌, ℕ, ◌<◌, ◌^◌, true, false, List, [], ◌∷◌, length, Option, Some, None, refl, sym}
-use Rattle.std.proofs.Common.{ap, arith, subst, inl, inr, IsTrue, nat_lt, codes}
-use Rattle.std.proofs.lemmas.Bool.{cases_Bool, ltb-true, lt-ltb}
-use Rattle.std.specs.List.{list_all}
-use Rattle.headers.specs.{LineMap.LineMap, Lines.Line, Typed.HasLine}
+use Rattle.std.{proofs.Common.{ap, arith, subst, inl, inr, IsTrue, nat_lt, codes}, proofs.lemmas.Bool.cases_Bool}
+use Rattle.std.{proofs.lemmas.Bool.{ltb-true, lt-ltb}, specs.List.list_all}
+use Rattle.headers.{specs.LineMap.LineMap, specs.Lines.Line, specs.Typed.HasLine}
 use Rattle.rfc_fields.specs.Members.{field_members}
 use Rattle.gateway_messages.specs.Framing.{RejectsFraming, States, StatesLength, ends_chunked, codings, first_number}
-use Rattle.gateway_messages.specs.Framing.{is_chunked, lengths, writes_length}
-use Rattle.gateway_messages.specs.Hops.{HasHops, HasInvalidHops, counts_hops, hops_in}
-use Rattle.gateway_messages.specs.{declared.framing.Framing.Framing, declared.protocol.Protocol.Protocol}
-use Rattle.gateway_messages.specs.{declared.rejection.Rejection.Rejection}
+use Rattle.gateway_messages.{specs.Framing.{is_chunked, lengths, writes_length}, specs.Hops.{HasHops, HasInvalidHops}}
+use Rattle.gateway_messages.{specs.Hops.{counts_hops, hops_in}, specs.declared.framing.Framing.Framing}
+use Rattle.gateway_messages.{specs.declared.protocol.Protocol.Protocol, specs.declared.rejection.Rejection.Rejection}
 use Rattle.gateway_messages.specs.declared.framing.Framing.TheVariants.{Unstated, Length, Chunked}
 use Rattle.gateway_messages.specs.declared.protocol.Protocol.TheVariants.{Http10, Http11}
 

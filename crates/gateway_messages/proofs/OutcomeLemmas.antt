@@ -1,14 +1,13 @@
 -- Each request has one outcome.
 use Rattle.std.proofs.Common.{◌≡◌, ℕ, ◌+◌, zero, suc, true, false, Option, Some, None, sym, arith, inl, inr, codes}
-use Rattle.std.proofs.lemmas.Bool.{cases_Bool}
-use Rattle.std.specs.Prelude.{option_map}
-use Rattle.gateway_messages.specs.{Expectations.has_known_expectation, Framing.RejectsFraming, Hops.HasHops}
-use Rattle.gateway_messages.specs.{Via.is_loop, declared.framing.Framing.Framing, declared.gateway.Gateway.Gateway}
-use Rattle.gateway_messages.specs.{declared.rejection.Rejection.Rejection}
+use Rattle.std.{proofs.lemmas.Bool.cases_Bool, specs.Prelude.option_map}
+use Rattle.gateway_messages.{specs.Expectations.has_known_expectation, specs.Framing.RejectsFraming, specs.Hops.HasHops}
+use Rattle.gateway_messages.{specs.Via.is_loop, specs.declared.framing.Framing.Framing}
+use Rattle.gateway_messages.{specs.declared.gateway.Gateway.Gateway, specs.declared.rejection.Rejection.Rejection}
 use Rattle.gateway_messages.specs.HopByHop.{HasFairOptions, are_options, connection_options, names_protected}
-use Rattle.gateway_messages.specs.Outcomes.{HasOneOutcome, HasOutcome, IsRejected}
-use Rattle.gateway_messages.specs.Requests.{HasHopsLeft, IsAccepted, Rejects, Request, has_host}
-use Rattle.gateway_messages.proofs.OneLemmas.{framed_or_not, limit_or_not, limited, one_limit, unframed}
+use Rattle.gateway_messages.{specs.Outcomes.{HasOneOutcome, HasOutcome, IsRejected}, specs.Requests.HasHopsLeft}
+use Rattle.gateway_messages.{specs.Requests.{IsAccepted, Rejects, Request, has_host}, proofs.OneLemmas.framed_or_not}
+use Rattle.gateway_messages.proofs.OneLemmas.{limit_or_not, limited, one_limit, unframed}
 
 -- ---- no two
 

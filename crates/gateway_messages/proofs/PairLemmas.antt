@@ -1,14 +1,13 @@
 -- Two gateways in a row are one.
 use Rattle.std.proofs.Common.{◌≡◌, ◌≢◌, ◌⊎◌, ℕ, true, false, List, [], ◌∷◌, ◌++◌, refl, sym, ◌∙◌, ap, append_assoc}
-use Rattle.std.proofs.Common.{lit<, inl, inr}
-use Rattle.std.proofs.{lemmas.Bool.cases_Bool, lemmas.Slice.Eq.bytes_eq-Decides}
+use Rattle.std.{proofs.Common.{lit<, inl, inr}, proofs.lemmas.Bool.cases_Bool, proofs.lemmas.Slice.Eq.bytes_eq-Decides}
 use Rattle.std.specs.Prelude.{All, codes}
-use Rattle.headers.specs.{LineMap.LineMap, Lines.Line}
-use Rattle.rfc_fields.specs.{Members.field_members, Scan.Member}
-use Rattle.gateway_messages.specs.{Chain.IsOneGateway, Spellings.is_misspelt, Via.via_line}
-use Rattle.gateway_messages.specs.{declared.gateway.Gateway.Gateway}
-use Rattle.gateway_messages.specs.Forwarding.{Forwards, IsEndToEnd, IsHopByHop, Message, own_names}
-use Rattle.gateway_messages.specs.HopByHop.{connection_options, is_hop_by_hop, is_known}
+use Rattle.headers.{specs.LineMap.LineMap, specs.Lines.Line}
+use Rattle.rfc_fields.{specs.Members.field_members, specs.Scan.Member}
+use Rattle.gateway_messages.{specs.Chain.IsOneGateway, specs.Spellings.is_misspelt, specs.Via.via_line}
+use Rattle.gateway_messages.{specs.declared.gateway.Gateway.Gateway, specs.Forwarding.{Forwards, IsEndToEnd}}
+use Rattle.gateway_messages.{specs.Forwarding.{IsHopByHop, Message, own_names}, specs.HopByHop.connection_options}
+use Rattle.gateway_messages.specs.HopByHop.{is_hop_by_hop, is_known}
 
 apart : codes "connection" ≢ codes "transfer-encoding"
 apart e = absurd (cc ((bytes_eq-Decides (codes "connection") (codes "transfer-encoding")).1 e))

@@ -1,12 +1,11 @@
 -- What stands under each name of the received fields, and of those that pass a test.
 use Rattle.std.proofs.Common.{◌≡◌, ◌≢◌, ℕ, suc, ◌<◌, Bool, true, false, List, [], ◌∷◌, ◌++◌, length, refl, sym, ◌∙◌, ap}
-use Rattle.std.proofs.Common.{inl, inr, arith, map, filter}
-use Rattle.std.proofs.{lemmas.Bool.cases_Bool, lemmas.Slice.Eq.bytes_eq-Decides}
-use Rattle.std.proofs.lemmas.List.{append-nil, map-append}
+use Rattle.std.{proofs.Common.{inl, inr, arith, map, filter}, proofs.lemmas.Bool.cases_Bool}
+use Rattle.std.{proofs.lemmas.Slice.Eq.bytes_eq-Decides, proofs.lemmas.List.{append-nil, map-append}}
 use Rattle.std.specs.Prelude.{bytes_eq, if◌then◌else◌}
-use Rattle.http_header.specs.FieldValue.{FieldValue}
-use Rattle.http_header.specs.HeaderMap.{Entry, Entries, IsUnique, entry_at, entry_pairs, pairs}
-use Rattle.headers.specs.{LineMap.lines_at, Lines.Line, Lines.lines_of}
+use Rattle.http_header.{specs.FieldValue.FieldValue, specs.HeaderMap.{Entry, Entries, IsUnique, entry_at, entry_pairs}}
+use Rattle.http_header.specs.HeaderMap.{pairs}
+use Rattle.headers.{specs.LineMap.lines_at, specs.Lines.{Line, lines_of}}
 use Rattle.gateway_messages.specs.FieldLines.{Field, field_of, lines_under}
 
 pub differ : (a b : List ℕ) → a ≢ b → bytes_eq a b ≡ false

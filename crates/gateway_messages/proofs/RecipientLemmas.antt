@@ -1,24 +1,22 @@
 -- To all recipients that know the plain forms, what is forwarded states the same.
 use Rattle.std.proofs.Common.{◌≡◌, ◌≢◌, ℕ, ◌<◌, ◌^◌, ◌&&◌, not, Bool, true, false, List, [], ◌∷◌, ◌++◌, Option, Some}
-use Rattle.std.proofs.Common.{None, refl, ◌∙◌, ap, codes, inl, inr, arith}
-use Rattle.std.proofs.{lemmas.Bool.cases_Bool, lemmas.List.append-nil, lemmas.Slice.Eq.bytes_eq-Decides}
-use Rattle.std.specs.Prelude.{bytes_eq, decimal, if◌then◌else◌, nat_lt, option_map, option_to_list}
-use Rattle.std.specs.List.{list_any}
-use Rattle.headers.specs.{LineMap.LineMap, Lines.Line}
-use Rattle.gateway_messages.specs.FieldLines.{Field, fields_of, lines_under}
-use Rattle.gateway_messages.specs.{Forwarding.Forwards, Forwarding.Message, declared.framing.Framing.Framing}
-use Rattle.gateway_messages.specs.{Spellings.dashed, Trailers.may_trail, Trailers.trailer_names}
-use Rattle.gateway_messages.specs.{declared.gateway.Gateway.Gateway, declared.protocol.Protocol.Protocol}
-use Rattle.gateway_messages.specs.{declared.request.ForwardedRequest.ForwardedRequest}
-use Rattle.gateway_messages.specs.Framing.{States, coding_line, length_line}
-use Rattle.gateway_messages.specs.Recipients.{Fits, KnowsPlain, ParsesBelow, Recipient, accepted_by, delimited_by}
-use Rattle.gateway_messages.specs.Recipients.{framing_by, is_within, lines_where, number_below, parse_below, picked_by}
-use Rattle.gateway_messages.specs.Recipients.{server, Spelling, Dash, DashOrMark, DashOrUnderscore, Pick, First, Last}
-use Rattle.gateway_messages.specs.Recipients.{Codings, SomeLine, LastLine, AnyCoding, Precedence, CodingFirst}
-use Rattle.gateway_messages.specs.Recipients.{LengthFirst, chunked_by, spelled_by}
+use Rattle.std.{proofs.Common.{None, refl, ◌∙◌, ap, codes, inl, inr, arith}, proofs.lemmas.Bool.cases_Bool}
+use Rattle.std.{proofs.lemmas.List.append-nil, proofs.lemmas.Slice.Eq.bytes_eq-Decides, specs.Prelude.bytes_eq}
+use Rattle.std.{specs.Prelude.{decimal, if◌then◌else◌, nat_lt, option_map, option_to_list}, specs.List.list_any}
+use Rattle.headers.{specs.LineMap.LineMap, specs.Lines.Line}
+use Rattle.gateway_messages.{specs.FieldLines.{Field, fields_of, lines_under}, specs.Forwarding.{Forwards, Message}}
+use Rattle.gateway_messages.{specs.declared.framing.Framing.Framing, specs.Spellings.dashed, specs.Trailers.may_trail}
+use Rattle.gateway_messages.{specs.Trailers.trailer_names, specs.declared.gateway.Gateway.Gateway}
+use Rattle.gateway_messages.specs.declared.protocol.Protocol.{Protocol}
+use Rattle.gateway_messages.{specs.declared.request.ForwardedRequest.ForwardedRequest, specs.Framing.States}
+use Rattle.gateway_messages.{specs.Framing.{coding_line, length_line}, specs.Recipients.{Fits, KnowsPlain, ParsesBelow}}
+use Rattle.gateway_messages.specs.Recipients.{Recipient, accepted_by, delimited_by, framing_by, is_within, lines_where}
+use Rattle.gateway_messages.specs.Recipients.{number_below, parse_below, picked_by, server, Spelling, Dash, DashOrMark}
+use Rattle.gateway_messages.specs.Recipients.{DashOrUnderscore, Pick, First, Last, Codings, SomeLine, LastLine}
+use Rattle.gateway_messages.specs.Recipients.{AnyCoding, Precedence, CodingFirst, LengthFirst, chunked_by, spelled_by}
 use Rattle.gateway_messages.specs.declared.framing.Framing.TheVariants.{Unstated, Length, Chunked}
 use Rattle.gateway_messages.specs.Requests.{IsForwarded, Request, message_of}
-use Rattle.gateway_messages.proofs.{NumberLemmas.number_within-decimal, ReceivedLemmas.lines_under-append}
+use Rattle.gateway_messages.{proofs.NumberLemmas.number_within-decimal, proofs.ReceivedLemmas.lines_under-append}
 use Rattle.gateway_messages.proofs.SpellingLemmas.{lookalike, unlisted}
 
 -- ---- names

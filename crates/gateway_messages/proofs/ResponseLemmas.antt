@@ -1,23 +1,22 @@
 -- Each response has one outcome, what is forwarded of it is certain, and recipients delimit it alike.
 use Rattle.std.proofs.Common.{◌≡◌, ℕ, Bool, true, false, List, refl, sym, ◌∙◌, ap, subst, inl, inr}
-use Rattle.std.proofs.lemmas.Bool.{cases_Bool}
-use Rattle.std.specs.Prelude.{◌==◌}
+use Rattle.std.{proofs.lemmas.Bool.cases_Bool, specs.Prelude.◌==◌}
 use Rattle.headers.specs.LineMap.{LineMap}
-use Rattle.gateway_messages.specs.FieldLines.{fields_of, lines_under}
-use Rattle.gateway_messages.specs.{Forwarding.Forwards, Framing.RejectsFraming, declared.framing.Framing.Framing}
-use Rattle.gateway_messages.specs.{declared.gateway.Gateway.Gateway, declared.protocol.Protocol.Protocol}
-use Rattle.gateway_messages.specs.{declared.rejection.Rejection.Rejection}
-use Rattle.gateway_messages.specs.{declared.response.ForwardedResponse.ForwardedResponse}
-use Rattle.gateway_messages.specs.HopByHop.{HasFairOptions, are_options, connection_options, names_protected}
+use Rattle.gateway_messages.{specs.FieldLines.{fields_of, lines_under}, specs.Forwarding.Forwards}
+use Rattle.gateway_messages.{specs.Framing.RejectsFraming, specs.declared.framing.Framing.Framing}
+use Rattle.gateway_messages.{specs.declared.gateway.Gateway.Gateway, specs.declared.protocol.Protocol.Protocol}
+use Rattle.gateway_messages.specs.declared.rejection.Rejection.{Rejection}
+use Rattle.gateway_messages.{specs.declared.response.ForwardedResponse.ForwardedResponse, specs.HopByHop.HasFairOptions}
+use Rattle.gateway_messages.specs.HopByHop.{are_options, connection_options, names_protected}
 use Rattle.gateway_messages.specs.Outcomes.{HasOneResponseOutcome, HasResponseOutcome, IsRejectedResponse}
 use Rattle.gateway_messages.specs.Recipients.{Fits, KnowsPlain, Recipient, accepted_by, framing_by}
 use Rattle.gateway_messages.specs.Responses.{IsAcceptedResponse, IsForwardedResponse, RejectsResponse, Response}
 use Rattle.gateway_messages.specs.Responses.{StatesUnless, content_of, is_known_to, response_message, sent_framing}
-use Rattle.gateway_messages.specs.Responses.{states_nothing}
-use Rattle.gateway_messages.specs.declared.framing.Framing.TheVariants.{Unstated, Length, Chunked}
+use Rattle.gateway_messages.{specs.Responses.states_nothing, specs.declared.framing.Framing.TheVariants.Unstated}
+use Rattle.gateway_messages.specs.declared.framing.Framing.TheVariants.{Length, Chunked}
 use Rattle.gateway_messages.specs.declared.protocol.Protocol.TheVariants.{Http10, Http11}
-use Rattle.gateway_messages.proofs.OneLemmas.{framed_or_not, one_framing, unframed}
-use Rattle.gateway_messages.proofs.{RecipientLemmas.fitting, RecipientLemmas.read_alike, SureLemmas.sure}
+use Rattle.gateway_messages.{proofs.OneLemmas.{framed_or_not, one_framing, unframed}, proofs.RecipientLemmas.fitting}
+use Rattle.gateway_messages.{proofs.RecipientLemmas.read_alike, proofs.SureLemmas.sure}
 
 -- ---- what is stated
 

@@ -1,8 +1,7 @@
 -- Names without a mark are spelt well, and those that resemble a guarded name are not.
 use Rattle.std.proofs.Common.{◌≡◌, ◌≢◌, ℕ, Bool, true, false, ◌||◌, List, [], ◌∷◌, refl, sym, ◌∙◌, ap, inl, inr}
-use Rattle.std.proofs.lemmas.Bool.{and_from, cases_Bool, or_parts}
-use Rattle.std.proofs.lemmas.Slice.Eq.{bytes_eq-Decides}
-use Rattle.std.specs.{Prelude.bytes_eq, List.list_any}
+use Rattle.std.{proofs.lemmas.Bool.{and_from, cases_Bool, or_parts}, proofs.lemmas.Slice.Eq.bytes_eq-Decides}
+use Rattle.std.{specs.Prelude.bytes_eq, specs.List.list_any}
 use Rattle.gateway_messages.specs.Spellings.{dashed, guarded_names, has_mark, is_mark, is_misspelt, resembles_guarded}
 use Rattle.gateway_messages.specs.declared.gateway.Gateway.{Gateway}
 

@@ -1,20 +1,19 @@
 -- The next gateway delimits the content of what is forwarded as this one did.
 use Rattle.std.proofs.Common.{◌≡◌, ℕ, ◌<◌, ◌^◌, true, false, List, [], ◌∷◌, ◌++◌, length, refl, sym, ◌∙◌, ap, arith}
-use Rattle.std.proofs.Common.{codes, eq-eqb, map, subst}
-use Rattle.std.proofs.lemmas.Bool.{and_from, and_parts, le-leb, ne_eqb}
-use Rattle.std.proofs.{lemmas.Fmt.decimal_nonempty, Math.Bool.or-true}
-use Rattle.std.specs.{Prelude.◌==◌, Prelude.decimal, Prelude.nat_le, Prelude.option_to_list, List.list_all}
-use Rattle.headers.specs.{LineMap.LineMap, Lines.Line}
+use Rattle.std.{proofs.Common.{codes, eq-eqb, map, subst}, proofs.lemmas.Bool.{and_from, and_parts, le-leb, ne_eqb}}
+use Rattle.std.{proofs.lemmas.Fmt.decimal_nonempty, proofs.Math.Bool.or-true, specs.Prelude.{◌==◌, decimal, nat_le}}
+use Rattle.std.{specs.Prelude.option_to_list, specs.List.list_all}
+use Rattle.headers.{specs.LineMap.LineMap, specs.Lines.Line}
 use Rattle.http_header.specs.Token.{is_value_byte}
 use Rattle.headers_syntax.proofs.PlainLemmas.{decimal_plain, is_plain, plain_bounds, trim_piece}
-use Rattle.rfc_fields.specs.Grammar.{IsSeparator, comma, element_text, is_bare, is_element}
-use Rattle.rfc_fields.specs.{Grammar.Part.Byte, Scan.Member, Scan.Member.Whole, Laws.ParsesOneWay}
-use Rattle.rfc_fields.specs.Members.{field_members, members, members_of}
-use Rattle.gateway_messages.specs.Forwarding.{Forwards, Message}
-use Rattle.gateway_messages.specs.Framing.{States, StatesLength, coding_line, first_number, is_chunked, length_line}
-use Rattle.gateway_messages.specs.Framing.{writes_length}
-use Rattle.gateway_messages.specs.{Recipients.Fits, declared.framing.Framing.Framing, declared.gateway.Gateway.Gateway}
-use Rattle.gateway_messages.specs.{declared.protocol.Protocol.Protocol, declared.protocol.Protocol.TheVariants.Http11}
+use Rattle.rfc_fields.{specs.Grammar.{IsSeparator, comma, element_text, is_bare, is_element}, specs.Grammar.Part.Byte}
+use Rattle.rfc_fields.{specs.Scan.Member, specs.Scan.Member.Whole, specs.Laws.ParsesOneWay, specs.Members.field_members}
+use Rattle.rfc_fields.specs.Members.{members, members_of}
+use Rattle.gateway_messages.{specs.Forwarding.{Forwards, Message}, specs.Framing.{States, StatesLength, coding_line}}
+use Rattle.gateway_messages.specs.Framing.{first_number, is_chunked, length_line, writes_length}
+use Rattle.gateway_messages.{specs.Recipients.Fits, specs.declared.framing.Framing.Framing}
+use Rattle.gateway_messages.{specs.declared.gateway.Gateway.Gateway, specs.declared.protocol.Protocol.Protocol}
+use Rattle.gateway_messages.specs.declared.protocol.Protocol.TheVariants.{Http11}
 use Rattle.gateway_messages.specs.declared.framing.Framing.TheVariants.{Unstated, Length, Chunked}
 use Rattle.gateway_messages.proofs.NumberLemmas.{number_within-decimal}
 

@@ -1,16 +1,15 @@
 -- What is forwarded is certain at each name, and the next gateway delimits it as this one did.
 use Rattle.std.proofs.Common.{◌≡◌, ◌≢◌, ℕ, ◌+◌, ◌-◌, true, false, List, [], ◌∷◌, Option, Some, None, refl, sym, ◌∙◌, ap}
-use Rattle.std.proofs.Common.{subst, inl, inr, codes, arith}
-use Rattle.std.proofs.{lemmas.Bool.cases_Bool, lemmas.Slice.Eq.bytes_eq-Decides}
-use Rattle.std.proofs.lemmas.List.Elements.{All-cons, All-nil}
+use Rattle.std.{proofs.Common.{subst, inl, inr, codes, arith}, proofs.lemmas.Bool.cases_Bool}
+use Rattle.std.{proofs.lemmas.Slice.Eq.bytes_eq-Decides, proofs.lemmas.List.Elements.{All-cons, All-nil}}
 use Rattle.std.specs.Prelude.{All, bytes_eq, option_map}
 use Rattle.headers.specs.LineMap.{LineMap}
-use Rattle.gateway_messages.specs.{FieldLines.fields_of, FieldLines.lines_under, HopByHop.connection_options}
-use Rattle.gateway_messages.specs.{HopByHop.is_hop_by_hop, Spellings.is_misspelt, declared.framing.Framing.Framing}
-use Rattle.gateway_messages.specs.{declared.gateway.Gateway.Gateway, declared.request.ForwardedRequest.ForwardedRequest}
-use Rattle.gateway_messages.specs.Forwarding.{Forwards, Message, framing_names, own_names}
-use Rattle.gateway_messages.specs.Requests.{IsForwarded, Request, message_of}
-use Rattle.gateway_messages.proofs.OneLemmas.{one_framing, one_limit}
+use Rattle.gateway_messages.{specs.FieldLines.{fields_of, lines_under}, specs.HopByHop.connection_options}
+use Rattle.gateway_messages.{specs.HopByHop.is_hop_by_hop, specs.Spellings.is_misspelt}
+use Rattle.gateway_messages.{specs.declared.framing.Framing.Framing, specs.declared.gateway.Gateway.Gateway}
+use Rattle.gateway_messages.{specs.declared.request.ForwardedRequest.ForwardedRequest, specs.Forwarding.Forwards}
+use Rattle.gateway_messages.{specs.Forwarding.{Message, framing_names, own_names}, specs.Requests.IsForwarded}
+use Rattle.gateway_messages.{specs.Requests.{Request, message_of}, proofs.OneLemmas.{one_framing, one_limit}}
 
 -- ---- at each name
 

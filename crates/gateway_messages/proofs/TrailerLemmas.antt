@@ -1,15 +1,14 @@
 -- What is forwarded of the trailer fields, name by name.
 use Rattle.std.proofs.Common.{◌≡◌, ℕ, Bool, true, false, not, List, [], refl, ◌∙◌, ap, map, filter}
 use Rattle.std.specs.Prelude.{if◌then◌else◌}
-use Rattle.http_header.specs.{FieldValue.FieldValue, HeaderMap.Entries, HeaderMap.IsUnique, HeaderMap.pairs}
+use Rattle.http_header.{specs.FieldValue.FieldValue, specs.HeaderMap.{Entries, IsUnique, pairs}}
 use Rattle.headers.specs.LineMap.{LineMap, lines_at}
 use Rattle.rfc_fields.specs.Scan.{Member}
-use Rattle.gateway_messages.specs.{FieldLines.Field, FieldLines.field_of, FieldLines.lines_under}
-use Rattle.gateway_messages.specs.{HopByHop.connection_options, HopByHop.is_hop_by_hop, Trailers.ForwardsTrailers}
-use Rattle.gateway_messages.specs.{Trailers.may_trail, Trailers.trailer_goes_on, declared.framing.Framing.Framing}
-use Rattle.gateway_messages.specs.{declared.framing.Framing.TheVariants.Chunked, declared.gateway.Gateway.Gateway}
-use Rattle.gateway_messages.proofs.ForwardLemmas.{never}
-use Rattle.gateway_messages.proofs.ReceivedLemmas.{lines_under-filter, received_lines}
+use Rattle.gateway_messages.{specs.FieldLines.{Field, field_of, lines_under}, specs.HopByHop.connection_options}
+use Rattle.gateway_messages.{specs.HopByHop.is_hop_by_hop, specs.Trailers.{ForwardsTrailers, may_trail}}
+use Rattle.gateway_messages.{specs.Trailers.trailer_goes_on, specs.declared.framing.Framing.Framing}
+use Rattle.gateway_messages.{specs.declared.framing.Framing.TheVariants.Chunked, specs.declared.gateway.Gateway.Gateway}
+use Rattle.gateway_messages.{proofs.ForwardLemmas.never, proofs.ReceivedLemmas.{lines_under-filter, received_lines}}
 
 goes : (gateway : Gateway) (options : List Member) (name : List ℕ)
     → is_hop_by_hop gateway.consumes_credentials options name ≡ false → may_trail gateway name ≡ true

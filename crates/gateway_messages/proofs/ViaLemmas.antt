@@ -1,9 +1,8 @@
 -- A field line of Via is a value of a field, and so is a pseudonym.
-use Rattle.std.proofs.{Common.ℕ, Common.List, Common.IsTrue, Common.refl, lemmas.List.Elements.All-append}
-use Rattle.http_header.specs.{FieldValue.IsFieldValue, Token.IsToken, Token.is_value_byte}
+use Rattle.std.{proofs.Common.{ℕ, List, IsTrue, refl}, proofs.lemmas.List.Elements.All-append}
+use Rattle.http_header.{specs.FieldValue.IsFieldValue, specs.Token.{IsToken, is_value_byte}}
 use Rattle.http_header.proofs.TokenLemmas.{AllPass-from_test, IsFieldValue-from_visible, IsVisibleAscii-from_token}
-use Rattle.gateway_messages.specs.Via.{version_text, via_line}
-use Rattle.gateway_messages.specs.declared.protocol.Protocol.{Protocol}
+use Rattle.gateway_messages.{specs.Via.{version_text, via_line}, specs.declared.protocol.Protocol.Protocol}
 use Rattle.gateway_messages.specs.declared.protocol.Protocol.TheVariants.{Http10, Http11}
 
 version_valid : (protocol : Protocol) → IsFieldValue (version_text protocol)

@@ -1,17 +1,16 @@
 -- What a gateway does with a response (RFC 9110, sections 6.6.1, 7.6 and 15.2; RFC 9112, section 6.3).
 use Rattle.std.specs.Prelude.{◌≡◌, ℕ, ◌==◌, Bool, true, false, ◌||◌, ◌&&◌, not, nat_le, nat_lt, List, [], ◌∷◌, Option}
 use Rattle.std.specs.Prelude.{Some, None, bytes_eq, codes, if◌then◌else◌}
-use Rattle.headers.specs.{LineMap.LineMap, LineMap.lines_at, Lines.Line}
-use Rattle.gateway_messages.specs.{FieldLines.fields_of, FieldLines.lines_under, Forwarding.Forwards}
-use Rattle.gateway_messages.specs.{Forwarding.Message, Framing.RejectsFraming, Framing.States, HopByHop.HasFairOptions}
-use Rattle.gateway_messages.specs.{HopByHop.RejectsOptions, declared.framing.Framing.Framing}
-use Rattle.gateway_messages.specs.{declared.gateway.Gateway.Gateway, declared.protocol.Protocol.Protocol}
-use Rattle.gateway_messages.specs.{declared.protocol.Protocol.TheVariants.Http10}
-use Rattle.gateway_messages.specs.{declared.protocol.Protocol.TheVariants.Http11}
-use Rattle.gateway_messages.specs.{declared.rejection.Rejection.Rejection, declared.response.Content.Content}
-use Rattle.gateway_messages.specs.{declared.response.ForwardedResponse.ForwardedResponse}
-use Rattle.gateway_messages.specs.{declared.response.ResponseHead.ResponseHead}
-use Rattle.gateway_messages.specs.{declared.response.ResponseOutcome.ResponseOutcome}
+use Rattle.headers.{specs.LineMap.{LineMap, lines_at}, specs.Lines.Line}
+use Rattle.gateway_messages.{specs.FieldLines.{fields_of, lines_under}, specs.Forwarding.{Forwards, Message}}
+use Rattle.gateway_messages.{specs.Framing.{RejectsFraming, States}, specs.HopByHop.{HasFairOptions, RejectsOptions}}
+use Rattle.gateway_messages.{specs.declared.framing.Framing.Framing, specs.declared.gateway.Gateway.Gateway}
+use Rattle.gateway_messages.specs.declared.protocol.Protocol.{Protocol}
+use Rattle.gateway_messages.specs.declared.protocol.Protocol.TheVariants.{Http10, Http11}
+use Rattle.gateway_messages.{specs.declared.rejection.Rejection.Rejection, specs.declared.response.Content.Content}
+use Rattle.gateway_messages.specs.declared.response.ForwardedResponse.{ForwardedResponse}
+use Rattle.gateway_messages.specs.declared.response.ResponseHead.{ResponseHead}
+use Rattle.gateway_messages.specs.declared.response.ResponseOutcome.{ResponseOutcome}
 use Rattle.gateway_messages.specs.declared.framing.Framing.TheVariants.{Unstated, Length, Chunked}
 use Rattle.gateway_messages.specs.declared.response.ResponseOutcome.TheVariants.{Forward, Discard, Reject}
 

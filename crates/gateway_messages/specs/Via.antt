@@ -1,6 +1,5 @@
 -- The gateways that a message passed (RFC 9110, section 7.6.3).
-use Rattle.std.specs.Prelude.{ℕ, Bool, ◌||◌, ◌==◌, List, ◌++◌, codes, bytes_eq}
-use Rattle.std.specs.List.{list_any, slice_split}
+use Rattle.std.{specs.Prelude.{ℕ, Bool, ◌||◌, ◌==◌, List, ◌++◌, codes, bytes_eq}, specs.List.{list_any, slice_split}}
 use Rattle.http_header.specs.Token.{lowercase}
 use Rattle.headers.specs.Lines.{Line}
 use Rattle.gateway_messages.specs.declared.protocol.Protocol.{Protocol}

@@ -1,8 +1,7 @@
 //! The expectation of a client that waits before it sends the content.
-ghost use Rattle.std.specs.{Prelude.◌≡◌, Prelude.IfOk, Prelude.codes, Prelude.true, List.list_all};
+ghost use Rattle.std.{specs.Prelude.{◌≡◌, IfOk, codes, true}, specs.List.list_all};
 ghost use Rattle.headers.specs.LineMap.{lines_at, fields_of};
-ghost use Rattle.rfc_fields.specs.Directives.{is_same_token};
-ghost use Rattle.rfc_fields.specs.Members.{field_left, field_members, member_of};
+ghost use Rattle.rfc_fields.{specs.Directives.is_same_token, specs.Members.{field_left, field_members, member_of}};
 ghost use Rattle.gateway_messages.specs.Expectations.{IsExpectation, continue_name, expect_fields, has_content};
 ghost use Rattle.gateway_messages.specs.Expectations.{has_known_expectation, is_awaited};
 

@@ -1,8 +1,7 @@
 //! The gateways that a message passed.
-ghost use Rattle.std.specs.Prelude.{◌≡◌, ◌↔◌, IfOk, OnOk, codes};
-ghost use Rattle.std.specs.List.{list_any};
-ghost use Rattle.http_header.specs.{FieldValue.plain_value, Token.IsToken};
-ghost use Rattle.headers.specs.{LineMap.lines_at, Refusal.IsInvalid};
+ghost use Rattle.std.{specs.Prelude.{◌≡◌, ◌↔◌, IfOk, OnOk, codes}, specs.List.list_any};
+ghost use Rattle.http_header.{specs.FieldValue.plain_value, specs.Token.IsToken};
+ghost use Rattle.headers.{specs.LineMap.lines_at, specs.Refusal.IsInvalid};
 ghost use Rattle.gateway_messages.specs.Via.{is_loop, names_gateway, via_line, version_text};
 
 use crate::protocol::Protocol;

@@ -1,15 +1,11 @@
 -- Fields that take the place of others leave the rest as it is.
-use Rattle.std.proofs.Common.{◌≡◌, ℕ, Bool, true, false, not, List, [], ◌∷◌, ◌++◌, Option, Some, refl, sym}
-use Rattle.std.proofs.Common.{◌∙◌, ap, codes, filter, inl, inr, map}
-use Rattle.std.specs.Prelude.{◌||◌, bytes_eq}
-use Rattle.std.specs.List.{flat_map, list_any}
-use Rattle.std.proofs.lemmas.Bool.{and_parts, cases_Bool, not-true, or_parts}
-use Rattle.std.proofs.lemmas.List.{append-nil}
-use Rattle.std.proofs.lemmas.Slice.Eq.{bytes_eq-Decides}
+use Rattle.std.proofs.Common.{◌≡◌, ℕ, Bool, true, false, not, List, [], ◌∷◌, ◌++◌, Option, Some, refl, sym, ◌∙◌, ap}
+use Rattle.std.{proofs.Common.{codes, filter, inl, inr, map}, specs.Prelude.{◌||◌, bytes_eq}, specs.List.flat_map}
+use Rattle.std.{specs.List.list_any, proofs.lemmas.Bool.{and_parts, cases_Bool, not-true, or_parts}}
+use Rattle.std.{proofs.lemmas.List.append-nil, proofs.lemmas.Slice.Eq.bytes_eq-Decides}
 use Rattle.headers.specs.LineMap as Encodings
 use Rattle.headers.specs.Lines.{Line}
-use Rattle.gateway_messages.specs.FieldLines.{Field, lines_under}
-use Rattle.gateway_messages.specs.Forwarding.{framing_names}
+use Rattle.gateway_messages.{specs.FieldLines.{Field, lines_under}, specs.Forwarding.framing_names}
 use Rattle.gateway_messages.specs.Recipients.{KnowsPlain, Recipient, framing_by, lines_where}
 use Rattle.gateway_messages.proofs.RecipientLemmas.{lines_where-append}
 use Rattle.gateway_next_hop.specs.Replaced.{frame_nothing, frames, has_field, lines_with_name, replaced_by}

@@ -2,9 +2,7 @@
 use Rattle.std.specs.Prelude.{ℕ, Bool, not, List, [], ◌∷◌, ◌++◌, bytes_eq, filter, map}
 use Rattle.std.specs.List.{flat_map, list_all, list_any}
 use Rattle.headers.specs.LineMap as Encodings
-use Rattle.gateway_messages.specs.FieldLines.{Field}
-use Rattle.gateway_messages.specs.Forwarding.{framing_names}
-use Rattle.gateway_messages.specs.Spellings.{dashed}
+use Rattle.gateway_messages.{specs.FieldLines.Field, specs.Forwarding.framing_names, specs.Spellings.dashed}
 
 -- one of the fields has the name
 abbrev pub has_field : List Encodings.Field → List ℕ → Bool

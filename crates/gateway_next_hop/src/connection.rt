@@ -1,6 +1,5 @@
 //! The next connection.
-ghost use Rattle.std.specs.Prelude.{◌≡◌, ◌∷◌, [], ◌++◌, IfOk, OnOk, codes, option_map, option_to_list};
-ghost use Rattle.std.specs.Prelude.{if◌then◌else◌};
+ghost use Rattle.std.specs.Prelude.{◌≡◌, ◌∷◌, [], ◌++◌, IfOk, OnOk, codes, option_map, option_to_list, if◌then◌else◌};
 ghost use Rattle.headers.specs.LineMap.{fields_of};
 ghost use Rattle.gateway_next_hop.specs.Connections.{connection_fields, connection_parts, option_lines, option_text};
 

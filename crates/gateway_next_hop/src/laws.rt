@@ -2,12 +2,10 @@
 ghost use Rattle.std.specs.Prelude.{◌≡◌, ◌++◌, ℕ, List, false, true, codes};
 ghost use Rattle.headers.specs.LineMap as Encodings;
 ghost use Rattle.headers.specs.LineMap.{LineMap};
-ghost use Rattle.gateway_messages.specs.FieldLines.{Field, fields_of, lines_under};
-ghost use Rattle.gateway_messages.specs.Recipients.{KnowsPlain, Recipient, accepted_by, framing_by};
-ghost use Rattle.gateway_messages.specs.Requests.{Request};
+ghost use Rattle.gateway_messages.{specs.FieldLines.{Field, fields_of, lines_under}, specs.Recipients.KnowsPlain};
+ghost use Rattle.gateway_messages.{specs.Recipients.{Recipient, accepted_by, framing_by}, specs.Requests.Request};
 ghost use Rattle.gateway_messages.specs.declared.gateway.Gateway.{Gateway};
-ghost use Rattle.gateway_next_hop.specs.Replaced.{frame_nothing, has_field, replaced_by};
-ghost use Rattle.gateway_next_hop.specs.Sent.{Hop, IsSent};
+ghost use Rattle.gateway_next_hop.{specs.Replaced.{frame_nothing, has_field, replaced_by}, specs.Sent.{Hop, IsSent}};
 ghost use Rattle.gateway_next_hop.specs.declared.request.SentRequest.{SentRequest};
 
 use gateway_messages::laws::forwarded_request_is_framed_alike;

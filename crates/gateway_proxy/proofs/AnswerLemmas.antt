@@ -1,16 +1,12 @@
 -- Responses that were read.
 use Rattle.std.proofs.Common.{◌≡◌, ◌∙◌, ℕ, ◌/◌, Bool, true, false, not, ◌&&◌, ◌||◌, ◌==◌, List, Option, ap, refl, subst}
-use Rattle.std.proofs.Common.{if◌then◌else◌, nat_lt, nat_le, sym, ◌≢◌, Some}
-use Rattle.std.specs.Bool.{MatchBool}
+use Rattle.std.{proofs.Common.{if◌then◌else◌, nat_lt, nat_le, sym, ◌≢◌, Some}, specs.Bool.MatchBool}
 use Rattle.httparse.specs.Grammar.{ResponseHead, status_code}
-use Rattle.http1.specs.Client.{after_head, reading_body, switches, upgraded_client}
-use Rattle.http1.specs.Conn.{awaits_head, is_connect}
-use Rattle.http1.specs.Decoder.{decoder_for}
-use Rattle.http1.specs.Message.{known_of}
+use Rattle.http1.{specs.Client.{after_head, reading_body, switches, upgraded_client}, specs.Conn.awaits_head}
+use Rattle.http1.{specs.Conn.is_connect, specs.Decoder.decoder_for, specs.Message.known_of}
 use Rattle.http1.specs.declared.client.Client.{Client}
 use Rattle.http1.specs.declared.conn.Reading.TheVariants as Reads
-use Rattle.http1.specs.declared.framing.Framing.{Framing}
-use Rattle.http1.specs.Server.{informational_refusal, response_refusal}
+use Rattle.http1.{specs.declared.framing.Framing.Framing, specs.Server.{informational_refusal, response_refusal}}
 use Rattle.http1.specs.declared.server.Server.{Server}
 use Rattle.gateway_messages.specs.FieldLines.{fields_of}
 use Rattle.headers.specs.LineMap.{lines_at}
@@ -22,18 +18,13 @@ use Rattle.gateway_messages.specs.declared.gateway.Gateway.{Gateway}
 use Rattle.gateway_messages.specs.declared.response.ForwardedResponse.{ForwardedResponse}
 use Rattle.gateway_messages.specs.declared.response.ResponseOutcome.{ResponseOutcome}
 use Rattle.gateway_messages.specs.declared.response.ResponseOutcome.TheVariants.{Forward}
-use Rattle.gateway_relay.specs.Failures.{FailsToWrite}
-use Rattle.gateway_relay.specs.Heads.{ReadsResponseHead}
+use Rattle.gateway_relay.{specs.Failures.FailsToWrite, specs.Heads.ReadsResponseHead}
 use Rattle.gateway_relay.specs.declared.failure.Failure.{Failure}
 use Rattle.gateway_relay.specs.declared.failure.Failure.TheVariants as Failed
-use Rattle.gateway_relay.specs.declared.request.Request.{Request}
-use Rattle.gateway_relay.specs.declared.response.Response.{Response}
-use Rattle.gateway_proxy.specs.Decisions.{protocol_of}
-use Rattle.gateway_proxy.specs.Exchanges.{IsFinalUnsent, IsHeadUnsent, ReadsFinal}
-use Rattle.gateway_proxy.specs.Faults.{IsUnsent, IsUnusable}
-use Rattle.gateway_proxy.specs.Passing.{response_size}
-use Rattle.gateway_proxy.specs.Responses.{received, written_fields}
-use Rattle.gateway_proxy.specs.declared.answer.Final.{Final}
+use Rattle.gateway_relay.{specs.declared.request.Request.Request, specs.declared.response.Response.Response}
+use Rattle.gateway_proxy.{specs.Decisions.protocol_of, specs.Exchanges.{IsFinalUnsent, IsHeadUnsent, ReadsFinal}}
+use Rattle.gateway_proxy.{specs.Faults.{IsUnsent, IsUnusable}, specs.Passing.response_size, specs.Responses.received}
+use Rattle.gateway_proxy.{specs.Responses.written_fields, specs.declared.answer.Final.Final}
 use Rattle.gateway_proxy.specs.declared.fault.Fault.{Fault}
 use Rattle.gateway_proxy.specs.declared.fault.Fault.TheVariants as Faults
 use Rattle.gateway_proxy.specs.declared.proxy.Proxy.{Proxy}

@@ -1,9 +1,8 @@
 -- What takes memory.
-use Rattle.std.proofs.Common.{◌≡◌, ◌∙◌, List, ℕ, Bool, false, Option, Some, Result, Ok, Err, OnErr, ap, bytes_eq}
-use Rattle.std.proofs.Common.{codes, sym}
+use Rattle.std.proofs.Common.{◌≡◌, ◌∙◌, List, ℕ, Bool, false, Option, Some, Result, Ok, Err, OnErr, ap, bytes_eq, codes}
+use Rattle.std.proofs.Common.{sym}
 use Rattle.gateway_relay.specs.declared.request.Request.{Request}
-use Rattle.gateway_proxy.specs.Decisions.{NeedsMemory}
-use Rattle.gateway_proxy.specs.Targets.{target_of, target_parts}
+use Rattle.gateway_proxy.{specs.Decisions.NeedsMemory, specs.Targets.{target_of, target_parts}}
 use Rattle.gateway_proxy.specs.declared.target.Target.{Target}
 
 -- a request that isn't CONNECT and has a target, and a call that fails

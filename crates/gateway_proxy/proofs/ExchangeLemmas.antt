@@ -1,52 +1,38 @@
 -- From the parts of an exchange to the exchange.
 use Rattle.std.proofs.Common.{◌≡◌, ◌≢◌, ◌∙◌, ◌⊎◌, ◌&&◌, ◌==◌, ℕ, Bool, true, false, List, Option, Result, Ok, Err}
-use Rattle.std.proofs.Common.{IfErr}
-use Rattle.std.proofs.Common.{IfOk}
-use Rattle.std.proofs.Common.{ap, bytes_eq, codes, if◌then◌else◌, inl, inr, length, None, refl, subst, sym}
-use Rattle.std.specs.Bool.{MatchBool}
-use Rattle.std.specs.Io.KnownBytes.{Appends}
-use Rattle.http1.specs.Client.{new_client}
-use Rattle.http1.specs.Conn.{awaits_head, is_connect}
-use Rattle.http1.specs.Decoder.{decoder_for}
-use Rattle.http1.specs.Encoder.{encoder_for}
-use Rattle.http1.specs.Framing.{method_kind}
+use Rattle.std.proofs.Common.{IfErr, IfOk, ap, bytes_eq, codes, if◌then◌else◌, inl, inr, length, None, refl, subst, sym}
+use Rattle.std.{specs.Bool.MatchBool, specs.Io.KnownBytes.Appends}
+use Rattle.http1.{specs.Client.new_client, specs.Conn.{awaits_head, is_connect}, specs.Decoder.decoder_for}
+use Rattle.http1.{specs.Encoder.encoder_for, specs.Framing.method_kind}
 use Rattle.http1.specs.Server as Serving
-use Rattle.http1.specs.Server.{peer_method, peer_minor}
-use Rattle.http1.specs.declared.client.Client.{Client}
+use Rattle.http1.{specs.Server.{peer_method, peer_minor}, specs.declared.client.Client.Client}
 use Rattle.http1.specs.declared.conn.Reading.TheVariants as Reads
-use Rattle.http1.specs.declared.conn.Writing.{Writing}
-use Rattle.http1.specs.declared.decode.Decoder.{Decoder}
+use Rattle.http1.{specs.declared.conn.Writing.Writing, specs.declared.decode.Decoder.Decoder}
 use Rattle.http1.specs.declared.framing.MethodKind.{MethodKind}
 use Rattle.http1.specs.declared.framing.MethodKind.TheVariants as Method
 use Rattle.http1.specs.declared.server.Server.{Server}
 use Rattle.headers.specs.LineMap.{lines_at}
-use Rattle.gateway_relay.specs.Content.{Kept, content_read}
-use Rattle.gateway_relay.specs.Failures.{FailsToWrite}
+use Rattle.gateway_relay.{specs.Content.{Kept, content_read}, specs.Failures.FailsToWrite}
 use Rattle.gateway_relay.specs.declared.failure.Failure.{Failure}
 use Rattle.gateway_relay.specs.declared.failure.Failure.TheVariants as Failed
 use Rattle.gateway_relay.specs.declared.request.Request.{Request}
 use Rattle.gateway_proxy.specs.Cuts.{CutsFinal, CutsResponse, IsCut, broken, in_answer, in_final, responded}
-use Rattle.gateway_proxy.specs.Decisions.{IsDecision}
-use Rattle.gateway_proxy.specs.Exchanges.{Accepted, BeginsAnswer, BreaksOff, EndsInterims, FindsFinal, FindsNone, IsContinued}
-use Rattle.gateway_proxy.specs.Exchanges.{IsDelivered, IsFinalUnsent, IsHeadUnsent, IsReceived, IsResponded, IsTurn}
-use Rattle.gateway_proxy.specs.Exchanges.{PassesAnswer, PassesExchange}
-use Rattle.gateway_proxy.specs.Exchanges.{PassesInPart, PassesOn, Wires, goes_on}
-use Rattle.gateway_proxy.specs.Faults.{IsUnusable, fault_status, request_status}
-use Rattle.gateway_proxy.specs.Own.{own_text}
-use Rattle.gateway_proxy.specs.Passing.{BeginsResponse, FailsToPass, FailsToPassRequest, IsSameRequest, Passes}
-use Rattle.gateway_proxy.specs.Passing.{PassesRequest, PassesResponse, past_response_head, response_size}
-use Rattle.gateway_proxy.specs.Responses.{is_open, written_fields}
-use Rattle.gateway_proxy.specs.declared.answer.Final.{Final}
-use Rattle.gateway_proxy.specs.declared.decision.Decision.TheVariants.{Answer, Send}
-use Rattle.gateway_proxy.specs.declared.decision.Outgoing.{Outgoing}
+use Rattle.gateway_proxy.{specs.Decisions.IsDecision, specs.Exchanges.{Accepted, BeginsAnswer, BreaksOff, EndsInterims}}
+use Rattle.gateway_proxy.specs.Exchanges.{FindsFinal, FindsNone, IsContinued, IsDelivered, IsFinalUnsent, IsHeadUnsent}
+use Rattle.gateway_proxy.specs.Exchanges.{IsReceived, IsResponded, IsTurn, PassesAnswer, PassesExchange, PassesInPart}
+use Rattle.gateway_proxy.{specs.Exchanges.{PassesOn, Wires, goes_on}, specs.Faults.{IsUnusable, fault_status}}
+use Rattle.gateway_proxy.{specs.Faults.request_status, specs.Own.own_text, specs.Passing.{BeginsResponse, FailsToPass}}
+use Rattle.gateway_proxy.specs.Passing.{FailsToPassRequest, IsSameRequest, Passes, PassesRequest, PassesResponse}
+use Rattle.gateway_proxy.{specs.Passing.{past_response_head, response_size}, specs.Responses.{is_open, written_fields}}
+use Rattle.gateway_proxy.{specs.declared.answer.Final.Final, specs.declared.decision.Decision.TheVariants.Answer}
+use Rattle.gateway_proxy.{specs.declared.decision.Decision.TheVariants.Send, specs.declared.decision.Outgoing.Outgoing}
 use Rattle.gateway_proxy.specs.declared.exchange.Received.{Received}
 use Rattle.gateway_proxy.specs.declared.exchange.Received.TheVariants as Receives
 use Rattle.gateway_proxy.specs.declared.exchange.Turn.{Turn}
 use Rattle.gateway_proxy.specs.declared.exchange.Turn.TheVariants as Turns
 use Rattle.gateway_proxy.specs.declared.fault.Fault.{Fault}
 use Rattle.gateway_proxy.specs.declared.fault.Fault.TheVariants as Faults
-use Rattle.gateway_proxy.specs.declared.proxy.Proxy.{Proxy}
-use Rattle.gateway_proxy.proofs.AnswerLemmas.{final_unusable, head_fails}
+use Rattle.gateway_proxy.{specs.declared.proxy.Proxy.Proxy, proofs.AnswerLemmas.{final_unusable, head_fails}}
 use Rattle.gateway_proxy.proofs.PassLemmas.{open_after_end}
 
 -- what a server has beside its writing

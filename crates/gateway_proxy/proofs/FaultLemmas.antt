@@ -1,7 +1,6 @@
 -- Which failures have a status.
 use Rattle.std.proofs.Common.{◌≡◌, ◌≢◌, ◌⊎◌, Bool, ℕ, ap, arith, if◌then◌else◌, inl, inr, refl, true, false}
-use Rattle.http1.specs.ReadError.{is_too_large, status_of}
-use Rattle.http1.specs.declared.error.ReadError.{ReadError}
+use Rattle.http1.{specs.ReadError.{is_too_large, status_of}, specs.declared.error.ReadError.ReadError}
 use Rattle.http1.specs.declared.error.ReadError.TheVariants as Read
 use Rattle.gateway_relay.specs.declared.failure.Failure.{Failure}
 use Rattle.gateway_relay.specs.declared.failure.Failure.TheVariants as Failed

@@ -1,52 +1,37 @@
 -- Heads that were sent, and messages that passed.
-use Rattle.std.proofs.Common.{◌≡◌, ◌∙◌, ◌++◌, ◌∷◌, ◌&&◌, ℕ, Bool, true, false, List, [], Option, None, Result, Ok}
-use Rattle.std.proofs.Common.{Err}
+use Rattle.std.proofs.Common.{◌≡◌, ◌∙◌, ◌++◌, ◌∷◌, ◌&&◌, ℕ, Bool, true, false, List, [], Option, None, Result, Ok, Err}
 use Rattle.std.proofs.Common.{IfErr, OnOk, ap, append-nil, arith, codes, if◌then◌else◌, nat_le, refl, subst, sym}
-use Rattle.std.proofs.lemmas.Bool.{le-leb}
-use Rattle.std.proofs.lemmas.List.Sums.{list_all-from_AllPass}
-use Rattle.std.specs.Io.KnownBytes.{Appends}
+use Rattle.std.{proofs.lemmas.Bool.le-leb, proofs.lemmas.List.Sums.list_all-from_AllPass, specs.Io.KnownBytes.Appends}
 use Rattle.http.specs.StatusCode.{IsStatusCode}
-use Rattle.http_header.specs.FieldValue.{FieldValue, IsFieldValue}
-use Rattle.http_header.specs.HeaderMap.{Entries}
-use Rattle.http_header.specs.Token.{is_value_byte}
+use Rattle.http_header.{specs.FieldValue.{FieldValue, IsFieldValue}, specs.HeaderMap.Entries, specs.Token.is_value_byte}
 use Rattle.httparse.specs.Grammar.{is_token_byte}
-use Rattle.http1.specs.Conn.{Plan, is_read, plan_refusal, planned_headers}
-use Rattle.http1.specs.Encoder.{encoder_for, end_refusal, end_text}
-use Rattle.http1.specs.Fields.{Header}
-use Rattle.http1.specs.Output.{GivesOrRefuses}
+use Rattle.http1.{specs.Conn.{Plan, is_read, plan_refusal, planned_headers}, specs.Encoder.{encoder_for, end_refusal}}
+use Rattle.http1.{specs.Encoder.end_text, specs.Fields.Header, specs.Output.GivesOrRefuses}
 use Rattle.http1.specs.declared.conn.Writing.{Writing}
 use Rattle.http1.specs.declared.conn.Writing.TheVariants as Written
-use Rattle.http1.specs.declared.decode.Decoder.{Decoder}
-use Rattle.http1.specs.declared.encode.Encoder.{Encoder}
+use Rattle.http1.{specs.declared.decode.Decoder.Decoder, specs.declared.encode.Encoder.Encoder}
 use Rattle.http1_typed.specs.Parts.{reason_of}
 use Rattle.http1.specs.Client as Asking
 use Rattle.http1.specs.Head.{are_headers, head_refusal, is_field_value, is_request_line, is_status_line, request_text}
 use Rattle.http1.specs.Head.{response_text}
 use Rattle.http1.specs.Server as Serving
 use Rattle.http1.specs.Server.{closed_server, expects_continue, new_server, peer_method, peer_minor}
-use Rattle.http1.specs.declared.error.WriteError.{WriteError}
-use Rattle.http1.specs.declared.client.Client.{Client}
+use Rattle.http1.{specs.declared.error.WriteError.WriteError, specs.declared.client.Client.Client}
 use Rattle.http1.specs.declared.server.Server.{Server}
 use Rattle.headers.specs.LineMap.{LineMap, lines_at}
-use Rattle.gateway_messages.specs.FieldLines.{Field, fields_of, lines_under}
-use Rattle.gateway_messages.specs.Trailers.{ForwardsTrailers}
-use Rattle.gateway_messages.specs.declared.framing.Framing.{Framing}
-use Rattle.gateway_messages.specs.declared.gateway.Gateway.{Gateway}
+use Rattle.gateway_messages.{specs.FieldLines.{Field, fields_of, lines_under}, specs.Trailers.ForwardsTrailers}
+use Rattle.gateway_messages.{specs.declared.framing.Framing.Framing, specs.declared.gateway.Gateway.Gateway}
 use Rattle.gateway_messages.specs.declared.response.ForwardedResponse.{ForwardedResponse}
-use Rattle.gateway_relay.specs.Content.{Asked, Kept, after_pieces}
-use Rattle.gateway_relay.specs.Failures.{FailsToWrite, Writes, write_failure}
-use Rattle.gateway_relay.specs.Relay.{Relays, Sends}
+use Rattle.gateway_relay.{specs.Content.{Asked, Kept, after_pieces}, specs.Failures.{FailsToWrite, Writes}}
+use Rattle.gateway_relay.{specs.Failures.write_failure, specs.Relay.{Relays, Sends}}
 use Rattle.gateway_relay.specs.declared.failure.Failure.{Failure}
 use Rattle.gateway_relay.specs.declared.failure.Failure.TheVariants as Failed
-use Rattle.gateway_relay.specs.declared.request.Request.{Request}
-use Rattle.gateway_relay.specs.declared.response.Response.{Response}
+use Rattle.gateway_relay.{specs.declared.request.Request.Request, specs.declared.response.Response.Response}
 use Rattle.gateway_relay.proofs.RelayLemmas.{writes_refused, writes_sent}
-use Rattle.gateway_proxy.specs.Own.{close_field, own_fields, own_text}
-use Rattle.gateway_proxy.specs.Passing.{BeginsRequest, BeginsResponse, FailsToPass, FailsToPassRequest, IsSameRequest}
-use Rattle.gateway_proxy.specs.Passing.{Passes, PassesContent, PassesRequest, at_end, past_request_head, request_size}
-use Rattle.gateway_proxy.specs.Passing.{response_size}
-use Rattle.gateway_proxy.specs.Responses.{is_open, written_fields}
-use Rattle.gateway_proxy.specs.declared.decision.Outgoing.{Outgoing}
+use Rattle.gateway_proxy.{specs.Own.{close_field, own_fields, own_text}, specs.Passing.{BeginsRequest, BeginsResponse}}
+use Rattle.gateway_proxy.specs.Passing.{FailsToPass, FailsToPassRequest, IsSameRequest, Passes, PassesContent}
+use Rattle.gateway_proxy.specs.Passing.{PassesRequest, at_end, past_request_head, request_size, response_size}
+use Rattle.gateway_proxy.{specs.Responses.{is_open, written_fields}, specs.declared.decision.Outgoing.Outgoing}
 
 -- what a client has beside its writing, and what a server knows of the request
 abbrev kept_by : Client → Kept

@@ -1,27 +1,21 @@
 -- When a response that is written says `close`.
 use Rattle.std.proofs.Common.{◌≡◌, ◌∙◌, ◌&&◌, ◌++◌, ◌∷◌, ◌||◌, Bool, Err, List, Ok, Result, [], ap, codes, cond, eqb}
-use Rattle.std.proofs.Common.{false, ◌==◌, if◌then◌else◌}
-use Rattle.std.proofs.Common.{◌↔◌, append_assoc, arith, nat_lt, not, refl, subst, sym, true, ℕ}
-use Rattle.std.proofs.lemmas.Grind.{flat_map-append}
+use Rattle.std.proofs.Common.{false, ◌==◌, if◌then◌else◌, ◌↔◌, append_assoc, arith, nat_lt, not, refl, subst, sym, true}
+use Rattle.std.{proofs.Common.ℕ, proofs.lemmas.Grind.flat_map-append}
 use Rattle.http1.specs.Conn.{Plan, chunked_header, connection_header, fits, is_plain, is_until_close, size_headers}
-use Rattle.http1.specs.Conn.{states_framing, with_framing}
-use Rattle.http1.specs.Fields.{Header, elements, elements_named, has_option, is_named, known_fields}
-use Rattle.http1.specs.Framing.{response_framing}
+use Rattle.http1.{specs.Conn.{states_framing, with_framing}, specs.Fields.{Header, elements, elements_named}}
+use Rattle.http1.{specs.Fields.{has_option, is_named, known_fields}, specs.Framing.response_framing}
 use Rattle.http1.specs.Server as Serving
 use Rattle.http1.specs.declared.conn.BodySize.{BodySize}
 use Rattle.http1.specs.declared.conn.BodySize.TheVariants as Size
 use Rattle.http1.specs.declared.error.WriteError.TheVariants as Refusal
-use Rattle.http1.specs.declared.framing.Framing.{Framing}
-use Rattle.http1.specs.declared.framing.FramingError.{FramingError}
+use Rattle.http1.{specs.declared.framing.Framing.Framing, specs.declared.framing.FramingError.FramingError}
 use Rattle.http1.specs.declared.framing.FramingError.TheVariants.{UnexpectedTransferEncoding}
 use Rattle.http1.specs.declared.framing.MethodKind.TheVariants as Method
 use Rattle.http1.specs.declared.server.Request as Kept
-use Rattle.http1.specs.declared.server.Server.{Server}
-use Rattle.http1.specs.Text.{eq_ignore_case}
+use Rattle.http1.{specs.declared.server.Server.Server, specs.Text.eq_ignore_case, proofs.TextLemmas.list_any-append}
 use Rattle.httparse.specs.Grammar.{trim_ows}
-use Rattle.http1.proofs.TextLemmas.{list_any-append}
-use Rattle.gateway_proxy.specs.Own.{close_field}
-use Rattle.gateway_proxy.specs.Responses.{close_unless, says_close}
+use Rattle.gateway_proxy.{specs.Own.close_field, specs.Responses.{close_unless, says_close}}
 
 -- ---- what fields say
 

@@ -1,29 +1,19 @@
 -- What went to the client and to the origin server, if a connection ends with a failure.
 use Rattle.std.specs.Prelude.{◌≡◌, ◌⊎◌, ℕ, ◌-◌, ◌^◌, Bool, true, nat_lt, List, [], Option, None, codes}
-use Rattle.http1.specs.Decoder.{decoder_for}
-use Rattle.http1.specs.Head.{response_text}
-use Rattle.http1.specs.Server.{informational_refusal}
-use Rattle.http1.specs.declared.client.Client.{Client}
-use Rattle.http1.specs.declared.decode.Decoder.{Decoder}
+use Rattle.http1.{specs.Decoder.decoder_for, specs.Head.response_text, specs.Server.informational_refusal}
+use Rattle.http1.{specs.declared.client.Client.Client, specs.declared.decode.Decoder.Decoder}
 use Rattle.http1.specs.declared.server.Server.{Server}
-use Rattle.gateway_messages.specs.FieldLines.{fields_of}
-use Rattle.gateway_messages.specs.Responses.{IsForwardedResponse}
+use Rattle.gateway_messages.{specs.FieldLines.fields_of, specs.Responses.IsForwardedResponse}
 use Rattle.gateway_messages.specs.declared.response.ForwardedResponse.{ForwardedResponse}
-use Rattle.gateway_relay.specs.Failures.{FailsToWrite}
-use Rattle.gateway_relay.specs.Heads.{ReadsRequestHead, ReadsResponseHead}
+use Rattle.gateway_relay.{specs.Failures.FailsToWrite, specs.Heads.{ReadsRequestHead, ReadsResponseHead}}
 use Rattle.gateway_relay.specs.declared.failure.Failure.{Failure}
 use Rattle.gateway_relay.specs.declared.failure.Failure.TheVariants as Failed
-use Rattle.gateway_relay.specs.declared.request.Request.{Request}
-use Rattle.gateway_relay.specs.declared.response.Response.{Response}
-use Rattle.gateway_proxy.specs.Decisions.{NeedsMemory}
-use Rattle.gateway_proxy.specs.Exchanges.{Accepted, BeginsAnswer, Exchanges, FindsFinal, FindsNone, Interims}
-use Rattle.gateway_proxy.specs.Exchanges.{IsFinalUnsent, IsRefusedWith, LeavesOrigin, PassesInPart, PassesOn, Wires, wires}
-use Rattle.gateway_proxy.specs.Faults.{fault_status, request_status}
-use Rattle.gateway_proxy.specs.Own.{own_text}
-use Rattle.gateway_proxy.specs.Passing.{FailsToPassResponse}
-use Rattle.gateway_proxy.specs.Responses.{received}
-use Rattle.gateway_proxy.specs.declared.answer.Final.{Final}
-use Rattle.gateway_proxy.specs.declared.fault.Fault.{Fault}
+use Rattle.gateway_relay.{specs.declared.request.Request.Request, specs.declared.response.Response.Response}
+use Rattle.gateway_proxy.{specs.Decisions.NeedsMemory, specs.Exchanges.{Accepted, BeginsAnswer, Exchanges, FindsFinal}}
+use Rattle.gateway_proxy.specs.Exchanges.{FindsNone, Interims, IsFinalUnsent, IsRefusedWith, LeavesOrigin, PassesInPart}
+use Rattle.gateway_proxy.{specs.Exchanges.{PassesOn, Wires, wires}, specs.Faults.{fault_status, request_status}}
+use Rattle.gateway_proxy.{specs.Own.own_text, specs.Passing.FailsToPassResponse, specs.Responses.received}
+use Rattle.gateway_proxy.{specs.declared.answer.Final.Final, specs.declared.fault.Fault.Fault}
 use Rattle.gateway_proxy.specs.declared.proxy.Proxy.{Proxy}
 
 -- ---- the response

@@ -1,33 +1,23 @@
 -- What a gateway does with a request (RFC 9110, section 7; RFC 9112, section 3.2).
-use Rattle.std.specs.Prelude.{◌≡◌, ◌≢◌, ◌⊎◌, ℕ, ◌==◌, Bool, true, false, List, [], ◌∷◌, Option, Some, None}
-use Rattle.std.specs.Prelude.{bytes_eq, codes, if◌then◌else◌}
-use Rattle.std.specs.Bool.{MatchBool}
+use Rattle.std.specs.Prelude.{◌≡◌, ◌≢◌, ◌⊎◌, ℕ, ◌==◌, Bool, true, false, List, [], ◌∷◌, Option, Some, None, bytes_eq}
+use Rattle.std.{specs.Prelude.{codes, if◌then◌else◌}, specs.Bool.MatchBool}
 use Rattle.http_header.specs.FieldValue.{FieldValue, IsFieldValue}
-use Rattle.headers.specs.LineMap.{LineMap, lines_at}
-use Rattle.headers.specs.Lines.{Line}
-use Rattle.gateway_forwarded.specs.Arrivals.{ArrivalParts}
-use Rattle.gateway_forwarded.specs.declared.arrival.Scheme.TheVariants.{Http}
-use Rattle.gateway_messages.specs.Expectations.{expect_fields}
-use Rattle.gateway_messages.specs.FieldLines.{fields_of}
-use Rattle.gateway_messages.specs.HostTests.{is_host}
+use Rattle.headers.{specs.LineMap.{LineMap, lines_at}, specs.Lines.Line}
+use Rattle.gateway_forwarded.{specs.Arrivals.ArrivalParts, specs.declared.arrival.Scheme.TheVariants.Http}
+use Rattle.gateway_messages.{specs.Expectations.expect_fields, specs.FieldLines.fields_of, specs.HostTests.is_host}
 use Rattle.gateway_messages.specs.Rejections.{status_of}
 use Rattle.gateway_messages.specs.Requests as Forwarding
 use Rattle.gateway_messages.specs.Requests.{IsForGateway, Rejects}
 use Rattle.gateway_messages.specs.declared.expectation.Expectation.TheVariants.{Absent}
-use Rattle.gateway_messages.specs.declared.framing.Framing.{Framing}
-use Rattle.gateway_messages.specs.declared.protocol.Protocol.{Protocol}
+use Rattle.gateway_messages.{specs.declared.framing.Framing.Framing, specs.declared.protocol.Protocol.Protocol}
 use Rattle.gateway_messages.specs.declared.protocol.Protocol.TheVariants.{Http10, Http11}
 use Rattle.gateway_messages.specs.declared.rejection.Rejection.{Rejection}
-use Rattle.gateway_next_hop.specs.Connections.{ConnectionParts}
-use Rattle.gateway_next_hop.specs.Replaced.{replaced_by}
-use Rattle.gateway_next_hop.specs.Sent.{Hop, IsSent, LacksLength}
-use Rattle.gateway_next_hop.specs.declared.request.SentRequest.{SentRequest}
+use Rattle.gateway_next_hop.{specs.Connections.ConnectionParts, specs.Replaced.replaced_by, specs.Sent.{Hop, IsSent}}
+use Rattle.gateway_next_hop.{specs.Sent.LacksLength, specs.declared.request.SentRequest.SentRequest}
 use Rattle.gateway_relay.specs.declared.request.Request.{Request}
-use Rattle.gateway_proxy.specs.Targets.{Parts, origin_form, target_of}
-use Rattle.gateway_proxy.specs.declared.decision.Decision.{Decision}
+use Rattle.gateway_proxy.{specs.Targets.{Parts, origin_form, target_of}, specs.declared.decision.Decision.Decision}
 use Rattle.gateway_proxy.specs.declared.decision.Decision.TheVariants.{Answer, Send}
-use Rattle.gateway_proxy.specs.declared.decision.Outgoing.{Outgoing}
-use Rattle.gateway_proxy.specs.declared.proxy.Proxy.{Proxy}
+use Rattle.gateway_proxy.{specs.declared.decision.Outgoing.Outgoing, specs.declared.proxy.Proxy.Proxy}
 
 abbrev pub protocol_of : ℕ → Protocol
 protocol_of minor = if minor == 0 then Http10 else Http11

@@ -1,46 +1,32 @@
 -- One request and its response, and a whole connection (RFC 9110, sections 7 and 15.2; RFC 9112, section 9).
 use Rattle.std.specs.Prelude.{◌≡◌, ◌≢◌, ◌⊎◌, ⊤, ℕ, ◌+◌, ◌-◌, ◌^◌, Bool, true, false, ◌&&◌, nat_lt, ◌==◌, List, []}
-use Rattle.std.specs.Prelude.{Option, Some, codes, length}
-use Rattle.std.specs.Io.KnownBytes.{Appends, IsAtEnd}
-use Rattle.http1.specs.Client.{new_client}
-use Rattle.http1.specs.Conn.{Plan}
-use Rattle.http1.specs.Decoder.{decoder_for}
-use Rattle.http1.specs.Head.{response_text}
+use Rattle.std.{specs.Prelude.{Option, Some, codes, length}, specs.Io.KnownBytes.{Appends, IsAtEnd}}
+use Rattle.http1.{specs.Client.new_client, specs.Conn.Plan, specs.Decoder.decoder_for, specs.Head.response_text}
 use Rattle.http1.specs.Server as Serving
-use Rattle.http1.specs.Server.{after_informational}
-use Rattle.http1.specs.declared.client.Client.{Client}
-use Rattle.http1.specs.declared.decode.Decoder.{Decoder}
-use Rattle.http1.specs.declared.server.Server.{Server}
-use Rattle.gateway_messages.specs.FieldLines.{fields_of}
-use Rattle.gateway_messages.specs.Responses.{IsDiscarded, IsForwardedResponse}
+use Rattle.http1.{specs.Server.after_informational, specs.declared.client.Client.Client}
+use Rattle.http1.{specs.declared.decode.Decoder.Decoder, specs.declared.server.Server.Server}
+use Rattle.gateway_messages.{specs.FieldLines.fields_of, specs.Responses.{IsDiscarded, IsForwardedResponse}}
 use Rattle.gateway_messages.specs.declared.response.ForwardedResponse.{ForwardedResponse}
 use Rattle.gateway_relay.specs.Failures.{IsReceiveFailure, Receives as Takes}
 use Rattle.gateway_relay.specs.Heads.{FailsToReadRequest, IsClosedBefore, ReadsRequestHead, ReadsResponseHead}
 use Rattle.gateway_relay.specs.declared.failure.Failure.{Failure}
 use Rattle.gateway_relay.specs.declared.failure.Failure.TheVariants as Failed
-use Rattle.gateway_relay.specs.declared.request.Request.{Request}
-use Rattle.gateway_relay.specs.declared.response.Response.{Response}
-use Rattle.gateway_proxy.specs.Decisions.{IsDecision}
-use Rattle.gateway_proxy.specs.Faults.{IsUnusable, fault_status, request_status}
-use Rattle.gateway_proxy.specs.Own.{own_text}
-use Rattle.gateway_proxy.specs.Passing.{FailsToPassRequest, IsSameRequest, PassesRequest, PassesResponse}
-use Rattle.gateway_proxy.specs.Passing.{response_size}
-use Rattle.gateway_proxy.specs.Responses.{received, written_fields}
-use Rattle.gateway_proxy.specs.declared.answer.Final.{Final}
-use Rattle.gateway_proxy.specs.declared.answer.Found.{Found}
+use Rattle.gateway_relay.{specs.declared.request.Request.Request, specs.declared.response.Response.Response}
+use Rattle.gateway_proxy.{specs.Decisions.IsDecision, specs.Faults.{IsUnusable, fault_status, request_status}}
+use Rattle.gateway_proxy.{specs.Own.own_text, specs.Passing.{FailsToPassRequest, IsSameRequest, PassesRequest}}
+use Rattle.gateway_proxy.{specs.Passing.{PassesResponse, response_size}, specs.Responses.{received, written_fields}}
+use Rattle.gateway_proxy.{specs.declared.answer.Final.Final, specs.declared.answer.Found.Found}
 use Rattle.gateway_proxy.specs.declared.answer.Found.TheVariants as Finds
 use Rattle.gateway_proxy.specs.declared.answer.Reply.{Reply}
 use Rattle.gateway_proxy.specs.declared.answer.Reply.TheVariants as Replies
 use Rattle.gateway_proxy.specs.declared.decision.Decision.TheVariants.{Answer, Send}
-use Rattle.gateway_proxy.specs.declared.decision.Outgoing.{Outgoing}
-use Rattle.gateway_proxy.specs.declared.exchange.Received.{Received}
+use Rattle.gateway_proxy.{specs.declared.decision.Outgoing.Outgoing, specs.declared.exchange.Received.Received}
 use Rattle.gateway_proxy.specs.declared.exchange.Received.TheVariants as Receives
 use Rattle.gateway_proxy.specs.declared.exchange.Turn.{Turn}
 use Rattle.gateway_proxy.specs.declared.exchange.Turn.TheVariants as Turns
 use Rattle.gateway_proxy.specs.declared.fault.Fault.{Fault}
 use Rattle.gateway_proxy.specs.declared.fault.Fault.TheVariants as Faults
-use Rattle.gateway_proxy.specs.declared.fault.Fault.TheVariants.{Endless}
-use Rattle.gateway_proxy.specs.declared.proxy.Proxy.{Proxy}
+use Rattle.gateway_proxy.{specs.declared.fault.Fault.TheVariants.Endless, specs.declared.proxy.Proxy.Proxy}
 
 -- ---- the response
 

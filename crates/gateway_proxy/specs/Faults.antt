@@ -1,21 +1,16 @@
 -- Why a gateway answers in the place of the origin server, and with which status (RFC 9110, sections 15.5 and 15.6).
-use Rattle.std.specs.Prelude.{◌≡◌, ◌⊎◌, ℕ, nat_lt, List, Option, Some}
-use Rattle.std.specs.Bool.{MatchBool}
+use Rattle.std.{specs.Prelude.{◌≡◌, ◌⊎◌, ℕ, nat_lt, List, Option, Some}, specs.Bool.MatchBool}
 use Rattle.http1.specs.ReadError.{status_of}
 use Rattle.http1.specs.Server as Serving
-use Rattle.http1.specs.declared.client.Client.{Client}
-use Rattle.http1.specs.declared.error.WriteError.{WriteError}
+use Rattle.http1.{specs.declared.client.Client.Client, specs.declared.error.WriteError.WriteError}
 use Rattle.http1.specs.declared.server.Server.{Server}
-use Rattle.gateway_messages.specs.FieldLines.{fields_of}
-use Rattle.gateway_messages.specs.Responses.{IsForwardableResponse, IsForwardedResponse, RejectsResponse}
+use Rattle.gateway_messages.{specs.FieldLines.fields_of, specs.Responses.{IsForwardableResponse, IsForwardedResponse}}
+use Rattle.gateway_messages.specs.Responses.{RejectsResponse}
 use Rattle.gateway_messages.specs.declared.response.ForwardedResponse.{ForwardedResponse}
-use Rattle.gateway_relay.specs.Heads.{FailsToReadResponse, ReadsResponseHead}
-use Rattle.gateway_relay.specs.declared.failure.Failure.{Failure}
+use Rattle.gateway_relay.{specs.Heads.{FailsToReadResponse, ReadsResponseHead}, specs.declared.failure.Failure.Failure}
 use Rattle.gateway_relay.specs.declared.failure.Failure.TheVariants as Failed
-use Rattle.gateway_relay.specs.declared.request.Request.{Request}
-use Rattle.gateway_relay.specs.declared.response.Response.{Response}
-use Rattle.gateway_proxy.specs.Passing.{response_size}
-use Rattle.gateway_proxy.specs.Responses.{received, written_fields}
+use Rattle.gateway_relay.{specs.declared.request.Request.Request, specs.declared.response.Response.Response}
+use Rattle.gateway_proxy.{specs.Passing.response_size, specs.Responses.{received, written_fields}}
 use Rattle.gateway_proxy.specs.declared.fault.Fault.{Fault}
 use Rattle.gateway_proxy.specs.declared.fault.Fault.TheVariants as Faults
 use Rattle.gateway_proxy.specs.declared.proxy.Proxy.{Proxy}

@@ -1,7 +1,6 @@
 -- The gateway's own responses.
 use Rattle.std.specs.Prelude.{ℕ, List, [], ◌∷◌, codes}
-use Rattle.http1.specs.Fields.{Header}
-use Rattle.http1.specs.Head.{response_text}
+use Rattle.http1.{specs.Fields.Header, specs.Head.response_text}
 use Rattle.http1_typed.specs.Parts.{reason_of}
 
 -- the connection ends after the message (RFC 9112, section 9.6)

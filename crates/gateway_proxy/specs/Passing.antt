@@ -1,43 +1,33 @@
 -- Messages on their way from one connection to the other.
 use Rattle.std.specs.Prelude.{◌≡◌, ◌&&◌, ℕ, Bool, false, true, not, List, ◌++◌, Option, Result, Ok, Err, None}
 use Rattle.std.specs.Io.KnownBytes.{Appends}
-use Rattle.http_header.specs.FieldValue.{FieldValue}
-use Rattle.http_header.specs.HeaderMap.{Entries}
+use Rattle.http_header.{specs.FieldValue.FieldValue, specs.HeaderMap.Entries}
 use Rattle.http1.specs.Client as Asking
-use Rattle.http1.specs.Conn.{Plan, is_until_close}
-use Rattle.http1.specs.Encoder.{encoder_for, end_refusal, end_text}
-use Rattle.http1.specs.Fields.{known_fields}
-use Rattle.http1.specs.Framing.{method_kind, response_framing}
-use Rattle.http1.specs.Head.{head_refusal, is_request_line, is_status_line, request_text, response_text}
+use Rattle.http1.{specs.Conn.{Plan, is_until_close}, specs.Encoder.{encoder_for, end_refusal, end_text}}
+use Rattle.http1.{specs.Fields.known_fields, specs.Framing.{method_kind, response_framing}, specs.Head.head_refusal}
+use Rattle.http1.specs.Head.{is_request_line, is_status_line, request_text, response_text}
 use Rattle.http1.specs.Server as Serving
 use Rattle.http1.specs.Server.{expects_continue, is_head, peer_method, peer_minor}
-use Rattle.http1.specs.declared.client.Client.{Client}
-use Rattle.http1.specs.declared.conn.BodySize.{BodySize}
+use Rattle.http1.{specs.declared.client.Client.Client, specs.declared.conn.BodySize.BodySize}
 use Rattle.http1.specs.declared.conn.BodySize.TheVariants as Size
 use Rattle.http1.specs.declared.conn.Writing.{Writing}
 use Rattle.http1.specs.declared.conn.Writing.TheVariants as Writes
-use Rattle.http1.specs.declared.decode.Decoder.{Decoder}
-use Rattle.http1.specs.declared.encode.Encoder.{Encoder}
+use Rattle.http1.{specs.declared.decode.Decoder.Decoder, specs.declared.encode.Encoder.Encoder}
 use Rattle.http1.specs.declared.framing.Framing.{Framing as Stated}
 use Rattle.http1.specs.declared.framing.FramingError.{FramingError}
 use Rattle.http1.specs.declared.framing.MethodKind.TheVariants as Method
 use Rattle.http1.specs.declared.server.Server.{Server}
 use Rattle.headers.specs.LineMap.{LineMap, lines_at}
-use Rattle.gateway_messages.specs.FieldLines.{Field, fields_of, lines_under}
-use Rattle.gateway_messages.specs.Trailers.{ForwardsTrailers}
+use Rattle.gateway_messages.{specs.FieldLines.{Field, fields_of, lines_under}, specs.Trailers.ForwardsTrailers}
 use Rattle.gateway_messages.specs.declared.framing.Framing.{Framing}
 use Rattle.gateway_messages.specs.declared.framing.Framing.TheVariants as Framed
-use Rattle.gateway_messages.specs.declared.gateway.Gateway.{Gateway}
-use Rattle.gateway_messages.specs.declared.response.Content.{Content}
+use Rattle.gateway_messages.{specs.declared.gateway.Gateway.Gateway, specs.declared.response.Content.Content}
 use Rattle.gateway_messages.specs.declared.response.Content.TheVariants as Ends
 use Rattle.gateway_messages.specs.declared.response.ForwardedResponse.{ForwardedResponse}
-use Rattle.gateway_relay.specs.Content.{after_pieces}
-use Rattle.gateway_relay.specs.Failures.{FailsToWrite}
-use Rattle.gateway_relay.specs.Relay.{Relays}
+use Rattle.gateway_relay.{specs.Content.after_pieces, specs.Failures.FailsToWrite, specs.Relay.Relays}
 use Rattle.gateway_relay.specs.declared.failure.Failure.{Failure}
 use Rattle.gateway_relay.specs.declared.failure.Failure.TheVariants as Failed
-use Rattle.gateway_relay.specs.declared.request.Request.{Request}
-use Rattle.gateway_relay.specs.declared.response.Response.{Response}
+use Rattle.gateway_relay.{specs.declared.request.Request.Request, specs.declared.response.Response.Response}
 use Rattle.gateway_proxy.specs.Responses.{keeps_origin, says_close, written_fields}
 use Rattle.gateway_proxy.specs.declared.decision.Outgoing.{Outgoing}
 

@@ -1,22 +1,17 @@
 -- Responses on their way through, and when the connections end after one (RFC 9112, sections 9.3 and 9.6).
-use Rattle.std.specs.Prelude.{Bool, true, false, ◌&&◌, not, ◌==◌, List, [], ◌∷◌, ◌++◌, codes}
-use Rattle.std.specs.List.{list_any}
-use Rattle.http1.specs.Fields.{Header, elements_named, has_option}
-use Rattle.http1.specs.declared.conn.Writing.{Writing}
+use Rattle.std.{specs.Prelude.{Bool, true, false, ◌&&◌, not, ◌==◌, List, [], ◌∷◌, ◌++◌, codes}, specs.List.list_any}
+use Rattle.http1.{specs.Fields.{Header, elements_named, has_option}, specs.declared.conn.Writing.Writing}
 use Rattle.http1.specs.declared.conn.Writing.TheVariants as Writes
 use Rattle.http1.specs.declared.server.Server.{Server}
 use Rattle.headers.specs.LineMap.{lines_at}
-use Rattle.rfc_fields.specs.Directives.{is_same_token}
-use Rattle.rfc_fields.specs.Members.{field_members}
+use Rattle.rfc_fields.{specs.Directives.is_same_token, specs.Members.field_members}
 use Rattle.gateway_messages.specs.FieldLines.{fields_of}
 use Rattle.gateway_messages.specs.Responses as Answers
 use Rattle.gateway_messages.specs.declared.response.Content.{Content}
 use Rattle.gateway_messages.specs.declared.response.Content.TheVariants as Ends
 use Rattle.gateway_messages.specs.declared.response.ForwardedResponse.{ForwardedResponse}
-use Rattle.gateway_relay.specs.declared.request.Request.{Request}
-use Rattle.gateway_relay.specs.declared.response.Response.{Response}
-use Rattle.gateway_proxy.specs.Decisions.{protocol_of}
-use Rattle.gateway_proxy.specs.Own.{close_field}
+use Rattle.gateway_relay.{specs.declared.request.Request.Request, specs.declared.response.Response.Response}
+use Rattle.gateway_proxy.{specs.Decisions.protocol_of, specs.Own.close_field}
 
 -- the response as `gateway_messages` sees it
 abbrev pub received : Request → Response → Answers.Response

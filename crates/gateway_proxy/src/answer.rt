@@ -1,14 +1,11 @@
 //! The response of the origin server, on its way to the client.
 ghost use Rattle.std.specs.Prelude.{◌≡◌, IfErr, IfOk, false, nat_lt, OnOk};
 ghost use Rattle.gateway_messages.specs.FieldLines.{fields_of};
-ghost use Rattle.http1.specs.Conn.{awaits_head, is_connect};
-ghost use Rattle.http1.specs.Head.{response_text};
+ghost use Rattle.http1.{specs.Conn.{awaits_head, is_connect}, specs.Head.response_text};
 ghost use Rattle.http1.specs.Server.{after_informational, informational_refusal};
 ghost use Rattle.http1.specs.declared.conn.Reading.TheVariants as Reads;
-ghost use Rattle.gateway_relay.specs.Failures.{Writes};
-ghost use Rattle.gateway_relay.specs.declared.failure.Failure.TheVariants.{Writer};
-ghost use Rattle.gateway_proxy.specs.Cuts.{CutsInterim, CutsResponse};
-ghost use Rattle.gateway_proxy.specs.Exchanges.{FindsReply, IsFound};
+ghost use Rattle.gateway_relay.{specs.Failures.Writes, specs.declared.failure.Failure.TheVariants.Writer};
+ghost use Rattle.gateway_proxy.{specs.Cuts.{CutsInterim, CutsResponse}, specs.Exchanges.{FindsReply, IsFound}};
 
 use crate::decision::protocol_of;
 use crate::fault::Fault;

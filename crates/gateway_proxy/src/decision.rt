@@ -1,12 +1,11 @@
 //! What a gateway does with a request, as data.
 ghost use Rattle.std.specs.Prelude.{◌≡◌, IfOk, OnErr, option_map};
 ghost use Rattle.headers.specs.LineMap.{lines_at};
-ghost use Rattle.gateway_messages.specs.Expectations.{expect_fields};
-ghost use Rattle.gateway_messages.specs.FieldLines.{fields_of};
+ghost use Rattle.gateway_messages.{specs.Expectations.expect_fields, specs.FieldLines.fields_of};
 ghost use Rattle.gateway_messages.specs.declared.expectation.Expectation.TheVariants.{Absent};
 ghost use Rattle.gateway_next_hop.specs.Replaced.{replaced_by};
-ghost use Rattle.gateway_proxy.specs.Decisions.{HasHostValue, IsDecision, IsDecisionFor, given_host};
-ghost use Rattle.gateway_proxy.specs.Decisions.{NeedsMemory, protocol_of};
+ghost use Rattle.gateway_proxy.specs.Decisions.{HasHostValue, IsDecision, IsDecisionFor, given_host, NeedsMemory};
+ghost use Rattle.gateway_proxy.specs.Decisions.{protocol_of};
 
 use crate::proxy::Proxy;
 use crate::target::{Target, origin_form, target_of};

@@ -1,18 +1,14 @@
 //! One request and its response.
 ghost use Rattle.std.specs.Prelude.{◌≡◌, ◌≢◌, ◌&&◌, ◌==◌, [], codes, false, true, length, IfErr, IfOk, None, OnOk};
-ghost use Rattle.http1.specs.Conn.{awaits_head, is_connect};
-ghost use Rattle.http1.specs.Head.{response_text};
+ghost use Rattle.http1.{specs.Conn.{awaits_head, is_connect}, specs.Head.response_text};
 ghost use Rattle.http1.specs.Server.{informational_refusal, new_server};
 ghost use Rattle.http1.specs.declared.conn.Reading.TheVariants as Reads;
 ghost use Rattle.http1.specs.declared.decode.Decoder.{Decoder};
-ghost use Rattle.gateway_relay.specs.Failures.{FailsToWrite};
-ghost use Rattle.gateway_relay.specs.declared.failure.Failure.TheVariants.{Writer};
-ghost use Rattle.gateway_proxy.specs.Cuts.{CutsFinal, CutsResponse, IsCut, IsUndecided};
-ghost use Rattle.gateway_proxy.specs.Exchanges.{BreaksOff, IsContinued, IsDelivered, IsReceived, IsResponded, IsTurn};
-ghost use Rattle.gateway_proxy.specs.Exchanges.{BeginsAnswer, IsUnanswered, wires};
-ghost use Rattle.gateway_proxy.specs.Faults.{fault_status};
-ghost use Rattle.gateway_proxy.specs.Own.{own_text};
-ghost use Rattle.gateway_proxy.specs.Responses.{is_open};
+ghost use Rattle.gateway_relay.{specs.Failures.FailsToWrite, specs.declared.failure.Failure.TheVariants.Writer};
+ghost use Rattle.gateway_proxy.{specs.Cuts.{CutsFinal, CutsResponse, IsCut, IsUndecided}, specs.Exchanges.BreaksOff};
+ghost use Rattle.gateway_proxy.specs.Exchanges.{IsContinued, IsDelivered, IsReceived, IsResponded, IsTurn};
+ghost use Rattle.gateway_proxy.{specs.Exchanges.{BeginsAnswer, IsUnanswered, wires}, specs.Faults.fault_status};
+ghost use Rattle.gateway_proxy.{specs.Own.own_text, specs.Responses.is_open};
 
 use crate::answer::{Final, Reply, final_response};
 use crate::decision::{Decision, Outgoing, decide};

@@ -1,8 +1,7 @@
 //! What follows from the definitions alone. A proof cites a law by calling it.
 ghost use Rattle.std.specs.Prelude.{◌≡◌, ◌≢◌, ◌↔◌, ◌++◌, false, not, true, ℕ, List, Ok, Option};
 ghost use Rattle.std.specs.Io.KnownBytes.{Appends};
-ghost use Rattle.http1.specs.Conservative.{IsPlainRequest, IsPlainResponse};
-ghost use Rattle.http1.specs.declared.client.Client.{Client};
+ghost use Rattle.http1.{specs.Conservative.{IsPlainRequest, IsPlainResponse}, specs.declared.client.Client.Client};
 ghost use Rattle.http1.specs.declared.decode.Decoder.{Decoder};
 ghost use Rattle.http1.specs.declared.framing.Framing.{Framing as Stated};
 ghost use Rattle.http1.specs.declared.server.Server.{Server};
@@ -10,13 +9,11 @@ ghost use Rattle.gateway_messages.specs.declared.gateway.Gateway.{Gateway};
 ghost use Rattle.gateway_messages.specs.declared.response.ForwardedResponse.{ForwardedResponse};
 ghost use Rattle.gateway_relay.specs.declared.failure.Failure.{Failure};
 ghost use Rattle.gateway_relay.specs.declared.failure.Failure.TheVariants as Failed;
-ghost use Rattle.gateway_relay.specs.declared.request.Request.{Request};
-ghost use Rattle.gateway_relay.specs.declared.response.Response.{Response};
+ghost use Rattle.gateway_relay.{specs.declared.request.Request.Request, specs.declared.response.Response.Response};
 ghost use Rattle.gateway_proxy.specs.Faults.{IsUnwritten, request_status, response_status};
 ghost use Rattle.gateway_proxy.specs.Passing.{BeginsResponse, KeepsClient, PassesRequest, PassesResponse};
-ghost use Rattle.gateway_proxy.specs.Passing.{stated_framing};
-ghost use Rattle.gateway_proxy.specs.Responses.{keeps_origin, says_close, written_fields};
-ghost use Rattle.gateway_proxy.specs.declared.decision.Outgoing.{Outgoing};
+ghost use Rattle.gateway_proxy.{specs.Passing.stated_framing, specs.Responses.{keeps_origin, says_close}};
+ghost use Rattle.gateway_proxy.{specs.Responses.written_fields, specs.declared.decision.Outgoing.Outgoing};
 
 /// Theorem: what the origin server gets of a request that passes is one request in the plain form.
 pub fn passed_request_is_plain()

@@ -1,7 +1,6 @@
 //! A connection of a client, and one to the origin server.
 ghost use Rattle.std.specs.Prelude.{IfErr, OnOk};
-ghost use Rattle.gateway_proxy.specs.Cuts.{IsCutFrom};
-ghost use Rattle.gateway_proxy.specs.Exchanges.{IsServedFrom};
+ghost use Rattle.gateway_proxy.{specs.Cuts.IsCutFrom, specs.Exchanges.IsServedFrom};
 
 use crate::exchange::{Turn, exchange};
 use crate::proxy::{Clock, Proxy};

@@ -1,6 +1,5 @@
 //! The target of a request (RFC 9112, section 3.2).
-ghost use Rattle.std.specs.Prelude.{◌≡◌, ◌≤◌, IfOk, codes, length};
-ghost use Rattle.std.specs.List.{list_all};
+ghost use Rattle.std.{specs.Prelude.{◌≡◌, ◌≤◌, IfOk, codes, length}, specs.List.list_all};
 ghost use Rattle.gateway_proxy.specs.Targets.{authority_len, begins_with, is_target_byte, origin_form, scheme_len};
 ghost use Rattle.gateway_proxy.specs.Targets.{target_of, target_parts};
 

@@ -1,22 +1,21 @@
 -- Heads that were read.
 use Rattle.std.proofs.Common.{◌≡◌, ℕ, List, ◌++◌, ◌∙◌, ap, sym, subst, drop, false, Err, IfErr, IfOk, IsErr, Ok, Option}
-use Rattle.std.proofs.Common.{Result, ◌⊎◌, inl, inr, map}
-use Rattle.std.proofs.KnownBytes.{Consumes-kept}
+use Rattle.std.{proofs.Common.{Result, ◌⊎◌, inl, inr, map}, proofs.KnownBytes.Consumes-kept}
 use Rattle.std.specs.Io.KnownBytes.{Consumes, Keeps}
-use Rattle.httparse.specs.Grammar.{RequestHead, ResponseHead}
-use Rattle.httparse.specs.{Spans.name_and_value, declared.spans.HeaderSpan.HeaderSpan}
-use Rattle.httparse.specs.{declared.spans.RequestSpans.RequestSpans, declared.spans.ResponseSpans.ResponseSpans}
-use Rattle.http1.specs.Client.{ClientReads, ReadsAt, ReadsFirst, ReadsHead, TakesHead}
-use Rattle.http1.specs.{Conn.awaits_head, Fields.Header, Message.AcceptsRequest, Message.AcceptsResponse}
-use Rattle.http1.specs.{Server.ServerReads, Server.new_server, declared.client.Client.Client, declared.conn.Event.Event}
-use Rattle.http1.specs.{declared.conn.Event.TheVariants.Head, declared.conn.Event.TheVariants.Informational}
-use Rattle.http1.specs.{declared.conn.Limits.Limits, declared.conn.Progress.Progress, declared.conn.Reading.Reading}
-use Rattle.http1.specs.{declared.error.ReadError.ReadError, declared.framing.Framing.Framing}
-use Rattle.http1.specs.{declared.server.Server.Server}
-use Rattle.gateway_relay.specs.{Content.map_of, declared.failure.Failure.Failure, declared.response.Response.Response}
-use Rattle.gateway_relay.specs.Failures.{HasNoMap, IsMapFailure, IsReceiveFailure, Receives}
-use Rattle.gateway_relay.specs.Heads.{FailsToReadRequest, FailsToReadResponse, IsHeadFailure, IsResponseAt}
-use Rattle.gateway_relay.specs.Heads.{ReadsResponseHead}
+use Rattle.httparse.{specs.Grammar.{RequestHead, ResponseHead}, specs.Spans.name_and_value}
+use Rattle.httparse.{specs.declared.spans.HeaderSpan.HeaderSpan, specs.declared.spans.RequestSpans.RequestSpans}
+use Rattle.httparse.specs.declared.spans.ResponseSpans.{ResponseSpans}
+use Rattle.http1.{specs.Client.{ClientReads, ReadsAt, ReadsFirst, ReadsHead, TakesHead}, specs.Conn.awaits_head}
+use Rattle.http1.{specs.Fields.Header, specs.Message.{AcceptsRequest, AcceptsResponse}, specs.Server.ServerReads}
+use Rattle.http1.{specs.Server.new_server, specs.declared.client.Client.Client, specs.declared.conn.Event.Event}
+use Rattle.http1.{specs.declared.conn.Event.TheVariants.{Head, Informational}, specs.declared.conn.Limits.Limits}
+use Rattle.http1.{specs.declared.conn.Progress.Progress, specs.declared.conn.Reading.Reading}
+use Rattle.http1.{specs.declared.error.ReadError.ReadError, specs.declared.framing.Framing.Framing}
+use Rattle.http1.specs.declared.server.Server.{Server}
+use Rattle.gateway_relay.{specs.Content.map_of, specs.declared.failure.Failure.Failure}
+use Rattle.gateway_relay.{specs.declared.response.Response.Response, specs.Failures.{HasNoMap, IsMapFailure}}
+use Rattle.gateway_relay.{specs.Failures.{IsReceiveFailure, Receives}, specs.Heads.FailsToReadRequest}
+use Rattle.gateway_relay.specs.Heads.{FailsToReadResponse, IsHeadFailure, IsResponseAt, ReadsResponseHead}
 use Rattle.http1.specs.Server as Serving
 use Rattle.http1.specs.declared.conn.Reading.TheVariants as Reads
 use Rattle.gateway_relay.specs.declared.failure.Failure.TheVariants as Failed

@@ -2,31 +2,29 @@
 use Rattle.std.proofs.Common.{◌≡◌, ℕ, ◌+◌, ◌-◌, ◌<◌, ◌≤◌, ◌^◌, List, [], ◌∷◌, ◌++◌, ◌∙◌, ap, refl, sym, subst, take}
 use Rattle.std.proofs.Common.{drop, length, length-append, length-drop, append_assoc, append-nil, None, Some, Option}
 use Rattle.std.proofs.Common.{Result, Ok, Err, IfErr, IfOk, OnOk, arith, ◌≢◌, Bool, IsTrue, inl, inr}
-use Rattle.std.proofs.{Math.Seq.drop-length, Math.Seq.take-add, lemmas.List.take_all}
-use Rattle.std.proofs.KnownBytes.{Appends-nil, Appends-trans, Consumes-kept, Consumes-nil, Consumes-trans, Keeps-refl}
-use Rattle.std.specs.Io.KnownBytes.{Appends, Consumes, IsAtEnd, Keeps}
-use Rattle.std.specs.List.{concat}
-use Rattle.httparse.specs.{Grammar.Field, declared.spans.HeaderSpan.HeaderSpan}
-use Rattle.http_header.specs.{FieldValue.FieldValue, HeaderMap.Entries}
-use Rattle.http1.specs.{Body.Body, Body.body_of, Conservative.IsPlainRequest, Conservative.IsPlainResponse}
-use Rattle.http1.specs.{Fields.Header, Output.GivesOrRefuses, ReadError.BodyError, ServerTrace.headers_at}
-use Rattle.http1.specs.{declared.client.Client.Client, declared.conn.BodySize.BodySize, declared.conn.Reading.Reading}
-use Rattle.http1.specs.{declared.conn.Writing.Writing, declared.decode.Decoded.Decoded, declared.decode.Decoder.Decoder}
-use Rattle.http1.specs.{declared.encode.Encoder.Encoder, declared.error.ReadError.ReadError}
-use Rattle.http1.specs.{declared.error.WriteError.WriteError, declared.server.Server.Server}
-use Rattle.http1.specs.Conn.{Plan, after_data, data_refusal, data_text}
-use Rattle.http1.specs.Decoder.{AwaitsTrailers, Completes, Continues, Ends, HasNoBody, Runs, Starves, with_front}
-use Rattle.http1.specs.Encoder.{AreAccepted, after_piece, encoder_for, body_text, end_refusal, end_text, piece_refusal}
-use Rattle.http1.specs.Encoder.{piece_text}
+use Rattle.std.{proofs.Math.Seq.{drop-length, take-add}, proofs.lemmas.List.take_all, proofs.KnownBytes.Appends-nil}
+use Rattle.std.proofs.KnownBytes.{Appends-trans, Consumes-kept, Consumes-nil, Consumes-trans, Keeps-refl}
+use Rattle.std.{specs.Io.KnownBytes.{Appends, Consumes, IsAtEnd, Keeps}, specs.List.concat}
+use Rattle.httparse.{specs.Grammar.Field, specs.declared.spans.HeaderSpan.HeaderSpan}
+use Rattle.http_header.{specs.FieldValue.FieldValue, specs.HeaderMap.Entries}
+use Rattle.http1.{specs.Body.{Body, body_of}, specs.Conservative.{IsPlainRequest, IsPlainResponse}, specs.Fields.Header}
+use Rattle.http1.{specs.Output.GivesOrRefuses, specs.ReadError.BodyError, specs.ServerTrace.headers_at}
+use Rattle.http1.{specs.declared.client.Client.Client, specs.declared.conn.BodySize.BodySize}
+use Rattle.http1.{specs.declared.conn.Reading.Reading, specs.declared.conn.Writing.Writing}
+use Rattle.http1.{specs.declared.decode.Decoded.Decoded, specs.declared.decode.Decoder.Decoder}
+use Rattle.http1.{specs.declared.encode.Encoder.Encoder, specs.declared.error.ReadError.ReadError}
+use Rattle.http1.{specs.declared.error.WriteError.WriteError, specs.declared.server.Server.Server, specs.Conn.Plan}
+use Rattle.http1.{specs.Conn.{after_data, data_refusal, data_text}, specs.Decoder.{AwaitsTrailers, Completes}}
+use Rattle.http1.{specs.Decoder.{Continues, Ends, HasNoBody, Runs, Starves, with_front}, specs.Encoder.AreAccepted}
+use Rattle.http1.specs.Encoder.{after_piece, encoder_for, body_text, end_refusal, end_text, piece_refusal, piece_text}
 use Rattle.http1.specs.Head.{head_refusal, is_request_line, is_status_line, request_text, response_text}
 use Rattle.http1.specs.declared.decode.Decoder.TheVariants.{Chunked, Length, UntilClose}
 use Rattle.http1.proofs.ConservativeLemmas.{request_is_plain, response_is_plain}
 use Rattle.gateway_relay.specs.Content.{ArePassed, Finds, FindsPart, Gives, after_pieces, begins, map_of, pieces_text}
-use Rattle.gateway_relay.specs.Content.{reads, receives, waits}
-use Rattle.gateway_relay.specs.Failures.{FailsToWrite, HasNoMap, IsMapFailure, IsPieceFailure, IsReceiveFailure}
-use Rattle.gateway_relay.specs.Failures.{IsRelayFailure, Writes, write_failure}
-use Rattle.gateway_relay.specs.Relay.{HasEnd, IsRelayed, Relays, Sends}
-use Rattle.gateway_relay.specs.{declared.failure.Failure.Failure, declared.relay.TheConstants.MAX_TRAILERS}
+use Rattle.gateway_relay.{specs.Content.{reads, receives, waits}, specs.Failures.{FailsToWrite, HasNoMap, IsMapFailure}}
+use Rattle.gateway_relay.specs.Failures.{IsPieceFailure, IsReceiveFailure, IsRelayFailure, Writes, write_failure}
+use Rattle.gateway_relay.{specs.Relay.{HasEnd, IsRelayed, Relays, Sends}, specs.declared.failure.Failure.Failure}
+use Rattle.gateway_relay.specs.declared.relay.TheConstants.{MAX_TRAILERS}
 use Rattle.http1.specs.Client as Asking
 use Rattle.http1.specs.Server as Serving
 use Rattle.http1.specs.declared.conn.Reading.TheVariants as Reads

@@ -1,15 +1,14 @@
 -- Content as one side reads it and the other writes it, piece by piece.
 use Rattle.std.specs.Prelude.{◌≡◌, ℕ, ◌<◌, ◌≤◌, ◌^◌, ⊤, Bool, false, List, [], ◌∷◌, ◌++◌, length, drop, fold, None}
-use Rattle.httparse.specs.Spans.{IsSectionWithin, IsWithin, span_bytes}
-use Rattle.httparse.specs.declared.spans.HeaderSpan.{HeaderSpan}
-use Rattle.http_header.specs.{FieldValue.FieldValue, FieldValue.plain_value, HeaderMap.Entries, HeaderMap.append}
-use Rattle.http_header.specs.{Token.lowercase}
-use Rattle.http1.specs.Decoder.{Continues, Ends, Starves}
-use Rattle.http1.specs.Encoder.{after_piece, piece_refusal, piece_text}
-use Rattle.http1.specs.{Fields.Header, declared.conn.Limits.Limits, declared.conn.Reading.Reading}
-use Rattle.http1.specs.{declared.conn.Writing.Writing, declared.decode.Decoded.Decoded, declared.decode.Decoder.Decoder}
-use Rattle.http1.specs.{declared.encode.Encoder.Encoder, declared.framing.MethodKind.MethodKind}
-use Rattle.http1.specs.declared.decode.Decoded.TheVariants.{NeedMore, Data, End}
+use Rattle.httparse.{specs.Spans.{IsSectionWithin, IsWithin, span_bytes}, specs.declared.spans.HeaderSpan.HeaderSpan}
+use Rattle.http_header.{specs.FieldValue.{FieldValue, plain_value}, specs.HeaderMap.{Entries, append}}
+use Rattle.http_header.specs.Token.{lowercase}
+use Rattle.http1.{specs.Decoder.{Continues, Ends, Starves}, specs.Encoder.{after_piece, piece_refusal, piece_text}}
+use Rattle.http1.{specs.Fields.Header, specs.declared.conn.Limits.Limits, specs.declared.conn.Reading.Reading}
+use Rattle.http1.{specs.declared.conn.Writing.Writing, specs.declared.decode.Decoded.Decoded}
+use Rattle.http1.{specs.declared.decode.Decoder.Decoder, specs.declared.encode.Encoder.Encoder}
+use Rattle.http1.{specs.declared.framing.MethodKind.MethodKind, specs.declared.decode.Decoded.TheVariants.NeedMore}
+use Rattle.http1.specs.declared.decode.Decoded.TheVariants.{Data, End}
 use Rattle.http1.specs.declared.conn.Reading.TheVariants as Reads
 use Rattle.http1.specs.declared.conn.Writing.TheVariants as Writes
 

@@ -1,9 +1,8 @@
 //! The heads of messages that are sent, and the gateway's own answers.
 ghost use Rattle.std.specs.Prelude.{◌≡◌, OnOk};
-ghost use Rattle.http1.specs.Client.{after_request, planned_request, request_refusal};
-ghost use Rattle.http1.specs.Head.{pairs, response_text};
-ghost use Rattle.http1.specs.Server.{after_informational, after_response, informational_refusal, planned_response};
-ghost use Rattle.http1.specs.Server.{response_refusal};
+ghost use Rattle.http1.{specs.Client.{after_request, planned_request, request_refusal}, specs.Head.pairs};
+ghost use Rattle.http1.{specs.Head.response_text, specs.Server.{after_informational, after_response}};
+ghost use Rattle.http1.specs.Server.{informational_refusal, planned_response, response_refusal};
 ghost use Rattle.gateway_relay.specs.Failures.{Writes};
 
 use crate::failure::Failure;

@@ -1,15 +1,14 @@
 //! Theorems about the definitions alone. To cite one in a proof, call it.
 ghost use Rattle.std.specs.Prelude.{◌≡◌, ◌++◌, ℕ, Bool, List, Option, None, Ok};
-ghost use Rattle.http_header.specs.{FieldValue.FieldValue, HeaderMap.Entries};
-ghost use Rattle.http1.specs.{Client.request_plan, Conn.Plan, Fields.Header, Server.response_plan};
-ghost use Rattle.http1.specs.{declared.client.Client.Client, declared.conn.BodySize.BodySize};
-ghost use Rattle.http1.specs.{declared.conn.Writing.Writing, declared.decode.Decoder.Decoder};
-ghost use Rattle.http1.specs.{declared.encode.Encoder.Encoder, declared.server.Server.Server};
-ghost use Rattle.http1.specs.Conservative.{IsPlainRequest, IsPlainResponse};
-ghost use Rattle.http1.specs.Encoder.{encoder_for, end_refusal, end_text};
-ghost use Rattle.http1.specs.Head.{head_refusal, is_request_line, is_status_line, request_text, response_text};
-ghost use Rattle.gateway_relay.specs.Content.{ArePassed, after_pieces, pieces_text};
-ghost use Rattle.gateway_relay.specs.Relay.{IsRelayed, Relays};
+ghost use Rattle.http_header.{specs.FieldValue.FieldValue, specs.HeaderMap.Entries};
+ghost use Rattle.http1.{specs.Client.request_plan, specs.Conn.Plan, specs.Fields.Header, specs.Server.response_plan};
+ghost use Rattle.http1.{specs.declared.client.Client.Client, specs.declared.conn.BodySize.BodySize};
+ghost use Rattle.http1.{specs.declared.conn.Writing.Writing, specs.declared.decode.Decoder.Decoder};
+ghost use Rattle.http1.{specs.declared.encode.Encoder.Encoder, specs.declared.server.Server.Server};
+ghost use Rattle.http1.{specs.Conservative.{IsPlainRequest, IsPlainResponse}, specs.Encoder.{encoder_for, end_refusal}};
+ghost use Rattle.http1.{specs.Encoder.end_text, specs.Head.{head_refusal, is_request_line, is_status_line}};
+ghost use Rattle.http1.specs.Head.{request_text, response_text};
+ghost use Rattle.gateway_relay.{specs.Content.{ArePassed, after_pieces, pieces_text}, specs.Relay.{IsRelayed, Relays}};
 
 /// Theorem: a relay sends the content of one message, and no byte of another. What was read begins
 /// with it, by the grammar of RFC 9112, and what is left unread is what follows it.

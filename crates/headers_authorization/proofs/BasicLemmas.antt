@@ -1,18 +1,13 @@
 -- A user name and a password, read back.
-use Rattle.std.proofs.Common.{◌≡◌, ◌↔◌, ℕ, zero, suc, ◌-◌, ◌<◌, List, [], ◌∷◌, ◌++◌, Some}
-use Rattle.std.proofs.Common.{length, take, drop, slice_index, slice_index_or, eq-eqb, refl, sym, ◌∙◌, ap, arith}
-use Rattle.std.specs.Prelude.{IsUtf8}
-use Rattle.std.specs.List.{Contains, prefix_len}
-use Rattle.std.proofs.Math.Seq.{get_or-append_seam}
-use Rattle.std.proofs.lemmas.Bool.{eqb-true}
+use Rattle.std.proofs.Common.{◌≡◌, ◌↔◌, ℕ, zero, suc, ◌-◌, ◌<◌, List, [], ◌∷◌, ◌++◌, Some, length, take, drop}
+use Rattle.std.{proofs.Common.{slice_index, slice_index_or, eq-eqb, refl, sym, ◌∙◌, ap, arith}, specs.Prelude.IsUtf8}
+use Rattle.std.{specs.List.{Contains, prefix_len}, proofs.Math.Seq.get_or-append_seam, proofs.lemmas.Bool.eqb-true}
 use Rattle.std.proofs.lemmas.List.{get_or_append_left, get_or_default, length-append, take_rest}
 use Rattle.base64.specs.GeneralPurpose.{IsBytes}
-use Rattle.headers_base64.specs.Base64.{base64}
-use Rattle.headers_base64.proofs.Base64Lemmas.{base64-once}
+use Rattle.headers_base64.{specs.Base64.base64, proofs.Base64Lemmas.base64-once}
 use Rattle.memchr.specs.Find.{IsFirstByte, is_byte}
-use Rattle.headers_authorization.specs.Scheme.{IsReadBack}
-use Rattle.headers_authorization.specs.Basic.{colon, UserPass, is_space, after_spaces, user_pass}
-use Rattle.headers_authorization.specs.Basic.{basic_scheme, ReadsBasic, basic_writes}
+use Rattle.headers_authorization.{specs.Scheme.IsReadBack, specs.Basic.{colon, UserPass, is_space, after_spaces}}
+use Rattle.headers_authorization.specs.Basic.{user_pass, basic_scheme, ReadsBasic, basic_writes}
 use Rattle.headers_authorization.specs.BasicLaws.{HasScheme-basic, basic_encoded}
 
 -- what is left from place i on, as a slice's range gives it

@@ -1,6 +1,5 @@
 -- What follows a scheme in a line.
-use Rattle.std.proofs.Common.{◌≡◌, ℕ, ◌+◌, List, length, sym, subst, arith}
-use Rattle.std.specs.Str.{IsUtf8, IsCharBoundary}
+use Rattle.std.{proofs.Common.{◌≡◌, ℕ, ◌+◌, List, length, sym, subst, arith}, specs.Str.{IsUtf8, IsCharBoundary}}
 use Rattle.std.proofs.lemmas.Str.{IsCharBoundary-after_ascii}
 use Rattle.headers_syntax.specs.Lines.{Line}
 use Rattle.headers_authorization.specs.Scheme.{HasScheme}

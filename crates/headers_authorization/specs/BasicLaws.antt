@@ -4,12 +4,9 @@ use Rattle.std.proofs.lemmas.Bool.{cases_lt}
 use Rattle.memchr.specs.Find.{IsFirstByte, is_byte}
 use Rattle.base64.specs.GeneralPurpose.{IsBytes}
 use Rattle.headers_syntax.specs.Lines.{Line}
-use Rattle.headers_base64.specs.Base64.{base64}
-use Rattle.headers_base64.proofs.Base64Lemmas.{base64-once, base64-no_space}
-use Rattle.headers_authorization.specs.Scheme.{HasScheme}
-use Rattle.headers_authorization.specs.CredentialLaws.{CredentialLaws}
-use Rattle.headers_authorization.specs.Basic.{colon, UserPass, basic_scheme, SameBasic, after_spaces}
-use Rattle.headers_authorization.specs.Basic.{ReadsBasic, basic_writes}
+use Rattle.headers_base64.{specs.Base64.base64, proofs.Base64Lemmas.{base64-once, base64-no_space}}
+use Rattle.headers_authorization.{specs.Scheme.HasScheme, specs.CredentialLaws.CredentialLaws, specs.Basic.colon}
+use Rattle.headers_authorization.specs.Basic.{UserPass, basic_scheme, SameBasic, after_spaces, ReadsBasic, basic_writes}
 
 -- there is one first place
 first_once : (bytes : List ℕ) (i j : ℕ) → IsFirstByte (is_byte colon) bytes (Some i)

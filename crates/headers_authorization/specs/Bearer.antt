@@ -1,9 +1,7 @@
 -- Bearer credentials (RFC 6750, section 2.1): the whole line, which is text.
-use Rattle.std.specs.Prelude.{◌≡◌, ℕ, List, ◌++◌, drop, codes, IsTrue}
-use Rattle.std.specs.Str.{trim_start}
+use Rattle.std.{specs.Prelude.{◌≡◌, ℕ, List, ◌++◌, drop, codes, IsTrue}, specs.Str.trim_start}
 use Rattle.http_header.specs.FieldValue.{FieldValue}
-use Rattle.headers_syntax.specs.Lines.{Line}
-use Rattle.headers_syntax.specs.Text.{is_text}
+use Rattle.headers_syntax.{specs.Lines.Line, specs.Text.is_text}
 
 abbrev pub bearer_scheme : List ℕ
 bearer_scheme = codes "Bearer"

@@ -1,10 +1,7 @@
 -- The laws of Bearer credentials.
-use Rattle.std.specs.Prelude.{IsTrue, refl}
-use Rattle.std.proofs.Common.{sym, ◌∙◌, subst}
-use Rattle.headers_syntax.specs.Lines.{Line}
-use Rattle.headers_syntax.specs.Text.{is_text}
-use Rattle.headers_authorization.specs.Scheme.{HasScheme}
-use Rattle.headers_authorization.specs.CredentialLaws.{CredentialLaws}
+use Rattle.std.{specs.Prelude.{IsTrue, refl}, proofs.Common.{sym, ◌∙◌, subst}}
+use Rattle.headers_syntax.{specs.Lines.Line, specs.Text.is_text}
+use Rattle.headers_authorization.{specs.Scheme.HasScheme, specs.CredentialLaws.CredentialLaws}
 use Rattle.headers_authorization.specs.Bearer.{bearer_scheme, SameBearer, ReadsBearer, bearer_writes}
 
 pub bearer_laws : CredentialLaws bearer_scheme SameBearer ReadsBearer bearer_writes

@@ -1,8 +1,6 @@
 -- The laws of the credentials of a scheme, and of the headers that store credentials.
-use Rattle.std.specs.Prelude.{◌≡◌, ℕ, List, [], ◌∷◌, refl}
-use Rattle.std.proofs.Common.{ap, subst}
-use Rattle.headers_syntax.specs.Lines.{Line}
-use Rattle.headers_syntax.specs.HeaderLaws.{HeaderLaws}
+use Rattle.std.{specs.Prelude.{◌≡◌, ℕ, List, [], ◌∷◌, refl}, proofs.Common.{ap, subst}}
+use Rattle.headers_syntax.{specs.Lines.Line, specs.HeaderLaws.HeaderLaws}
 use Rattle.headers_authorization.specs.Scheme.{HasScheme, FirstReads}
 
 module _ {V : Type 0} (scheme : List ℕ) (same : V → V → Type 0) (reads : Line → V → Type 0) (writes : V → Line) where

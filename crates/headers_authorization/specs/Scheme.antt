@@ -1,8 +1,7 @@
 -- Field lines with credentials: a scheme, a space, and the credentials (RFC 9110, section 11.4).
 use Rattle.std.specs.Prelude.{◌≡◌, ℕ, ◌<◌, List, [], ◌∷◌, length, take, slice_index, Some}
 use Rattle.http_header.specs.Token.{space}
-use Rattle.headers_syntax.specs.AsciiCase.{SameButForCase}
-use Rattle.headers_syntax.specs.Lines.{Line, first_line}
+use Rattle.headers_syntax.{specs.AsciiCase.SameButForCase, specs.Lines.{Line, first_line}}
 
 -- the field line begins with the scheme, in any case, and a space
 pub record HasScheme (scheme : List ℕ) (line : Line) : Type 0 where

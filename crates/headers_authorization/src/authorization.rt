@@ -14,8 +14,7 @@ pub struct Authorization<C>(pub C);
 
 impl<C: Credentials> Header for Authorization<C> {
     ghost use Rattle.std.specs.Prelude.{false, codes, ◌∷◌, []};
-    ghost use Rattle.headers_authorization.specs.Scheme.{FirstReads};
-    ghost use Rattle.headers_authorization.specs.CredentialLaws.{first_laws};
+    ghost use Rattle.headers_authorization.{specs.Scheme.FirstReads, specs.CredentialLaws.first_laws};
 
     ghost field_name = { codes "authorization" };
 

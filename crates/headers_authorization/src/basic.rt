@@ -1,9 +1,7 @@
 //! Credentials of the scheme `Basic`.
-ghost use Rattle.std.specs.Prelude.{◌≡◌, ◌↔◌, ◌≤◌, length, IfOk};
-ghost use Rattle.std.specs.List.{Contains, prefix_len};
+ghost use Rattle.std.{specs.Prelude.{◌≡◌, ◌↔◌, ◌≤◌, length, IfOk}, specs.List.{Contains, prefix_len}};
 ghost use Rattle.headers_authorization.specs.Basic.{colon as colon_byte, is_space, user_pass, user_of, password_of};
-ghost use Rattle.headers_authorization.specs.Basic.{basic_scheme, ReadsBasic, basic_writes};
-ghost use Rattle.headers_authorization.specs.Scheme.{IsReadBack};
+ghost use Rattle.headers_authorization.{specs.Basic.{basic_scheme, ReadsBasic, basic_writes}, specs.Scheme.IsReadBack};
 
 use crate::authorization::Authorization;
 use crate::credentials::Credentials;
@@ -75,10 +73,9 @@ impl Basic {
 }
 
 impl PartialEq for Basic {
-    ghost use Rattle.std.specs.Prelude.{nat_eq};
-    ghost use Rattle.std.specs.Ordering.{on, eq_of_both};
-    ghost use Rattle.std.specs.Cmp.{and_per, on_per, partial_equiv_from_equiv, nat_eq_equiv};
-    ghost use Rattle.std.specs.Cmp.Lexicographic.{pointwise, nat_list_eq_equiv};
+    ghost use Rattle.std.{specs.Prelude.nat_eq, specs.Ordering.{on, eq_of_both}, specs.Cmp.{and_per, on_per}};
+    ghost use Rattle.std.{specs.Cmp.{partial_equiv_from_equiv, nat_eq_equiv}, specs.Cmp.Lexicographic.pointwise};
+    ghost use Rattle.std.specs.Cmp.Lexicographic.{nat_list_eq_equiv};
 
     ghost eq = { eq_of_both (on (λ v. v.bytes) (pointwise nat_eq)) (on (λ v. v.place) nat_eq) };
 

@@ -1,11 +1,9 @@
 //! Credentials of the scheme `Bearer`.
 ghost use Rattle.std.specs.Prelude.{◌≡◌, ◌↔◌, Some, codes, IsTrue, IfOk, OnOk};
 ghost use Rattle.http_header.specs.FieldValue.{IsFieldValue, plain_value};
-ghost use Rattle.headers_syntax.specs.Refusal.{IsInvalid};
-ghost use Rattle.headers_syntax.specs.Text.{is_text};
-ghost use Rattle.headers_authorization.specs.Bearer.{bearer_line, bearer_token};
-ghost use Rattle.headers_authorization.specs.Bearer.{bearer_scheme, ReadsBearer, bearer_writes};
-ghost use Rattle.headers_authorization.specs.Scheme.{IsReadBack};
+ghost use Rattle.headers_syntax.{specs.Refusal.IsInvalid, specs.Text.is_text};
+ghost use Rattle.headers_authorization.specs.Bearer.{bearer_line, bearer_token, bearer_scheme, ReadsBearer};
+ghost use Rattle.headers_authorization.{specs.Bearer.bearer_writes, specs.Scheme.IsReadBack};
 
 use crate::authorization::Authorization;
 use crate::credentials::Credentials;
@@ -25,8 +23,7 @@ pub struct Bearer {
 
 impl Model for Bearer {
     ghost use Rattle.http_header.specs.FieldValue.{FieldValue, field_value_code};
-    ghost use Rattle.headers_authorization.specs.Scheme.{HasScheme};
-    ghost use Rattle.headers_authorization.specs.Bearer.{bearer_scheme};
+    ghost use Rattle.headers_authorization.{specs.Scheme.HasScheme, specs.Bearer.bearer_scheme};
 
     ghost Value = { FieldValue };
 

@@ -1,10 +1,7 @@
 //! Credentials of an authentication scheme.
 ghost use Rattle.std.specs.Prelude.{◌≡◌, ◌↔◌, List, ℕ, IfOk, IsTrue, MatchOption};
-ghost use Rattle.headers_syntax.specs.DecodesTo.{DecodesTo};
-ghost use Rattle.headers_syntax.specs.OfLines.{OfLines};
-ghost use Rattle.headers_syntax.specs.Lines.{Line};
-ghost use Rattle.headers_authorization.specs.CredentialLaws.{CredentialLaws};
-ghost use Rattle.headers_authorization.specs.Scheme.{HasScheme, FirstReads};
+ghost use Rattle.headers_syntax.{specs.DecodesTo.DecodesTo, specs.OfLines.OfLines, specs.Lines.Line};
+ghost use Rattle.headers_authorization.{specs.CredentialLaws.CredentialLaws, specs.Scheme.{HasScheme, FirstReads}};
 
 use headers_core::{AsHeaderValue, Error, Refused, first};
 use http_header::HeaderValue;

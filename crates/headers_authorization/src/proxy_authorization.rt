@@ -15,8 +15,7 @@ pub struct ProxyAuthorization<C>(pub C);
 
 impl<C: Credentials> Header for ProxyAuthorization<C> {
     ghost use Rattle.std.specs.Prelude.{false, codes, ◌∷◌, []};
-    ghost use Rattle.headers_authorization.specs.Scheme.{FirstReads};
-    ghost use Rattle.headers_authorization.specs.CredentialLaws.{first_laws};
+    ghost use Rattle.headers_authorization.{specs.Scheme.FirstReads, specs.CredentialLaws.first_laws};
 
     ghost field_name = { codes "proxy-authorization" };
 

@@ -1,21 +1,13 @@
 -- The bytes of base64, and the one list of bytes that it encodes.
-use Rattle.std.proofs.Common.{◌≡◌, ℕ, zero, suc, ◌+◌, ◌*◌, ◌/◌, ◌%◌, ◌<◌}
-use Rattle.std.proofs.Common.{Bool, true, false, ◌&&◌, List, [], ◌∷◌, ◌++◌}
-use Rattle.std.proofs.Common.{length, replicate, slice_index, refl, sym, ◌∙◌, ap, arith}
-use Rattle.std.specs.Prelude.{nat_le, ◌==◌, Ok}
-use Rattle.std.specs.List.{list_all, prefix_len}
-use Rattle.std.proofs.lemmas.Bool.{and_parts, and_from, leb-true}
-use Rattle.std.proofs.lemmas.Bool.Decides.{nat_tests}
-use Rattle.std.proofs.lemmas.List.Folds.{list_all-append}
+use Rattle.std.proofs.Common.{◌≡◌, ℕ, zero, suc, ◌+◌, ◌*◌, ◌/◌, ◌%◌, ◌<◌, Bool, true, false, ◌&&◌, List, [], ◌∷◌, ◌++◌}
+use Rattle.std.{proofs.Common.{length, replicate, slice_index, refl, sym, ◌∙◌, ap, arith}, specs.Prelude.{nat_le, ◌==◌}}
+use Rattle.std.{specs.Prelude.Ok, specs.List.{list_all, prefix_len}, proofs.lemmas.Bool.{and_parts, and_from, leb-true}}
+use Rattle.std.{proofs.lemmas.Bool.Decides.nat_tests, proofs.lemmas.List.Folds.list_all-append}
 use Rattle.std.proofs.lemmas.List.Sums.{AllPass-from_list_all}
-use Rattle.http_header.specs.Token.{space, is_visible_or_blank}
-use Rattle.http_header.specs.FieldValue.{IsFieldValue, is_visible_text}
+use Rattle.http_header.{specs.Token.{space, is_visible_or_blank}, specs.FieldValue.{IsFieldValue, is_visible_text}}
 use Rattle.http_header.proofs.TokenLemmas.{IsFieldValue-from_visible}
-use Rattle.base64.specs.Rfc4648.{encode_symbols, padding_len}
-use Rattle.base64.specs.GeneralPurpose.{IsBytes, decode_of, encode_of}
-use Rattle.base64.specs.Engines.{standard}
-use Rattle.base64.proofs.Tables.{all_below_at}
-use Rattle.base64.proofs.EngineFacts.{decode_of-encode_of}
+use Rattle.base64.{specs.Rfc4648.{encode_symbols, padding_len}, specs.GeneralPurpose.{IsBytes, decode_of, encode_of}}
+use Rattle.base64.{specs.Engines.standard, proofs.Tables.all_below_at, proofs.EngineFacts.decode_of-encode_of}
 use Rattle.headers_base64.specs.Base64.{base64}
 
 -- VCHAR of RFC 5234: visible ASCII

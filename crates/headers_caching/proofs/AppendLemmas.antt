@@ -1,15 +1,10 @@
 -- Pieces after commas, one row after the other, are the pieces joined once the first comma is cut off.
 use Rattle.std.proofs.Common.{◌≡◌, ℕ, true, nat_lt, min, List, [], ◌∷◌, ◌++◌, length, drop, refl, sym, ◌∙◌, ap, arith}
-use Rattle.std.proofs.Common.{append_assoc}
-use Rattle.std.specs.List.{list_all, flat_map, fold}
-use Rattle.std.proofs.lemmas.Bool.{and_parts, and_from}
-use Rattle.std.proofs.lemmas.Bool.Decides.{nat_tests}
-use Rattle.std.proofs.lemmas.Grind.{flat_map-append}
-use Rattle.std.proofs.lemmas.List.{append-nil}
-use Rattle.std.proofs.lemmas.List.Folds.{list_all-append}
+use Rattle.std.{proofs.Common.append_assoc, specs.List.{list_all, flat_map, fold}, proofs.lemmas.Bool.and_parts}
+use Rattle.std.{proofs.lemmas.Bool.and_from, proofs.lemmas.Bool.Decides.nat_tests, proofs.lemmas.Grind.flat_map-append}
+use Rattle.std.{proofs.lemmas.List.append-nil, proofs.lemmas.List.Folds.list_all-append}
 use Rattle.std.proofs.lemmas.List.Sums.{AllPass-from_list_all}
-use Rattle.http_header.specs.FieldValue.{IsFieldValue}
-use Rattle.http_header.specs.Token.{is_value_byte}
+use Rattle.http_header.{specs.FieldValue.IsFieldValue, specs.Token.is_value_byte}
 use Rattle.headers_items.specs.Merge.{merge}
 use Rattle.headers_caching.specs.CacheControl.{Directives, flag_rows, number_rows, print_flag, print_number, printed}
 use Rattle.headers_caching.specs.CacheControlLaws.{behind_commas}

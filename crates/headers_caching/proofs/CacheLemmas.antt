@@ -2,22 +2,16 @@
 use Rattle.std.proofs.Common.{◌≡◌, ℕ, ◌+◌, ◌<◌, Bool, false, not, ◌||◌, ◌&&◌, ◌==◌, List, [], ◌∷◌, ◌++◌, length, get_or}
 use Rattle.std.proofs.Common.{Option, None, filter, refl, sym, ◌∙◌, ap, inl, inr, arith, slice_index_or}
 use Rattle.std.specs.List.{AllByRecursion, list_any, last_or, before_first, after_first, position_or_len}
-use Rattle.std.specs.Option.{option_and_then}
-use Rattle.std.proofs.lemmas.Bool.{cases_Bool, and_left, and_right}
-use Rattle.std.proofs.lemmas.Bool.Decides.{Decides-eqb}
-use Rattle.std.proofs.lemmas.List.{drop_all}
-use Rattle.std.proofs.lemmas.List.Sums.{split_at_first, passes_at_first}
-use Rattle.std.proofs.Math.Bool.{or-false}
+use Rattle.std.{specs.Option.option_and_then, proofs.lemmas.Bool.{cases_Bool, and_left, and_right}}
+use Rattle.std.{proofs.lemmas.Bool.Decides.Decides-eqb, proofs.lemmas.List.drop_all}
+use Rattle.std.{proofs.lemmas.List.Sums.{split_at_first, passes_at_first}, proofs.Math.Bool.or-false}
+use Rattle.std.{proofs.lemmas.List.Folds.{list_any-append, list_any_none}, proofs.lemmas.List.Elements.filter-append}
 use Rattle.http_header.specs.Token.{lowercase}
-use Rattle.std.proofs.lemmas.List.Folds.{list_any-append, list_any_none}
-use Rattle.std.proofs.lemmas.List.Elements.{filter-append}
-use Rattle.headers_syntax.specs.AsciiCase.{same_name}
-use Rattle.headers_caching.specs.CacheControl.{carries, number_in, is_bad_for, is_bad, is_set, last_number}
-use Rattle.headers_caching.specs.CacheControl.{Directives, Steps, directives, next_flag, next_number}
-use Rattle.headers_caching.specs.CacheControl.{flag_rows, number_rows}
+use Rattle.headers_syntax.{specs.AsciiCase.same_name, proofs.PartsLemmas.last_or-append}
+use Rattle.headers_caching.specs.CacheControl.{carries, number_in, is_bad_for, is_bad, is_set, last_number, Directives}
+use Rattle.headers_caching.specs.CacheControl.{Steps, directives, next_flag, next_number, flag_rows, number_rows}
 use Rattle.headers_caching.specs.CacheControlLaws.{no_flag, flag_names, same_rows, every, both}
 use Rattle.headers_items.specs.Pairs.{is_equals}
-use Rattle.headers_syntax.proofs.PartsLemmas.{last_or-append}
 
 is_set-more : (flag : List ℕ) (es : List (List ℕ)) (entry : List ℕ)
     → next_flag entry flag (is_set flag es) ≡ is_set flag (es ++ entry ∷ [])

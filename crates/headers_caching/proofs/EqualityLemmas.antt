@@ -2,10 +2,7 @@
 use Rattle.std.proofs.Common.{◌≡◌, ℕ, nat_eq, Bool, true, ◌&&◌, List, [], ◌∷◌, ◌↔◌, IsTrue, Option, Some, None, refl}
 use Rattle.std.proofs.Common.{sym, ◌∙◌, ap}
 use mathlib.Core.Bool.{beq}
-use Rattle.std.specs.Bool.{Decides}
-use Rattle.std.specs.List.{AllByRecursion}
-use Rattle.std.specs.Cmp.{booleans_Decides}
-use Rattle.std.specs.Option.{option_eq}
+use Rattle.std.{specs.Bool.Decides, specs.List.AllByRecursion, specs.Cmp.booleans_Decides, specs.Option.option_eq}
 use Rattle.std.proofs.lemmas.Bool.Decides.{Decides-and, Decides-eqb}
 use Rattle.headers_caching.specs.CacheControl.{Directives, flag_rows, number_rows, lines_of_directives}
 use Rattle.headers_caching.specs.CacheControlLaws.{FitRows, same_by_lines, same_rows, rows_same}

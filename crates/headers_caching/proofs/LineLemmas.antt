@@ -1,10 +1,7 @@
 -- What `with_line` and `decode` know of the entries and lines that have come.
-use Rattle.std.proofs.Common.{◌≡◌, true, false, ◌||◌, ℕ, List, [], ◌∷◌, ◌++◌, Some, None}
-use Rattle.std.proofs.Common.{refl, sym, ◌∙◌, ap, subst, append_assoc}
-use Rattle.std.specs.List.{list_any}
-use Rattle.std.proofs.lemmas.Bool.{or_right}
-use Rattle.std.proofs.lemmas.List.{append-nil}
-use Rattle.std.proofs.lemmas.List.Folds.{list_any-append}
+use Rattle.std.proofs.Common.{◌≡◌, true, false, ◌||◌, ℕ, List, [], ◌∷◌, ◌++◌, Some, None, refl, sym, ◌∙◌, ap, subst}
+use Rattle.std.{proofs.Common.append_assoc, specs.List.list_any, proofs.lemmas.Bool.or_right}
+use Rattle.std.{proofs.lemmas.List.append-nil, proofs.lemmas.List.Folds.list_any-append}
 use Rattle.std.proofs.lemmas.Grind.{flat_map-append}
 use Rattle.headers_syntax.specs.Lines.{Line}
 use Rattle.headers_items.specs.Entries.{entries, line_entries}

@@ -1,18 +1,10 @@
 -- The header `cache-control`: flags and numbers, by the entries of all field lines.
-use Rattle.std.specs.Prelude.{◌≡◌, ℕ, ◌*◌, option_map, Bool, false, ◌&&◌, ◌||◌, not, ◌==◌, List, [], ◌∷◌, ◌++◌}
-use Rattle.std.specs.Prelude.{length, filter, Option, Some, None, is_none, codes, decimal, if◌then◌else◌}
+use Rattle.std.specs.Prelude.{◌≡◌, ℕ, ◌*◌, option_map, Bool, false, ◌&&◌, ◌||◌, not, ◌==◌, List, [], ◌∷◌, ◌++◌, length}
+use Rattle.std.specs.Prelude.{filter, Option, Some, None, is_none, codes, decimal, if◌then◌else◌}
 use Rattle.std.specs.List.{AllByRecursion, list_any, last_or, flat_map, before_first, after_first}
-use Rattle.std.specs.Option.{option_and_then}
-use Rattle.std.specs.Duration.{as_nanos}
-use Rattle.std.specs.declared.time.Duration.{Duration}
-use Rattle.headers_syntax.specs.Lines.{Line}
-use Rattle.headers_items.specs.Merge.{merge}
-use Rattle.headers_syntax.specs.Number.{number}
-use Rattle.headers_items.specs.Entries.{entries}
-use Rattle.headers_items.specs.Pairs.{is_equals}
-use Rattle.headers_syntax.specs.AsciiCase.{same_name}
-use Rattle.headers_syntax.specs.Text.{without_quotes}
-use Rattle.headers_items.specs.Places.{comma}
+use Rattle.std.{specs.Option.option_and_then, specs.Duration.as_nanos, specs.declared.time.Duration.Duration}
+use Rattle.headers_syntax.{specs.Lines.Line, specs.Number.number, specs.AsciiCase.same_name, specs.Text.without_quotes}
+use Rattle.headers_items.{specs.Merge.merge, specs.Entries.entries, specs.Pairs.is_equals, specs.Places.comma}
 
 -- the flags and the numbers that are set (RFC 9111, section 5.2, and RFC 8246)
 pub record Directives : Type 0 where

@@ -1,33 +1,22 @@
 -- Each encoded directive decodes to itself alone.
-use Rattle.std.proofs.Common.{◌≡◌, ℕ, ◌^◌, ◌<◌, Bool, true, false, not, ◌&&◌, ◌==◌, nat_lt, cond}
-use Rattle.std.proofs.Common.{List, [], ◌∷◌, ◌++◌, length, filter, Option, Some, None, is_none, refl, sym, ◌∙◌}
-use Rattle.std.proofs.Common.{ap, subst, inl, inr, arith, length-append, slice_index_or}
-use Rattle.std.specs.Char.{to_ascii_lowercase}
-use Rattle.std.specs.Fmt.{decimal}
+use Rattle.std.proofs.Common.{◌≡◌, ℕ, ◌^◌, ◌<◌, Bool, true, false, not, ◌&&◌, ◌==◌, nat_lt, cond, List, [], ◌∷◌, ◌++◌}
+use Rattle.std.proofs.Common.{length, filter, Option, Some, None, is_none, refl, sym, ◌∙◌, ap, subst, inl, inr, arith}
+use Rattle.std.{proofs.Common.{length-append, slice_index_or}, specs.Char.to_ascii_lowercase, specs.Fmt.decimal}
 use Rattle.std.specs.List.{list_any, list_all, last_or, flat_map, AllByRecursion, before_first, after_first}
-use Rattle.std.specs.Option.{option_and_then}
-use Rattle.std.proofs.Math.Bool.{and-true, and-false}
-use Rattle.std.proofs.lemmas.Bool.{cases_Bool, and_from, or_right, lt-ltb, ne_eqb}
-use Rattle.std.proofs.lemmas.Bool.{false_from_ne_true}
-use Rattle.std.proofs.lemmas.List.{map-append}
-use Rattle.std.proofs.lemmas.List.Folds.{list_any-append, list_all-append, list_any_none}
-use Rattle.std.proofs.lemmas.Map.Views.{any-filter_same}
-use Rattle.std.proofs.lemmas.List.Elements.{filter-append}
-use Rattle.std.proofs.lemmas.Slice.Eq.{bytes_eq-Decides}
+use Rattle.std.{specs.Option.option_and_then, proofs.Math.Bool.{and-true, and-false}, proofs.lemmas.Bool.cases_Bool}
+use Rattle.std.proofs.lemmas.Bool.{and_from, or_right, lt-ltb, ne_eqb, false_from_ne_true}
+use Rattle.std.{proofs.lemmas.List.map-append, proofs.lemmas.List.Folds.{list_any-append, list_all-append}}
+use Rattle.std.{proofs.lemmas.List.Folds.list_any_none, proofs.lemmas.Map.Views.any-filter_same}
+use Rattle.std.{proofs.lemmas.List.Elements.filter-append, proofs.lemmas.Slice.Eq.bytes_eq-Decides}
 use Rattle.std.proofs.lemmas.Fmt.{decimal_nonempty}
 use Rattle.http_header.specs.Token.{lowercase}
-use Rattle.headers_syntax.specs.Lines.{Line}
-use Rattle.headers_items.specs.Entries.{entries}
-use Rattle.headers_syntax.specs.Number.{number}
-use Rattle.headers_syntax.proofs.NumberLemmas.{number-decimal, number-lt}
-use Rattle.headers_syntax.specs.Text.{without_quotes}
-use Rattle.headers_syntax.specs.AsciiCase.{same_name}
-use Rattle.headers_items.specs.Pairs.{is_equals}
-use Rattle.headers_caching.specs.CacheControl.{Directives, carries, number_in, is_bad}
-use Rattle.headers_caching.specs.CacheControl.{is_set, last_number, directives, directives_of, lines_of_directives}
-use Rattle.headers_caching.specs.CacheControl.{flag_rows, number_rows, print_flag, print_number, printed}
-use Rattle.headers_syntax.proofs.PlainLemmas.{decimal_plain, is_plain, is_piece, unquoted_piece}
-use Rattle.headers_items.proofs.JoinedLemmas.{entries_joined}
+use Rattle.headers_syntax.{specs.Lines.Line, specs.Number.number, proofs.NumberLemmas.{number-decimal, number-lt}}
+use Rattle.headers_syntax.{specs.Text.without_quotes, specs.AsciiCase.same_name, proofs.PlainLemmas.decimal_plain}
+use Rattle.headers_syntax.proofs.PlainLemmas.{is_plain, is_piece, unquoted_piece}
+use Rattle.headers_items.{specs.Entries.entries, specs.Pairs.is_equals, proofs.JoinedLemmas.entries_joined}
+use Rattle.headers_caching.specs.CacheControl.{Directives, carries, number_in, is_bad, is_set, last_number, directives}
+use Rattle.headers_caching.specs.CacheControl.{directives_of, lines_of_directives, flag_rows, number_rows, print_flag}
+use Rattle.headers_caching.specs.CacheControl.{print_number, printed}
 
 -- directives are equal if they agree in each row
 pub same_rows : (a b : Directives) → AllByRecursion (λ row. row.1 a ≡ row.1 b) flag_rows

@@ -1,21 +1,15 @@
 //! The header `cache-control`.
 ghost use Rattle.std.specs.Prelude.{◌≡◌, ◌↔◌, ◌<◌, ◌^◌, ◌/◌, ◌∷◌, ◌++◌, List, [], ℕ, true, Some, IfOk, OnOk, IsTrue};
-ghost use Rattle.std.specs.Prelude.{false, IsErr, string_bytes};
-ghost use Rattle.std.specs.Duration.{as_nanos};
-ghost use Rattle.std.specs.List.{list_any, before_first, after_first};
+ghost use Rattle.std.{specs.Prelude.{false, IsErr, string_bytes}, specs.Duration.as_nanos, specs.List.list_any};
+ghost use Rattle.std.specs.List.{before_first, after_first};
 ghost use Rattle.http_header.specs.FieldValue.{IsFieldValue};
-ghost use Rattle.headers_syntax.specs.Durations.{IsWholeSeconds};
-ghost use Rattle.headers_items.specs.Answers.{SurvivesCuts};
-ghost use Rattle.headers_items.specs.Entries.{line_entries};
-ghost use Rattle.headers_items.specs.Pairs.{is_equals};
-ghost use Rattle.headers_syntax.specs.HeaderLaws.{ReadsBy, written_by};
-ghost use Rattle.headers_items.specs.Merge.{merge};
-ghost use Rattle.headers_caching.specs.CacheControl.{GivesSeconds, directives, is_bad, is_bad_for};
-ghost use Rattle.headers_caching.specs.CacheControl.{flag_rows, number_rows, print_flag, print_number, printed};
-ghost use Rattle.headers_caching.specs.CacheControl.{Steps, next_flag, next_number};
-ghost use Rattle.headers_caching.specs.CacheControlGrammar.{cache_grammar};
+ghost use Rattle.headers_syntax.{specs.Durations.IsWholeSeconds, specs.HeaderLaws.{ReadsBy, written_by}};
+ghost use Rattle.headers_items.{specs.Answers.SurvivesCuts, specs.Entries.line_entries, specs.Pairs.is_equals};
+ghost use Rattle.headers_items.{specs.Merge.merge, specs.Places.comma};
+ghost use Rattle.headers_caching.specs.CacheControl.{GivesSeconds, directives, is_bad, is_bad_for, flag_rows};
+ghost use Rattle.headers_caching.specs.CacheControl.{number_rows, print_flag, print_number, printed, Steps, next_flag};
+ghost use Rattle.headers_caching.{specs.CacheControl.next_number, specs.CacheControlGrammar.cache_grammar};
 ghost use Rattle.headers_caching.specs.CacheControlLaws.{FitRows, FitsOption, behind_commas};
-ghost use Rattle.headers_items.specs.Places.{comma};
 
 use bytes::Bytes;
 use headers_core::{
@@ -492,8 +486,7 @@ fn push_number(text: &mut String, directive: &str, number: Option<u64>) -> Resul
 impl Header for CacheControl {
     ghost use Rattle.std.specs.Prelude.{true, codes};
     ghost use Rattle.headers_syntax.specs.HeaderLaws.{SameBy, ReadsBy, written_by, laws_by};
-    ghost use Rattle.headers_caching.specs.CacheControlLaws.{directives_back};
-    ghost use Rattle.headers_caching.specs.CacheControlGrammar.{cache_grammar};
+    ghost use Rattle.headers_caching.{specs.CacheControlLaws.directives_back, specs.CacheControlGrammar.cache_grammar};
 
     ghost field_name = { codes "cache-control" };
 

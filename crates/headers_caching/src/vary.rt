@@ -1,11 +1,8 @@
 //! The header `vary`.
 ghost use Rattle.std.specs.Prelude.{◌≡◌, ◌<◌, ◌^◌, ◌↔◌, length, Contains, IsTrue, IfOk, IsOkAnd, codes, List, ℕ};
-ghost use Rattle.std.specs.Iterator.{IsFinite};
-ghost use Rattle.std.specs.Iterator.Runs.{YieldsRefsInOrder};
-ghost use Rattle.headers_items.specs.Answers.{GoesByItems, SurvivesCuts};
-ghost use Rattle.headers_items.specs.Merge.{merge};
-ghost use Rattle.headers_items.specs.Places.{comma, items};
-ghost use Rattle.headers_items.specs.ItemsState.{ItemsState, items_left, walk_over, WalksItems};
+ghost use Rattle.std.{specs.Iterator.IsFinite, specs.Iterator.Runs.YieldsRefsInOrder};
+ghost use Rattle.headers_items.{specs.Answers.{GoesByItems, SurvivesCuts}, specs.Merge.merge, specs.Places.comma};
+ghost use Rattle.headers_items.{specs.Places.items, specs.ItemsState.{ItemsState, items_left, walk_over, WalksItems}};
 ghost use Rattle.headers_items.specs.CutLaw.{MergesLines};
 
 use headers_core::{Comma, FlatCsv, FormHeader, Items};

@@ -1,9 +1,7 @@
 -- Whether a condition that was made from a tag passes.
 use Rattle.std.proofs.Common.{◌≡◌, ℕ, true, false, List, ◌↔◌, refl}
-use Rattle.headers_syntax.specs.EntityTag.{TagParts, IsTag, StronglyEqual, WeaklyEqual}
-use Rattle.headers_syntax.specs.Text.{is_text}
-use Rattle.headers_conditional.specs.IfMatch.{MatchPasses}
-use Rattle.headers_conditional.specs.IfNoneMatch.{NoneMatchPasses}
+use Rattle.headers_syntax.{specs.EntityTag.{TagParts, IsTag, StronglyEqual, WeaklyEqual}, specs.Text.is_text}
+use Rattle.headers_conditional.{specs.IfMatch.MatchPasses, specs.IfNoneMatch.NoneMatchPasses}
 use Rattle.headers_core.specs.declared.entity_tag_range.EntityTagRange.TheVariants.{Tags}
 use Rattle.headers_core.proofs.EntityTagRangeLemmas.{HasItem-tags, HasItem-no_text}
 

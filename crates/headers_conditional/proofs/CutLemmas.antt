@@ -1,19 +1,11 @@
 -- A condition is any tag or its items, however its lines are cut and merged.
 use Rattle.std.proofs.Common.{◌≡◌, ℕ, zero, suc, ◌+◌, ◌<◌, true, List, [], ◌∷◌, ◌++◌, length, drop, get_or, refl, sym}
-use Rattle.std.proofs.Common.{◌∙◌, ap, subst, arith, length-append, inl, inr}
-use Rattle.std.specs.Prelude.{bytes_eq}
-use Rattle.std.specs.List.{slice_range}
-use Rattle.std.proofs.lemmas.Bool.{cases_Bool}
-use Rattle.std.proofs.lemmas.Slice.Eq.{bytes_eq-Decides}
-use Rattle.headers_syntax.specs.Lines.{Line}
-use Rattle.headers_syntax.specs.Text.{is_text}
-use Rattle.headers_items.specs.Answers.{SameAnswers, SurvivesCuts, GoesByItems}
-use Rattle.headers_items.specs.CutLaw.{AreCuts}
-use Rattle.headers_items.specs.Merge.{merge}
-use Rattle.headers_items.specs.Places.{comma, pieces}
-use Rattle.headers_items.specs.Separator.{comma_is_separator}
-use Rattle.headers_items.proofs.AnswerLemmas.{same_answers}
-use Rattle.headers_items.proofs.CutLemmas.{items_cut_at}
+use Rattle.std.{proofs.Common.{◌∙◌, ap, subst, arith, length-append, inl, inr}, specs.Prelude.bytes_eq}
+use Rattle.std.{specs.List.slice_range, proofs.lemmas.Bool.cases_Bool, proofs.lemmas.Slice.Eq.bytes_eq-Decides}
+use Rattle.headers_syntax.{specs.Lines.Line, specs.Text.is_text}
+use Rattle.headers_items.{specs.Answers.{SameAnswers, SurvivesCuts, GoesByItems}, specs.CutLaw.AreCuts}
+use Rattle.headers_items.{specs.Merge.merge, specs.Places.{comma, pieces}, specs.Separator.comma_is_separator}
+use Rattle.headers_items.{proofs.AnswerLemmas.same_answers, proofs.CutLemmas.items_cut_at}
 use Rattle.headers_items.proofs.PlacesLemmas.{counting_place_parts}
 use Rattle.headers_core.specs.EntityTagRange.{star, range_of}
 use Rattle.headers_core.specs.declared.entity_tag_range.EntityTagRange.{EntityTagRange}

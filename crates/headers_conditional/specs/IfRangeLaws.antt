@@ -1,12 +1,9 @@
 -- The laws of the header `if-range`.
 use Rattle.std.specs.Prelude.{◌≡◌, ℕ, Bool, true, false, Option, Some, None, option_map, if◌then◌else◌, refl}
 use Rattle.http_header.specs.FieldValue.{FieldValue, plain_value}
-use Rattle.headers_syntax.specs.Date.{date, fixdate}
-use Rattle.headers_syntax.specs.EntityTag.{is_tag}
-use Rattle.headers_syntax.specs.HeaderLaws.{HeaderLaws, SameBy, ReadsBy, written_by}
-use Rattle.headers_syntax.specs.Lines.{Line, first_line}
-use Rattle.headers_syntax.proofs.DateLemmas.{date_back}
-use Rattle.headers_syntax.proofs.EntityTagDateLemmas.{is_tag-fixdate}
+use Rattle.headers_syntax.{specs.Date.{date, fixdate}, specs.EntityTag.is_tag, specs.HeaderLaws.{HeaderLaws, SameBy}}
+use Rattle.headers_syntax.{specs.HeaderLaws.{ReadsBy, written_by}, specs.Lines.{Line, first_line}}
+use Rattle.headers_syntax.{proofs.DateLemmas.date_back, proofs.EntityTagDateLemmas.is_tag-fixdate}
 use Rattle.headers_syntax.proofs.ShapeLemmas.{ReadsBackLine, one_line_laws}
 use Rattle.headers_conditional.specs.Validator.{Validator, Tag, Second, unmarked, validator, validator_line}
 use Rattle.headers_conditional.specs.IfRange.{if_range_grammar}

@@ -2,8 +2,7 @@
 use Rattle.std.specs.Prelude.{◌≡◌, ℕ, ◌<◌, ⊤, Option, Some, None, option_map, if◌then◌else◌}
 use denote.Ref.{Bor}
 use Rattle.http_header.specs.FieldValue.{FieldValue, plain_value}
-use Rattle.headers_syntax.specs.Date.{date, fixdate}
-use Rattle.headers_syntax.specs.EntityTag.{is_tag, AreTags, StronglyEqual}
+use Rattle.headers_syntax.{specs.Date.{date, fixdate}, specs.EntityTag.{is_tag, AreTags, StronglyEqual}}
 use Rattle.headers_syntax.specs.Lines.{Line}
 
 -- a header value that is an entity tag, or a time in seconds since 1970

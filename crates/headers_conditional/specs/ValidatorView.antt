@@ -1,7 +1,6 @@
 -- What a contract sees of an `IfRange`.
 use Rattle.std.specs.Prelude.{◌≡◌, refl}
-use Rattle.headers_conditional.specs.Validator.{Validator, Tag, Second}
-use Rattle.headers_conditional.specs.declared.if_range.Named.{Named}
+use Rattle.headers_conditional.{specs.Validator.{Validator, Tag, Second}, specs.declared.if_range.Named.Named}
 use Rattle.headers_conditional.specs.declared.if_range.Named.TheVariants as named
 use Rattle.headers_conditional.specs.declared.if_range.IfRange.TheInside.{Inside}
 

@@ -1,8 +1,7 @@
 //! The header `etag`.
 ghost use Rattle.std.specs.Prelude.{◌≡◌, List, ℕ, IfOk, Some, codes};
 ghost use Rattle.http_header.specs.FieldValue.{IsFieldValue, FieldValue};
-ghost use Rattle.headers_syntax.specs.Refusal.{IsInvalid};
-ghost use Rattle.headers_syntax.specs.EntityTag.{IsTag};
+ghost use Rattle.headers_syntax.{specs.Refusal.IsInvalid, specs.EntityTag.IsTag};
 ghost use Rattle.headers_conditional.specs.ETag.{ReadsText};
 
 use headers_core::{EntityTag, Error, FormHeader, Refused};

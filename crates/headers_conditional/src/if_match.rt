@@ -1,10 +1,7 @@
 //! The header `if-match`.
 ghost use Rattle.std.specs.Prelude.{◌≡◌, ◌↔◌, List, ℕ, true, false, IsTrue};
-ghost use Rattle.headers_syntax.specs.EntityTag.{IsTag, StronglyEqual, TagParts};
-ghost use Rattle.headers_syntax.specs.Text.{is_text};
-ghost use Rattle.headers_items.specs.Answers.{GoesByItems, SurvivesCuts};
-ghost use Rattle.headers_items.specs.Merge.{merge};
-ghost use Rattle.headers_items.specs.Places.{comma};
+ghost use Rattle.headers_syntax.{specs.EntityTag.{IsTag, StronglyEqual, TagParts}, specs.Text.is_text};
+ghost use Rattle.headers_items.{specs.Answers.{GoesByItems, SurvivesCuts}, specs.Merge.merge, specs.Places.comma};
 ghost use Rattle.headers_core.specs.EntityTagRange.{range_of};
 ghost use Rattle.headers_core.specs.declared.entity_tag_range.EntityTagRange.TheVariants.{Tags};
 ghost use Rattle.headers_conditional.specs.IfMatch.{MatchPasses};

@@ -1,13 +1,10 @@
 //! The header `if-none-match`.
 ghost use Rattle.std.specs.Prelude.{◌≡◌, ◌↔◌, List, ℕ, true, false, IsTrue};
-ghost use Rattle.headers_syntax.specs.EntityTag.{IsTag, TagParts, WeaklyEqual};
-ghost use Rattle.headers_syntax.specs.Text.{is_text};
-ghost use Rattle.headers_items.specs.Answers.{GoesByItems, SurvivesCuts};
-ghost use Rattle.headers_items.specs.Merge.{merge};
-ghost use Rattle.headers_items.specs.Places.{comma};
+ghost use Rattle.headers_syntax.{specs.EntityTag.{IsTag, TagParts, WeaklyEqual}, specs.Text.is_text};
+ghost use Rattle.headers_items.{specs.Answers.{GoesByItems, SurvivesCuts}, specs.Merge.merge, specs.Places.comma};
 ghost use Rattle.headers_core.specs.EntityTagRange.{range_of};
-ghost use Rattle.headers_conditional.specs.IfNoneMatch.{NoneMatchPasses};
 ghost use Rattle.headers_core.specs.declared.entity_tag_range.EntityTagRange.TheVariants.{Tags};
+ghost use Rattle.headers_conditional.specs.IfNoneMatch.{NoneMatchPasses};
 
 use crate::etag::{ETag, tag_of};
 use crate::tag_condition::TagCondition;

@@ -1,13 +1,10 @@
 //! The header `if-range`.
-ghost use Rattle.std.specs.Prelude.{◌≡◌, ◌↔◌, ℕ, true, Some, IsTrue, IfOk, option_map};
-ghost use Rattle.std.specs.Bool.{MatchBool};
+ghost use Rattle.std.{specs.Prelude.{◌≡◌, ◌↔◌, ℕ, true, Some, IsTrue, IfOk, option_map}, specs.Bool.MatchBool};
 ghost use Rattle.http_header.specs.FieldValue.{FieldValue};
-ghost use Rattle.headers_syntax.specs.Date.{IsDated, date, fixdate};
-ghost use Rattle.headers_syntax.specs.EntityTag.{is_tag};
-ghost use Rattle.headers_syntax.specs.HeaderLaws.{ReadsBy, written_by};
-ghost use Rattle.headers_conditional.specs.IfRange.{if_range_grammar};
-ghost use Rattle.headers_conditional.specs.Validator.{Tag, Second, unmarked, validator, IsModified, ValidatorMatches};
-ghost use Rattle.headers_conditional.specs.Validator.{named_tag, named_second};
+ghost use Rattle.headers_syntax.{specs.Date.{IsDated, date, fixdate}, specs.EntityTag.is_tag, specs.HeaderLaws.ReadsBy};
+ghost use Rattle.headers_syntax.specs.HeaderLaws.{written_by};
+ghost use Rattle.headers_conditional.{specs.IfRange.if_range_grammar, specs.Validator.{Tag, Second, unmarked}};
+ghost use Rattle.headers_conditional.specs.Validator.{validator, IsModified, ValidatorMatches, named_tag, named_second};
 
 use crate::etag::{ETag, into_tag, tag_of};
 use crate::last_modified::LastModified;

@@ -1,9 +1,7 @@
 //! Conditions on the entity tags of the target.
 ghost use Rattle.std.specs.Prelude.{◌≡◌, ◌↔◌, List, IsTrue, IfOk};
-ghost use Rattle.headers_syntax.specs.HeaderLaws.{ReadsBy};
-ghost use Rattle.headers_syntax.specs.Lines.{Line};
-ghost use Rattle.headers_items.specs.Merge.{merge};
-ghost use Rattle.headers_items.specs.Places.{comma};
+ghost use Rattle.headers_syntax.{specs.HeaderLaws.ReadsBy, specs.Lines.Line};
+ghost use Rattle.headers_items.{specs.Merge.merge, specs.Places.comma};
 ghost use Rattle.headers_core.specs.EntityTagRange.{range_of, tags_grammar};
 ghost use Rattle.headers_core.specs.declared.entity_tag_range.EntityTagRange.TheVariants.{Any};
 

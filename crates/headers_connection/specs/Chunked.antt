@@ -1,6 +1,5 @@
 -- Whether a list of transfer codings ends in `chunked` (RFC 9112, section 6.1).
-use Rattle.std.specs.Prelude.{◌≡◌, ℕ, ◌==◌, Bool, List, None, codes, IsSomeAnd}
-use Rattle.std.specs.List.{after_last, last_or}
+use Rattle.std.{specs.Prelude.{◌≡◌, ℕ, ◌==◌, Bool, List, None, codes, IsSomeAnd}, specs.List.{after_last, last_or}}
 use Rattle.headers_syntax.specs.Text.{trim}
 use Rattle.headers_items.specs.Places.{comma}
 

@@ -1,8 +1,6 @@
 -- The header `expect`: its only field line is `100-continue`.
 use Rattle.std.specs.Prelude.{codes}
-use Rattle.headers_syntax.specs.Lines.{Line}
-use Rattle.headers_syntax.specs.HeaderLaws.{Grammar}
-use Rattle.headers_syntax.specs.Shapes.{only_word}
+use Rattle.headers_syntax.{specs.Lines.Line, specs.HeaderLaws.Grammar, specs.Shapes.only_word}
 use Rattle.headers_connection.specs.declared.expect.Expect.{Expect}
 
 abbrev pub expect_grammar : Grammar Expect Line

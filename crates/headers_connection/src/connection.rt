@@ -1,10 +1,7 @@
 //! The header `connection`.
-ghost use Rattle.std.specs.Prelude.{◌≡◌, ◌↔◌, List, ℕ, IsTrue, IfOk, codes};
-ghost use Rattle.std.specs.Iterator.{IsFinite};
-ghost use Rattle.headers_items.specs.Answers.{GoesByItems, SurvivesCuts};
-ghost use Rattle.headers_items.specs.Merge.{merge};
-ghost use Rattle.headers_items.specs.Places.{comma, items};
-ghost use Rattle.headers_items.specs.CutLaw.{MergesLines};
+ghost use Rattle.std.{specs.Prelude.{◌≡◌, ◌↔◌, List, ℕ, IsTrue, IfOk, codes}, specs.Iterator.IsFinite};
+ghost use Rattle.headers_items.{specs.Answers.{GoesByItems, SurvivesCuts}, specs.Merge.merge, specs.Places.comma};
+ghost use Rattle.headers_items.{specs.Places.items, specs.CutLaw.MergesLines};
 ghost use Rattle.headers_connection.specs.Connection.{HasOption};
 
 use headers_core::{Comma, FlatCsv, FormHeader, same_but_for_case};

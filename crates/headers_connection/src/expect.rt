@@ -19,8 +19,7 @@ impl Expect {
 
 impl Header for Expect {
     ghost use Rattle.std.specs.Prelude.{true, codes};
-    ghost use Rattle.headers_syntax.specs.HeaderLaws.{SameBy, ReadsBy, written_by};
-    ghost use Rattle.headers_syntax.proofs.ShapeLemmas.{only_word_laws};
+    ghost use Rattle.headers_syntax.{specs.HeaderLaws.{SameBy, ReadsBy, written_by}, proofs.ShapeLemmas.only_word_laws};
     ghost use Rattle.headers_connection.specs.Expect.{expect_grammar};
 
     ghost field_name = { codes "expect" };

@@ -1,10 +1,8 @@
 //! The header `transfer-encoding`.
-ghost use Rattle.std.specs.Prelude.{◌≡◌, ◌↔◌, IsTrue, IfOk, List, codes, ℕ};
-ghost use Rattle.std.specs.List.{after_last};
+ghost use Rattle.std.{specs.Prelude.{◌≡◌, ◌↔◌, IsTrue, IfOk, List, codes, ℕ}, specs.List.after_last};
 ghost use Rattle.headers_syntax.specs.Text.{trim};
-ghost use Rattle.headers_items.specs.Answers.{GoesByItems, SurvivesCuts};
-ghost use Rattle.headers_items.specs.Merge.{merge};
-ghost use Rattle.headers_items.specs.Places.{comma, items};
+ghost use Rattle.headers_items.{specs.Answers.{GoesByItems, SurvivesCuts}, specs.Merge.merge, specs.Places.comma};
+ghost use Rattle.headers_items.specs.Places.{items};
 ghost use Rattle.headers_connection.specs.Chunked.{IsChunked, is_comma};
 
 use headers_core::{Comma, FlatCsv, FormHeader, trim};

@@ -1,10 +1,9 @@
 -- What the loop of `ContentLength::decode` knows of the lines that have come.
 use Rattle.std.proofs.Common.{◌≡◌, ℕ, ◌<◌, ◌≢◌, List, [], ◌∷◌, ◌++◌, length, Option, Some, None, sym, ◌∙◌, arith}
 use Rattle.std.proofs.Common.{length-append}
-use Rattle.headers_syntax.specs.Lines.{Line}
-use Rattle.headers_syntax.specs.Number.{number}
-use Rattle.headers_content.specs.declared.content_length.ContentLength.{ContentLength}
-use Rattle.headers_content.specs.ContentLength.{AllWrite, content_length_reads}
+use Rattle.headers_syntax.{specs.Lines.Line, specs.Number.number}
+use Rattle.headers_content.{specs.declared.content_length.ContentLength.ContentLength, specs.ContentLength.AllWrite}
+use Rattle.headers_content.specs.ContentLength.{content_length_reads}
 
 -- the number of all lines so far
 abbrev pub NumberSoFar : Option ℕ → List Line → Type 0

@@ -1,13 +1,9 @@
 -- What the first line says of a media type.
-use Rattle.std.proofs.Common.{◌≡◌, ℕ, true, List, [], ◌∷◌, Some, subst, sym, ◌∙◌}
-use Rattle.std.specs.Prelude.{Result, Ok, Err}
-use Rattle.headers_syntax.specs.DecodesTo.{DecodesTo}
-use Rattle.headers_syntax.specs.Lines.{Line, first_line}
-use Rattle.headers_syntax.specs.Text.{is_text}
-use Rattle.headers_syntax.specs.declared.error.Refused.{Refused}
-use Rattle.headers_syntax.specs.declared.error.Refused.TheVariants.{Invalid, Memory}
-use Rattle.headers_mime.specs.MediaType.{IsMediaType, IsCanonical}
-use Rattle.headers_mime.proofs.MimeLemmas.{is_canonical-text}
+use Rattle.std.{proofs.Common.{◌≡◌, ℕ, true, List, [], ◌∷◌, Some, subst, sym, ◌∙◌}, specs.Prelude.{Result, Ok, Err}}
+use Rattle.headers_syntax.{specs.DecodesTo.DecodesTo, specs.Lines.{Line, first_line}, specs.Text.is_text}
+use Rattle.headers_syntax.{specs.declared.error.Refused.Refused, specs.declared.error.Refused.TheVariants.Invalid}
+use Rattle.headers_syntax.specs.declared.error.Refused.TheVariants.{Memory}
+use Rattle.headers_mime.{specs.MediaType.{IsMediaType, IsCanonical}, proofs.MimeLemmas.is_canonical-text}
 use Rattle.headers_mime.specs.MimeText.{ReadsMime}
 use Rattle.headers_content.specs.ContentType.{ReadsType, type_line}
 

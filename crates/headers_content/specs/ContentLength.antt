@@ -1,8 +1,6 @@
 -- The header `content-length` (RFC 9110, section 8.6): there is a field line, and each is the length.
-use Rattle.std.specs.Prelude.{◌≡◌, ℕ, ◌<◌, List, [], ◌∷◌, Some, decimal, length}
-use Rattle.std.specs.List.{AllByRecursion}
-use Rattle.headers_syntax.specs.Lines.{Line}
-use Rattle.headers_syntax.specs.Number.{number}
+use Rattle.std.{specs.Prelude.{◌≡◌, ℕ, ◌<◌, List, [], ◌∷◌, Some, decimal, length}, specs.List.AllByRecursion}
+use Rattle.headers_syntax.{specs.Lines.Line, specs.Number.number}
 use Rattle.headers_content.specs.declared.content_length.ContentLength.{ContentLength}
 
 -- both are the same number

@@ -1,12 +1,9 @@
 -- The laws of the header `content-length`.
-use Rattle.std.specs.Prelude.{◌≡◌, ℕ, List, [], ◌∷◌, Some, decimal, refl}
-use Rattle.std.proofs.Common.{sym, ◌∙◌, ap, arith}
-use Rattle.headers_syntax.specs.Lines.{Line}
-use Rattle.headers_syntax.specs.HeaderLaws.{HeaderLaws}
-use Rattle.headers_syntax.proofs.NumberLemmas.{number-decimal, number-lt}
-use Rattle.headers_content.specs.declared.content_length.ContentLength.{ContentLength}
-use Rattle.headers_content.specs.ContentLength.{AllWrite, content_length_same, content_length_reads}
-use Rattle.headers_content.specs.ContentLength.{content_length_writes}
+use Rattle.std.{specs.Prelude.{◌≡◌, ℕ, List, [], ◌∷◌, Some, decimal, refl}, proofs.Common.{sym, ◌∙◌, ap, arith}}
+use Rattle.headers_syntax.{specs.Lines.Line, specs.HeaderLaws.HeaderLaws, proofs.NumberLemmas.number-decimal}
+use Rattle.headers_syntax.proofs.NumberLemmas.{number-lt}
+use Rattle.headers_content.{specs.declared.content_length.ContentLength.ContentLength, specs.ContentLength.AllWrite}
+use Rattle.headers_content.specs.ContentLength.{content_length_same, content_length_reads, content_length_writes}
 
 all_write_same : (lines : List Line) (m n : ℕ) → m ≡ n → AllWrite m lines → AllWrite n lines
 all_write_same [] m n e h = tt

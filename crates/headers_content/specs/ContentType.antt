@@ -1,7 +1,6 @@
 -- The header `content-type` (RFC 9110, section 8.3): its first field line, which is text and a media type.
 use Rattle.std.specs.Prelude.{◌≡◌, ℕ, true, List, [], ◌∷◌}
-use Rattle.headers_syntax.specs.Lines.{Line}
-use Rattle.headers_syntax.specs.Text.{is_text}
+use Rattle.headers_syntax.{specs.Lines.Line, specs.Text.is_text}
 use Rattle.headers_mime.specs.MediaType.{MediaType, IsMediaType, canonical}
 
 -- the canonical text that the field lines decode to

@@ -1,9 +1,7 @@
 -- The laws of the header `content-type`.
 use Rattle.std.proofs.Common.{◌≡◌, ℕ, List, [], ◌∷◌, refl, sym, ◌∙◌, ap, subst}
-use Rattle.headers_syntax.specs.HeaderLaws.{HeaderLaws}
-use Rattle.headers_syntax.specs.Lines.{Line}
-use Rattle.headers_mime.specs.MediaType.{canonical, canonical_parts, media_text}
-use Rattle.headers_mime.proofs.ReadingLemmas.{one_reading}
+use Rattle.headers_syntax.{specs.HeaderLaws.HeaderLaws, specs.Lines.Line}
+use Rattle.headers_mime.{specs.MediaType.{canonical, canonical_parts, media_text}, proofs.ReadingLemmas.one_reading}
 use Rattle.headers_mime.proofs.CanonicalLemmas.{canonical-media, canonical_parts-twice}
 use Rattle.headers_mime.proofs.MimeLemmas.{canonical-text}
 use Rattle.headers_content.specs.ContentType.{ReadsType, type_line}

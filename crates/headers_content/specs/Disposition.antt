@@ -1,8 +1,6 @@
 -- The disposition in a field line of `content-disposition`.
-use Rattle.std.specs.Prelude.{◌==◌, Option, Some, None, if◌then◌else◌}
-use Rattle.std.specs.List.{before_first}
-use Rattle.headers_syntax.specs.Lines.{Line}
-use Rattle.headers_syntax.specs.Text.{is_text}
+use Rattle.std.{specs.Prelude.{◌==◌, Option, Some, None, if◌then◌else◌}, specs.List.before_first}
+use Rattle.headers_syntax.{specs.Lines.Line, specs.Text.is_text}
 use Rattle.headers_items.specs.Places.{semicolon}
 
 -- what is before the first semicolon, or the whole line; a line that isn't text has no disposition

@@ -1,6 +1,5 @@
 //! The header `content-disposition`.
-ghost use Rattle.std.specs.Prelude.{◌≡◌, ◌↔◌, ◌==◌, Some, codes, IsTrue, IfOk};
-ghost use Rattle.std.specs.List.{before_first};
+ghost use Rattle.std.{specs.Prelude.{◌≡◌, ◌↔◌, ◌==◌, Some, codes, IsTrue, IfOk}, specs.List.before_first};
 ghost use Rattle.http_header.specs.FieldValue.{plain_value, FieldValue, field_value_code};
 ghost use Rattle.headers_items.specs.Places.{semicolon};
 ghost use Rattle.headers_content.specs.Disposition.{disposition_of};

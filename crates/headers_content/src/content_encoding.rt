@@ -1,8 +1,7 @@
 //! The header `content-encoding`.
 ghost use Rattle.std.specs.Prelude.{◌≡◌, ◌↔◌, Contains, IsTrue, IfOk, codes, List, ℕ};
-ghost use Rattle.headers_items.specs.Answers.{GoesByItems, SurvivesCuts};
-ghost use Rattle.headers_items.specs.Merge.{merge};
-ghost use Rattle.headers_items.specs.Places.{comma, items};
+ghost use Rattle.headers_items.{specs.Answers.{GoesByItems, SurvivesCuts}, specs.Merge.merge, specs.Places.comma};
+ghost use Rattle.headers_items.specs.Places.{items};
 
 use headers_core::{Comma, FlatCsv, FormHeader};
 use http_header::{CONTENT_ENCODING, HeaderName};

@@ -1,6 +1,5 @@
 //! The header `content-type`.
-ghost use Rattle.std.specs.Prelude.{◌≡◌, Some, codes, IfOk};
-ghost use Rattle.std.specs.Fmt.{padded};
+ghost use Rattle.std.{specs.Prelude.{◌≡◌, Some, codes, IfOk}, specs.Fmt.padded};
 ghost use Rattle.headers_mime.specs.MimeText.{ReadsMime};
 ghost use Rattle.headers_content.specs.ContentType.{ReadsType, type_line};
 

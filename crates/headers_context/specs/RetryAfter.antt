@@ -1,7 +1,5 @@
 -- The header `retry-after`: the first field line is a number of seconds or a date.
-use Rattle.headers_syntax.specs.Lines.{first_line}
-use Rattle.headers_syntax.specs.HeaderLaws.{Grammar}
-use Rattle.headers_syntax.specs.Shapes.{one_line}
+use Rattle.headers_syntax.{specs.Lines.first_line, specs.HeaderLaws.Grammar, specs.Shapes.one_line}
 use Rattle.headers_context.specs.RetryTime.{RetryTime, retry_time, retry_line}
 use Rattle.headers_context.specs.declared.retry_after.RetryAfter.{RetryAfter}
 

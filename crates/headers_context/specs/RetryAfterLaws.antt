@@ -1,11 +1,8 @@
 -- The laws of the header `retry-after`.
 use Rattle.std.specs.Prelude.{◌≡◌, ℕ, Option, Some, None, refl}
-use Rattle.headers_syntax.specs.Date.{date}
-use Rattle.headers_syntax.specs.Number.{number}
-use Rattle.headers_syntax.specs.Lines.{Line, first_line}
-use Rattle.headers_syntax.specs.HeaderLaws.{HeaderLaws, SameBy, ReadsBy, written_by}
-use Rattle.headers_syntax.proofs.DateLemmas.{date_back, number-fixdate}
-use Rattle.headers_syntax.proofs.NumberLemmas.{number-decimal, number-lt}
+use Rattle.headers_syntax.{specs.Date.date, specs.Number.number, specs.Lines.{Line, first_line}}
+use Rattle.headers_syntax.{specs.HeaderLaws.{HeaderLaws, SameBy, ReadsBy, written_by}, proofs.DateLemmas.date_back}
+use Rattle.headers_syntax.{proofs.DateLemmas.number-fixdate, proofs.NumberLemmas.{number-decimal, number-lt}}
 use Rattle.headers_syntax.proofs.ShapeLemmas.{ReadsBackLine, one_line_laws}
 use Rattle.headers_context.specs.RetryTime.{RetryTime, Delay, Until, number_else_date, retry_time, retry_line}
 use Rattle.headers_context.specs.RetryAfter.{retry_after_grammar}

@@ -1,9 +1,6 @@
 -- When to send the request again (RFC 9110, section 10.2.3), and how a field line encodes it.
-use Rattle.std.specs.Prelude.{ℕ, Option, Some, None, option_map, decimal}
-use Rattle.std.specs.declared.time.Duration.{Duration}
-use Rattle.headers_syntax.specs.Date.{date, fixdate}
-use Rattle.headers_syntax.specs.Durations.{LastsSeconds}
-use Rattle.headers_syntax.specs.Lines.{Line}
+use Rattle.std.{specs.Prelude.{ℕ, Option, Some, None, option_map, decimal}, specs.declared.time.Duration.Duration}
+use Rattle.headers_syntax.{specs.Date.{date, fixdate}, specs.Durations.LastsSeconds, specs.Lines.Line}
 use Rattle.headers_syntax.specs.Number.{number}
 
 -- after this many seconds, or from that time on, in seconds since 1970

@@ -1,7 +1,6 @@
 -- A `RetryAfter` as a contract sees it.
 use Rattle.std.specs.Prelude.{◌≡◌, refl}
-use Rattle.headers_context.specs.RetryTime.{RetryTime, Delay, Until}
-use Rattle.headers_context.specs.declared.retry_after.After.{After}
+use Rattle.headers_context.{specs.RetryTime.{RetryTime, Delay, Until}, specs.declared.retry_after.After.After}
 use Rattle.headers_context.specs.declared.retry_after.After.TheVariants as after
 use Rattle.headers_context.specs.declared.retry_after.RetryAfter.TheInside.{Inside}
 

@@ -1,8 +1,7 @@
 //! The header `retry-after`.
 ghost use Rattle.std.specs.Prelude.{◌≡◌, IfOk};
-ghost use Rattle.headers_syntax.specs.Date.{IsDated};
+ghost use Rattle.headers_syntax.{specs.Date.IsDated, specs.Durations.IsWholeSeconds};
 ghost use Rattle.http_header.specs.FieldValue.{plain_value};
-ghost use Rattle.headers_syntax.specs.Durations.{IsWholeSeconds};
 ghost use Rattle.headers_context.specs.RetryTime.{Delay, Until, IsDelay, retry_time, retry_line};
 
 use headers_core::{AsHeaderValue, Date1, Error, Header, Refused, Seconds, first};
@@ -88,8 +87,7 @@ impl RetryAfter {
 impl Header for RetryAfter {
     ghost use Rattle.std.specs.Prelude.{true, codes};
     ghost use Rattle.headers_syntax.specs.HeaderLaws.{SameBy, ReadsBy, written_by};
-    ghost use Rattle.headers_context.specs.RetryAfter.{retry_after_grammar};
-    ghost use Rattle.headers_context.specs.RetryAfterLaws.{retry_after_laws};
+    ghost use Rattle.headers_context.{specs.RetryAfter.retry_after_grammar, specs.RetryAfterLaws.retry_after_laws};
 
     ghost field_name = { codes "retry-after" };
 

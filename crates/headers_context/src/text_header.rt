@@ -1,9 +1,7 @@
 //! Headers that are one field line of text.
-ghost use Rattle.std.specs.Prelude.{◌≡◌, ◌↔◌, Some, IsTrue, IfOk};
-ghost use Rattle.std.specs.Fmt.{padded};
+ghost use Rattle.std.{specs.Prelude.{◌≡◌, ◌↔◌, Some, IsTrue, IfOk}, specs.Fmt.padded};
 ghost use Rattle.http_header.specs.FieldValue.{IsFieldValue, plain_value};
-ghost use Rattle.headers_syntax.specs.Text.{is_text};
-ghost use Rattle.headers_syntax.specs.Refusal.{IsInvalid};
+ghost use Rattle.headers_syntax.{specs.Text.is_text, specs.Refusal.IsInvalid};
 
 use headers_core::{FormHeader, HeaderValueString, NamedField, Refused};
 use http_header::HeaderName;

@@ -1,8 +1,6 @@
 -- The header `set-cookie`: all its field lines in order, of which there is at least one.
 use Rattle.std.specs.Prelude.{List}
-use Rattle.headers_syntax.specs.Lines.{Line, lines_of}
-use Rattle.headers_syntax.specs.HeaderLaws.{Grammar}
-use Rattle.headers_syntax.specs.Shapes.{all_kept}
+use Rattle.headers_syntax.{specs.Lines.{Line, lines_of}, specs.HeaderLaws.Grammar, specs.Shapes.all_kept}
 use Rattle.headers_cookies.specs.declared.set_cookie.SetCookie.{SetCookie}
 
 abbrev pub set_cookie_grammar : Grammar SetCookie (List Line)

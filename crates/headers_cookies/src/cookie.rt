@@ -1,10 +1,8 @@
 //! The header `cookie`.
 ghost use Rattle.std.specs.Prelude.{◌≡◌, ◌<◌, ◌^◌, length, option_map, IfOk, List, ℕ, codes};
-ghost use Rattle.headers_items.specs.Answers.{GoesByItems, SurvivesCuts};
-ghost use Rattle.headers_items.specs.Merge.{merge};
-ghost use Rattle.headers_items.specs.Places.{semicolon, items};
-ghost use Rattle.headers_items.specs.ItemsState.{ItemsState, walk_over};
-ghost use Rattle.headers_items.specs.Pairs.{pairs, pairs_left, first_value, YieldsPairsInOrder};
+ghost use Rattle.headers_items.{specs.Answers.{GoesByItems, SurvivesCuts}, specs.Merge.merge, specs.Places.semicolon};
+ghost use Rattle.headers_items.{specs.Places.items, specs.ItemsState.{ItemsState, walk_over}, specs.Pairs.pairs};
+ghost use Rattle.headers_items.specs.Pairs.{pairs_left, first_value, YieldsPairsInOrder};
 
 use headers_core::{FlatCsv, FormHeader, Pairs, SemiColon};
 use http_header::{COOKIE, HeaderName};

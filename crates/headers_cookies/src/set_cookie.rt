@@ -15,8 +15,7 @@ pub struct SetCookie {
 }
 
 impl Model for SetCookie {
-    ghost use Rattle.std.specs.Prelude.{List};
-    ghost use Rattle.std.specs.Coded.{coded_list};
+    ghost use Rattle.std.{specs.Prelude.List, specs.Coded.coded_list};
     ghost use Rattle.http_header.specs.FieldValue.{FieldValue, field_value_code};
 
     ghost Value = { List FieldValue };
@@ -42,8 +41,7 @@ impl SetCookie {
 
 impl Header for SetCookie {
     ghost use Rattle.std.specs.Prelude.{false, codes};
-    ghost use Rattle.headers_syntax.specs.HeaderLaws.{SameBy, ReadsBy, written_by};
-    ghost use Rattle.headers_syntax.proofs.ShapeLemmas.{all_kept_laws};
+    ghost use Rattle.headers_syntax.{specs.HeaderLaws.{SameBy, ReadsBy, written_by}, proofs.ShapeLemmas.all_kept_laws};
     ghost use Rattle.headers_cookies.specs.SetCookie.{set_cookie_grammar};
 
     ghost field_name = { codes "set-cookie" };

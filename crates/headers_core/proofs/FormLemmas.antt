@@ -1,12 +1,8 @@
 -- What a header's encoding shape decodes, the header decodes.
-use Rattle.std.proofs.Common.{List, Option}
-use Rattle.std.specs.Prelude.{Err}
+use Rattle.std.{proofs.Common.{List, Option}, specs.Prelude.Err}
 use Rattle.http_header.specs.FieldValue.{FieldValue}
-use Rattle.headers_syntax.specs.Lines.{Line}
-use Rattle.headers_syntax.specs.DecodesTo.{DecodesTo}
-use Rattle.headers_syntax.specs.OfLines.{OfLines}
-use Rattle.headers_syntax.proofs.OfLinesLemmas.{OfLines-weaker}
-use Rattle.headers_syntax.specs.declared.error.Refused.{Refused}
+use Rattle.headers_syntax.{specs.Lines.Line, specs.DecodesTo.DecodesTo, specs.OfLines.OfLines}
+use Rattle.headers_syntax.{proofs.OfLinesLemmas.OfLines-weaker, specs.declared.error.Refused.Refused}
 use Rattle.headers_syntax.specs.declared.error.Refused.TheVariants.{Invalid, Memory}
 
 module _ {V F E : Type 0} (form : V → F) (reads : List Line → F → Type 0) where

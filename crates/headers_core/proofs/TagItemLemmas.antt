@@ -1,16 +1,11 @@
 -- A tag as the one item of a list.
-use Rattle.std.proofs.Common.{◌≡◌, ℕ, ◌-◌, Bool, true, false, List, [], ◌∷◌, ◌++◌, length}
-use Rattle.std.proofs.Common.{take, map, refl, sym, ◌∙◌, ap, subst, arith}
-use Rattle.std.specs.List.{list_all, suffix_len, onto_first}
-use Rattle.std.proofs.lemmas.Bool.{and_parts, and_right, ne_eqb}
-use Rattle.std.proofs.lemmas.List.{reverse-append, take_all}
+use Rattle.std.proofs.Common.{◌≡◌, ℕ, ◌-◌, Bool, true, false, List, [], ◌∷◌, ◌++◌, length, take, map, refl, sym, ◌∙◌}
+use Rattle.std.{proofs.Common.{ap, subst, arith}, specs.List.{list_all, suffix_len, onto_first}}
+use Rattle.std.{proofs.lemmas.Bool.{and_parts, and_right, ne_eqb}, proofs.lemmas.List.{reverse-append, take_all}}
 use Rattle.std.proofs.lemmas.List.Sums.{list_all-from_AllPass}
-use Rattle.headers_syntax.specs.Text.{quote, is_blank, is_text, trim, trim_end}
-use Rattle.headers_syntax.specs.Text.{is_quote}
-use Rattle.headers_items.specs.Places.{items, pieces, places}
-use Rattle.headers_items.specs.Separator.{comma_is_separator}
-use Rattle.headers_syntax.specs.EntityTag.{is_tag_byte, TagParts, tag_text, IsTag}
-use Rattle.headers_items.proofs.CutLemmas.{cuts, cuts_quote, cuts_byte, items_cuts, pieces_cuts}
+use Rattle.headers_syntax.{specs.Text.{quote, is_blank, is_text, trim, trim_end, is_quote}, specs.EntityTag.is_tag_byte}
+use Rattle.headers_syntax.specs.EntityTag.{TagParts, tag_text, IsTag}
+use Rattle.headers_items.{specs.Places.{items, pieces, places}, specs.Separator.comma_is_separator}
 use Rattle.headers_items.proofs.CutLemmas.{cuts, cuts_quote, cuts_byte, items_cuts, pieces_cuts}
 
 -- a byte of a tag is no quote

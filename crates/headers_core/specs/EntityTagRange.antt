@@ -1,9 +1,7 @@
 -- The entity tags in a condition, or `*` (RFC 9110, sections 13.1.1 and 13.1.2).
 use Rattle.std.specs.Prelude.{⊤, ℕ, List, [], ◌∷◌, Some, codes, Any, bytes_eq, if◌then◌else◌}
-use Rattle.headers_syntax.specs.EntityTag.{TagParts, AreTags}
-use Rattle.headers_items.specs.Places.{comma, items}
-use Rattle.headers_items.specs.Merge.{merge}
-use Rattle.headers_syntax.specs.HeaderLaws.{Grammar}
+use Rattle.headers_syntax.{specs.EntityTag.{TagParts, AreTags}, specs.HeaderLaws.Grammar}
+use Rattle.headers_items.{specs.Places.{comma, items}, specs.Merge.merge}
 use Rattle.headers_core.specs.declared.entity_tag_range.EntityTagRange.{EntityTagRange}
 use Rattle.headers_core.specs.declared.entity_tag_range.EntityTagRange.TheVariants as range
 

@@ -1,10 +1,7 @@
 -- Round trip: the encoding of a range decodes to that range.
-use Rattle.std.proofs.Common.{◌≡◌, ◌≢◌, ◌↔◌, ℕ, List, Some, refl, ap, inl, inr, ◌∙◌, sym}
-use Rattle.std.specs.Prelude.{bytes_eq}
-use Rattle.std.proofs.lemmas.Bool.{cases_Bool}
-use Rattle.std.proofs.lemmas.Slice.Eq.{bytes_eq-Decides}
-use Rattle.headers_items.specs.Merge.{merge}
-use Rattle.headers_items.specs.Places.{comma}
+use Rattle.std.{proofs.Common.{◌≡◌, ◌≢◌, ◌↔◌, ℕ, List, Some, refl, ap, inl, inr, ◌∙◌, sym}, specs.Prelude.bytes_eq}
+use Rattle.std.{proofs.lemmas.Bool.cases_Bool, proofs.lemmas.Slice.Eq.bytes_eq-Decides}
+use Rattle.headers_items.{specs.Merge.merge, specs.Places.comma}
 use Rattle.headers_syntax.specs.HeaderLaws.{ReadsBack, ReadsBy, written_by}
 use Rattle.headers_core.specs.declared.entity_tag_range.EntityTagRange.{EntityTagRange}
 use Rattle.headers_core.specs.declared.entity_tag_range.EntityTagRange.TheVariants.{Any, Tags}

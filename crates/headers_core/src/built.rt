@@ -1,10 +1,7 @@
 //! Theorems: which values that a constructor made survive a round trip.
 ghost use Rattle.std.specs.Prelude.{◌↔◌, List, IsTrue};
-ghost use Rattle.headers_syntax.specs.EntityTag.{is_tag};
-ghost use Rattle.headers_syntax.specs.Lines.{Line};
-ghost use Rattle.headers_syntax.specs.HeaderLaws.{ReadsBy, written_by};
-ghost use Rattle.headers_syntax.specs.Shapes.{first_word, only_word};
-ghost use Rattle.headers_syntax.specs.Text.{is_text};
+ghost use Rattle.headers_syntax.{specs.EntityTag.is_tag, specs.Lines.Line, specs.HeaderLaws.{ReadsBy, written_by}};
+ghost use Rattle.headers_syntax.{specs.Shapes.{first_word, only_word}, specs.Text.is_text};
 ghost use Rattle.headers_items.specs.Merge.{merge};
 
 use crate::field_form::FieldForm;

@@ -1,11 +1,8 @@
 //! The entity tags in a condition, or `*`.
-ghost use Rattle.std.specs.Prelude.{◌≡◌, ◌≢◌, ◌↔◌, IsTrue, IfOk};
-ghost use Rattle.std.specs.Iterator.{IsFinite};
-ghost use Rattle.headers_syntax.specs.OfLines.{OfLines};
-ghost use Rattle.headers_syntax.specs.EntityTag.{AreTags, StronglyEqual, WeaklyEqual};
-ghost use Rattle.headers_items.specs.Merge.{merge};
-ghost use Rattle.headers_items.specs.Places.{comma};
+ghost use Rattle.std.{specs.Prelude.{◌≡◌, ◌≢◌, ◌↔◌, IsTrue, IfOk}, specs.Iterator.IsFinite};
+ghost use Rattle.headers_syntax.{specs.OfLines.OfLines, specs.EntityTag.{AreTags, StronglyEqual, WeaklyEqual}};
 ghost use Rattle.headers_syntax.specs.HeaderLaws.{ReadsBy, written_by};
+ghost use Rattle.headers_items.{specs.Merge.merge, specs.Places.comma};
 ghost use Rattle.headers_core.specs.EntityTagRange.{Matches, range_of, range_text, star, tags_grammar};
 ghost use Rattle.headers_core.specs.declared.entity_tag_range.EntityTagRange.{EntityTagRange as Range};
 ghost use Rattle.headers_core.specs.declared.entity_tag_range.EntityTagRange.TheVariants.{Tags};

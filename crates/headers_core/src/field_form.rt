@@ -1,11 +1,7 @@
 //! Encoding shapes: what headers store of the field lines.
-ghost use Rattle.std.specs.Prelude.{◌≡◌, Bool, IsTrue, OnOk, OnErr};
-ghost use Rattle.std.specs.Iterator.{IsFinite};
-ghost use Rattle.headers_syntax.specs.Lines.{Appends};
-ghost use Rattle.headers_syntax.specs.OfLines.{OfLines};
-ghost use Rattle.headers_syntax.specs.DecodesTo.{DecodesTo};
-ghost use Rattle.headers_syntax.specs.Refusal.{NeverMemory};
-ghost use Rattle.headers_syntax.specs.HeaderLaws.{Grammar, ReadsBy, written_by, ReadsBack};
+ghost use Rattle.std.{specs.Prelude.{◌≡◌, Bool, IsTrue, OnOk, OnErr}, specs.Iterator.IsFinite};
+ghost use Rattle.headers_syntax.{specs.Lines.Appends, specs.OfLines.OfLines, specs.DecodesTo.DecodesTo};
+ghost use Rattle.headers_syntax.{specs.Refusal.NeverMemory, specs.HeaderLaws.{Grammar, ReadsBy, written_by, ReadsBack}};
 
 use headers_syntax::{AsHeaderValue, Error, Refused};
 use http_header::HeaderValue;

@@ -1,8 +1,6 @@
 //! Theorems for every header, from the laws of `Header` alone.
 ghost use Rattle.std.specs.Prelude.{◌≡◌, ◌↔◌, List, IsTrue};
-ghost use Rattle.headers_syntax.specs.Lines.{Line, lines_of};
-ghost use Rattle.headers_syntax.specs.DecodesTo.{DecodesTo};
-ghost use Rattle.headers_syntax.specs.Refusal.{NeverMemory};
+ghost use Rattle.headers_syntax.{specs.Lines.{Line, lines_of}, specs.DecodesTo.DecodesTo, specs.Refusal.NeverMemory};
 
 use crate::header::Header;
 use headers_syntax::{Error, Refused};

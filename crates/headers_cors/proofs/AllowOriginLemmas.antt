@@ -1,12 +1,8 @@
 -- What is no origin is not allowed, but for the star.
-use Rattle.std.proofs.Common.{◌≡◌, List, ℕ, Err}
-use Rattle.std.specs.Prelude.{codes}
-use Rattle.headers_syntax.specs.Lines.{Line}
-use Rattle.headers_syntax.specs.declared.error.Refused.{Refused}
+use Rattle.std.{proofs.Common.{◌≡◌, List, ℕ, Err}, specs.Prelude.codes}
+use Rattle.headers_syntax.{specs.Lines.Line, specs.declared.error.Refused.Refused}
 use Rattle.headers_syntax.specs.declared.error.Refused.TheVariants.{Invalid, Memory}
-use Rattle.headers_hosts.specs.OneLine.{LineDecodesTo}
-use Rattle.headers_hosts.specs.Origin.{IsOriginLine}
-use Rattle.headers_hosts.specs.OriginParts.{IsOriginText}
+use Rattle.headers_hosts.{specs.OneLine.LineDecodesTo, specs.Origin.IsOriginLine, specs.OriginParts.IsOriginText}
 use Rattle.headers_hosts.specs.declared.origin.Origin.{Origin}
 use Rattle.headers_cors.specs.AccessControlAllowOrigin.{IsKindLine, IsAllowedLine, IsKindText, IsAllowedText}
 use Rattle.headers_cors.specs.declared.access_control_allow_origin.AccessControlAllowOrigin.{AccessControlAllowOrigin}

@@ -1,8 +1,6 @@
 -- The header `access-control-allow-credentials`: its first field line is `true`.
 use Rattle.std.specs.Prelude.{codes}
-use Rattle.headers_syntax.specs.Lines.{Line}
-use Rattle.headers_syntax.specs.HeaderLaws.{Grammar}
-use Rattle.headers_syntax.specs.Shapes.{first_word}
+use Rattle.headers_syntax.{specs.Lines.Line, specs.HeaderLaws.Grammar, specs.Shapes.first_word}
 use Rattle.headers_cors.specs.declared.access_control_allow_credentials.AccessControlAllowCredentials as declared
 
 abbrev pub access_control_allow_credentials_grammar : Grammar declared.AccessControlAllowCredentials Line

@@ -1,10 +1,8 @@
 -- The header `access-control-allow-origin` (W3C CORS, section 5.1).
 use Rattle.std.specs.Prelude.{◌≡◌, ℕ, List, Option, Some, None, codes}
 use Rattle.headers_syntax.specs.Lines.{Line, only_line}
-use Rattle.headers_hosts.specs.OneLine.{ReadsLine, written_line}
-use Rattle.headers_hosts.specs.Origin.{IsOriginLine, origin_text}
-use Rattle.headers_hosts.specs.OriginParts.{IsOriginText}
-use Rattle.headers_hosts.specs.declared.origin.Origin.{Origin}
+use Rattle.headers_hosts.{specs.OneLine.{ReadsLine, written_line}, specs.Origin.{IsOriginLine, origin_text}}
+use Rattle.headers_hosts.{specs.OriginParts.IsOriginText, specs.declared.origin.Origin.Origin}
 use Rattle.headers_cors.specs.declared.access_control_allow_origin.AccessControlAllowOrigin.{AccessControlAllowOrigin}
 use Rattle.headers_cors.specs.declared.access_control_allow_origin.OriginOrAny.{OriginOrAny}
 use Rattle.headers_cors.specs.declared.access_control_allow_origin.OriginOrAny.TheVariants.{One, Any}

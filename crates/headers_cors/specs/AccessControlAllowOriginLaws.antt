@@ -1,13 +1,9 @@
 -- The laws of the header `access-control-allow-origin`: `*` is no origin.
-use Rattle.std.specs.Prelude.{◌≡◌, length, codes, refl}
-use Rattle.std.proofs.Common.{ap, arith, length-append}
-use Rattle.headers_syntax.specs.Lines.{Line, only_line}
-use Rattle.headers_syntax.specs.HeaderLaws.{HeaderLaws}
-use Rattle.headers_hosts.specs.OneLine.{Same, line_laws}
-use Rattle.headers_hosts.specs.Origin.{IsOriginLine}
+use Rattle.std.{specs.Prelude.{◌≡◌, length, codes, refl}, proofs.Common.{ap, arith, length-append}}
+use Rattle.headers_syntax.{specs.Lines.{Line, only_line}, specs.HeaderLaws.HeaderLaws}
+use Rattle.headers_hosts.{specs.OneLine.{Same, line_laws}, specs.Origin.IsOriginLine}
 use Rattle.headers_hosts.specs.Origin as Kinds
-use Rattle.headers_hosts.specs.OriginLaws.{origin_once, origin_back}
-use Rattle.headers_hosts.specs.declared.origin.Origin.{Origin}
+use Rattle.headers_hosts.{specs.OriginLaws.{origin_once, origin_back}, specs.declared.origin.Origin.Origin}
 use Rattle.headers_hosts.specs.declared.origin.OriginOrNull.{OriginOrNull}
 use Rattle.headers_hosts.specs.declared.origin.OriginOrNull.TheVariants.{Tuple, Null}
 use Rattle.headers_cors.specs.AccessControlAllowOrigin.{IsKindLine, IsAllowedLine, kind_text, allowed_text}

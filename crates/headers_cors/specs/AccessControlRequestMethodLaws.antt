@@ -1,9 +1,7 @@
 -- The laws of the header `access-control-request-method`.
-use Rattle.std.specs.Prelude.{◌≡◌, refl}
-use Rattle.std.proofs.Common.{sym, ◌∙◌, ap, subst}
+use Rattle.std.{specs.Prelude.{◌≡◌, refl}, proofs.Common.{sym, ◌∙◌, ap, subst}}
 use Rattle.http_header.specs.Token.{IsToken}
-use Rattle.headers_syntax.specs.Lines.{Line, first_line}
-use Rattle.headers_syntax.specs.HeaderLaws.{HeaderLaws}
+use Rattle.headers_syntax.{specs.Lines.{Line, first_line}, specs.HeaderLaws.HeaderLaws}
 use Rattle.headers_hosts.specs.OneLine.{Same, line_laws}
 use Rattle.headers_cors.specs.AccessControlRequestMethod.{method_bytes, IsMethodLine, request_method_reads}
 use Rattle.headers_cors.specs.AccessControlRequestMethod.{request_method_writes}

@@ -1,9 +1,7 @@
 //! The header `access-control-allow-headers`.
-ghost use Rattle.std.specs.Prelude.{◌≡◌, IfOk};
-ghost use Rattle.std.specs.Iterator.{IsFinite};
-ghost use Rattle.headers_items.specs.Answers.{GoesByItems, SurvivesCuts};
-ghost use Rattle.headers_items.specs.Merge.{merge};
-ghost use Rattle.headers_items.specs.Places.{comma, items};
+ghost use Rattle.std.{specs.Prelude.{◌≡◌, IfOk}, specs.Iterator.IsFinite};
+ghost use Rattle.headers_items.{specs.Answers.{GoesByItems, SurvivesCuts}, specs.Merge.merge, specs.Places.comma};
+ghost use Rattle.headers_items.specs.Places.{items};
 ghost use Rattle.headers_names.specs.ListItem.{name_of, names, Lists};
 
 use headers_core::{Comma, FlatCsv, FormHeader};

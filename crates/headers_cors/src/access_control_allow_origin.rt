@@ -1,11 +1,9 @@
 //! The header `access-control-allow-origin`.
 ghost use Rattle.std.specs.Prelude.{◌≡◌, List, ℕ, Some, None, IfOk, option_copied};
-ghost use Rattle.headers_hosts.specs.declared.origin.Origin.{Origin};
-ghost use Rattle.headers_hosts.specs.Origin.{IsOriginLine};
+ghost use Rattle.headers_hosts.{specs.declared.origin.Origin.Origin, specs.Origin.IsOriginLine};
 ghost use Rattle.headers_hosts.specs.OneLine.{LineDecodesTo};
 ghost use Rattle.headers_cors.specs.AccessControlAllowOrigin.{IsAllowedLine, IsAllowedText, allowed_text};
-ghost use Rattle.headers_cors.specs.AccessControlAllowOrigin.{allowed_origin, allow_origin_reads};
-ghost use Rattle.headers_cors.specs.AccessControlAllowOrigin.{allow_origin_writes};
+ghost use Rattle.headers_cors.specs.AccessControlAllowOrigin.{allowed_origin, allow_origin_reads, allow_origin_writes};
 ghost use Rattle.headers_cors.specs.declared.access_control_allow_origin.AccessControlAllowOrigin as declared;
 
 use headers_core::{AsHeaderValue, Error, Header, Refused, just_one};

@@ -1,11 +1,8 @@
 -- Decoding by the one line that a header reads.
 use Rattle.std.proofs.Common.{◌≡◌, List, Option, Some, None, Result, Ok, Err, subst}
 use Rattle.http_header.specs.FieldValue.{FieldValue}
-use Rattle.headers_syntax.specs.Lines.{Line}
-use Rattle.headers_syntax.specs.OfLines.{OfLines}
-use Rattle.headers_syntax.proofs.OfLinesLemmas.{OfLines-weaker}
-use Rattle.headers_syntax.specs.DecodesTo.{DecodesTo}
-use Rattle.headers_syntax.specs.declared.error.Refused.{Refused}
+use Rattle.headers_syntax.{specs.Lines.Line, specs.OfLines.OfLines, proofs.OfLinesLemmas.OfLines-weaker}
+use Rattle.headers_syntax.{specs.DecodesTo.DecodesTo, specs.declared.error.Refused.Refused}
 use Rattle.headers_syntax.specs.declared.error.Refused.TheVariants.{Invalid, Memory}
 use Rattle.headers_hosts.specs.OneLine.{ReadsLine, LineDecodesTo}
 

@@ -3,25 +3,18 @@ use Rattle.std.proofs.Common.{◌≡◌, ℕ, true, false, not, List, ◌++◌, 
 use Rattle.std.proofs.Common.{None, is_some, IsTrue, refl, sym, ◌∙◌, ap, subst, arith}
 use Rattle.std.specs.Prelude.{codes, bytes_eq, option_copied, slice_index, Result, Ok, Err}
 use denote.Ref.{Bor}
-use Rattle.std.proofs.lemmas.Bool.{or_right}
-use Rattle.std.proofs.lemmas.Bool.Decides.{nat_tests}
-use Rattle.std.proofs.lemmas.Slice.Eq.{bytes_eq-Decides}
-use Rattle.std.proofs.lemmas.List.Elements.{All-weaker, All-append}
+use Rattle.std.{proofs.lemmas.Bool.or_right, proofs.lemmas.Bool.Decides.nat_tests}
+use Rattle.std.{proofs.lemmas.Slice.Eq.bytes_eq-Decides, proofs.lemmas.List.Elements.{All-weaker, All-append}}
 use Rattle.std.proofs.lemmas.List.Sums.{AllPass-from_list_all}
-use Rattle.http_header.specs.Token.{is_value_byte}
-use Rattle.http_header.specs.FieldValue.{IsFieldValue}
-use Rattle.http_uri.specs.declared.uri.Uri.{Uri}
-use Rattle.http_uri.specs.ByteClasses.{is_scheme_byte, is_authority_byte}
-use Rattle.http_uri.specs.Grammar.{IsScheme, IsAuthority, path_of, query_of}
-use Rattle.http_uri.specs.Uri.{uri_scheme, uri_authority, uri_data, uri_path, uri_query, has_path, Spells, SpellsNone}
-use Rattle.headers_syntax.proofs.TextLemmas.{IsFieldValue-from_kept}
-use Rattle.headers_syntax.specs.declared.error.Refused.{Refused}
+use Rattle.http_header.{specs.Token.is_value_byte, specs.FieldValue.IsFieldValue}
+use Rattle.http_uri.{specs.declared.uri.Uri.Uri, specs.ByteClasses.{is_scheme_byte, is_authority_byte}}
+use Rattle.http_uri.{specs.Grammar.{IsScheme, IsAuthority, path_of, query_of}, specs.Uri.{uri_scheme, uri_authority}}
+use Rattle.http_uri.specs.Uri.{uri_data, uri_path, uri_query, has_path, Spells, SpellsNone}
+use Rattle.headers_syntax.{proofs.TextLemmas.IsFieldValue-from_kept, specs.declared.error.Refused.Refused}
 use Rattle.headers_syntax.specs.declared.error.Refused.TheVariants.{Invalid, Memory}
-use Rattle.headers_hosts.specs.OneLine.{LineDecodesTo}
-use Rattle.headers_hosts.specs.Origin.{IsKindLine, IsOriginLine, tuple_text}
-use Rattle.headers_hosts.specs.OriginLaws.{all_by_index, uri_once}
-use Rattle.headers_hosts.specs.OriginParts.{IsUriKind, IsUriOrigin, IsOriginText}
-use Rattle.headers_hosts.specs.declared.origin.Origin.{Origin}
+use Rattle.headers_hosts.{specs.OneLine.LineDecodesTo, specs.Origin.{IsKindLine, IsOriginLine, tuple_text}}
+use Rattle.headers_hosts.{specs.OriginLaws.{all_by_index, uri_once}, specs.OriginParts.{IsUriKind, IsUriOrigin}}
+use Rattle.headers_hosts.{specs.OriginParts.IsOriginText, specs.declared.origin.Origin.Origin}
 use Rattle.headers_hosts.specs.declared.origin.OriginOrNull.{OriginOrNull}
 use Rattle.headers_hosts.specs.declared.origin.OriginOrNull.TheVariants.{Tuple, Null}
 

@@ -2,8 +2,7 @@
 use Rattle.std.specs.Prelude.{◌≡◌, ◌≤◌, ℕ, List, length}
 use Rattle.http_uri.specs.Grammar.{IsAuthority}
 use Rattle.headers_syntax.specs.Lines.{Line, first_line}
-use Rattle.headers_hosts.specs.OneLine.{ReadsLine, written_line}
-use Rattle.headers_hosts.specs.declared.host.Host.{Host}
+use Rattle.headers_hosts.{specs.OneLine.{ReadsLine, written_line}, specs.declared.host.Host.Host}
 
 -- the bytes of a host
 abbrev pub host_bytes : Host → List ℕ

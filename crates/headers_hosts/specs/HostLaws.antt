@@ -1,11 +1,8 @@
 -- The laws of the header `host`.
-use Rattle.std.specs.Prelude.{◌≡◌, ◌≤◌, ◌↔◌, length, refl}
-use Rattle.std.proofs.Common.{sym, ◌∙◌, ap, subst}
+use Rattle.std.{specs.Prelude.{◌≡◌, ◌≤◌, ◌↔◌, length, refl}, proofs.Common.{sym, ◌∙◌, ap, subst}}
 use Rattle.http_uri.specs.Grammar.{IsAuthority}
-use Rattle.headers_syntax.specs.Lines.{Line, first_line}
-use Rattle.headers_syntax.specs.HeaderLaws.{HeaderLaws}
-use Rattle.headers_hosts.specs.OneLine.{Same, line_laws}
-use Rattle.headers_hosts.specs.Host.{host_bytes, IsHostLine, host_reads, host_writes}
+use Rattle.headers_syntax.{specs.Lines.{Line, first_line}, specs.HeaderLaws.HeaderLaws}
+use Rattle.headers_hosts.{specs.OneLine.{Same, line_laws}, specs.Host.{host_bytes, IsHostLine, host_reads, host_writes}}
 use Rattle.headers_hosts.specs.declared.host.Host.{Host}
 
 host_once : (line : Line) (v w : Host) → IsHostLine line v → IsHostLine line w → v ≡ w

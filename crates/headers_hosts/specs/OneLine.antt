@@ -1,9 +1,6 @@
 -- Headers of one field line, which a relation connects to their value.
-use Rattle.std.specs.Prelude.{◌≡◌, List, [], ◌∷◌, Option, Some, Result, refl}
-use Rattle.std.proofs.Common.{sym, ◌∙◌, ap, subst}
-use Rattle.headers_syntax.specs.Lines.{Line}
-use Rattle.headers_syntax.specs.DecodesTo.{DecodesTo}
-use Rattle.headers_syntax.specs.declared.error.Refused.{Refused}
+use Rattle.std.{specs.Prelude.{◌≡◌, List, [], ◌∷◌, Option, Some, Result, refl}, proofs.Common.{sym, ◌∙◌, ap, subst}}
+use Rattle.headers_syntax.{specs.Lines.Line, specs.DecodesTo.DecodesTo, specs.declared.error.Refused.Refused}
 use Rattle.headers_syntax.specs.HeaderLaws.{HeaderLaws}
 
 -- both values are the same, byte for byte

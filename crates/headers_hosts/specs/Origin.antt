@@ -2,8 +2,7 @@
 use Rattle.std.specs.Prelude.{◌≡◌, ℕ, Bool, true, false, List, [], ◌++◌, Option, Some, None, codes, decimal}
 use Rattle.http_uri.specs.Grammar.{IsUriText, path_of, query_of, authority_host}
 use Rattle.headers_syntax.specs.Lines.{Line, only_line}
-use Rattle.headers_hosts.specs.OneLine.{ReadsLine, written_line}
-use Rattle.headers_hosts.specs.declared.origin.Origin.{Origin}
+use Rattle.headers_hosts.{specs.OneLine.{ReadsLine, written_line}, specs.declared.origin.Origin.Origin}
 use Rattle.headers_hosts.specs.declared.origin.OriginOrNull.{OriginOrNull}
 use Rattle.headers_hosts.specs.declared.origin.OriginOrNull.TheVariants.{Tuple, Null}
 

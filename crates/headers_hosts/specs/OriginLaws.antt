@@ -1,26 +1,19 @@
 -- The laws of the header `origin`: a text parses as at most one URI, and an origin survives a round trip.
-use Rattle.std.specs.Prelude.{◌≡◌, ℕ, suc, ◌+◌, ◌<◌, Bool, true, false, not, List, [], ◌∷◌, ◌++◌}
-use Rattle.std.specs.Prelude.{length, Option, Some, None, codes, bytes_eq, IsTrue, slice_index, refl}
-use Rattle.std.specs.List.{prefix_len, list_all}
-use Rattle.std.specs.Char.{to_ascii_lowercase}
-use Rattle.std.proofs.Common.{sym, ◌∙◌, ap, subst, arith, inl, inr, append_assoc, append-nil, length-append, lit≤}
-use Rattle.std.proofs.Common.{⊎_elim}
-use Rattle.std.proofs.lemmas.Bool.{cases_Bool, and_parts, false≢true}
-use Rattle.std.proofs.lemmas.Bool.Decides.{nat_tests}
-use Rattle.std.proofs.lemmas.Slice.Eq.{bytes_eq-Decides}
-use Rattle.std.proofs.lemmas.List.{length-map}
-use Rattle.std.proofs.lemmas.List.Folds.{list_all-append}
-use Rattle.std.proofs.lemmas.List.Sums.{AllPass-from_list_all, list_all-from_AllPass}
+use Rattle.std.specs.Prelude.{◌≡◌, ℕ, suc, ◌+◌, ◌<◌, Bool, true, false, not, List, [], ◌∷◌, ◌++◌, length, Option, Some}
+use Rattle.std.{specs.Prelude.{None, codes, bytes_eq, IsTrue, slice_index, refl}, specs.List.{prefix_len, list_all}}
+use Rattle.std.{specs.Char.to_ascii_lowercase, proofs.Common.{sym, ◌∙◌, ap, subst, arith, inl, inr, append_assoc}}
+use Rattle.std.{proofs.Common.{append-nil, length-append, lit≤, ⊎_elim}, proofs.lemmas.Bool.{cases_Bool, and_parts}}
+use Rattle.std.{proofs.lemmas.Bool.false≢true, proofs.lemmas.Bool.Decides.nat_tests}
+use Rattle.std.{proofs.lemmas.Slice.Eq.bytes_eq-Decides, proofs.lemmas.List.length-map}
+use Rattle.std.{proofs.lemmas.List.Folds.list_all-append, proofs.lemmas.List.Sums.AllPass-from_list_all}
+use Rattle.std.proofs.lemmas.List.Sums.{list_all-from_AllPass}
 use Rattle.http_uri.specs.ByteClasses.{lowercase, is_scheme_byte, is_authority_byte, is_delimiter, slash}
 use Rattle.http_uri.specs.Grammar.{IsScheme, IsAuthority, IsTail, IsAbsoluteForm, IsUriText, StartsOrigin}
 use Rattle.http_uri.specs.Grammar.{normal_scheme}
-use Rattle.headers_syntax.specs.Lines.{Line, only_line}
-use Rattle.headers_syntax.specs.HeaderLaws.{HeaderLaws}
-use Rattle.headers_hosts.specs.OneLine.{Same, line_laws}
-use Rattle.headers_hosts.specs.Origin.{IsOriginUri, IsKindLine, IsOriginLine, tuple_text, kind_text, origin_text}
-use Rattle.headers_hosts.specs.Origin.{origin_reads, origin_writes}
-use Rattle.headers_hosts.specs.declared.origin.Origin.{Origin}
-use Rattle.headers_hosts.specs.declared.origin.OriginOrNull.{OriginOrNull}
+use Rattle.headers_syntax.{specs.Lines.{Line, only_line}, specs.HeaderLaws.HeaderLaws}
+use Rattle.headers_hosts.{specs.OneLine.{Same, line_laws}, specs.Origin.{IsOriginUri, IsKindLine, IsOriginLine}}
+use Rattle.headers_hosts.specs.Origin.{tuple_text, kind_text, origin_text, origin_reads, origin_writes}
+use Rattle.headers_hosts.{specs.declared.origin.Origin.Origin, specs.declared.origin.OriginOrNull.OriginOrNull}
 use Rattle.headers_hosts.specs.declared.origin.OriginOrNull.TheVariants.{Tuple, Null}
 
 -- a list is cut in one way into bytes that pass a test and a rest that begins with none

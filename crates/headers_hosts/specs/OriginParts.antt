@@ -1,11 +1,9 @@
 -- Origins from a URI, and from a text.
 use Rattle.std.specs.Prelude.{◌≡◌, List, ℕ, Some, None, codes}
 use Rattle.http_header.specs.FieldValue.{IsFieldValue}
-use Rattle.http_uri.specs.declared.uri.Uri.{Uri}
-use Rattle.http_uri.specs.Grammar.{path_of, query_of}
-use Rattle.http_uri.specs.Uri.{uri_scheme, uri_authority, uri_data}
-use Rattle.headers_hosts.specs.Origin.{IsOriginLine}
-use Rattle.headers_hosts.specs.declared.origin.Origin.{Origin}
+use Rattle.http_uri.{specs.declared.uri.Uri.Uri, specs.Grammar.{path_of, query_of}, specs.Uri.uri_scheme}
+use Rattle.http_uri.specs.Uri.{uri_authority, uri_data}
+use Rattle.headers_hosts.{specs.Origin.IsOriginLine, specs.declared.origin.Origin.Origin}
 use Rattle.headers_hosts.specs.declared.origin.OriginOrNull.{OriginOrNull}
 use Rattle.headers_hosts.specs.declared.origin.OriginOrNull.TheVariants.{Tuple, Null}
 

@@ -1,9 +1,8 @@
 //! The header `host`.
 ghost use Rattle.std.specs.Prelude.{◌≡◌, ◌≤◌, ◌↔◌, length, IfOk, Some};
-ghost use Rattle.http_uri.specs.Grammar.{authority_host};
-ghost use Rattle.http_uri.specs.Port.{IsPortNumberOf};
-ghost use Rattle.headers_hosts.specs.OneLine.{LineDecodesTo};
-ghost use Rattle.headers_hosts.specs.Host.{host_bytes, host_reads, host_writes, IsHostLine};
+ghost use Rattle.http_uri.{specs.Grammar.authority_host, specs.Port.IsPortNumberOf};
+ghost use Rattle.headers_hosts.{specs.OneLine.LineDecodesTo, specs.Host.{host_bytes, host_reads, host_writes}};
+ghost use Rattle.headers_hosts.specs.Host.{IsHostLine};
 
 use headers_core::{AsHeaderValue, Error, Header, Refused, first};
 use http_header::{HOST, HeaderName, HeaderValue, HeaderValueError};
@@ -101,9 +100,7 @@ impl fmt::Display for Host {
 
 impl Header for Host {
     ghost use Rattle.std.specs.Prelude.{false, codes};
-    ghost use Rattle.headers_hosts.specs.OneLine.{Same};
-    ghost use Rattle.headers_hosts.specs.Host.{host_reads, host_writes};
-    ghost use Rattle.headers_hosts.specs.HostLaws.{host_laws};
+    ghost use Rattle.headers_hosts.{specs.OneLine.Same, specs.Host.{host_reads, host_writes}, specs.HostLaws.host_laws};
 
     ghost field_name = { codes "host" };
 

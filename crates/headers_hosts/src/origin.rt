@@ -246,8 +246,7 @@ impl fmt::Display for Origin {
 
 impl Header for Origin {
     ghost use Rattle.std.specs.Prelude.{false, codes};
-    ghost use Rattle.headers_hosts.specs.OneLine.{Same};
-    ghost use Rattle.headers_hosts.specs.Origin.{origin_reads, origin_writes};
+    ghost use Rattle.headers_hosts.{specs.OneLine.Same, specs.Origin.{origin_reads, origin_writes}};
     ghost use Rattle.headers_hosts.specs.OriginLaws.{origin_laws};
 
     ghost field_name = { codes "origin" };

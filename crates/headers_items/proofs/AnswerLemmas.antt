@@ -1,21 +1,14 @@
 -- What goes by the items of a value stays the same if its lines are joined or split.
 use Rattle.std.proofs.Common.{◌≡◌, ℕ, true, List, [], ◌∷◌, ◌++◌, refl, sym, ◌∙◌, ap, subst, filter, append-nil}
-use Rattle.std.specs.List.{flat_map, list_all}
-use Rattle.std.proofs.lemmas.Bool.{and_parts}
+use Rattle.std.{specs.List.{flat_map, list_all}, proofs.lemmas.Bool.and_parts}
 use Rattle.std.proofs.lemmas.List.Elements.{filter-append}
 use Rattle.http_header.specs.Token.{is_visible_or_blank}
-use Rattle.headers_syntax.specs.Lines.{Line}
-use Rattle.headers_syntax.specs.Text.{is_text}
-use Rattle.headers_syntax.proofs.TextLemmas.{list_all-parts}
-use Rattle.headers_items.specs.Answers.{SameAnswers, SurvivesCuts, GoesByItems}
-use Rattle.headers_items.specs.CutLaw.{AreCuts}
-use Rattle.headers_items.specs.Entries.{entries, line_entries}
-use Rattle.headers_items.specs.ItemsState.{is_entry}
-use Rattle.headers_items.specs.Merge.{merge}
-use Rattle.headers_items.specs.Places.{comma, semicolon, items, pieces}
-use Rattle.headers_items.specs.Separator.{IsSeparator, comma_is_separator, semicolon_is_separator}
-use Rattle.headers_items.proofs.CutLemmas.{IsCutInto, items_apart, items_cut_at, IsCutInto-pieces, zero_even}
-use Rattle.headers_items.proofs.CutLemmas.{HasItemsOf-merge}
+use Rattle.headers_syntax.{specs.Lines.Line, specs.Text.is_text, proofs.TextLemmas.list_all-parts}
+use Rattle.headers_items.{specs.Answers.{SameAnswers, SurvivesCuts, GoesByItems}, specs.CutLaw.AreCuts}
+use Rattle.headers_items.{specs.Entries.{entries, line_entries}, specs.ItemsState.is_entry, specs.Merge.merge}
+use Rattle.headers_items.{specs.Places.{comma, semicolon, items, pieces}, specs.Separator.IsSeparator}
+use Rattle.headers_items.{specs.Separator.{comma_is_separator, semicolon_is_separator}, proofs.CutLemmas.IsCutInto}
+use Rattle.headers_items.proofs.CutLemmas.{items_apart, items_cut_at, IsCutInto-pieces, zero_even, HasItemsOf-merge}
 
 -- equal values have the same answers
 pub same_answers : {A R : Type 0} (answers : A → R → Type 0) (v w : A) → v ≡ w → SameAnswers answers v w

@@ -1,12 +1,10 @@
 -- The pieces of a value, one by one.
 use Rattle.std.proofs.Common.{◌≡◌, ℕ, ◌+◌, ◌<◌, ◌≤◌, List, [], ◌∷◌, ◌++◌, length, drop, get_or, sym, ◌∙◌, ap, subst}
-use Rattle.std.proofs.Common.{append_assoc}
-use Rattle.std.specs.List.{slice_range}
-use Rattle.std.proofs.lemmas.List.{drop_more, drop_all, take_rest, map_push}
+use Rattle.std.{proofs.Common.append_assoc, specs.List.slice_range, proofs.lemmas.List.{drop_more, drop_all, take_rest}}
+use Rattle.std.proofs.lemmas.List.{map_push}
 use Rattle.http_header.specs.FieldValue.{FieldValue}
-use Rattle.headers_items.specs.Places.{pieces}
+use Rattle.headers_items.{specs.Places.pieces, specs.CutLaw.AreCuts}
 use Rattle.headers_syntax.specs.Lines.{lines_of}
-use Rattle.headers_items.specs.CutLaw.{AreCuts}
 
 -- a value more
 pub lines_of_push : (xs ys : List FieldValue) (x : FieldValue) (line : List ℕ) → ys ≡ xs ++ x ∷ [] → x.bytes ≡ line

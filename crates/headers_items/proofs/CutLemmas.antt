@@ -1,22 +1,17 @@
 -- The pieces of a list by one pass over its bytes, and the law of joined lines.
 use Rattle.std.proofs.Common.{◌≡◌, ◌≢◌, ⊎_elim, ℕ, zero, suc, ◌+◌, ◌-◌, ◌<◌, ◌≤◌, Bool, true, false, not, cond, eqb}
 use Rattle.std.proofs.Common.{◌&&◌, List, [], ◌∷◌, ◌++◌, map, length, take, drop, get_or, refl, sym, ◌∙◌, ap, subst}
-use Rattle.std.proofs.Common.{arith, append-nil}
-use Rattle.std.specs.List.{filter, prefix_len, onto_first, count_by, list_all, slice_range}
-use Rattle.std.proofs.lemmas.Bool.{and_parts, and_from, eqb-true, eqb-false, eq-eqb, ne_eqb, false≢true, cases_Bool}
-use Rattle.std.proofs.lemmas.List.{map-append, drop_more, drop_all, take-append-drop, take-take, drop-take, drop-drop}
-use Rattle.std.proofs.lemmas.Bool.Decides.{nat_tests}
-use Rattle.headers_syntax.specs.Text.{quote, is_blank, is_text, trim}
-use Rattle.headers_syntax.specs.Text.{is_quote}
-use Rattle.headers_syntax.proofs.TextLemmas.{list_all-both}
-use Rattle.headers_items.specs.Places.{is_even, quotes_before, is_counting_place, places, pieces, counting_from, items}
-use Rattle.http_header.specs.Token.{is_visible_or_blank}
-use Rattle.std.proofs.lemmas.List.Sums.{sum_by-cons, sum_by-append}
-use Rattle.headers_items.specs.Separator.{IsSeparator}
-use Rattle.headers_items.specs.Merge.{merge}
-use Rattle.headers_items.specs.CutLaw.{HasItemsOf, IsMerged, AreCuts}
+use Rattle.std.{proofs.Common.{arith, append-nil}, specs.List.{filter, prefix_len, onto_first, count_by, list_all}}
+use Rattle.std.{specs.List.slice_range, proofs.lemmas.Bool.{and_parts, and_from, eqb-true, eqb-false, eq-eqb, ne_eqb}}
+use Rattle.std.{proofs.lemmas.Bool.{false≢true, cases_Bool}, proofs.lemmas.List.{map-append, drop_more, drop_all}}
+use Rattle.std.proofs.lemmas.List.{take-append-drop, take-take, drop-take, drop-drop}
+use Rattle.std.{proofs.lemmas.Bool.Decides.nat_tests, proofs.lemmas.List.Sums.{sum_by-cons, sum_by-append}}
+use Rattle.headers_syntax.{specs.Text.{quote, is_blank, is_text, trim, is_quote}, proofs.TextLemmas.list_all-both}
 use Rattle.headers_syntax.proofs.TextLemmas.{list_all-parts}
+use Rattle.headers_items.specs.Places.{is_even, quotes_before, is_counting_place, places, pieces, counting_from, items}
+use Rattle.headers_items.{specs.Separator.IsSeparator, specs.Merge.merge, specs.CutLaw.{HasItemsOf, IsMerged, AreCuts}}
 use Rattle.headers_items.proofs.PlacesLemmas.{is_even-more, counting_place_parts, parity_quote, parity_other}
+use Rattle.http_header.specs.Token.{is_visible_or_blank}
 
 -- the pieces by one pass, where `even` says whether an even number of quotes stands before
 pub cuts : ℕ → Bool → List ℕ → List (List ℕ)

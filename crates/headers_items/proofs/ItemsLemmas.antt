@@ -1,15 +1,11 @@
 -- Facts on the counting places and the pieces that are left.
-use Rattle.std.proofs.Common.{◌≡◌, ◌≢◌, ⊎_elim, ℕ, zero, suc, ◌+◌, ◌-◌, ◌<◌, ◌≤◌, Bool, true, false, List, [], ◌∷◌}
-use Rattle.std.proofs.Common.{map, length, drop, refl, sym, ◌∙◌, ap, arith}
-use Rattle.std.specs.List.{filter, slice_range}
+use Rattle.std.proofs.Common.{◌≡◌, ◌≢◌, ⊎_elim, ℕ, zero, suc, ◌+◌, ◌-◌, ◌<◌, ◌≤◌, Bool, true, false, List, [], ◌∷◌, map}
+use Rattle.std.{proofs.Common.{length, drop, refl, sym, ◌∙◌, ap, arith}, specs.List.{filter, slice_range}}
+use Rattle.std.{proofs.lemmas.Bool.{or_parts, cases_lt, cases_Bool}, proofs.lemmas.List.length-map}
 use Rattle.headers_syntax.specs.Text.{quote, trim}
 use Rattle.headers_items.specs.Places.{is_counting_place, places, pieces, counting_from, items_from}
-use Rattle.headers_items.specs.ItemsState.{NoCut, IsNextCut}
-use Rattle.headers_items.specs.ScanState.{ScanState, IsNextMark}
-use Rattle.headers_items.specs.declared.scan.Mark.{Mark}
-use Rattle.headers_items.proofs.PlacesLemmas.{counting_place_other}
-use Rattle.std.proofs.lemmas.Bool.{or_parts, cases_lt, cases_Bool}
-use Rattle.std.proofs.lemmas.List.{length-map}
+use Rattle.headers_items.{specs.ItemsState.{NoCut, IsNextCut}, specs.ScanState.{ScanState, IsNextMark}}
+use Rattle.headers_items.{specs.declared.scan.Mark.Mark, proofs.PlacesLemmas.counting_place_other}
 
 -- n places from i on, and those of them that are counting places
 pub filter_places_none : (f : ℕ → Bool) (i n : ℕ) → ((k : ℕ) → i ≤ k → k < i + n → f k ≡ false)

@@ -1,23 +1,14 @@
 -- Pieces that are joined by comma and space have themselves as their entries.
-use Rattle.std.proofs.Common.{◌≡◌, ℕ, ◌+◌, true, not, nat_lt, cond}
-use Rattle.std.proofs.Common.{List, [], ◌∷◌, ◌++◌, length, filter, refl, ◌∙◌, ap, arith}
-use Rattle.std.specs.List.{list_all, flat_map, count_by}
-use Rattle.std.proofs.lemmas.Bool.{and_parts, and_from, ltb-true, ne_eqb}
-use Rattle.std.proofs.lemmas.List.{append-nil}
+use Rattle.std.proofs.Common.{◌≡◌, ℕ, ◌+◌, true, not, nat_lt, cond, List, [], ◌∷◌, ◌++◌, length, filter, refl, ◌∙◌, ap}
+use Rattle.std.{proofs.Common.arith, specs.List.{list_all, flat_map, count_by}, proofs.lemmas.Bool.and_parts}
+use Rattle.std.{proofs.lemmas.Bool.{and_from, ltb-true, ne_eqb}, proofs.lemmas.List.append-nil}
 use Rattle.std.proofs.lemmas.List.Sums.{sum_by-cons}
-use Rattle.headers_syntax.specs.Text.{is_text}
-use Rattle.headers_items.specs.Places.{pieces, places, is_even, items}
-use Rattle.headers_syntax.specs.Text.{is_quote}
-use Rattle.headers_items.specs.Separator.{comma_is_separator}
-use Rattle.headers_items.specs.Merge.{merge}
-use Rattle.headers_items.specs.CutLaw.{EvenButLast}
-use Rattle.headers_items.specs.ItemsState.{NoCut, is_entry}
-use Rattle.headers_items.specs.Entries.{entries, line_entries}
-use Rattle.headers_items.proofs.CutLemmas.{HasItemsOf-merge}
-use Rattle.headers_items.proofs.ItemsLemmas.{items_last}
-use Rattle.headers_items.proofs.PlacesLemmas.{counting_place_other}
-use Rattle.headers_syntax.proofs.PlainLemmas.{is_plain, is_piece, plain_bounds, piece_at, trim_piece, text_piece}
-use Rattle.headers_syntax.proofs.PlainLemmas.{no_quote}
+use Rattle.headers_syntax.{specs.Text.{is_text, is_quote}, proofs.PlainLemmas.{is_plain, is_piece, plain_bounds}}
+use Rattle.headers_syntax.proofs.PlainLemmas.{piece_at, trim_piece, text_piece, no_quote}
+use Rattle.headers_items.{specs.Places.{pieces, places, is_even, items}, specs.Separator.comma_is_separator}
+use Rattle.headers_items.{specs.Merge.merge, specs.CutLaw.EvenButLast, specs.ItemsState.{NoCut, is_entry}}
+use Rattle.headers_items.{specs.Entries.{entries, line_entries}, proofs.CutLemmas.HasItemsOf-merge}
+use Rattle.headers_items.{proofs.ItemsLemmas.items_last, proofs.PlacesLemmas.counting_place_other}
 
 no_quotes : (p : List ℕ) → list_all is_plain p ≡ true → count_by is_quote p ≡ 0
 no_quotes [] h = refl

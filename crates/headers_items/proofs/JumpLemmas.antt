@@ -1,17 +1,13 @@
 -- A search for the next mark by searches for bytes.
 use Rattle.std.proofs.Common.{◌≡◌, ⊎_elim, ℕ, ◌+◌, ◌-◌, ◌<◌, ◌≤◌, Bool, true, false, eqb, List, length, take, drop}
-use Rattle.std.proofs.Common.{get_or, sym, ◌∙◌, ap, subst, arith, Option, None, Some}
-use Rattle.std.specs.Prelude.{not, if◌then◌else◌}
-use Rattle.std.specs.Option.{MatchOption}
-use Rattle.std.proofs.lemmas.Bool.{false_from_ne_true, not-true, not-false, or_parts, or_from, or_cases, eqb-true}
-use Rattle.std.proofs.lemmas.Bool.{eqb-false, false≢true}
+use Rattle.std.{proofs.Common.{get_or, sym, ◌∙◌, ap, subst, arith, Option, None, Some}, specs.Prelude.not}
+use Rattle.std.{specs.Prelude.if◌then◌else◌, specs.Option.MatchOption, proofs.lemmas.Bool.false_from_ne_true}
+use Rattle.std.proofs.lemmas.Bool.{not-true, not-false, or_parts, or_from, or_cases, eqb-true, eqb-false, false≢true}
 use Rattle.std.proofs.lemmas.List.{get_or-drop, length-drop, take_rest}
 use Rattle.memchr.specs.Find.{IsFirstByte, is_byte, is_byte2}
-use Rattle.headers_items.specs.Places.{is_even, quotes_before, NoHit}
-use Rattle.headers_items.specs.ScanState.{IsNextMark}
-use Rattle.headers_items.specs.declared.scan.Mark.{Mark}
-use Rattle.headers_items.proofs.PlacesLemmas.{NoQuote, quotes_along, counting_place_other, counting_place_inside}
-use Rattle.headers_items.proofs.PlacesLemmas.{counting_place_from}
+use Rattle.headers_items.{specs.Places.{is_even, quotes_before, NoHit}, specs.ScanState.IsNextMark}
+use Rattle.headers_items.{specs.declared.scan.Mark.Mark, proofs.PlacesLemmas.{NoQuote, quotes_along}}
+use Rattle.headers_items.proofs.PlacesLemmas.{counting_place_other, counting_place_inside, counting_place_from}
 
 -- the mark at place p
 abbrev pub mark_at : List ℕ → ℕ → Mark

@@ -1,13 +1,10 @@
 -- Facts on the next mark of a scan.
-use Rattle.std.proofs.Common.{◌≡◌, ◌≢◌, ℕ, ◌+◌, Bool, true, false, not, List, sym, ◌∙◌, ap, arith, cond}
+use Rattle.std.proofs.Common.{◌≡◌, ◌≢◌, ℕ, ◌+◌, Bool, true, false, not, List, sym, ◌∙◌, ap, arith, cond, ⊎_elim}
 use Rattle.std.proofs.lemmas.Bool.{cases_Bool}
-use Rattle.std.proofs.Common.{⊎_elim}
 use Rattle.headers_syntax.specs.Text.{quote}
-use Rattle.headers_items.specs.Places.{is_even, quotes_before, hits}
-use Rattle.headers_items.specs.ScanState.{IsNextMark, end_search}
-use Rattle.headers_items.specs.declared.scan.Mark.{Mark}
-use Rattle.headers_items.proofs.PlacesLemmas.{quotes_upto, hits_upto, hits_quote, hits_cut, counting_place_parts}
-use Rattle.headers_items.proofs.PlacesLemmas.{parity_quote, parity_other}
+use Rattle.headers_items.{specs.Places.{is_even, quotes_before, hits}, specs.ScanState.{IsNextMark, end_search}}
+use Rattle.headers_items.{specs.declared.scan.Mark.Mark, proofs.PlacesLemmas.{quotes_upto, hits_upto, hits_quote}}
+use Rattle.headers_items.proofs.PlacesLemmas.{hits_cut, counting_place_parts, parity_quote, parity_other}
 
 -- a mark is one hit
 pub mark_hits : (sep : ℕ) (s : List ℕ) (i : ℕ) (m : Mark) → sep ≢ quote → IsNextMark sep s i m

@@ -1,23 +1,15 @@
 -- One line more.
 use Rattle.std.proofs.Common.{◌≡◌, ℕ, ◌<◌, Bool, true, false, List, [], ◌∷◌, ◌++◌, map, length, Option, None, Some}
 use Rattle.std.proofs.Common.{Result, Ok, Err, IfOk, refl, sym, ◌∙◌, ap, append_assoc, length-append, IsTrue, subst}
-use Rattle.std.proofs.Common.{arith}
-use Rattle.std.specs.Bool.{MatchBool}
-use Rattle.std.specs.Iterator.{Yields, YieldsThen}
-use Rattle.std.specs.Iterator.Adapters.{map_steps, map_source}
-use Rattle.std.specs.declared.iter.Map.{Map}
+use Rattle.std.{proofs.Common.arith, specs.Bool.MatchBool, specs.Iterator.{Yields, YieldsThen}}
+use Rattle.std.{specs.Iterator.Adapters.{map_steps, map_source}, specs.declared.iter.Map.Map}
 use denote.Param.Members.{Mut, Called}
-use Rattle.headers_syntax.specs.Lines.{Line, lines_of}
-use Rattle.std.proofs.lemmas.List.{append-nil}
-use Rattle.headers_items.specs.CutLaw.{IsMerged, MergesItems, MergesLines}
-use Rattle.headers_syntax.specs.OfLines.{OfLines}
-use Rattle.std.proofs.lemmas.Bool.Decides.{nat_tests}
+use Rattle.headers_syntax.{specs.Lines.{Line, lines_of}, specs.OfLines.OfLines, specs.HeaderLaws.ReadsBack}
+use Rattle.std.{proofs.lemmas.List.append-nil, proofs.lemmas.Bool.Decides.nat_tests}
 use Rattle.std.proofs.lemmas.List.Elements.{All-append, All-cons}
-use Rattle.http_header.specs.Token.{is_value_byte}
-use Rattle.headers_items.specs.Separator.{IsSeparator}
-use Rattle.http_header.specs.FieldValue.{FieldValue, IsFieldValue}
+use Rattle.headers_items.{specs.CutLaw.{IsMerged, MergesItems, MergesLines}, specs.Separator.IsSeparator}
 use Rattle.headers_items.specs.Merge.{merge, merged}
-use Rattle.headers_syntax.specs.HeaderLaws.{ReadsBack}
+use Rattle.http_header.{specs.Token.is_value_byte, specs.FieldValue.{FieldValue, IsFieldValue}}
 
 -- a line after at least one other
 pub merge_push : (sep : ℕ) (x : List ℕ) (xs : List (List ℕ)) (y : List ℕ)

@@ -1,12 +1,8 @@
 -- The halves of an item, found by a search.
-use Rattle.std.proofs.Common.{◌≡◌, ℕ, ◌+◌, ◌-◌, ◌≤◌, true, false, List, [], ◌∷◌, length, take, Option, None, Some}
-use Rattle.std.proofs.Common.{refl, sym, ◌∙◌, ap, arith, ltb}
-use Rattle.std.specs.List.{slice_range, cons_option}
-use Rattle.std.specs.Prelude.{position, option_map}
-use Rattle.std.proofs.lemmas.Bool.{false_from_ne_true}
-use Rattle.std.proofs.lemmas.Bool.Decides.{nat_tests}
-use Rattle.std.proofs.lemmas.List.{take_rest}
-use Rattle.std.proofs.lemmas.List.Sums.{position_or_len_is}
+use Rattle.std.proofs.Common.{◌≡◌, ℕ, ◌+◌, ◌-◌, ◌≤◌, true, false, List, [], ◌∷◌, length, take, Option, None, Some, refl}
+use Rattle.std.{proofs.Common.{sym, ◌∙◌, ap, arith, ltb}, specs.List.{slice_range, cons_option}, specs.Prelude.position}
+use Rattle.std.{specs.Prelude.option_map, proofs.lemmas.Bool.false_from_ne_true, proofs.lemmas.Bool.Decides.nat_tests}
+use Rattle.std.{proofs.lemmas.List.take_rest, proofs.lemmas.List.Sums.position_or_len_is}
 use Rattle.memchr.specs.Find.{IsFirstByte, is_byte}
 use Rattle.headers_syntax.specs.Text.{trim}
 use Rattle.headers_items.specs.Pairs.{Pair, is_equals, halves_at, pair_of, pairs}

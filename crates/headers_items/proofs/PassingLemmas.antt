@@ -2,14 +2,11 @@
 use Rattle.std.proofs.Common.{◌≡◌, ℕ, ◌≤◌, ◌-◌, Bool, true, false, List, [], ◌∷◌, ◌++◌, length, drop, map, ◌≢◌, Some}
 use Rattle.std.proofs.Common.{refl, sym, ◌∙◌, ap, arith, inl, inr, ⊎_elim, append_assoc}
 use denote.Ref.{Bor}
-use Rattle.headers_items.specs.Places.{items_from}
+use Rattle.headers_items.specs.Places.{items_from, pieces, counting_from, is_counting_place}
 use Rattle.headers_items.specs.ItemsState.{ItemsState, items_left, BeginsPiece, NoCut, ScansPiece, GivesPiece}
-use Rattle.std.specs.List.{filter}
-use Rattle.headers_items.proofs.WalkLemmas.{items_left_open, items_left_done}
-use Rattle.std.proofs.lemmas.List.Elements.{filter-append}
+use Rattle.headers_items.{proofs.WalkLemmas.{items_left_open, items_left_done}, proofs.ItemsLemmas.filter_places_none}
+use Rattle.std.{specs.List.filter, proofs.lemmas.List.Elements.filter-append}
 use Rattle.headers_syntax.specs.Text.{trim}
-use Rattle.headers_items.specs.Places.{pieces, counting_from, is_counting_place}
-use Rattle.headers_items.proofs.ItemsLemmas.{filter_places_none}
 
 -- an iterator went from s to t over items that are not wanted
 pub record PassesUnwanted (wanted : List ℕ → Bool) (s t : ItemsState) : Type 0 where

@@ -1,14 +1,11 @@
 -- Facts on quotes, counting places and hits.
 use Rattle.std.proofs.Common.{◌≡◌, ◌≢◌, ⊎_elim, ℕ, zero, suc, ◌+◌, ◌-◌, ◌<◌, ◌≤◌, Bool, true, false, not, cond, List}
 use Rattle.std.proofs.Common.{[], ◌∷◌, ◌++◌, length, get_or, refl, sym, ◌∙◌, ap, subst, arith, take, eqb}
-use Rattle.std.specs.List.{count_by, sum_by}
-use Rattle.std.proofs.lemmas.Bool.{or_parts, and_parts, and_left, and_right, and_from, eqb-true, eq-eqb, ne_eqb}
-use Rattle.std.proofs.lemmas.Bool.{cases_Bool}
-use Rattle.std.proofs.lemmas.Bool.Decides.{nat_tests}
+use Rattle.std.{specs.List.{count_by, sum_by}, proofs.lemmas.Bool.{or_parts, and_parts, and_left, and_right, and_from}}
+use Rattle.std.{proofs.lemmas.Bool.{eqb-true, eq-eqb, ne_eqb, cases_Bool}, proofs.lemmas.Bool.Decides.nat_tests}
 use Rattle.std.proofs.lemmas.List.Sums.{count_by_more_yes, count_by_more_no, sum_by_push, sum_by-take-le, sum_by_more}
-use Rattle.headers_syntax.specs.Text.{is_text, quote}
+use Rattle.headers_syntax.specs.Text.{is_text, quote, is_quote}
 use Rattle.headers_items.specs.Places.{items, is_even, quotes_before, is_counting_place, places, hits, marks, NoHit}
-use Rattle.headers_syntax.specs.Text.{is_quote}
 
 -- one more is odd where a number is even
 pub is_even-more : (n : ℕ) → is_even (n + 1) ≡ not (is_even n)

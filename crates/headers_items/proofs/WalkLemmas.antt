@@ -1,15 +1,11 @@
 -- A step of an iterator over items.
-use Rattle.std.proofs.Common.{◌≡◌, ℕ, ◌+◌, ◌≤◌, true, false, List, [], ◌∷◌, length, drop, refl, sym, ◌∙◌, ap}
-use Rattle.std.specs.List.{slice_range}
-use Rattle.std.proofs.lemmas.List.{take_rest}
+use Rattle.std.proofs.Common.{◌≡◌, ℕ, ◌+◌, ◌≤◌, true, false, List, [], ◌∷◌, length, drop, refl, sym, ◌∙◌, ap, arith}
+use Rattle.std.{proofs.Common.{Bool, Some, ⊎_elim}, specs.List.slice_range, proofs.lemmas.List.take_rest}
 use Rattle.headers_syntax.specs.Text.{is_text, trim}
-use Rattle.headers_items.specs.Places.{items_from}
-use Rattle.headers_items.specs.ItemsState.{ItemsState, items_left, walk_over, NoCut, IsNextCut, GivesPiece, ScansPiece}
-use Rattle.std.proofs.Common.{arith, Bool, true, false, Some, ⊎_elim}
+use Rattle.headers_items.{specs.Places.items_from, specs.ItemsState.{ItemsState, items_left, walk_over, NoCut}}
+use Rattle.headers_items.specs.ItemsState.{IsNextCut, GivesPiece, ScansPiece}
 use denote.Ref.{Bor}
-use Rattle.headers_items.specs.Places.{hits, marks}
-use Rattle.headers_items.specs.ScanState.{end_search}
-use Rattle.headers_items.proofs.PlacesLemmas.{hits-le-marks}
+use Rattle.headers_items.{specs.Places.{hits, marks}, specs.ScanState.end_search, proofs.PlacesLemmas.hits-le-marks}
 use Rattle.headers_items.proofs.ItemsLemmas.{items_next, items_last}
 
 -- over a value that is no text

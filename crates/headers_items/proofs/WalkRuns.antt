@@ -1,8 +1,6 @@
 -- What the calls of an iterator yield, all together.
-use Rattle.std.proofs.Common.{◌≡◌, List, Option, length, ap, subst}
-use Rattle.std.specs.Iterator.Runs.{EveryRun, ItemsMapTo}
-use Rattle.std.proofs.iter.runs.Sources.{from_front}
-use Rattle.std.proofs.lemmas.Iterator.{YieldsList}
+use Rattle.std.{proofs.Common.{◌≡◌, List, Option, length, ap, subst}, specs.Iterator.Runs.{EveryRun, ItemsMapTo}}
+use Rattle.std.{proofs.iter.runs.Sources.from_front, proofs.lemmas.Iterator.YieldsList}
 use Rattle.std.proofs.lemmas.Iterator.Consumers.{YieldsList-from_shown}
 use Rattle.headers_items.specs.ItemsState.{ItemsState, Walks}
 

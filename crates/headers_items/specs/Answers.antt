@@ -1,11 +1,7 @@
 -- What doesn't change if the field lines of a list field are joined or split (RFC 9110, section 5.3).
-use Rattle.std.specs.Prelude.{◌≡◌, ◌↔◌, ℕ, true, List, [], ◌∷◌}
-use Rattle.std.specs.List.{list_all}
-use Rattle.headers_syntax.specs.Lines.{Line}
-use Rattle.headers_syntax.specs.Text.{is_text}
-use Rattle.headers_items.specs.CutLaw.{AreCuts, EvenButLast}
-use Rattle.headers_items.specs.Merge.{merge}
-use Rattle.headers_items.specs.Places.{items, pieces}
+use Rattle.std.{specs.Prelude.{◌≡◌, ◌↔◌, ℕ, true, List, [], ◌∷◌}, specs.List.list_all}
+use Rattle.headers_syntax.{specs.Lines.Line, specs.Text.is_text}
+use Rattle.headers_items.{specs.CutLaw.{AreCuts, EvenButLast}, specs.Merge.merge, specs.Places.{items, pieces}}
 
 module _ {A R : Type 0} (answers : A → R → Type 0) where
   -- two values have the same answers

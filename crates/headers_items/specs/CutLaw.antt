@@ -1,13 +1,9 @@
 -- Field lines keep their items if they are joined and cut.
 use Rattle.std.specs.Prelude.{◌≡◌, ℕ, ◌+◌, ◌<◌, ◌≤◌, length, true, List, [], ◌∷◌, count_by, Option}
-use Rattle.std.specs.List.{list_all, flat_map}
-use Rattle.std.specs.Iterator.{Drains}
+use Rattle.std.{specs.List.{list_all, flat_map}, specs.Iterator.Drains}
 use Rattle.http_header.specs.FieldValue.{FieldValue}
-use Rattle.headers_syntax.specs.Lines.{Line, lines_of}
-use Rattle.headers_items.specs.Merge.{merge}
-use Rattle.headers_syntax.specs.Text.{is_text}
-use Rattle.headers_syntax.specs.Text.{is_quote}
-use Rattle.headers_items.specs.Places.{is_even, items, is_counting_place, pieces}
+use Rattle.headers_syntax.{specs.Lines.{Line, lines_of}, specs.Text.{is_text, is_quote}}
+use Rattle.headers_items.{specs.Merge.merge, specs.Places.{is_even, items, is_counting_place, pieces}}
 
 -- every field line but the last has an even number of quotes
 abbrev pub EvenButLast : List (List ℕ) → Type 0

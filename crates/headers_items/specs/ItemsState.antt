@@ -1,12 +1,10 @@
 -- The state of an iterator over the items of a value, as a contract sees it.
 use Rattle.std.specs.Prelude.{◌≡◌, ◌⊎◌, ℕ, ◌+◌, ◌<◌, ◌≤◌, Bool, true, false, List, [], ◌++◌, length, drop, not, ◌==◌}
-use Rattle.std.specs.Prelude.{filter, Option, None, Some, MatchOption, ⊤, if◌then◌else◌}
-use Rattle.std.specs.Iterator.{YieldsFirstBy}
+use Rattle.std.{specs.Prelude.{filter, Option, None, Some, MatchOption, ⊤, if◌then◌else◌}, specs.Iterator.YieldsFirstBy}
 use Rattle.std.specs.List.{slice_range}
 use denote.Ref.{Bor}
 use Rattle.headers_syntax.specs.Text.{is_text, trim}
-use Rattle.headers_items.specs.Places.{is_counting_place, hits, items_from}
-use Rattle.headers_items.specs.ScanState.{ScanState, end_search}
+use Rattle.headers_items.{specs.Places.{is_counting_place, hits, items_from}, specs.ScanState.{ScanState, end_search}}
 
 -- the text and the separator, where the next piece begins, whether the last piece was yielded, and how far the scan has
 -- come

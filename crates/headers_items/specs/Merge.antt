@@ -1,7 +1,6 @@
 -- The field lines of a field, joined to one value.
 use Rattle.std.specs.Prelude.{ℕ, List, [], ◌∷◌, ◌++◌, Some}
-use Rattle.headers_syntax.specs.Lines.{Line}
-use Rattle.headers_syntax.specs.HeaderLaws.{Grammar}
+use Rattle.headers_syntax.{specs.Lines.Line, specs.HeaderLaws.Grammar}
 
 -- the field lines, joined by the separator and one space
 abbrev pub merge : ℕ → List (List ℕ) → List ℕ

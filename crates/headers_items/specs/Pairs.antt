@@ -1,8 +1,6 @@
 -- The pairs of a list, as in the cookies of a request (RFC 6265, section 4.2.1).
 use Rattle.std.specs.Prelude.{◌≡◌, ℕ, ◌+◌, Bool, List, take, drop, find, position, ◌==◌, Option, Some, is_some}
-use Rattle.std.specs.Prelude.{option_map, bytes_eq}
-use Rattle.std.specs.Iterator.Runs.{EveryRun, ItemsMapTo}
-use Rattle.std.specs.List.{filter_map}
+use Rattle.std.{specs.Prelude.{option_map, bytes_eq}, specs.Iterator.Runs.{EveryRun, ItemsMapTo}, specs.List.filter_map}
 use denote.Ref.{Bor}
 use Rattle.headers_syntax.specs.Text.{trim}
 use Rattle.headers_items.specs.ItemsState.{ItemsState, items_left, ScansWanted, Walks}

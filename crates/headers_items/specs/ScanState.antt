@@ -2,8 +2,7 @@
 use Rattle.std.specs.Prelude.{◌≡◌, ℕ, ◌+◌, ◌<◌, ◌≤◌, Bool, true, false, List, length, slice_index, Option, None, Some}
 use Rattle.std.specs.Prelude.{MatchOption, if◌then◌else◌}
 use Rattle.headers_syntax.specs.Text.{quote}
-use Rattle.headers_items.specs.Places.{is_counting_place, NoHit}
-use Rattle.headers_items.specs.declared.scan.Mark.{Mark}
+use Rattle.headers_items.{specs.Places.{is_counting_place, NoHit}, specs.declared.scan.Mark.Mark}
 
 -- the bytes and the separator, the place that the scan has reached, whether it has ended, and how many searches it made
 pub record ScanState : Type 0 where

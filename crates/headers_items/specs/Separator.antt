@@ -1,6 +1,5 @@
 -- Which bytes can be separators.
-use Rattle.std.specs.Prelude.{◌≡◌, ◌≢◌, ℕ, true, false, refl}
-use Rattle.std.proofs.Common.{arith}
+use Rattle.std.{specs.Prelude.{◌≡◌, ◌≢◌, ℕ, true, false, refl}, proofs.Common.arith}
 use Rattle.http_header.specs.Token.{is_visible_or_blank}
 use Rattle.headers_syntax.specs.Text.{quote, is_blank}
 use Rattle.headers_items.specs.Places.{comma, semicolon}

@@ -1,9 +1,7 @@
 //! The entries of one field line.
-ghost use Rattle.std.specs.Prelude.{◌≡◌, ◌+◌, ◌≤◌};
-ghost use Rattle.std.specs.Iterator.{YieldsFirstBy, item_count};
-ghost use Rattle.headers_items.specs.Places.{comma, marks};
-ghost use Rattle.headers_items.specs.Entries.{line_entries};
-ghost use Rattle.headers_items.specs.ItemsState.{entries_left, walk_over, ScansEntry, WalksEntries};
+ghost use Rattle.std.{specs.Prelude.{◌≡◌, ◌+◌, ◌≤◌}, specs.Iterator.{YieldsFirstBy, item_count}};
+ghost use Rattle.headers_items.{specs.Places.{comma, marks}, specs.Entries.line_entries, specs.ItemsState.entries_left};
+ghost use Rattle.headers_items.specs.ItemsState.{walk_over, ScansEntry, WalksEntries};
 
 use crate::flat_csv::text_items;
 use crate::items::Items;

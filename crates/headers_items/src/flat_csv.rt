@@ -1,17 +1,11 @@
 //! The field lines of a list field, stored as one value.
 ghost use Rattle.std.specs.Prelude.{◌≡◌, ◌≤◌, ◌<◌, ◌^◌, length, ◌∷◌, ◌++◌, true, false, IfOk, OnOk, IsTrue};
-ghost use Rattle.std.specs.Prelude.{MatchOption};
-ghost use Rattle.std.specs.Iterator.{IsFinite};
-ghost use Rattle.std.specs.Iterator.Runs.{YieldsRefsInOrder};
-ghost use Rattle.headers_syntax.specs.OfLines.{OfLines};
-ghost use Rattle.headers_syntax.specs.Text.{is_text};
-ghost use Rattle.headers_items.specs.Places.{items, pieces};
-ghost use Rattle.headers_items.specs.ItemsState.{items_left, walk_over, WalksItems};
+ghost use Rattle.std.{specs.Prelude.MatchOption, specs.Iterator.IsFinite, specs.Iterator.Runs.YieldsRefsInOrder};
 ghost use Rattle.std.specs.List.{slice_range};
+ghost use Rattle.headers_syntax.{specs.OfLines.OfLines, specs.Text.is_text, specs.Lines.lines_of};
+ghost use Rattle.headers_items.{specs.Places.{items, pieces}, specs.ItemsState.{items_left, walk_over, WalksItems}};
+ghost use Rattle.headers_items.{specs.CutLaw.{IsMerged, MergesItems, MergesLines, AreCuts}, specs.Merge.merge};
 ghost use Rattle.http_header.specs.FieldValue.{IsFieldValue};
-ghost use Rattle.headers_items.specs.CutLaw.{IsMerged, MergesItems, MergesLines, AreCuts};
-ghost use Rattle.headers_syntax.specs.Lines.{lines_of};
-ghost use Rattle.headers_items.specs.Merge.{merge};
 
 use crate::items::Items;
 use crate::separator::Separator;
@@ -241,8 +235,7 @@ impl<S: Separator> FlatCsv<S> {
 }
 
 impl<S: Separator> PartialEq for FlatCsv<S> {
-    ghost use Rattle.std.specs.Prelude.{nat_eq};
-    ghost use Rattle.std.specs.Cmp.Lexicographic.{pointwise, nat_list_eq_equiv};
+    ghost use Rattle.std.{specs.Prelude.nat_eq, specs.Cmp.Lexicographic.{pointwise, nat_list_eq_equiv}};
     ghost use Rattle.std.specs.Cmp.{partial_equiv_from_equiv};
 
     ghost eq = { pointwise nat_eq };

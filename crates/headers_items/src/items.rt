@@ -2,8 +2,7 @@
 ghost use Rattle.std.specs.Prelude.{◌≡◌, ◌≢◌, ◌+◌, ◌≤◌, ◌<◌, ◌^◌, [], IsTrue, length, true, false, is_none, IfSome};
 ghost use Rattle.std.specs.Iterator.{YieldsFirstBy, item_count};
 ghost use Rattle.headers_syntax.specs.Text.{is_text, quote};
-ghost use Rattle.headers_items.specs.Places.{hits, items, marks};
-ghost use Rattle.headers_items.specs.ScanState.{end_search};
+ghost use Rattle.headers_items.{specs.Places.{hits, items, marks}, specs.ScanState.end_search};
 ghost use Rattle.headers_items.specs.ItemsState.{ItemsState, items_left, walk_over, FindsCut, ScansPiece, after_cut};
 ghost use Rattle.headers_items.specs.ItemsState.{WalksItems};
 

@@ -1,9 +1,8 @@
 //! The pairs of a joined value: the two sides of the first `=` of each item.
-ghost use Rattle.std.specs.Prelude.{◌≡◌, ◌+◌, ◌≤◌, ◌<◌, ◌^◌, true, length, option_map};
-ghost use Rattle.std.specs.Iterator.{YieldsFirstBy, item_count};
+ghost use Rattle.std.{specs.Prelude.{◌≡◌, ◌+◌, ◌≤◌, ◌<◌, ◌^◌, true, length, option_map}, specs.Iterator.YieldsFirstBy};
+ghost use Rattle.std.specs.Iterator.{item_count};
 ghost use Rattle.headers_syntax.specs.Text.{is_text};
-ghost use Rattle.headers_items.specs.Places.{semicolon, items, marks};
-ghost use Rattle.headers_items.specs.ItemsState.{walk_over};
+ghost use Rattle.headers_items.{specs.Places.{semicolon, items, marks}, specs.ItemsState.walk_over};
 ghost use Rattle.headers_items.specs.Pairs.{pair_of, pairs, pairs_left, pair_shown, ScansPair, WalksPairs};
 ghost use Rattle.headers_items.specs.Pairs.{YieldsPairsInOrder};
 

@@ -29,8 +29,7 @@ pub struct Comma;
 pub struct SemiColon;
 
 impl Separator for Comma {
-    ghost use Rattle.headers_items.specs.Places.{comma};
-    ghost use Rattle.headers_items.specs.Separator.{comma_is_separator};
+    ghost use Rattle.headers_items.{specs.Places.comma, specs.Separator.comma_is_separator};
 
     const BYTE: u8 = b',';
 
@@ -40,8 +39,7 @@ impl Separator for Comma {
 }
 
 impl Separator for SemiColon {
-    ghost use Rattle.headers_items.specs.Places.{semicolon};
-    ghost use Rattle.headers_items.specs.Separator.{semicolon_is_separator};
+    ghost use Rattle.headers_items.{specs.Places.semicolon, specs.Separator.semicolon_is_separator};
 
     const BYTE: u8 = b';';
 

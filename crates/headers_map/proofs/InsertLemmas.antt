@@ -1,21 +1,16 @@
 -- What inserts and appends leave under each name.
-use Rattle.std.proofs.Common.{◌≡◌, ◌≢◌, ℕ, ◌<◌, List, [], ◌∷◌, ◌++◌, length, Option, Some, None, MatchOption}
-use Rattle.std.proofs.Common.{Result, Ok, Err, OnErr, IfErr, IsOk, ◌≤◌, bytes_eq, sym, ◌∙◌, ap, inl}
-use Rattle.std.proofs.Common.{inr, arith}
-use Rattle.std.proofs.lemmas.Bool.{cases_Bool}
-use Rattle.std.proofs.lemmas.List.{map-append, length-map}
+use Rattle.std.proofs.Common.{◌≡◌, ◌≢◌, ℕ, ◌<◌, List, [], ◌∷◌, ◌++◌, length, Option, Some, None, MatchOption, Result}
+use Rattle.std.proofs.Common.{Ok, Err, OnErr, IfErr, IsOk, ◌≤◌, bytes_eq, sym, ◌∙◌, ap, inl, inr, arith}
+use Rattle.std.{proofs.lemmas.Bool.cases_Bool, proofs.lemmas.List.{map-append, length-map}}
 use Rattle.std.proofs.lemmas.Slice.Eq.{bytes_eq-Decides}
-use Rattle.http_header.specs.FieldValue.{FieldValue}
-use Rattle.http_header.specs.HeaderMap.{Entries, get_all, index_of, ContainsKey, RefusesAppend}
-use Rattle.http_header.specs.Places.{IsAt, IsAbsent}
+use Rattle.http_header.{specs.FieldValue.FieldValue, specs.HeaderMap.{Entries, get_all, index_of, ContainsKey}}
+use Rattle.http_header.{specs.HeaderMap.RefusesAppend, specs.Places.{IsAt, IsAbsent}}
 use Rattle.http_header.proofs.PlacesLemmas.{ContainsKey-from_entry, index_of_cases}
 use Rattle.headers_syntax.specs.Lines.{Line, lines_of}
-use Rattle.headers_map.specs.LineMap.{lines_at, put}
-use Rattle.headers_map.specs.InsertErrors.{IsProperBeginning, KeepsOrBegins, IsRefusedPut, IsRefusedStep}
-use Rattle.headers_map.specs.declared.encoded.Encoded.{Encoded}
+use Rattle.headers_map.{specs.LineMap.{lines_at, put}, specs.InsertErrors.{IsProperBeginning, KeepsOrBegins}}
+use Rattle.headers_map.{specs.InsertErrors.{IsRefusedPut, IsRefusedStep}, specs.declared.encoded.Encoded.Encoded}
 use Rattle.headers_map.specs.declared.insert.InsertError.{InsertError}
-use Rattle.headers_map.specs.declared.insert.InsertError.TheVariants.{Full}
-use Rattle.headers_map.specs.declared.steps.Step.{Step}
+use Rattle.headers_map.{specs.declared.insert.InsertError.TheVariants.Full, specs.declared.steps.Step.Step}
 use Rattle.headers_map.specs.declared.steps.Step.TheVariants.{Put}
 
 -- a name that has a value is in the map

@@ -1,20 +1,15 @@
 -- Fields that are set, as steps.
-use Rattle.std.proofs.Common.{◌≡◌, ◌≢◌, ℕ, List, [], ◌∷◌, ◌++◌, length, bytes_eq, nat_lt, if◌then◌else◌}
-use Rattle.std.proofs.Common.{true, refl, sym, ◌∙◌, ap, subst, inl, inr, arith}
-use Rattle.std.specs.List.{All}
-use Rattle.std.proofs.lemmas.Bool.{cases_Bool, ltb-false}
-use Rattle.std.proofs.lemmas.List.{map-append, length-map, nil_from_length}
+use Rattle.std.proofs.Common.{◌≡◌, ◌≢◌, ℕ, List, [], ◌∷◌, ◌++◌, length, bytes_eq, nat_lt, if◌then◌else◌, true, refl}
+use Rattle.std.{proofs.Common.{sym, ◌∙◌, ap, subst, inl, inr, arith}, specs.List.All, proofs.lemmas.Bool.cases_Bool}
+use Rattle.std.{proofs.lemmas.Bool.ltb-false, proofs.lemmas.List.{map-append, length-map, nil_from_length}}
 use Rattle.std.proofs.lemmas.List.Elements.{All-head, All-tail}
-use Rattle.http_header.specs.FieldValue.{FieldValue}
-use Rattle.http_header.specs.HeaderMap.{Entries}
+use Rattle.http_header.{specs.FieldValue.FieldValue, specs.HeaderMap.Entries}
 use Rattle.headers_syntax.specs.Lines.{Line, lines_of}
-use Rattle.headers_map.specs.InsertErrors.{AppliesPart, IsRefusedStep}
-use Rattle.headers_map.specs.LineMap.{LineMap, lines_at, run, after_step, set, set_all, field_of, fields_of, setting}
-use Rattle.headers_map.specs.LineMap.{settings, touches, lines_left, step_name, IsFieldOfOther, IsOfOther}
-use Rattle.headers_map.specs.declared.encoded.Encoded.{Encoded}
-use Rattle.headers_map.specs.declared.steps.ApplyError.{ApplyError}
-use Rattle.headers_map.specs.declared.steps.Step.{Step}
-use Rattle.headers_map.specs.declared.steps.Step.TheVariants.{Put, Remove}
+use Rattle.headers_map.{specs.InsertErrors.{AppliesPart, IsRefusedStep}, specs.LineMap.{LineMap, lines_at, run}}
+use Rattle.headers_map.specs.LineMap.{after_step, set, set_all, field_of, fields_of, setting, settings, touches}
+use Rattle.headers_map.specs.LineMap.{lines_left, step_name, IsFieldOfOther, IsOfOther}
+use Rattle.headers_map.{specs.declared.encoded.Encoded.Encoded, specs.declared.steps.ApplyError.ApplyError}
+use Rattle.headers_map.{specs.declared.steps.Step.Step, specs.declared.steps.Step.TheVariants.{Put, Remove}}
 use Rattle.headers_map.proofs.StepLemmas.{after_step-touches, AppliesPart-from_split, run-step}
 
 -- the step that sets a field leaves the field's lines at its name

@@ -1,19 +1,13 @@
 -- The error of a failed insert, and what the map has then.
-use Rattle.std.specs.Prelude.{◌≡◌, ◌≢◌, ◌⊎◌, ℕ, ◌<◌, ◌≤◌, List, ◌++◌, length, take, Some, slice_get, codes}
-use Rattle.std.specs.Prelude.{decimal}
-use Rattle.http_header.specs.FieldValue.{FieldValue}
-use Rattle.http_header.specs.HeaderMap.{Entries, get_all, RefusesAppend}
+use Rattle.std.specs.Prelude.{◌≡◌, ◌≢◌, ◌⊎◌, ℕ, ◌<◌, ◌≤◌, List, ◌++◌, length, take, Some, slice_get, codes, decimal}
+use Rattle.http_header.{specs.FieldValue.FieldValue, specs.HeaderMap.{Entries, get_all, RefusesAppend}}
 use Rattle.http_header.specs.declared.map.HeaderMapError.{HeaderMapError}
 use Rattle.http_header.specs.declared.map.HeaderMapError.TheVariants.{MaxSizeReached, OutOfMemory}
 use Rattle.headers_syntax.specs.Lines.{Line, lines_of}
-use Rattle.headers_map.specs.LineMap.{lines_at, run}
-use Rattle.headers_map.specs.Typed.{HasLine}
-use Rattle.headers_map.specs.declared.encoded.Encoded.{Encoded}
+use Rattle.headers_map.{specs.LineMap.{lines_at, run}, specs.Typed.HasLine, specs.declared.encoded.Encoded.Encoded}
 use Rattle.headers_map.specs.declared.insert.InsertError.{InsertError}
-use Rattle.headers_map.specs.declared.insert.InsertError.TheVariants.{Memory, Full}
-use Rattle.headers_map.specs.declared.steps.Step.{Step}
-use Rattle.headers_map.specs.declared.steps.Step.TheVariants.{Put}
-use Rattle.headers_map.specs.declared.steps.ApplyError.{ApplyError}
+use Rattle.headers_map.{specs.declared.insert.InsertError.TheVariants.{Memory, Full}, specs.declared.steps.Step.Step}
+use Rattle.headers_map.{specs.declared.steps.Step.TheVariants.Put, specs.declared.steps.ApplyError.ApplyError}
 
 abbrev pub insert_error_of : HeaderMapError → InsertError
 insert_error_of MaxSizeReached = Full

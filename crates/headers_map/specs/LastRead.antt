@@ -1,12 +1,9 @@
 -- The result of a typed read after steps, by the last step that changed its field.
 use Rattle.std.specs.Prelude.{◌≡◌, ℕ, List, ⊤, Option, Some, None, Result, Ok, Err}
-use Rattle.headers_syntax.specs.Lines.{Line, lines_of}
-use Rattle.headers_syntax.specs.declared.error.Refused.{Refused}
+use Rattle.headers_syntax.{specs.Lines.{Line, lines_of}, specs.declared.error.Refused.Refused}
 use Rattle.headers_syntax.specs.declared.error.Refused.TheVariants.{Invalid, Memory}
-use Rattle.headers_map.specs.Typed.{IsTypedRead}
-use Rattle.headers_map.specs.Canonical.{IsCanonicalRead}
-use Rattle.headers_map.specs.declared.encoded.Encoded.{Encoded}
-use Rattle.headers_map.specs.declared.steps.Step.{Step}
+use Rattle.headers_map.{specs.Typed.IsTypedRead, specs.Canonical.IsCanonicalRead}
+use Rattle.headers_map.{specs.declared.encoded.Encoded.Encoded, specs.declared.steps.Step.Step}
 use Rattle.headers_map.specs.declared.steps.Step.TheVariants.{Put, Remove}
 
 module _ {V : Type 0} (reads : List Line → V → Type 0) (writes : V → List Line) where

@@ -1,12 +1,9 @@
 -- A map gives each name a list of field lines, and steps change it.
 use Rattle.std.specs.Prelude.{◌≢◌, ℕ, Bool, ◌&&◌, List, [], ◌∷◌, length, reverse, Option, if◌then◌else◌, bytes_eq}
-use Rattle.std.specs.Prelude.{nat_lt, find, map}
-use Rattle.std.specs.Option.{option_map_or}
-use Rattle.http_header.specs.FieldValue.{FieldValue}
-use Rattle.http_header.specs.HeaderMap.{Entries, get_all}
+use Rattle.std.{specs.Prelude.{nat_lt, find, map}, specs.Option.option_map_or}
+use Rattle.http_header.{specs.FieldValue.FieldValue, specs.HeaderMap.{Entries, get_all}}
 use Rattle.headers_syntax.specs.Lines.{Line, lines_of}
-use Rattle.headers_map.specs.declared.encoded.Encoded.{Encoded}
-use Rattle.headers_map.specs.declared.steps.Step.{Step}
+use Rattle.headers_map.{specs.declared.encoded.Encoded.Encoded, specs.declared.steps.Step.Step}
 use Rattle.headers_map.specs.declared.steps.Step.TheVariants.{Put, Remove}
 
 -- the lines under each name

@@ -1,7 +1,6 @@
 -- The result of a typed read of a map, by the lines with the header's field name.
 use Rattle.std.specs.Prelude.{◌≡◌, ◌<◌, ◌⊎◌, List, [], length, Option, Some, None, Result, Ok, Err}
-use Rattle.headers_syntax.specs.Lines.{Line}
-use Rattle.headers_syntax.specs.declared.error.Refused.{Refused}
+use Rattle.headers_syntax.{specs.Lines.Line, specs.declared.error.Refused.Refused}
 use Rattle.headers_syntax.specs.declared.error.Refused.TheVariants.{Invalid, Memory}
 
 -- there is a line

@@ -1,10 +1,7 @@
 //! A field as data: its name and its field lines.
 ghost use Rattle.std.specs.Prelude.{◌≡◌, IsTrue, IfOk};
-ghost use Rattle.headers_syntax.specs.Lines.{lines_of};
-ghost use Rattle.headers_syntax.specs.Refusal.{NeverMemory};
-ghost use Rattle.headers_map.specs.LineMap.{lines_at};
-ghost use Rattle.headers_map.specs.Typed.{ReadsNothing};
-ghost use Rattle.headers_map.specs.Canonical.{IsCanonicalRead};
+ghost use Rattle.headers_syntax.{specs.Lines.lines_of, specs.Refusal.NeverMemory};
+ghost use Rattle.headers_map.{specs.LineMap.lines_at, specs.Typed.ReadsNothing, specs.Canonical.IsCanonicalRead};
 
 use crate::ext::HeaderMapExt;
 use headers_core::{Error, Header, Refused};

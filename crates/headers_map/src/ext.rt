@@ -1,11 +1,9 @@
 //! Typed reads and inserts as methods of a header map.
 ghost use Rattle.std.specs.Prelude.{◌≡◌, ◌≢◌, ℕ, List, IsTrue, OnOk, IfErr, IfSome, IfNone};
-ghost use Rattle.http_header.specs.FieldValue.{FieldValue};
-ghost use Rattle.http_header.specs.HeaderMap.{Entries, get_all};
+ghost use Rattle.http_header.{specs.FieldValue.FieldValue, specs.HeaderMap.{Entries, get_all}};
 ghost use Rattle.headers_syntax.specs.Refusal.{NeverMemory};
-ghost use Rattle.headers_map.specs.LineMap.{lines_at, put};
-ghost use Rattle.headers_map.specs.InsertErrors.{IsRefusedPut};
-ghost use Rattle.headers_map.specs.Typed.{HasLine, IsTypedRead, ReadsNothing};
+ghost use Rattle.headers_map.{specs.LineMap.{lines_at, put}, specs.InsertErrors.IsRefusedPut, specs.Typed.HasLine};
+ghost use Rattle.headers_map.specs.Typed.{IsTypedRead, ReadsNothing};
 
 use crate::encoded::{Encoded, encoding};
 use crate::insert::{InsertError, put_lines};

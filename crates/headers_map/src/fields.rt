@@ -1,6 +1,5 @@
 //! Sets a list of fields in a header map.
-ghost use Rattle.std.specs.Prelude.{◌≡◌, ◌≢◌, ℕ, List, OnOk, IfErr};
-ghost use Rattle.std.specs.List.{All};
+ghost use Rattle.std.{specs.Prelude.{◌≡◌, ◌≢◌, ℕ, List, OnOk, IfErr}, specs.List.All};
 ghost use Rattle.http_header.specs.HeaderMap.{get_all};
 ghost use Rattle.headers_map.specs.LineMap.{lines_at, set_all, fields_of, setting, settings, IsFieldOfOther};
 ghost use Rattle.headers_map.specs.InsertErrors.{AppliesPart};

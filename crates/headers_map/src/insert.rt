@@ -2,8 +2,7 @@
 ghost use Rattle.std.specs.Prelude.{◌≡◌, ◌≢◌, ◌<◌, ◌≤◌, ℕ, List, length, IsOk, OnOk, OnErr, IsErrOf};
 ghost use Rattle.http_header.specs.HeaderMap.{get_all, RefusesAppend};
 ghost use Rattle.headers_syntax.specs.Lines.{lines_of};
-ghost use Rattle.headers_map.specs.LineMap.{lines_at, put};
-ghost use Rattle.headers_map.specs.InsertErrors.{KeepsOrBegins};
+ghost use Rattle.headers_map.{specs.LineMap.{lines_at, put}, specs.InsertErrors.KeepsOrBegins};
 
 use http_header::{HeaderMap, HeaderMapError, HeaderName, HeaderValue};
 use std::alloc::AllocError;

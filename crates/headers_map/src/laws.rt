@@ -1,10 +1,8 @@
 //! Theorems about typed reads and inserts for every header, from the laws of `Header` alone.
 ghost use Rattle.std.specs.Prelude.{◌≡◌, ℕ, List, Option, Result};
 ghost use Rattle.headers_syntax.specs.Lines.{Line};
-ghost use Rattle.headers_map.specs.LineMap.{LineMap, put, run, last, last_step};
-ghost use Rattle.headers_map.specs.Typed.{HasLine, IsTypedRead};
-ghost use Rattle.headers_map.specs.Canonical.{IsCanonicalRead};
-ghost use Rattle.headers_map.specs.LastRead.{GivesSame, IsLastRead, IsLastCanonical};
+ghost use Rattle.headers_map.{specs.LineMap.{LineMap, put, run, last, last_step}, specs.Typed.{HasLine, IsTypedRead}};
+ghost use Rattle.headers_map.{specs.Canonical.IsCanonicalRead, specs.LastRead.{GivesSame, IsLastRead, IsLastCanonical}};
 
 use crate::encoded::Encoded;
 use crate::steps::Step;

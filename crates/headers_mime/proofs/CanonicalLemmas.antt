@@ -1,22 +1,19 @@
 -- The canonical text of a reading reads as that reading in canonical form, whose canonical text it is.
-use Rattle.std.proofs.Common.{◌≡◌, ◌⊎◌, ℕ, Bool, true, false, ◌&&◌, List, [], ◌∷◌, ◌++◌, map, refl, sym, ◌∙◌, ap}
-use Rattle.std.proofs.Common.{subst, arith, Option, Some, None, IsTrue, inl, inr, append-nil}
-use Rattle.std.specs.Prelude.{bytes_eq, codes, option_map, IfSome, if◌then◌else◌}
-use Rattle.std.specs.Char.{to_ascii_lowercase}
-use Rattle.std.specs.List.{All, list_all, flat_map, cons_option}
-use Rattle.std.proofs.lemmas.Bool.{and_parts, cases_Bool}
-use Rattle.std.proofs.lemmas.List.{length-map}
-use Rattle.std.proofs.lemmas.List.Elements.{All-nil, All-cons, All-head, All-tail, All-map, All-weaker}
+use Rattle.std.proofs.Common.{◌≡◌, ◌⊎◌, ℕ, Bool, true, false, ◌&&◌, List, [], ◌∷◌, ◌++◌, map, refl, sym, ◌∙◌, ap, subst}
+use Rattle.std.{proofs.Common.{arith, Option, Some, None, IsTrue, inl, inr, append-nil}, specs.Prelude.bytes_eq}
+use Rattle.std.{specs.Prelude.{codes, option_map, IfSome, if◌then◌else◌}, specs.Char.to_ascii_lowercase, specs.List.All}
+use Rattle.std.{specs.List.{list_all, flat_map, cons_option}, proofs.lemmas.Bool.{and_parts, cases_Bool}}
+use Rattle.std.{proofs.lemmas.List.length-map, proofs.lemmas.List.Elements.{All-nil, All-cons, All-head, All-tail}}
+use Rattle.std.proofs.lemmas.List.Elements.{All-map, All-weaker}
 use Rattle.http_header.specs.Token.{IsToken, is_token_byte, lowercase}
 use Rattle.http_header.proofs.TokenLemmas.{is_token_byte-to_ascii_lowercase, lowercase-lowercase_lem}
-use Rattle.headers_syntax.specs.Text.{quote, is_blank}
+use Rattle.headers_syntax.{specs.Text.{quote, is_blank}, proofs.OptionLemmas.map_parts}
 use Rattle.headers_mime.specs.MediaType.{semicolon, slash, Parameter, MediaType, IsParameter, IsQuotedString}
 use Rattle.headers_mime.specs.MediaType.{quoted_part_text, parameter_text, Segment, IsSegment, segments_text}
 use Rattle.headers_mime.specs.MediaType.{parameters_of, IsMediaType, canonical_value, canonical_parameter}
 use Rattle.headers_mime.specs.MediaType.{canonical_parts, parameters_text, media_text, canonical, IsCanonical}
-use Rattle.headers_mime.specs.MediaTypeReading.{read_media, canonical_of}
-use Rattle.headers_mime.proofs.ReadingLemmas.{read_media-media, media-from_read}
-use Rattle.headers_syntax.proofs.OptionLemmas.{map_parts}
+use Rattle.headers_mime.{specs.MediaTypeReading.{read_media, canonical_of}, proofs.ReadingLemmas.read_media-media}
+use Rattle.headers_mime.proofs.ReadingLemmas.{media-from_read}
 
 -- a token in lower case is one
 lowercase-token : (s : List ℕ) → IsToken s → IsToken (lowercase s)

@@ -1,31 +1,23 @@
 -- Canonical texts are text, and what is read of a text.
 use Rattle.std.proofs.Common.{◌≡◌, ◌⊎◌, ℕ, Bool, true, false, List, [], ◌∷◌, ◌++◌, refl, sym, ◌∙◌, ap, subst, arith}
-use Rattle.std.proofs.Common.{Option, Some, None, IsTrue, inl, inr}
-use Rattle.std.specs.Prelude.{option_map, Err, MatchOption, IsSome, bytes_eq}
-use Rattle.std.specs.List.{All, list_any, flat_map}
-use Rattle.std.proofs.lemmas.Bool.{and_from, cases_Bool}
-use Rattle.std.proofs.lemmas.Bool.Decides.{nat_tests}
+use Rattle.std.{proofs.Common.{Option, Some, None, IsTrue, inl, inr}, specs.Prelude.{option_map, Err, MatchOption}}
+use Rattle.std.{specs.Prelude.{IsSome, bytes_eq}, specs.List.{All, list_any, flat_map}, proofs.lemmas.Bool.and_from}
+use Rattle.std.{proofs.lemmas.Bool.cases_Bool, proofs.lemmas.Bool.Decides.nat_tests}
 use Rattle.std.proofs.lemmas.List.Elements.{All-head, All-tail, All-weaker}
 use Rattle.std.proofs.lemmas.List.Sums.{AllPass-from_list_all, list_all-from_AllPass}
+use Rattle.std.proofs.lemmas.Slice.Eq.{bytes_eq-Decides}
 use Rattle.http_header.specs.Token.{IsToken, is_token_byte, is_visible_or_blank, is_value_byte}
-use Rattle.http_header.specs.FieldValue.{IsFieldValue}
-use Rattle.http_header.proofs.TokenLemmas.{token_byte_range}
-use Rattle.headers_syntax.specs.Text.{quote, is_text}
-use Rattle.headers_syntax.specs.declared.error.Refused.{Refused}
-use Rattle.headers_syntax.specs.declared.error.Refused.TheVariants.{Invalid, Memory}
+use Rattle.http_header.{specs.FieldValue.IsFieldValue, proofs.TokenLemmas.token_byte_range}
+use Rattle.headers_syntax.{specs.Text.{quote, is_text}, specs.declared.error.Refused.Refused}
+use Rattle.headers_syntax.{specs.declared.error.Refused.TheVariants.{Invalid, Memory}, proofs.OptionLemmas.map_parts}
+use Rattle.headers_syntax.proofs.TextLemmas.{list_all-both}
 use Rattle.headers_mime.specs.MediaType.{slash, equals, Parameter, MediaType, IsParameter, QuotedPart, plain, escaped}
 use Rattle.headers_mime.specs.MediaType.{IsQuotedPart, quoted_part_text, IsQuotedString, parameter_text}
 use Rattle.headers_mime.specs.MediaType.{parameters_text, media_text, IsMediaType, canonical_parts, canonical}
-use Rattle.headers_mime.specs.MediaType.{IsCanonical}
-use Rattle.headers_mime.specs.MediaTypeReading.{read_media, canonical_of, GivesRead}
+use Rattle.headers_mime.{specs.MediaType.IsCanonical, specs.MediaTypeReading.{read_media, canonical_of, GivesRead}}
 use Rattle.headers_mime.specs.MimeText.{text_bytes, known_texts, is_known, IsMimeText, ReadsMime}
-use Rattle.headers_mime.specs.declared.mime.Text.TheVariants.{Known, Read}
-use Rattle.headers_mime.proofs.KnownLemmas.{known_texts-canonical}
-use Rattle.std.proofs.lemmas.Slice.Eq.{bytes_eq-Decides}
-use Rattle.headers_mime.specs.declared.mime.Text.{Text}
-use Rattle.headers_syntax.proofs.OptionLemmas.{map_parts}
-use Rattle.headers_syntax.proofs.TextLemmas.{list_all-both}
-use Rattle.headers_mime.proofs.ReadingLemmas.{read_media-media, media-from_read}
+use Rattle.headers_mime.{specs.declared.mime.Text.TheVariants.{Known, Read}, proofs.KnownLemmas.known_texts-canonical}
+use Rattle.headers_mime.{specs.declared.mime.Text.Text, proofs.ReadingLemmas.{read_media-media, media-from_read}}
 use Rattle.headers_mime.proofs.CanonicalLemmas.{parameters-valid, canonical-media}
 
 token_byte-text : (b : ℕ) → is_token_byte b ≡ true → is_visible_or_blank b ≡ true

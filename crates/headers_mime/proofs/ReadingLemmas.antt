@@ -1,25 +1,19 @@
 -- What is read from the front on is the grammar of media types.
 use Rattle.std.proofs.Common.{◌≡◌, ℕ, zero, suc, ◌≤◌, true, false, List, [], ◌∷◌, ◌++◌, length, length-append}
-use Rattle.std.proofs.Common.{length-drop, refl, sym, ◌∙◌, ap, subst, arith, eqb, Option, Some, None, IsTrue, inl}
-use Rattle.std.proofs.Common.{inr, append_assoc, append-nil}
-use Rattle.std.specs.Prelude.{option_map}
-use Rattle.std.specs.List.{All, prefix_len, cons_option}
-use Rattle.std.specs.Prelude.{IfSome}
-use Rattle.std.proofs.lemmas.Bool.{eqb-true, cases_Bool}
+use Rattle.std.proofs.Common.{length-drop, refl, sym, ◌∙◌, ap, subst, arith, eqb, Option, Some, None, IsTrue, inl, inr}
+use Rattle.std.{proofs.Common.{append_assoc, append-nil}, specs.Prelude.{option_map, IfSome}, specs.List.All}
+use Rattle.std.{specs.List.{prefix_len, cons_option}, proofs.lemmas.Bool.{eqb-true, cases_Bool}}
 use Rattle.std.proofs.lemmas.List.Elements.{All-nil, All-cons, All-head, All-tail, All-append}
 use Rattle.http_header.specs.Token.{IsToken, is_token_byte}
-use Rattle.headers_syntax.specs.Text.{is_blank, trim_start}
+use Rattle.headers_syntax.{specs.Text.{is_blank, trim_start}, proofs.OptionLemmas.{map_parts, then_parts}}
+use Rattle.headers_syntax.proofs.TextLemmas.{token_no_blank}
 use Rattle.headers_mime.specs.MediaType.{semicolon, slash, equals, Parameter, MediaType, IsBlanks, IsParameter}
 use Rattle.headers_mime.specs.MediaType.{parameter_text, Segment, IsSegment, optional_text, segments_text}
-use Rattle.headers_mime.specs.MediaType.{parameters_of, IsMediaType}
-use Rattle.headers_mime.specs.MediaTypeReading.{begins_with, after_byte, read_token, read_value, read_parameter}
-use Rattle.headers_mime.specs.MediaTypeReading.{read_optional, read_segment, read_segments, read_parameters}
-use Rattle.headers_mime.specs.MediaTypeReading.{read_essence, read_media}
-use Rattle.headers_syntax.proofs.OptionLemmas.{map_parts, then_parts}
-use Rattle.headers_mime.proofs.TokenLemmas.{trim_start-blanks}
-use Rattle.headers_syntax.proofs.TextLemmas.{token_no_blank}
-use Rattle.headers_mime.proofs.TokenLemmas.{blanks-trim_start, token-head, token-no_blank, read_token-token}
-use Rattle.headers_mime.proofs.TokenLemmas.{token-from_read, read_value-value, value-from_read}
+use Rattle.headers_mime.{specs.MediaType.{parameters_of, IsMediaType}, specs.MediaTypeReading.{begins_with, after_byte}}
+use Rattle.headers_mime.specs.MediaTypeReading.{read_token, read_value, read_parameter, read_optional, read_segment}
+use Rattle.headers_mime.specs.MediaTypeReading.{read_segments, read_parameters, read_essence, read_media}
+use Rattle.headers_mime.proofs.TokenLemmas.{trim_start-blanks, blanks-trim_start, token-head, token-no_blank}
+use Rattle.headers_mime.proofs.TokenLemmas.{read_token-token, token-from_read, read_value-value, value-from_read}
 
 -- no byte of a token ends one
 equals_no_token : is_token_byte equals ≡ false

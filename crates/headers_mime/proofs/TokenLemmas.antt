@@ -1,24 +1,18 @@
 -- Tokens, quoted strings and blanks at the head of a text.
 use Rattle.std.proofs.Common.{◌≡◌, ◌≢◌, ◌⊎◌, ℕ, suc, ◌+◌, Bool, true, false, ◌&&◌, not, List, [], ◌∷◌, ◌++◌, length}
 use Rattle.std.proofs.Common.{length-append, take, drop, refl, sym, ◌∙◌, ap, subst, arith, eqb, Option, Some, None}
-use Rattle.std.proofs.Common.{IsTrue, inl, inr, append_assoc}
-use Rattle.std.specs.Prelude.{option_map}
-use Rattle.std.proofs.lemmas.List.Folds.{length-prefix_len}
-use Rattle.std.specs.List.{All, list_all, prefix_len, flat_map}
+use Rattle.std.{proofs.Common.{IsTrue, inl, inr, append_assoc}, specs.Prelude.option_map}
+use Rattle.std.{proofs.lemmas.List.Folds.length-prefix_len, specs.List.{All, list_all, prefix_len, flat_map}}
 use Rattle.std.proofs.lemmas.Bool.{and_parts, and_from, and_right, ne_eqb, eqb-true, eqb-false, eq-eqb, cases_Bool}
-use Rattle.std.proofs.lemmas.Bool.{not-true}
-use Rattle.headers_syntax.proofs.OptionLemmas.{map_parts}
-use Rattle.headers_syntax.proofs.TextLemmas.{token_no_blank, token_no_quote}
-use Rattle.std.proofs.lemmas.List.Elements.{All-nil, All-cons, All-head, All-tail}
+use Rattle.std.{proofs.lemmas.Bool.not-true, proofs.lemmas.List.Elements.{All-nil, All-cons, All-head, All-tail}}
 use Rattle.std.proofs.lemmas.List.Sums.{AllPass-from_list_all, list_all-from_AllPass}
-use Rattle.std.proofs.lemmas.List.{take-append-drop}
-use Rattle.std.proofs.Math.Seq.{take-append_seam, drop-append_seam}
-use Rattle.http_header.specs.Token.{IsToken, is_token_byte, is_visible_or_blank}
+use Rattle.std.{proofs.lemmas.List.take-append-drop, proofs.Math.Seq.{take-append_seam, drop-append_seam}}
+use Rattle.headers_syntax.{proofs.OptionLemmas.map_parts, proofs.TextLemmas.{token_no_blank, token_no_quote}}
 use Rattle.headers_syntax.specs.Text.{quote, is_blank, trim_start}
+use Rattle.http_header.specs.Token.{IsToken, is_token_byte, is_visible_or_blank}
 use Rattle.headers_mime.specs.MediaType.{backslash, IsBlanks, QuotedPart, plain, escaped, IsQuotedPart}
-use Rattle.headers_mime.specs.MediaType.{quoted_part_text, IsQuotedString}
-use Rattle.headers_mime.specs.MediaTypeReading.{quoted_len, token_len, value_len, begins_with, split_at, read_token}
-use Rattle.headers_mime.specs.MediaTypeReading.{read_value}
+use Rattle.headers_mime.{specs.MediaType.{quoted_part_text, IsQuotedString}, specs.MediaTypeReading.quoted_len}
+use Rattle.headers_mime.specs.MediaTypeReading.{token_len, value_len, begins_with, split_at, read_token, read_value}
 
 module _ (p : ℕ → Bool) where
   -- what passes, before a byte that does not

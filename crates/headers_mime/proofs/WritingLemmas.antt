@@ -1,18 +1,15 @@
 -- What is written while a text is read.
 use Rattle.std.proofs.Common.{◌≡◌, ℕ, zero, suc, ◌<◌, ◌≤◌, List, [], ◌∷◌, ◌++◌, map, length, length-append, refl, sym}
-use Rattle.std.proofs.Common.{◌∙◌, ap, arith, Option, Some, None, append_assoc, append-nil}
-use Rattle.std.specs.Prelude.{option_map}
-use Rattle.std.specs.List.{cons_option}
+use Rattle.std.{proofs.Common.{◌∙◌, ap, arith, Option, Some, None, append_assoc, append-nil}, specs.Prelude.option_map}
+use Rattle.std.{specs.Prelude.Err, specs.List.cons_option}
 use Rattle.headers_mime.specs.MediaType.{slash, Parameter, optional_text, canonical_parameter, parameters_text}
-use Rattle.headers_mime.specs.MediaType.{canonical}
-use Rattle.http_header.specs.Token.{lowercase}
-use Rattle.headers_mime.specs.MediaTypeReading.{read_segment, read_segments, read_parameters, read_essence}
-use Rattle.headers_mime.specs.MediaTypeReading.{read_media, canonical_of, canonical_rest, optional_canonical}
-use Rattle.headers_mime.specs.MediaTypeReading.{WritesBehind, GivesRead}
-use Rattle.std.specs.Prelude.{Err}
-use Rattle.headers_syntax.specs.declared.error.Refused.{Refused}
-use Rattle.headers_syntax.specs.declared.error.Refused.TheVariants.{Invalid, Memory}
+use Rattle.headers_mime.{specs.MediaType.canonical, specs.MediaTypeReading.{read_segment, read_segments}}
+use Rattle.headers_mime.specs.MediaTypeReading.{read_parameters, read_essence, read_media, canonical_of, canonical_rest}
+use Rattle.headers_mime.specs.MediaTypeReading.{optional_canonical, WritesBehind, GivesRead}
 use Rattle.headers_mime.proofs.ReadingLemmas.{segment-from_read}
+use Rattle.http_header.specs.Token.{lowercase}
+use Rattle.headers_syntax.{specs.declared.error.Refused.Refused, specs.declared.error.Refused.TheVariants.Invalid}
+use Rattle.headers_syntax.specs.declared.error.Refused.TheVariants.{Memory}
 
 -- a segment takes its semicolon at least
 pub segment-shrinks : (s : List ℕ) (t : Option Parameter × List ℕ) → read_segment s ≡ Some t → length t.1 < length s

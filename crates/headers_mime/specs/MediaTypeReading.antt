@@ -1,8 +1,7 @@
 -- The parser of media types, as functions. That it agrees with the grammar is proved in proofs/ReadingLemmas.
 use Rattle.std.specs.Prelude.{◌≡◌, ℕ, zero, suc, ◌+◌, Bool, false, ◌&&◌, not, ◌==◌, List, [], ◌∷◌, ◌++◌, length, take}
-use Rattle.std.specs.Prelude.{drop, Option, Some, None, map, option_map, if◌then◌else◌}
-use Rattle.std.specs.List.{prefix_len, cons_option}
-use Rattle.std.specs.Option.{option_and_then}
+use Rattle.std.{specs.Prelude.{drop, Option, Some, None, map, option_map, if◌then◌else◌}, specs.List.prefix_len}
+use Rattle.std.{specs.List.cons_option, specs.Option.option_and_then}
 use Rattle.http_header.specs.Token.{is_token_byte, is_visible_or_blank}
 use Rattle.headers_syntax.specs.Text.{quote, trim_start}
 use Rattle.headers_mime.specs.MediaType.{semicolon, slash, equals, backslash, Parameter, MediaType, canonical}

@@ -1,11 +1,10 @@
 -- The text that a `Mime` stores.
 use Rattle.std.specs.Prelude.{◌≡◌, ⊤, ℕ, List, [], ◌∷◌, codes, Bool, IsTrue, bytes_eq, Result, Ok, Err}
-use Rattle.headers_syntax.specs.declared.error.Refused.{Refused}
-use Rattle.headers_syntax.specs.declared.error.Refused.TheVariants.{Invalid, Memory}
-use Rattle.headers_mime.specs.MediaType.{MediaType, IsMediaType, canonical, IsCanonical}
 use Rattle.std.specs.List.{list_any}
-use Rattle.headers_mime.specs.declared.mime.Text.{Text}
-use Rattle.headers_mime.specs.declared.mime.Text.TheVariants.{Known, Read}
+use Rattle.headers_syntax.{specs.declared.error.Refused.Refused, specs.declared.error.Refused.TheVariants.Invalid}
+use Rattle.headers_syntax.specs.declared.error.Refused.TheVariants.{Memory}
+use Rattle.headers_mime.specs.MediaType.{MediaType, IsMediaType, canonical, IsCanonical}
+use Rattle.headers_mime.{specs.declared.mime.Text.Text, specs.declared.mime.Text.TheVariants.{Known, Read}}
 
 abbrev pub text_bytes : Text → List ℕ
 text_bytes (Known text) = text.now

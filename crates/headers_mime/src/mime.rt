@@ -1,6 +1,5 @@
 //! Media types.
-ghost use Rattle.std.specs.Prelude.{◌≡◌, List, ℕ, IsTrue, IfOk, IfSome, Some};
-ghost use Rattle.std.specs.Fmt.{padded};
+ghost use Rattle.std.{specs.Prelude.{◌≡◌, List, ℕ, IsTrue, IfOk, IfSome, Some}, specs.Fmt.padded};
 ghost use Rattle.headers_mime.specs.MediaType.{MediaType, IsMediaType, IsCanonical, canonical, canonical_parts};
 ghost use Rattle.headers_mime.specs.MimeText.{ReadsMime, is_known, known_texts};
 
@@ -181,8 +180,7 @@ impl Mime {
 }
 
 impl PartialEq for Mime {
-    ghost use Rattle.std.specs.Prelude.{nat_eq};
-    ghost use Rattle.std.specs.Cmp.Lexicographic.{pointwise, nat_list_eq_equiv};
+    ghost use Rattle.std.{specs.Prelude.nat_eq, specs.Cmp.Lexicographic.{pointwise, nat_list_eq_equiv}};
     ghost use Rattle.std.specs.Cmp.{partial_equiv_from_equiv};
 
     ghost eq = { pointwise nat_eq };

@@ -1,6 +1,5 @@
 //! A parser of media types, from the front of the text.
-ghost use Rattle.std.specs.Prelude.{◌≡◌, ◌+◌, ◌≤◌, length, false, IfSome, option_map};
-ghost use Rattle.std.specs.List.{prefix_len};
+ghost use Rattle.std.{specs.Prelude.{◌≡◌, ◌+◌, ◌≤◌, length, false, IfSome, option_map}, specs.List.prefix_len};
 ghost use Rattle.std.specs.Option.{option_copied};
 ghost use Rattle.headers_syntax.specs.Text.{trim_start};
 ghost use Rattle.http_header.specs.Token.{is_token_byte, is_visible_or_blank};

@@ -1,7 +1,6 @@
 //! The canonical text of a media type, written while the text is parsed.
-ghost use Rattle.std.specs.Prelude.{◌≡◌, ◌∷◌, [], ◌++◌, OnOk, vec_items, bytes_eq, codes};
+ghost use Rattle.std.{specs.Prelude.{◌≡◌, ◌∷◌, [], ◌++◌, OnOk, vec_items, bytes_eq, codes}, specs.List.list_all};
 ghost use Rattle.http_header.specs.Token.{is_token_byte, lowercase};
-ghost use Rattle.std.specs.List.{list_all};
 ghost use Rattle.headers_mime.specs.MediaType.{canonical_value, is_charset_token};
 ghost use Rattle.headers_mime.specs.MediaTypeReading.{canonical_of, canonical_rest, optional_canonical, WritesBehind};
 ghost use Rattle.headers_mime.specs.MediaTypeReading.{GivesRead};

@@ -1,13 +1,11 @@
 -- What an item reads as, and the values of a list by its first item.
-use Rattle.std.proofs.Common.{◌≡◌, ◌⊎◌, ℕ, ◌<◌, ◌≤◌, Bool, true, false, cond, List, [], ◌∷◌, length}
-use Rattle.std.proofs.Common.{Some, None, refl, sym, ◌∙◌, ap, subst, arith, inl, inr, leb, is_some, ⊎_elim}
+use Rattle.std.proofs.Common.{◌≡◌, ◌⊎◌, ℕ, ◌<◌, ◌≤◌, Bool, true, false, cond, List, [], ◌∷◌, length, Some, None, refl}
+use Rattle.std.proofs.Common.{sym, ◌∙◌, ap, subst, arith, inl, inr, leb, is_some, ⊎_elim}
 use Rattle.std.proofs.lemmas.Bool.{cases_Bool, cases_lt, and_parts, and_from, ltb-true, leb-true}
-use Rattle.std.proofs.lemmas.Bool.Decides.{nat_tests}
-use Rattle.std.proofs.lemmas.List.Sums.{AllPass-from_list_all, list_all-from_AllPass, take_while-cons}
-use Rattle.http_header.specs.Token.{IsToken, is_token_byte, lowercase}
-use Rattle.http_header.specs.FieldName.{IsFieldName, IsHeaderName}
-use Rattle.headers_names.specs.ListItem.{Reading, is_token, name_of, method_of, leading_values, names}
-use Rattle.headers_names.specs.ListItem.{ReadsAsItself}
+use Rattle.std.{proofs.lemmas.Bool.Decides.nat_tests, proofs.lemmas.List.Sums.AllPass-from_list_all}
+use Rattle.std.proofs.lemmas.List.Sums.{list_all-from_AllPass, take_while-cons}
+use Rattle.http_header.{specs.Token.{IsToken, is_token_byte, lowercase}, specs.FieldName.{IsFieldName, IsHeaderName}}
+use Rattle.headers_names.specs.ListItem.{Reading, is_token, name_of, method_of, leading_values, names, ReadsAsItself}
 
 is_token-from : (item : List ℕ) → is_token item ≡ true → IsToken item
 is_token-from item e =

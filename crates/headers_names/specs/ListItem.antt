@@ -1,13 +1,9 @@
 -- Field names and methods as the items of a list.
 use Rattle.std.specs.Prelude.{◌≡◌, ℕ, ◌<◌, Bool, ◌&&◌, List, [], ◌∷◌, map, length, nat_lt, nat_le, Option, Some, None}
-use Rattle.std.specs.Prelude.{is_some, Result, Ok, Err, if◌then◌else◌}
-use Rattle.std.specs.List.{list_all, filter_map, take_while}
-use Rattle.std.specs.Iterator.{Drains}
-use Rattle.std.specs.declared.alloc.AllocError.{AllocError}
-use Rattle.http_header.specs.Token.{IsToken, is_token_byte, lowercase}
-use Rattle.http_header.specs.StandardHeader.{IsStandardName}
-use Rattle.headers_items.specs.Merge.{merge}
-use Rattle.headers_items.specs.Places.{comma, items}
+use Rattle.std.{specs.Prelude.{is_some, Result, Ok, Err, if◌then◌else◌}, specs.List.{list_all, filter_map, take_while}}
+use Rattle.std.{specs.Iterator.Drains, specs.declared.alloc.AllocError.AllocError}
+use Rattle.http_header.{specs.Token.{IsToken, is_token_byte, lowercase}, specs.StandardHeader.IsStandardName}
+use Rattle.headers_items.{specs.Merge.merge, specs.Places.{comma, items}}
 
 -- a token (RFC 9110, section 5.6.2)
 abbrev pub is_token : List ℕ → Bool

@@ -1,9 +1,7 @@
 //! Headers that are a list of field names or of methods.
-ghost use Rattle.std.specs.Prelude.{◌≡◌, IfOk};
-ghost use Rattle.std.specs.Iterator.{IsFinite};
-ghost use Rattle.headers_items.specs.Answers.{GoesByItems, SurvivesCuts};
-ghost use Rattle.headers_items.specs.Merge.{merge};
-ghost use Rattle.headers_items.specs.Places.{comma, items};
+ghost use Rattle.std.{specs.Prelude.{◌≡◌, IfOk}, specs.Iterator.IsFinite};
+ghost use Rattle.headers_items.{specs.Answers.{GoesByItems, SurvivesCuts}, specs.Merge.merge, specs.Places.comma};
+ghost use Rattle.headers_items.specs.Places.{items};
 ghost use Rattle.headers_names.specs.ListItem.{values, ListsValues};
 
 use crate::list_item::{ListItem, list_of};

@@ -1,6 +1,5 @@
 //! The types that an item of a list between commas can have.
-ghost use Rattle.std.specs.Prelude.{◌≡◌, ℕ, List, [], Option, None, IfOk};
-ghost use Rattle.std.specs.Iterator.{IsFinite};
+ghost use Rattle.std.{specs.Prelude.{◌≡◌, ℕ, List, [], Option, None, IfOk}, specs.Iterator.IsFinite};
 ghost use Rattle.headers_names.specs.ListItem.{Reading, ReadsItem, ReadsAsItself, ListsValues};
 
 use headers_core::{Comma, FlatCsv};
@@ -36,8 +35,7 @@ pub trait ListItem: Drop {
 }
 
 impl ListItem for HeaderName {
-    ghost use Rattle.headers_names.specs.ListItem.{name_of, NameWants};
-    ghost use Rattle.headers_names.specs.ListItemLaws.{name_of-empty};
+    ghost use Rattle.headers_names.{specs.ListItem.{name_of, NameWants}, specs.ListItemLaws.name_of-empty};
 
     ghost bytes_of = { λ name. name };
 
@@ -62,8 +60,7 @@ impl ListItem for HeaderName {
 }
 
 impl ListItem for Method {
-    ghost use Rattle.headers_names.specs.ListItem.{method_of, MethodWants};
-    ghost use Rattle.headers_names.specs.ListItemLaws.{method_of-empty};
+    ghost use Rattle.headers_names.{specs.ListItem.{method_of, MethodWants}, specs.ListItemLaws.method_of-empty};
 
     ghost bytes_of = { λ method. method };
 

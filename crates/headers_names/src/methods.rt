@@ -1,8 +1,7 @@
 //! The methods in a list.
 ghost use Rattle.std.specs.Prelude.{List, ℕ, All};
 ghost use Rattle.http_header.specs.Token.{IsToken};
-ghost use Rattle.headers_items.specs.Merge.{merge};
-ghost use Rattle.headers_items.specs.Places.{comma};
+ghost use Rattle.headers_items.{specs.Merge.merge, specs.Places.comma};
 ghost use Rattle.headers_names.specs.ListItem.{method_of, IsListOf};
 
 use crate::skip_names::ItemsRead;

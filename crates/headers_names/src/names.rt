@@ -1,9 +1,7 @@
 //! An iterator over the field names of a list, up to the first item that isn't one.
-ghost use Rattle.std.specs.Prelude.{◌≡◌, List, ℕ, All, IfOk};
+ghost use Rattle.std.{specs.Prelude.{◌≡◌, List, ℕ, All, IfOk}, specs.Iterator.{IsFinite, item_count}};
 ghost use Rattle.http_header.specs.FieldName.{IsHeaderName};
-ghost use Rattle.headers_items.specs.Merge.{merge};
-ghost use Rattle.std.specs.Iterator.{IsFinite, item_count};
-ghost use Rattle.headers_items.specs.Places.{comma, items};
+ghost use Rattle.headers_items.{specs.Merge.merge, specs.Places.{comma, items}};
 ghost use Rattle.headers_names.specs.ListItem.{name_of, names, NameWants, GivesNext, Lists, IsListOf};
 
 use crate::list_item::{ListItem, list_of};

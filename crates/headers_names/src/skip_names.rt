@@ -1,6 +1,5 @@
 //! An iterator over the items of a list that are field names or methods.
-ghost use Rattle.std.specs.Prelude.{◌≡◌};
-ghost use Rattle.std.specs.Iterator.{item_count};
+ghost use Rattle.std.{specs.Prelude.◌≡◌, specs.Iterator.item_count};
 ghost use Rattle.headers_items.specs.Places.{comma, items};
 ghost use Rattle.headers_names.specs.ListItem.{values, GivesNext};
 

@@ -1,15 +1,10 @@
 -- What the readers of a content range find, and what is printed of one.
-use Rattle.std.proofs.Common.{◌≡◌, true, false, Option, None, ap, ◌∙◌, refl, sym, subst, cond, ◌∷◌}
-use Rattle.std.proofs.Common.{◌++◌, append_assoc}
+use Rattle.std.proofs.Common.{◌≡◌, true, false, Option, None, ap, ◌∙◌, refl, sym, subst, cond, ◌∷◌, ◌++◌, append_assoc}
 use Rattle.std.specs.Option.{option_and_then}
-use Rattle.http_header.specs.FieldValue.{IsFieldValue}
-use Rattle.http_header.proofs.TokenLemmas.{IsFieldValue-from_visible}
-use Rattle.headers_syntax.specs.Lines.{Line}
-use Rattle.headers_syntax.specs.Text.{is_text}
-use Rattle.headers_syntax.proofs.TextLemmas.{visible-from_is_text}
+use Rattle.http_header.{specs.FieldValue.IsFieldValue, proofs.TokenLemmas.IsFieldValue-from_visible}
+use Rattle.headers_syntax.{specs.Lines.Line, specs.Text.is_text, proofs.TextLemmas.visible-from_is_text}
 use Rattle.headers_ranges.specs.ContentBytes.{ContentBytes, FitsContent, content_bytes, content_text, in_bytes}
-use Rattle.headers_ranges.specs.ContentRangeLaws.{content_plain}
-use Rattle.headers_ranges.specs.Cut.{cut}
+use Rattle.headers_ranges.{specs.ContentRangeLaws.content_plain, specs.Cut.cut}
 
 -- no text
 pub no_content : (line : Line) → is_text line ≡ false → None ≡ content_bytes line

@@ -3,20 +3,14 @@ use Rattle.std.proofs.Common.{◌≡◌, ℕ, zero, suc, ◌+◌, ◌-◌, ◌<�
 use Rattle.std.proofs.Common.{nat_le, List, [], ◌∷◌, length, get_or, Option, Some, None, min, MatchOption, refl}
 use Rattle.std.proofs.Common.{sym, ◌∙◌, ap, subst, arith, false, inl, inr, ◌⊎◌, ⊎_elim, All, Any}
 use denote.Ref.{Bor}
-use Rattle.std.specs.List.{filter_map, cons_option, starts_with}
-use Rattle.std.specs.Option.{IsSome}
-use Rattle.std.specs.Str.Pattern.{FindsTextPrefix, StripsPrefix}
-use Rattle.std.specs.Prelude.{nat_eq}
-use Rattle.std.proofs.lemmas.Bool.{cases_Bool, and_parts, and_from, leb-true, ltb-true, le-leb, lt-ltb, eqb-true}
-use Rattle.std.proofs.lemmas.Bool.{eqb-false, false≢true}
-use Rattle.std.proofs.lemmas.Str.Pattern.{starts_text}
-use Rattle.std.proofs.lemmas.List.Elements.{All-nil, All-cons}
-use Rattle.std.proofs.lemmas.List.Splits.{length-slice_split}
+use Rattle.std.{specs.List.{filter_map, cons_option, starts_with}, specs.Option.IsSome}
+use Rattle.std.{specs.Str.Pattern.{FindsTextPrefix, StripsPrefix}, specs.Prelude.nat_eq, proofs.lemmas.Bool.cases_Bool}
+use Rattle.std.proofs.lemmas.Bool.{and_parts, and_from, leb-true, ltb-true, le-leb, lt-ltb, eqb-true, eqb-false}
+use Rattle.std.{proofs.lemmas.Bool.false≢true, proofs.lemmas.Str.Pattern.starts_text}
+use Rattle.std.{proofs.lemmas.List.Elements.{All-nil, All-cons}, proofs.lemmas.List.Splits.length-slice_split}
 use Rattle.std.proofs.lemmas.List.Sums.{count_by-le-length}
-use Rattle.http_header.specs.FieldValue.{IsFieldValue}
-use Rattle.http_header.proofs.TokenLemmas.{IsFieldValue-from_visible}
-use Rattle.headers_syntax.specs.Text.{is_text}
-use Rattle.headers_syntax.proofs.TextLemmas.{visible-from_is_text}
+use Rattle.http_header.{specs.FieldValue.IsFieldValue, proofs.TokenLemmas.IsFieldValue-from_visible}
+use Rattle.headers_syntax.{specs.Text.is_text, proofs.TextLemmas.visible-from_is_text}
 use Rattle.headers_ranges.specs.ByteRanges.{bytes_unit, is_range_line, Spec, ByteRange, gives, clipped, range_between}
 use Rattle.headers_ranges.specs.ByteRanges.{Covers, Names, LiesIn, IsWithin, GivesCovered, pieces, spec_of}
 

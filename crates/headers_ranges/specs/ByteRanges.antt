@@ -3,15 +3,10 @@ use Rattle.std.specs.Prelude.{◌≡◌, ◌↔◌, ◌++◌, ℕ, ◌+◌, ◌-
 use Rattle.std.specs.Prelude.{length, ◌==◌, nat_lt, nat_le, min, Option, Some, None, option_map, MatchOption, codes}
 use Rattle.std.specs.Prelude.{decimal, nat_eq, if◌then◌else◌}
 use denote.Ref.{Bor}
-use Rattle.std.specs.List.{filter_map, slice_split, starts_with}
-use Rattle.std.specs.Option.{option_zip, option_and_then}
-use Rattle.std.specs.declared.ops.Bound.{Bound}
-use Rattle.std.specs.declared.ops.Bound.TheVariants.{Included, Excluded, Unbounded}
-use Rattle.headers_syntax.specs.Lines.{Line}
-use Rattle.headers_syntax.specs.Number.{number}
+use Rattle.std.{specs.List.{filter_map, slice_split, starts_with}, specs.Option.{option_zip, option_and_then}}
+use Rattle.std.{specs.declared.ops.Bound.Bound, specs.declared.ops.Bound.TheVariants.{Included, Excluded, Unbounded}}
+use Rattle.headers_syntax.{specs.Lines.Line, specs.Number.number, specs.Text.{is_text, trim}, specs.Shapes.line_if}
 use Rattle.headers_items.specs.Places.{comma}
-use Rattle.headers_syntax.specs.Text.{is_text, trim}
-use Rattle.headers_syntax.specs.Shapes.{line_if}
 use Rattle.headers_ranges.specs.Cut.{cut}
 
 -- b'-'

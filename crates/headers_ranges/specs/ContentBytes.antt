@@ -1,14 +1,10 @@
 -- The part of a representation that a message carries, in bytes (RFC 9110, section 14.4).
 use Rattle.std.specs.Prelude.{◌≡◌, ℕ, ◌+◌, ◌^◌, ◌<◌, ◌++◌, Bool, true, ◌∷◌, nat_lt, nat_le, Option, Some, None}
-use Rattle.std.specs.Prelude.{option_map, codes, decimal, bytes_eq, if◌then◌else◌}
-use Rattle.std.specs.Option.{option_and_then, option_zip}
-use Rattle.std.specs.declared.ops.Bound.{Bound}
-use Rattle.std.specs.declared.ops.Bound.TheVariants.{Included, Excluded, Unbounded}
-use Rattle.headers_syntax.specs.Lines.{Line}
-use Rattle.headers_syntax.specs.Number.{number}
-use Rattle.headers_syntax.specs.Text.{is_text}
-use Rattle.headers_ranges.specs.ByteRanges.{ByteRange, dash, last_before}
-use Rattle.headers_ranges.specs.Cut.{cut}
+use Rattle.std.{specs.Prelude.{option_map, codes, decimal, bytes_eq, if◌then◌else◌}, specs.Option.option_and_then}
+use Rattle.std.{specs.Option.option_zip, specs.declared.ops.Bound.Bound, specs.declared.ops.Bound.TheVariants.Included}
+use Rattle.std.specs.declared.ops.Bound.TheVariants.{Excluded, Unbounded}
+use Rattle.headers_syntax.{specs.Lines.Line, specs.Number.number, specs.Text.is_text}
+use Rattle.headers_ranges.{specs.ByteRanges.{ByteRange, dash, last_before}, specs.Cut.cut}
 
 -- the first and the last position, if a part is carried, and the length of the whole, if it is known
 pub record ContentBytes : Type 0 where

@@ -1,27 +1,18 @@
 -- A content range survives a round trip exactly if its positions are in order.
-use Rattle.std.specs.Prelude.{◌≡◌, ℕ, ◌<◌, ◌^◌, ◌++◌, Bool, true, false, not, ◌==◌, nat_le, ◌∷◌}
-use Rattle.std.specs.Prelude.{Option, Some, None, option_map, codes, decimal, bytes_eq, if◌then◌else◌, refl}
-use Rattle.std.proofs.Common.{inl, inr, ap, ◌∙◌, subst, cond}
-use Rattle.std.specs.List.{list_all}
-use Rattle.std.specs.Option.{option_and_then, option_zip}
-use Rattle.std.proofs.lemmas.Bool.{cases_Bool, and_from, false_from_ne_true}
-use Rattle.std.proofs.lemmas.List.Folds.{list_all-append}
+use Rattle.std.specs.Prelude.{◌≡◌, ℕ, ◌<◌, ◌^◌, ◌++◌, Bool, true, false, not, ◌==◌, nat_le, ◌∷◌, Option, Some, None}
+use Rattle.std.{specs.Prelude.{option_map, codes, decimal, bytes_eq, if◌then◌else◌, refl}, proofs.Common.{inl, inr, ap}}
+use Rattle.std.{proofs.Common.{◌∙◌, subst, cond}, specs.List.list_all, specs.Option.{option_and_then, option_zip}}
+use Rattle.std.{proofs.lemmas.Bool.{cases_Bool, and_from, false_from_ne_true}, proofs.lemmas.List.Folds.list_all-append}
 use Rattle.std.proofs.lemmas.Slice.Eq.{bytes_eq-Decides}
-use Rattle.headers_syntax.specs.HeaderLaws.{HeaderLaws, SameBy, ReadsBy, written_by}
-use Rattle.headers_syntax.specs.Lines.{Line, first_line}
-use Rattle.headers_syntax.specs.Number.{number}
-use Rattle.headers_syntax.specs.Text.{is_text}
-use Rattle.headers_syntax.proofs.NumberLemmas.{number-decimal, number-lt}
-use Rattle.headers_syntax.proofs.OptionLemmas.{map_parts, then_parts}
-use Rattle.headers_syntax.proofs.TextLemmas.{list_all-both}
-use Rattle.http_header.specs.Token.{is_visible_or_blank}
+use Rattle.headers_syntax.{specs.HeaderLaws.{HeaderLaws, SameBy, ReadsBy, written_by}, specs.Lines.{Line, first_line}}
+use Rattle.headers_syntax.{specs.Number.number, specs.Text.is_text, proofs.NumberLemmas.{number-decimal, number-lt}}
+use Rattle.headers_syntax.{proofs.OptionLemmas.{map_parts, then_parts}, proofs.TextLemmas.list_all-both}
 use Rattle.headers_syntax.proofs.ShapeLemmas.{ReadsBackLine, one_line_laws}
-use Rattle.headers_ranges.specs.ContentBytes.{ContentBytes, FitsOption, FitsContent, of_parts, star, in_order}
-use Rattle.headers_ranges.specs.ContentBytes.{numbers, positions, read_or_star, sized, in_bytes, content_bytes}
-use Rattle.headers_ranges.specs.ContentBytes.{range_shown, length_shown, content_text, is_ordered}
-use Rattle.headers_ranges.specs.ContentRange.{content_range_grammar}
-use Rattle.headers_ranges.specs.Cut.{cut}
-use Rattle.headers_ranges.specs.CutLaws.{Lacks, cut_joined}
+use Rattle.http_header.specs.Token.{is_visible_or_blank}
+use Rattle.headers_ranges.specs.ContentBytes.{ContentBytes, FitsOption, FitsContent, of_parts, star, in_order, numbers}
+use Rattle.headers_ranges.specs.ContentBytes.{positions, read_or_star, sized, in_bytes, content_bytes, range_shown}
+use Rattle.headers_ranges.specs.ContentBytes.{length_shown, content_text, is_ordered}
+use Rattle.headers_ranges.{specs.ContentRange.content_range_grammar, specs.Cut.cut, specs.CutLaws.{Lacks, cut_joined}}
 use Rattle.headers_ranges.specs.PrintedLaws.{decimal_text, decimal_lacks}
 
 -- ---- the encoding is decoded

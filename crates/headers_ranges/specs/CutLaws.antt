@@ -1,13 +1,12 @@
 -- Where a text is cut at the first place of a byte, and where a joined text is cut.
-use Rattle.std.proofs.Common.{◌≡◌, ℕ, ◌+◌, ◌<◌, Bool, true, false, not, ◌==◌, nat_lt, ◌≤◌, List, [], ◌∷◌, ◌++◌}
-use Rattle.std.proofs.Common.{length, take, drop, get_or, Option, Some, None, MatchOption, refl, eq-eqb, sym, ◌∙◌, ap}
-use Rattle.std.proofs.Common.{arith, inl, inr}
-use Rattle.std.specs.List.{list_all, list_any, before_first, after_first, position_or_len}
+use Rattle.std.proofs.Common.{◌≡◌, ℕ, ◌+◌, ◌<◌, Bool, true, false, not, ◌==◌, nat_lt, ◌≤◌, List, [], ◌∷◌, ◌++◌, length}
+use Rattle.std.proofs.Common.{take, drop, get_or, Option, Some, None, MatchOption, refl, eq-eqb, sym, ◌∙◌, ap, arith}
+use Rattle.std.{proofs.Common.{inl, inr}, specs.List.{list_all, list_any, before_first, after_first, position_or_len}}
 use Rattle.std.proofs.lemmas.Bool.{cases_Bool, ltb-true, lt-ltb, ltb-false, not-true}
-use Rattle.std.proofs.lemmas.Bool.Decides.{nat_tests}
-use Rattle.std.proofs.lemmas.List.Sums.{prefix_len-le-length, position_or_len_is, AllPass-from_list_all}
-use Rattle.std.proofs.lemmas.List.{get_or_append_left, length-append}
-use Rattle.std.proofs.Math.Seq.{take-append_seam, drop-append-add, get_or-append_seam}
+use Rattle.std.{proofs.lemmas.Bool.Decides.nat_tests, proofs.lemmas.List.Sums.prefix_len-le-length}
+use Rattle.std.proofs.lemmas.List.Sums.{position_or_len_is, AllPass-from_list_all}
+use Rattle.std.{proofs.lemmas.List.{get_or_append_left, length-append}, proofs.Math.Seq.take-append_seam}
+use Rattle.std.proofs.Math.Seq.{drop-append-add, get_or-append_seam}
 use Rattle.headers_ranges.specs.Cut.{cut}
 
 -- a byte is there if the first place is not the end

@@ -1,19 +1,12 @@
 -- Numbers as they are printed, and the texts that they are part of.
-use Rattle.std.proofs.Common.{◌≡◌, ℕ, ◌<◌, ◌^◌, Bool, true, false, not, ◌==◌, List, [], ◌∷◌}
-use Rattle.std.proofs.Common.{Option, Some, None, refl, sym, ap, ◌∙◌, subst, arith}
-use Rattle.std.specs.Prelude.{decimal}
-use Rattle.std.specs.Char.{is_ascii_digit}
-use Rattle.std.specs.List.{list_all}
-use Rattle.std.specs.Str.{all_ascii_digits}
-use Rattle.std.proofs.lemmas.Bool.{and_parts, and_from, ne_eqb}
-use Rattle.std.proofs.lemmas.Bool.Decides.{nat_tests}
-use Rattle.std.proofs.lemmas.Fmt.{digits_decimal}
+use Rattle.std.proofs.Common.{◌≡◌, ℕ, ◌<◌, ◌^◌, Bool, true, false, not, ◌==◌, List, [], ◌∷◌, Option, Some, None, refl}
+use Rattle.std.{proofs.Common.{sym, ap, ◌∙◌, subst, arith}, specs.Prelude.decimal, specs.Char.is_ascii_digit}
+use Rattle.std.{specs.List.list_all, specs.Str.all_ascii_digits, proofs.lemmas.Bool.{and_parts, and_from, ne_eqb}}
+use Rattle.std.{proofs.lemmas.Bool.Decides.nat_tests, proofs.lemmas.Fmt.digits_decimal}
 use Rattle.std.proofs.lemmas.Str.Parse.{numerals_by_value, tells_all_ascii_digits}
 use Rattle.http_header.specs.Token.{is_visible_or_blank}
-use Rattle.headers_syntax.specs.Text.{is_text}
-use Rattle.headers_syntax.proofs.TextLemmas.{list_all-both}
-use Rattle.headers_ranges.specs.ByteRanges.{is_range_line, bytes_from_to}
-use Rattle.headers_ranges.specs.ContentBytes.{FitsOption}
+use Rattle.headers_syntax.{specs.Text.is_text, proofs.TextLemmas.list_all-both}
+use Rattle.headers_ranges.{specs.ByteRanges.{is_range_line, bytes_from_to}, specs.ContentBytes.FitsOption}
 use Rattle.headers_ranges.specs.CutLaws.{Lacks}
 
 -- a number below 2^64 is printed in digits

@@ -1,13 +1,10 @@
 -- The header `range` (RFC 9110, section 14.2): the first field line is text that begins with `bytes=`.
 use Rattle.std.specs.Prelude.{◌≡◌, Option, None, Some, Result, Ok, Err, IsSome, option_map}
 use Rattle.http_header.specs.FieldValue.{FieldValue, plain_value}
-use Rattle.headers_syntax.specs.HeaderLaws.{Grammar}
-use Rattle.headers_syntax.specs.Lines.{Line, first_line}
-use Rattle.headers_syntax.specs.Shapes.{one_line}
-use Rattle.headers_syntax.specs.declared.error.Refused.{Refused}
-use Rattle.headers_syntax.specs.declared.error.Refused.TheVariants.{Invalid, Memory}
-use Rattle.headers_ranges.specs.ByteRanges.{range_line}
-use Rattle.headers_ranges.specs.declared.range.Range.{Range}
+use Rattle.headers_syntax.{specs.HeaderLaws.Grammar, specs.Lines.{Line, first_line}, specs.Shapes.one_line}
+use Rattle.headers_syntax.{specs.declared.error.Refused.Refused, specs.declared.error.Refused.TheVariants.Invalid}
+use Rattle.headers_syntax.specs.declared.error.Refused.TheVariants.{Memory}
+use Rattle.headers_ranges.{specs.ByteRanges.range_line, specs.declared.range.Range.Range}
 
 -- the header stores the field line, and encodes to it
 abbrev pub range_grammar : Grammar Range Line

@@ -1,12 +1,8 @@
 -- The laws of the header `range`.
-use Rattle.std.specs.Prelude.{◌≡◌, Some, None, refl}
-use Rattle.std.proofs.Common.{inl, inr}
-use Rattle.std.proofs.lemmas.Bool.{cases_Bool}
-use Rattle.headers_syntax.specs.HeaderLaws.{HeaderLaws, SameBy, ReadsBy, written_by}
-use Rattle.headers_syntax.specs.Lines.{first_line}
+use Rattle.std.{specs.Prelude.{◌≡◌, Some, None, refl}, proofs.Common.{inl, inr}, proofs.lemmas.Bool.cases_Bool}
+use Rattle.headers_syntax.{specs.HeaderLaws.{HeaderLaws, SameBy, ReadsBy, written_by}, specs.Lines.first_line}
 use Rattle.headers_syntax.proofs.ShapeLemmas.{ReadsBackLine, one_line_laws}
-use Rattle.headers_ranges.specs.ByteRanges.{is_range_line, range_line}
-use Rattle.headers_ranges.specs.Range.{range_grammar}
+use Rattle.headers_ranges.{specs.ByteRanges.{is_range_line, range_line}, specs.Range.range_grammar}
 
 -- a stored field line is decoded again
 range_back : ReadsBackLine range_line (λ line. line)

@@ -1,13 +1,10 @@
 //! The header `content-range`.
-ghost use Rattle.std.specs.Prelude.{◌≡◌, Some, None, IfOk, string_bytes, if◌then◌else◌};
-ghost use Rattle.std.specs.Result.{result_ok};
+ghost use Rattle.std.{specs.Prelude.{◌≡◌, Some, None, IfOk, string_bytes, if◌then◌else◌}, specs.Result.result_ok};
 ghost use Rattle.http_header.specs.FieldValue.{plain_value};
-ghost use Rattle.headers_syntax.specs.Number.{number};
+ghost use Rattle.headers_syntax.{specs.Number.number, specs.HeaderLaws.written_by};
 ghost use Rattle.headers_ranges.specs.ContentBytes.{FitsOption, built, content_bytes, content_text, first_position};
 ghost use Rattle.headers_ranges.specs.ContentBytes.{in_bytes, is_ordered, last_position, of_parts, positions};
-ghost use Rattle.headers_ranges.specs.ContentBytes.{read_or_star, sized};
-ghost use Rattle.headers_syntax.specs.HeaderLaws.{written_by};
-ghost use Rattle.headers_ranges.specs.ContentRange.{content_range_grammar};
+ghost use Rattle.headers_ranges.{specs.ContentBytes.{read_or_star, sized}, specs.ContentRange.content_range_grammar};
 
 use crate::cut::cut_once;
 use bytes::Bytes;

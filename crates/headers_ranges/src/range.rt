@@ -1,10 +1,8 @@
 //! The header `range`.
 ghost use Rattle.std.specs.Prelude.{◌≡◌, ◌↔◌, ◌<◌, ◌^◌, ℕ, true, All, Any, IfOk, Some, None, drop, length};
-ghost use Rattle.std.specs.Prelude.{string_bytes, if◌then◌else◌};
-ghost use Rattle.std.specs.List.{filter_map, list_any};
+ghost use Rattle.std.{specs.Prelude.{string_bytes, if◌then◌else◌}, specs.List.{filter_map, list_any}};
 ghost use Rattle.http_header.specs.FieldValue.{plain_value};
-ghost use Rattle.headers_syntax.specs.Text.{is_text};
-ghost use Rattle.headers_syntax.specs.HeaderLaws.{ReadsBy, written_by};
+ghost use Rattle.headers_syntax.{specs.Text.is_text, specs.HeaderLaws.{ReadsBy, written_by}};
 ghost use Rattle.headers_ranges.specs.ByteRanges.{Spec, bytes_unit, specs, gives, Covers, GivesCovered, LiesIn};
 ghost use Rattle.headers_ranges.specs.ByteRanges.{IsWithin, bytes_from_to, is_range_line, is_valid_spec, range_text};
 ghost use Rattle.headers_ranges.specs.Range.{IsValueOf, range_grammar};
@@ -168,8 +166,7 @@ pub fn ranges_read_back(range: &Range)
 impl Header for Range {
     ghost use Rattle.std.specs.Prelude.{false, codes};
     ghost use Rattle.headers_syntax.specs.HeaderLaws.{SameBy, ReadsBy, written_by};
-    ghost use Rattle.headers_ranges.specs.Range.{range_grammar};
-    ghost use Rattle.headers_ranges.specs.RangeLaws.{range_laws};
+    ghost use Rattle.headers_ranges.{specs.Range.range_grammar, specs.RangeLaws.range_laws};
 
     ghost field_name = { codes "range" };
 

@@ -1,6 +1,5 @@
 //! The byte ranges that a representation can satisfy.
-ghost use Rattle.std.specs.Prelude.{◌≡◌, ◌<◌, ◌^◌, true, length, IfSome};
-ghost use Rattle.std.specs.List.{filter_map, list_any};
+ghost use Rattle.std.{specs.Prelude.{◌≡◌, ◌<◌, ◌^◌, true, length, IfSome}, specs.List.{filter_map, list_any}};
 ghost use Rattle.std.specs.Iterator.{YieldsFirst, YieldsFirstBy, item_count};
 ghost use Rattle.headers_syntax.specs.Text.{is_text};
 ghost use Rattle.headers_ranges.specs.ByteRanges.{ByteRange, gives, half, pieces, ranges_in, pieces_left, spec_of};

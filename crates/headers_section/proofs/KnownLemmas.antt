@@ -1,10 +1,9 @@
 -- Blocks of names that some headers don't have.
 use Rattle.std.proofs.Common.{◌≡◌, ◌≢◌, ◌++◌, Bool, List, [], ◌∷◌, ℕ, Result, IfOk, sym, subst}
-use Rattle.std.proofs.{lemmas.Bool.false_from_ne_true, lemmas.Result.IfOk-weaker, lemmas.Slice.Eq.bytes_eq-Decides}
-use Rattle.std.specs.Prelude.{bytes_eq, false, MatchBool}
+use Rattle.std.{proofs.lemmas.Bool.false_from_ne_true, proofs.lemmas.Result.IfOk-weaker}
+use Rattle.std.{proofs.lemmas.Slice.Eq.bytes_eq-Decides, specs.Prelude.{bytes_eq, false, MatchBool}}
 use Rattle.headers.specs.Lines.{Line}
-use Rattle.headers_section.specs.KnownHeaders.{KnownHeader}
-use Rattle.headers_section.specs.CanonicalText.{Block, IsBlockAmong, IsTypedBlock}
+use Rattle.headers_section.{specs.KnownHeaders.KnownHeader, specs.CanonicalText.{Block, IsBlockAmong, IsTypedBlock}}
 
 -- no header has the name
 abbrev pub IsNoneOf : List KnownHeader → List ℕ → Type 0

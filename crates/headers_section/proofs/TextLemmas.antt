@@ -1,11 +1,10 @@
 -- The text of a map that has the fields of an input, by the list of their names.
 use Rattle.std.proofs.Common.{◌≡◌, ℕ, ◌<◌, Bool, List, length, All, ◌∙◌, ap}
-use Rattle.http_header.specs.{FieldValue.FieldValue, HeaderMap.Entries, HeaderMap.get_all}
+use Rattle.http_header.{specs.FieldValue.FieldValue, specs.HeaderMap.{Entries, get_all}}
 use Rattle.headers.specs.Lines.{Line, lines_of}
-use Rattle.headers_section.specs.Section.{Field, Holds}
-use Rattle.headers_section.specs.CanonicalText.{names, lines_under, first_appearances, ListsNames, HasBlocks}
-use Rattle.headers_section.specs.CanonicalText.{IsCanonicalText}
-use Rattle.headers_section.proofs.{BlockLemmas.HasBlocks-same, RoomLemmas.AreFields-once}
+use Rattle.headers_section.{specs.Section.{Field, Holds}, specs.CanonicalText.{names, lines_under, first_appearances}}
+use Rattle.headers_section.specs.CanonicalText.{ListsNames, HasBlocks, IsCanonicalText}
+use Rattle.headers_section.{proofs.BlockLemmas.HasBlocks-same, proofs.RoomLemmas.AreFields-once}
 use Rattle.headers_section.proofs.NameLemmas.{lines_held, names_filled}
 
 module _ (input : List ℕ) (map : Entries FieldValue) (list : List (List ℕ)) (holds : Holds input map)

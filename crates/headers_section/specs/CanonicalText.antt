@@ -1,10 +1,8 @@
 -- The canonical text of a header section.
 use Rattle.std.specs.Prelude.{◌≡◌, ℕ, Bool, not, List, [], ◌∷◌, ◌++◌, map, filter, flat_map, bytes_eq, Option, Some}
-use Rattle.std.specs.Prelude.{None, is_none, All, MatchBool}
-use Rattle.std.specs.List.{list_any}
+use Rattle.std.{specs.Prelude.{None, is_none, All, MatchBool}, specs.List.list_any}
 use Rattle.headers.specs.Lines.{Line}
-use Rattle.headers_section.specs.KnownHeaders.{KnownHeader, known_headers}
-use Rattle.headers_section.specs.Section.{Field, AreFields, section}
+use Rattle.headers_section.{specs.KnownHeaders.{KnownHeader, known_headers}, specs.Section.{Field, AreFields, section}}
 
 -- the names of the fields, in order
 abbrev pub names : List Field → List (List ℕ)

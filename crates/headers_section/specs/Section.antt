@@ -1,10 +1,9 @@
 -- The fields of an input (RFC 9112, sections 2.1, 5 and 5.1).
 use Rattle.std.specs.Prelude.{◌≡◌, ℕ, ◌-◌, Bool, true, false, List, [], ◌∷◌, ◌++◌, map, length, take, slice_index, ◌==◌}
-use Rattle.std.specs.Prelude.{if◌then◌else◌, Contains, take_while}
-use Rattle.std.specs.List.{slice_split, AllZip}
-use Rattle.http_header.specs.{Token.lowercase, FieldName.IsFieldName, FieldValue.FieldValue, FieldValue.IsFieldValue}
-use Rattle.http_header.specs.{FieldValue.plain_value, HeaderMap.Entries, HeaderMap.append_all, HeaderMap.RefusesAppend}
-use Rattle.headers.specs.{Lines.Line, Text.trim}
+use Rattle.std.{specs.Prelude.{if◌then◌else◌, Contains, take_while}, specs.List.{slice_split, AllZip}}
+use Rattle.http_header.{specs.Token.lowercase, specs.FieldName.IsFieldName, specs.FieldValue.{FieldValue, IsFieldValue}}
+use Rattle.http_header.{specs.FieldValue.plain_value, specs.HeaderMap.{Entries, append_all, RefusesAppend}}
+use Rattle.headers.{specs.Lines.Line, specs.Text.trim}
 
 -- the greatest length of an input
 abbrev pub input_limit : ℕ

@@ -1,6 +1,5 @@
 //! The input of the program.
-ghost use Rattle.std.specs.Prelude.{◌≡◌, ◌<◌, ◌≤◌, length, IfOk, IfSome};
-ghost use Rattle.std.specs.Io.KnownBytes.{Consumes, IsAtEnd};
+ghost use Rattle.std.{specs.Prelude.{◌≡◌, ◌<◌, ◌≤◌, length, IfOk, IfSome}, specs.Io.KnownBytes.{Consumes, IsAtEnd}};
 ghost use Rattle.headers_section.specs.Section.{input_limit};
 
 use crate::status::RunError;

@@ -1,6 +1,5 @@
 //! The output of the program.
-ghost use Rattle.std.specs.Prelude.{◌≡◌, ℕ, List, ◌++◌, OnOk, IfErr, OnErr};
-ghost use Rattle.std.specs.Io.KnownBytes.{Appends};
+ghost use Rattle.std.{specs.Prelude.{◌≡◌, ℕ, List, ◌++◌, OnOk, IfErr, OnErr}, specs.Io.KnownBytes.Appends};
 
 use crate::status::RunError;
 use std::io::Write;

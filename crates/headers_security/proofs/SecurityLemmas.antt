@@ -2,17 +2,12 @@
 use Rattle.std.proofs.Common.{◌≡◌, ℕ, List, [], ◌∷◌, map, filter, Option, Some, None, refl, sym, ◌∙◌, ap}
 use Rattle.std.proofs.Common.{inl, inr, nat_lt, arith}
 use denote.Param.Members.{Mut}
-use Rattle.std.specs.Iterator.{ActsAsOnTwo}
-use Rattle.std.specs.Iterator.Runs.{Run, WholeRun, YieldsRun, IsReduceRun}
-use Rattle.std.specs.List.{filter_map, fold, reduce, list_any, count_by}
-use Rattle.std.specs.Option.{MatchOption, option_and_then, option_flatten}
-use Rattle.std.proofs.lemmas.Bool.{cases_Bool}
-use Rattle.std.proofs.lemmas.Bool.Decides.{nat_tests}
-use Rattle.std.proofs.lemmas.Grind.{common_steps}
-use Rattle.std.proofs.lemmas.Iterator.{YieldsList, items_from_drains}
+use Rattle.std.{specs.Iterator.ActsAsOnTwo, specs.Iterator.Runs.{Run, WholeRun, YieldsRun, IsReduceRun}}
+use Rattle.std.{specs.List.{filter_map, fold, reduce, list_any, count_by}, specs.Option.{MatchOption, option_and_then}}
+use Rattle.std.{specs.Option.option_flatten, proofs.lemmas.Bool.cases_Bool, proofs.lemmas.Bool.Decides.nat_tests}
+use Rattle.std.{proofs.lemmas.Grind.common_steps, proofs.lemmas.Iterator.{YieldsList, items_from_drains}}
 use Rattle.std.proofs.lemmas.List.{map-id, nil_from_length}
-use Rattle.headers_syntax.specs.Lines.{only_line}
-use Rattle.headers_syntax.specs.Text.{trim}
+use Rattle.headers_syntax.{specs.Lines.only_line, specs.Text.trim}
 use Rattle.headers_security.specs.StrictTransportSecurity.{names_subdomains, carries_age, age_in}
 use Rattle.headers_security.specs.SecurityParts.{age_of}
 

@@ -1,9 +1,7 @@
 -- The header `referrer-policy`: the last known word of all field lines.
 use Rattle.std.specs.Prelude.{ℕ, List, [], ◌∷◌, Option, None, codes, bytes_eq, find, option_map}
 use Rattle.std.specs.List.{filter_map, last_or}
-use Rattle.headers_syntax.specs.Lines.{Line}
-use Rattle.headers_syntax.specs.HeaderLaws.{Grammar}
-use Rattle.headers_syntax.specs.Parts.{parts_of_lines}
+use Rattle.headers_syntax.{specs.Lines.Line, specs.HeaderLaws.Grammar, specs.Parts.parts_of_lines}
 use Rattle.headers_security.specs.declared.referrer_policy.ReferrerPolicy.{ReferrerPolicy}
 use Rattle.headers_security.specs.declared.referrer_policy.Policy.{Policy}
 use Rattle.headers_security.specs.declared.referrer_policy.Policy.TheVariants.{NoReferrer, NoReferrerWhenDowngrade}

@@ -1,6 +1,5 @@
 -- The parts of a text, and the age in a part.
-use Rattle.std.specs.Prelude.{ℕ, List, map, ◌==◌, Option, Some, None, if◌then◌else◌}
-use Rattle.std.specs.List.{slice_split}
+use Rattle.std.{specs.Prelude.{ℕ, List, map, ◌==◌, Option, Some, None, if◌then◌else◌}, specs.List.slice_split}
 use Rattle.headers_syntax.specs.Text.{trim}
 use Rattle.headers_security.specs.StrictTransportSecurity.{carries_age, age_in}
 

@@ -1,16 +1,10 @@
 -- The header `strict-transport-security`: an age, and whether subdomains are included.
-use Rattle.std.specs.Prelude.{ℕ, Bool, ◌&&◌, nat_le, List, [], ◌++◌, filter, count_by, option_map, Option, None}
-use Rattle.std.specs.Prelude.{codes, decimal, if◌then◌else◌}
-use Rattle.std.specs.List.{list_any, before_first, after_first}
+use Rattle.std.specs.Prelude.{ℕ, Bool, ◌&&◌, nat_le, List, [], ◌++◌, filter, count_by, option_map, Option, None, codes}
+use Rattle.std.{specs.Prelude.{decimal, if◌then◌else◌}, specs.List.{list_any, before_first, after_first}}
 use Rattle.std.specs.Option.{option_and_then}
-use Rattle.headers_syntax.specs.Lines.{Line, only_line}
-use Rattle.headers_syntax.specs.Number.{number}
-use Rattle.headers_items.specs.Pairs.{is_equals}
-use Rattle.headers_syntax.specs.Text.{trim}
-use Rattle.headers_items.specs.Places.{semicolon}
-use Rattle.headers_syntax.specs.Parts.{parts}
-use Rattle.headers_syntax.specs.AsciiCase.{same_name}
-use Rattle.headers_syntax.specs.Text.{without_quotes}
+use Rattle.headers_syntax.{specs.Lines.{Line, only_line}, specs.Number.number, specs.Text.{trim, without_quotes}}
+use Rattle.headers_syntax.{specs.Parts.parts, specs.AsciiCase.same_name}
+use Rattle.headers_items.{specs.Pairs.is_equals, specs.Places.semicolon}
 
 -- for how many seconds a host may be reached only by secure transport, and whether its subdomains are included (RFC
 -- 6797, section 6.1)

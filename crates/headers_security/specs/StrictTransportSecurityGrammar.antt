@@ -1,7 +1,5 @@
 -- The grammar of `strict-transport-security`.
-use Rattle.headers_syntax.specs.HeaderLaws.{Grammar}
-use Rattle.headers_syntax.specs.Lines.{only_line}
-use Rattle.headers_syntax.specs.Shapes.{one_line}
+use Rattle.headers_syntax.{specs.HeaderLaws.Grammar, specs.Lines.only_line, specs.Shapes.one_line}
 use Rattle.headers_security.specs.StrictTransportSecurity.{TransportSecurity, read_security, print_security}
 use Rattle.headers_security.specs.declared.strict_transport_security.StrictTransportSecurity.{StrictTransportSecurity}
 

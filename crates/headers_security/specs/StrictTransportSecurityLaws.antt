@@ -1,28 +1,17 @@
 -- Round trip: the encoding of transport security decodes to it.
-use Rattle.std.proofs.Common.{◌≡◌, ℕ, ◌^◌, ◌<◌, Bool, true, false, not, ◌==◌, nat_le, cond, List, [], ◌∷◌, ◌++◌}
-use Rattle.std.proofs.Common.{map, filter, Option, Some, None, codes, refl, ◌∙◌, ap, arith}
-use Rattle.std.specs.Prelude.{option_map}
-use Rattle.std.specs.Fmt.{decimal}
-use Rattle.std.specs.Char.{is_ascii_digit}
-use Rattle.std.specs.Str.{all_ascii_digits}
-use Rattle.std.specs.List.{list_all, list_any, slice_split, All, count_by}
-use Rattle.std.specs.Option.{option_and_then}
-use Rattle.std.proofs.lemmas.Bool.{and_from, and_parts, not-true}
-use Rattle.std.proofs.lemmas.Bool.Decides.{nat_tests}
-use Rattle.std.proofs.lemmas.List.{append-nil}
-use Rattle.std.proofs.lemmas.List.Splits.{slice_split_none, slice_split_at}
-use Rattle.std.proofs.lemmas.List.Folds.{list_all-append}
-use Rattle.std.proofs.lemmas.List.Sums.{AllPass-from_list_all}
-use Rattle.std.proofs.lemmas.Str.Parse.{numerals_by_value, tells_all_ascii_digits}
-use Rattle.std.proofs.lemmas.Fmt.{digits_decimal}
+use Rattle.std.proofs.Common.{◌≡◌, ℕ, ◌^◌, ◌<◌, Bool, true, false, not, ◌==◌, nat_le, cond, List, [], ◌∷◌, ◌++◌, map}
+use Rattle.std.{proofs.Common.{filter, Option, Some, None, codes, refl, ◌∙◌, ap, arith}, specs.Prelude.option_map}
+use Rattle.std.{specs.Fmt.decimal, specs.Char.is_ascii_digit, specs.Str.all_ascii_digits, specs.List.list_all}
+use Rattle.std.{specs.List.{list_any, slice_split, All, count_by}, specs.Option.option_and_then}
+use Rattle.std.{proofs.lemmas.Bool.{and_from, and_parts, not-true}, proofs.lemmas.Bool.Decides.nat_tests}
+use Rattle.std.{proofs.lemmas.List.append-nil, proofs.lemmas.List.Splits.{slice_split_none, slice_split_at}}
+use Rattle.std.{proofs.lemmas.List.Folds.list_all-append, proofs.lemmas.List.Sums.AllPass-from_list_all}
+use Rattle.std.{proofs.lemmas.Str.Parse.{numerals_by_value, tells_all_ascii_digits}, proofs.lemmas.Fmt.digits_decimal}
 use Rattle.http_header.specs.Token.{is_visible_or_blank}
-use Rattle.headers_syntax.specs.Lines.{only_line}
-use Rattle.headers_syntax.specs.HeaderLaws.{HeaderLaws, SameBy, ReadsBy, written_by}
-use Rattle.headers_syntax.specs.Number.{number}
-use Rattle.headers_syntax.specs.Parts.{parts}
-use Rattle.headers_syntax.specs.Text.{is_text, trim, without_quotes}
-use Rattle.headers_syntax.proofs.NumberLemmas.{number-decimal, number-lt}
-use Rattle.headers_syntax.proofs.PlainLemmas.{decimal_plain, trim_piece, unquoted_piece, text_piece}
+use Rattle.headers_syntax.{specs.Lines.only_line, specs.HeaderLaws.{HeaderLaws, SameBy, ReadsBy, written_by}}
+use Rattle.headers_syntax.{specs.Number.number, specs.Parts.parts, specs.Text.{is_text, trim, without_quotes}}
+use Rattle.headers_syntax.{proofs.NumberLemmas.{number-decimal, number-lt}, proofs.PlainLemmas.decimal_plain}
+use Rattle.headers_syntax.proofs.PlainLemmas.{trim_piece, unquoted_piece, text_piece}
 use Rattle.headers_syntax.proofs.ShapeLemmas.{ReadsBackLine, one_line_laws}
 use Rattle.headers_security.specs.StrictTransportSecurity.{TransportSecurity, names_subdomains, carries_age, age_in}
 use Rattle.headers_security.specs.StrictTransportSecurity.{security_of, read_security, print_security}

@@ -1,6 +1,5 @@
 //! The header `referrer-policy`.
-ghost use Rattle.std.specs.Prelude.{◌≡◌, map};
-ghost use Rattle.std.specs.List.{filter_map, last_or};
+ghost use Rattle.std.{specs.Prelude.{◌≡◌, map}, specs.List.{filter_map, last_or}};
 ghost use Rattle.headers_syntax.specs.Parts.{parts};
 ghost use Rattle.headers_security.specs.ReferrerPolicy.{policy_named, word_of, words};
 ghost use Rattle.headers_items.specs.Places.{comma};
@@ -145,8 +144,7 @@ fn last_policy(line: &HeaderValue, before: Option<Policy>) -> Option<Policy>
 impl Header for ReferrerPolicy {
     ghost use Rattle.std.specs.Prelude.{true, codes};
     ghost use Rattle.headers_syntax.specs.HeaderLaws.{SameBy, ReadsBy, written_by, laws_by};
-    ghost use Rattle.headers_security.specs.ReferrerPolicy.{referrer_grammar};
-    ghost use Rattle.headers_security.specs.ReferrerPolicyLaws.{referrer_back};
+    ghost use Rattle.headers_security.{specs.ReferrerPolicy.referrer_grammar, specs.ReferrerPolicyLaws.referrer_back};
 
     ghost field_name = { codes "referrer-policy" };
 

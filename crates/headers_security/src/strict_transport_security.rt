@@ -1,15 +1,12 @@
 //! The header `strict-transport-security`.
 ghost use Rattle.std.specs.Prelude.{◌≡◌, ◌/◌, true, false, IfOk, string_bytes, filter, count_by};
-ghost use Rattle.std.specs.Option.{option_and_then};
-ghost use Rattle.std.specs.Duration.{as_nanos};
+ghost use Rattle.std.{specs.Option.option_and_then, specs.Duration.as_nanos};
 ghost use Rattle.http_header.specs.FieldValue.{IsFieldValue};
-ghost use Rattle.headers_syntax.specs.Durations.{IsWholeSeconds, LastsSeconds};
-ghost use Rattle.headers_syntax.specs.HeaderLaws.{ReadsBy, written_by};
-ghost use Rattle.headers_syntax.specs.Lines.{only_line};
+ghost use Rattle.headers_syntax.{specs.Durations.{IsWholeSeconds, LastsSeconds}, specs.HeaderLaws.ReadsBy};
+ghost use Rattle.headers_syntax.{specs.HeaderLaws.written_by, specs.Lines.only_line};
 ghost use Rattle.headers_security.specs.StrictTransportSecurityGrammar.{security_grammar};
 ghost use Rattle.headers_security.specs.StrictTransportSecurity.{names_subdomains, carries_age, age_in, read_security};
-ghost use Rattle.headers_security.specs.StrictTransportSecurity.{print_security};
-ghost use Rattle.headers_security.specs.SecurityParts.{pieces, age_of};
+ghost use Rattle.headers_security.{specs.StrictTransportSecurity.print_security, specs.SecurityParts.{pieces, age_of}};
 
 use bytes::Bytes;
 use headers_core::{

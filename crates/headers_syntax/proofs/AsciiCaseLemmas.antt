@@ -1,7 +1,6 @@
 -- Comparison without ASCII case, as a fact and as a test.
 use Rattle.std.proofs.Common.{◌≡◌, ℕ, Bool, true, false, ◌↔◌, IsTrue, List, refl, sym}
-use Rattle.std.proofs.lemmas.Bool.{false_from_ne_true}
-use Rattle.std.proofs.lemmas.Slice.Eq.{bytes_eq-Decides}
+use Rattle.std.{proofs.lemmas.Bool.false_from_ne_true, proofs.lemmas.Slice.Eq.bytes_eq-Decides}
 use Rattle.http_header.specs.Token.{lowercase}
 use Rattle.headers_syntax.specs.AsciiCase.{SameButForCase, same_name}
 

@@ -1,36 +1,24 @@
 -- The calendar counted off from 1970, and that a printed date is read back.
-use Rattle.std.proofs.Common.{◌≡◌, ℕ, zero, suc, ◌+◌, ◌-◌, ◌*◌, ◌/◌, ◌%◌, ◌<◌, ◌≤◌, nat_lt, true, false}
-use Rattle.std.proofs.Common.{[], ◌∷◌, ◌++◌, length, take, Some, None, codes, refl, sym, ◌∙◌, ap, subst, inl}
-use Rattle.std.proofs.Common.{inr, arith, append_assoc}
-use Rattle.std.specs.Int.{IsInRange}
-use Rattle.std.specs.List.{prefix_len, suffix_len}
-use Rattle.std.proofs.lemmas.List.{reverse-append, take_all}
-use Rattle.std.proofs.lemmas.List.Elements.{All-from_recursion}
-use Rattle.std.proofs.lemmas.List.Folds.{list_all-append}
-use Rattle.std.proofs.lemmas.List.Sums.{AllPass-from_list_all}
-use Rattle.http_header.specs.Token.{is_visible_or_blank}
-use Rattle.headers_syntax.proofs.NumberLemmas.{visible, number-no_digits}
-use Rattle.headers_syntax.proofs.TextLemmas.{visible-from_is_text, is_text-from_visible, no_text}
-use Rattle.http_header.specs.FieldValue.{IsVisibleAscii}
-use Rattle.std.proofs.lemmas.Bool.{cases_Bool, and_from, le-ltb, lt-ltb, ltb-true, ltb-false}
-use Rattle.std.proofs.lemmas.Bool.Decides.{nat_tests}
-use Rattle.httpdate.specs.declared.parts.Parts.{Parts}
-use Rattle.httpdate.specs.Calendar.{days_in_year, days_in_month, days_of_years, days_of_months, days_from_civil}
-use Rattle.httpdate.specs.Calendar.{weekday}
-use Rattle.httpdate.specs.Date.{parse_secs, valid_secs}
-use Rattle.httpdate.specs.Reader.{parse}
-use Rattle.httpdate.specs.Text.{day_name, month_name, two_digits, four_digits, imf_fixdate}
-use Rattle.httpdate.specs.Valid.{IsValid, is_valid, parts_secs}
-use Rattle.httpdate.proofs.CalendarLemmas.{days_of_months_more, days_of_months_all, days_from_civil_bound}
-use Rattle.httpdate.proofs.FormatLemmas.{parse_complete, parse_sound, imf_fixdate_grouped}
-use Rattle.httpdate.proofs.OptionLemmas.{cond_some, and_then_some}
-use Rattle.httpdate.proofs.ReaderLemmas.{clock}
-use Rattle.httpdate.proofs.ValidLemmas.{is_valid_sound, is_valid_complete}
-use Rattle.headers_syntax.specs.Lines.{Line}
-use Rattle.headers_syntax.specs.Text.{is_blank, is_text, trim, trim_start, trim_end}
-use Rattle.headers_syntax.specs.Number.{after_plus, number}
+use Rattle.std.proofs.Common.{◌≡◌, ℕ, zero, suc, ◌+◌, ◌-◌, ◌*◌, ◌/◌, ◌%◌, ◌<◌, ◌≤◌, nat_lt, true, false, [], ◌∷◌, ◌++◌}
+use Rattle.std.proofs.Common.{length, take, Some, None, codes, refl, sym, ◌∙◌, ap, subst, inl, inr, arith, append_assoc}
+use Rattle.std.{specs.Int.IsInRange, specs.List.{prefix_len, suffix_len}, proofs.lemmas.List.{reverse-append, take_all}}
+use Rattle.std.{proofs.lemmas.List.Elements.All-from_recursion, proofs.lemmas.List.Folds.list_all-append}
+use Rattle.std.{proofs.lemmas.List.Sums.AllPass-from_list_all, proofs.lemmas.Bool.{cases_Bool, and_from, le-ltb}}
+use Rattle.std.{proofs.lemmas.Bool.{lt-ltb, ltb-true, ltb-false}, proofs.lemmas.Bool.Decides.nat_tests}
 use Rattle.std.specs.Str.{all_ascii_digits}
+use Rattle.http_header.{specs.Token.is_visible_or_blank, specs.FieldValue.IsVisibleAscii}
+use Rattle.headers_syntax.{proofs.NumberLemmas.{visible, number-no_digits}, proofs.TextLemmas.visible-from_is_text}
+use Rattle.headers_syntax.{proofs.TextLemmas.{is_text-from_visible, no_text}, specs.Lines.Line, specs.Text.is_blank}
+use Rattle.headers_syntax.{specs.Text.{is_text, trim, trim_start, trim_end}, specs.Number.{after_plus, number}}
 use Rattle.headers_syntax.specs.Date.{date, unit_of, parts_at, fixdate, IsDated, ShowsDate}
+use Rattle.httpdate.{specs.declared.parts.Parts.Parts, specs.Calendar.{days_in_year, days_in_month, days_of_years}}
+use Rattle.httpdate.{specs.Calendar.{days_of_months, days_from_civil, weekday}, specs.Date.{parse_secs, valid_secs}}
+use Rattle.httpdate.{specs.Reader.parse, specs.Text.{day_name, month_name, two_digits, four_digits, imf_fixdate}}
+use Rattle.httpdate.{specs.Valid.{IsValid, is_valid, parts_secs}, proofs.CalendarLemmas.days_of_months_more}
+use Rattle.httpdate.proofs.CalendarLemmas.{days_of_months_all, days_from_civil_bound}
+use Rattle.httpdate.proofs.FormatLemmas.{parse_complete, parse_sound, imf_fixdate_grouped}
+use Rattle.httpdate.{proofs.OptionLemmas.{cond_some, and_then_some}, proofs.ReaderLemmas.clock}
+use Rattle.httpdate.proofs.ValidLemmas.{is_valid_sound, is_valid_complete}
 
 -- ---- the calendar
 

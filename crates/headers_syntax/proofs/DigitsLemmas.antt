@@ -1,13 +1,9 @@
 -- Digits are read one at a time.
 use Rattle.std.proofs.Common.{◌≡◌, ℕ, ◌<◌, ◌≤◌, ◌^◌, ◌*◌, ◌+◌, ◌-◌, true, false, [], ◌∷◌, List, length, ◌⊎◌, inl, inr}
-use Rattle.std.proofs.Common.{suc, refl, sym, ◌∙◌, ap, subst, arith, rules}
-use Rattle.std.proofs.Math.Nat.{pow-suc, pow-le-pow_right}
-use Rattle.std.proofs.Math.ListN.{drop_of_length-le}
-use Rattle.std.proofs.lemmas.List.{drop_more, length-drop}
-use Rattle.std.proofs.lemmas.Bool.{and_from, le-leb}
-use Rattle.std.specs.Char.{is_ascii_digit}
-use Rattle.std.specs.Str.{all_ascii_digits}
-use Rattle.std.proofs.Math.ListN.{drop, get_or}
+use Rattle.std.{proofs.Common.{suc, refl, sym, ◌∙◌, ap, subst, arith, rules}, proofs.Math.Nat.pow-suc}
+use Rattle.std.{proofs.Math.Nat.pow-le-pow_right, proofs.Math.ListN.{drop_of_length-le, drop, get_or}}
+use Rattle.std.{proofs.lemmas.List.{drop_more, length-drop}, proofs.lemmas.Bool.{and_from, le-leb}}
+use Rattle.std.{specs.Char.is_ascii_digit, specs.Str.all_ascii_digits}
 use Rattle.headers_syntax.specs.Number.{decimal_value}
 
 -- the digits before `at` write n

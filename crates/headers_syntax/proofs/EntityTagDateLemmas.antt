@@ -1,11 +1,8 @@
 -- A printed date is no entity tag.
 use Rattle.std.proofs.Common.{◌≡◌, ◌≢◌, ℕ, Bool, true, false, ◌∷◌, ◌++◌, Some, get_or, sym, ◌∙◌, ap, arith}
 use Rattle.std.specs.Int.{IsInRange}
-use Rattle.httpdate.specs.Text.{day_name}
-use Rattle.httpdate.proofs.FormatLemmas.{imf_fixdate_grouped}
-use Rattle.headers_syntax.specs.Date.{date, fixdate}
-use Rattle.headers_syntax.specs.EntityTag.{tag_text, is_tag}
-use Rattle.headers_syntax.specs.Lines.{Line}
+use Rattle.httpdate.{specs.Text.day_name, proofs.FormatLemmas.imf_fixdate_grouped}
+use Rattle.headers_syntax.{specs.Date.{date, fixdate}, specs.EntityTag.{tag_text, is_tag}, specs.Lines.Line}
 use Rattle.headers_syntax.proofs.DateLemmas.{by_day_name, date_parts, fixdate-is, wday_range}
 use Rattle.headers_syntax.proofs.EntityTagLemmas.{is_tag-false}
 

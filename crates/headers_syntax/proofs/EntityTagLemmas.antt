@@ -1,17 +1,12 @@
 -- Facts on entity tags.
-use Rattle.std.proofs.Common.{◌≡◌, ℕ, ◌-◌, Bool, true, false, List, [], ◌∷◌, ◌++◌, length, length-append}
-use Rattle.std.proofs.Common.{take, ◌↔◌, sym, ◌∙◌, ap, subst, arith, Option, Some, None, IsTrue, is_some}
-use Rattle.std.proofs.Common.{◌↔◌}
-use Rattle.std.specs.List.{list_all}
-use Rattle.std.proofs.lemmas.Bool.{and_parts, and_from, false_from_ne_true}
-use Rattle.std.proofs.Math.Seq.{take-append_seam}
-use Rattle.std.proofs.lemmas.Slice.Eq.{bytes_eq-Decides}
-use Rattle.std.specs.Prelude.{bytes_eq}
+use Rattle.std.proofs.Common.{◌≡◌, ℕ, ◌-◌, Bool, true, false, List, [], ◌∷◌, ◌++◌, length, length-append, take, ◌↔◌}
+use Rattle.std.{proofs.Common.{sym, ◌∙◌, ap, subst, arith, Option, Some, None, IsTrue, is_some}, specs.List.list_all}
+use Rattle.std.{proofs.lemmas.Bool.{and_parts, and_from, false_from_ne_true}, proofs.Math.Seq.take-append_seam}
+use Rattle.std.{proofs.lemmas.Slice.Eq.bytes_eq-Decides, specs.Prelude.bytes_eq}
 use Rattle.std.proofs.lemmas.List.Sums.{AllPass-from_list_all, list_all-from_AllPass}
-use Rattle.headers_syntax.specs.Text.{quote}
+use Rattle.headers_syntax.{specs.Text.quote, specs.EntityTag.{is_tag_byte, between_quotes, TagParts, tag_text, IsTag}}
+use Rattle.headers_syntax.specs.EntityTag.{IsSomeTag, FindsTag, is_tag, parts_of}
 use Rattle.http_header.specs.Token.{AllPass}
-use Rattle.headers_syntax.specs.EntityTag.{is_tag_byte, between_quotes, TagParts, tag_text, IsTag, IsSomeTag}
-use Rattle.headers_syntax.specs.EntityTag.{FindsTag, is_tag, parts_of}
 
 -- the opaque part by its place
 between_quotes_quoted : (opaque : List ℕ) → between_quotes (quote ∷ (opaque ++ quote ∷ [])) ≡ opaque

@@ -1,22 +1,15 @@
 -- What `parse` reads of a line is its number, and a printed number is read back.
-use Rattle.std.proofs.Common.{if◌then◌else◌, ◌≡◌, ℕ, ◌<◌, ◌≤◌, ◌≢◌, ◌^◌, ◌&&◌, true, false, [], ◌∷◌, length}
-use Rattle.std.proofs.Common.{Some, None, Result, Ok}
-use Rattle.std.proofs.Common.{Err, refl, sym, ◌∙◌, ap, subst, inl, inr, arith, rules, nat_lt, nat_le, get_or, ◌==◌}
-use Rattle.std.specs.Str.{all_ascii_digits}
-use Rattle.std.specs.Str.Parse.{ParsesUnsigned}
-use Rattle.std.specs.Result.{OkIff, result_ok}
-use Rattle.std.proofs.lemmas.Str.Parse.{IsNumeralModel, numerals_by_weight, tells_all_ascii_digits, parse_plain}
-use Rattle.std.proofs.lemmas.Str.Parse.{parse_plus, not_in_digits}
-use Rattle.std.proofs.lemmas.Fmt.{digits_decimal, digits_value-decimal, decimal_nonempty}
-use Rattle.std.specs.Fmt.{decimal}
+use Rattle.std.proofs.Common.{if◌then◌else◌, ◌≡◌, ℕ, ◌<◌, ◌≤◌, ◌≢◌, ◌^◌, ◌&&◌, true, false, [], ◌∷◌, length, Some, None}
+use Rattle.std.proofs.Common.{Result, Ok, Err, refl, sym, ◌∙◌, ap, subst, inl, inr, arith, rules, nat_lt, nat_le}
+use Rattle.std.{proofs.Common.{get_or, ◌==◌}, specs.Str.all_ascii_digits, specs.Str.Parse.ParsesUnsigned}
+use Rattle.std.{specs.Result.{OkIff, result_ok}, proofs.lemmas.Str.Parse.{IsNumeralModel, numerals_by_weight}}
+use Rattle.std.proofs.lemmas.Str.Parse.{tells_all_ascii_digits, parse_plain, parse_plus, not_in_digits}
+use Rattle.std.{proofs.lemmas.Fmt.{digits_decimal, digits_value-decimal, decimal_nonempty}, specs.Fmt.decimal}
 use Rattle.std.proofs.lemmas.Bool.{cases_Bool, and_from, and_parts, or_right, le-leb, leb-true, lt-ltb, ltb-true}
-use Rattle.std.proofs.lemmas.Bool.{false_from_ne_true, eqb-true, eqb-false}
-use Rattle.std.specs.Char.{is_ascii_digit}
+use Rattle.std.{proofs.lemmas.Bool.{false_from_ne_true, eqb-true, eqb-false}, specs.Char.is_ascii_digit}
 use Rattle.std.proofs.lemmas.List.Elements.{All-cons}
-use Rattle.http_header.specs.Token.{is_visible_or_blank}
-use Rattle.http_header.specs.FieldValue.{IsVisibleAscii}
-use Rattle.headers_syntax.specs.Lines.{Line}
-use Rattle.headers_syntax.specs.Number.{after_plus, decimal_value, is_numeral, number}
+use Rattle.http_header.{specs.Token.is_visible_or_blank, specs.FieldValue.IsVisibleAscii}
+use Rattle.headers_syntax.{specs.Lines.Line, specs.Number.{after_plus, decimal_value, is_numeral, number}}
 
 own : IsNumeralModel (λ ds. all_ascii_digits ds ≡ true) decimal_value
 own = numerals_by_weight _ tells_all_ascii_digits decimal_value (search rules)

@@ -1,15 +1,11 @@
 -- How `OfLines` is built call by call, and what a caller reads of it.
 use Rattle.std.proofs.Common.{◌≡◌, Bool, true, false, IsTrue, List, [], ◌∷◌, ◌++◌, map, length, Option, Some, None}
-use Rattle.std.proofs.Common.{refl, sym, ◌∙◌, ap, subst, arith}
-use Rattle.std.specs.Iterator.{Yields, YieldsThen, YieldsFirstBy}
-use Rattle.std.specs.Slice.Iter.{iter_rest, iter_steps}
-use Rattle.std.specs.declared.slice.Iter.{Iter}
+use Rattle.std.{proofs.Common.{refl, sym, ◌∙◌, ap, subst, arith}, specs.Iterator.{Yields, YieldsThen, YieldsFirstBy}}
+use Rattle.std.{specs.Slice.Iter.{iter_rest, iter_steps}, specs.declared.slice.Iter.Iter}
 use denote.Ref.{Bor}
-use Rattle.std.proofs.lemmas.List.{append-nil, append_assoc, map-append}
-use Rattle.std.specs.Bool.{MatchBool}
+use Rattle.std.{proofs.lemmas.List.{append-nil, append_assoc, map-append}, specs.Bool.MatchBool}
 use Rattle.http_header.specs.FieldValue.{FieldValue}
-use Rattle.headers_syntax.specs.Lines.{Line, lines_of}
-use Rattle.headers_syntax.specs.OfLines.{OfLines}
+use Rattle.headers_syntax.{specs.Lines.{Line, lines_of}, specs.OfLines.OfLines}
 
 module _ {S A : Type 0} (shown : A → FieldValue) (steps : S → Option A → S → Type 0) where
   -- no call was made

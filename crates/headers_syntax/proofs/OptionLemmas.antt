@@ -1,7 +1,5 @@
 -- What a value that was mapped, or read in two steps, came from.
-use Rattle.std.proofs.Common.{◌≡◌, Option, Some, None, refl}
-use Rattle.std.specs.Prelude.{option_map}
-use Rattle.std.specs.Option.{option_and_then}
+use Rattle.std.{proofs.Common.{◌≡◌, Option, Some, None, refl}, specs.Prelude.option_map, specs.Option.option_and_then}
 
 pub map_parts : {A B : Type 0} (f : A → B) (o : Option A) (y : B) → option_map f o ≡ Some y
     → (x : A) × (o ≡ Some x) × (f x ≡ y)

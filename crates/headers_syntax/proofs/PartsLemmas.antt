@@ -1,11 +1,8 @@
 -- The last of what the parts of a line give, part by part.
 use Rattle.std.proofs.Common.{◌≡◌, ℕ, List, [], ◌∷◌, ◌++◌, Option, Some, None, refl, sym, ◌∙◌, ap}
-use Rattle.std.specs.List.{filter_map, last_or}
-use Rattle.std.proofs.lemmas.List.Elements.{filter_map-append}
-use Rattle.std.proofs.lemmas.List.{append-nil}
-use Rattle.std.proofs.lemmas.Grind.{flat_map-append}
-use Rattle.headers_syntax.specs.Lines.{Line}
-use Rattle.headers_syntax.specs.Parts.{parts, parts_of_lines}
+use Rattle.std.{specs.List.{filter_map, last_or}, proofs.lemmas.List.Elements.filter_map-append}
+use Rattle.std.{proofs.lemmas.List.append-nil, proofs.lemmas.Grind.flat_map-append}
+use Rattle.headers_syntax.{specs.Lines.Line, specs.Parts.{parts, parts_of_lines}}
 
 pub last_or-append : {A : Type 0} (o : Option A) (xs ys : List A) → last_or o (xs ++ ys) ≡ last_or (last_or o xs) ys
 last_or-append o [] ys = refl

@@ -1,20 +1,14 @@
 -- Pieces of visible bytes above the quote without a comma: trimming and taking off quotes leaves them, and decimals
 -- are such.
-use Rattle.std.proofs.Common.{◌≡◌, ◌≢◌, ℕ, ◌^◌, ◌≤◌, ◌-◌, ◌<◌, Bool, true, false, not, ◌&&◌, ◌==◌, nat_lt}
-use Rattle.std.proofs.Common.{nat_le, List, [], ◌∷◌, length, take, drop, get_or, refl, ◌∙◌, ap}
-use Rattle.std.proofs.Common.{arith}
-use Rattle.std.specs.List.{list_all, prefix_len, suffix_len}
-use Rattle.std.proofs.lemmas.Bool.{leb-true, and_parts, and_from, or_right, le-leb, lt-ltb, ltb-true, ne_eqb}
-use Rattle.std.proofs.lemmas.Bool.{eqb-false, not-true}
-use Rattle.std.proofs.lemmas.List.{take_all}
+use Rattle.std.proofs.Common.{◌≡◌, ◌≢◌, ℕ, ◌^◌, ◌≤◌, ◌-◌, ◌<◌, Bool, true, false, not, ◌&&◌, ◌==◌, nat_lt, nat_le, List}
+use Rattle.std.{proofs.Common.{[], ◌∷◌, length, take, drop, get_or, refl, ◌∙◌, ap, arith}, specs.List.list_all}
+use Rattle.std.{specs.List.{prefix_len, suffix_len}, proofs.lemmas.Bool.{leb-true, and_parts, and_from, or_right}}
+use Rattle.std.{proofs.lemmas.Bool.{le-leb, lt-ltb, ltb-true, ne_eqb, eqb-false, not-true}, proofs.lemmas.List.take_all}
 use Rattle.std.proofs.lemmas.List.Sums.{AllPass-from_list_all, prefix_len_is, suffix_len_is}
+use Rattle.std.{specs.Str.all_ascii_digits, specs.Char.is_ascii_digit, specs.Fmt.decimal}
+use Rattle.std.{proofs.lemmas.Str.Parse.{numerals_by_value, tells_all_ascii_digits}, proofs.lemmas.Fmt.digits_decimal}
 use Rattle.http_header.specs.Token.{is_visible_or_blank}
 use Rattle.headers_syntax.specs.Text.{is_blank, is_quote, is_text, trim, without_quotes}
-use Rattle.std.specs.Str.{all_ascii_digits}
-use Rattle.std.specs.Char.{is_ascii_digit}
-use Rattle.std.specs.Fmt.{decimal}
-use Rattle.std.proofs.lemmas.Str.Parse.{numerals_by_value, tells_all_ascii_digits}
-use Rattle.std.proofs.lemmas.Fmt.{digits_decimal}
 
 -- a visible byte above the quote that is no comma
 abbrev pub is_plain : ℕ → Bool

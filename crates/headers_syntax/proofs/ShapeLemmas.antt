@@ -1,19 +1,13 @@
 -- The laws of the grammars that many headers share.
 use Rattle.std.proofs.Common.{◌≡◌, ℕ, Bool, List, [], ◌∷◌, Option, Some, None, refl, inl, inr}
-use Rattle.std.specs.Option.{option_and_then}
-use Rattle.std.proofs.lemmas.Bool.{cases_Bool}
-use Rattle.std.proofs.lemmas.Slice.Eq.{bytes_eq-Decides}
+use Rattle.std.{specs.Option.option_and_then, proofs.lemmas.Bool.cases_Bool, proofs.lemmas.Slice.Eq.bytes_eq-Decides}
 use Rattle.std.specs.Prelude.{bytes_eq, decimal}
-use Rattle.headers_syntax.specs.Date.{date, fixdate}
-use Rattle.headers_syntax.specs.Lines.{Line, first_line, only_line, some_lines}
-use Rattle.headers_syntax.specs.Number.{number}
-use Rattle.headers_syntax.specs.EntityTag.{is_tag}
-use Rattle.headers_syntax.specs.Text.{is_text}
-use Rattle.headers_syntax.specs.HeaderLaws.{HeaderLaws, SameBy, ReadsBy, written_by, ReadsBack, laws_by}
-use Rattle.headers_syntax.specs.Shapes.{line_if, text_line, word_line, one_line, first_kept, only_number, only_text}
-use Rattle.headers_syntax.specs.Shapes.{only_word, first_word, all_kept, only_date, tag_line, only_tag}
-use Rattle.headers_syntax.proofs.DateLemmas.{date_back}
-use Rattle.headers_syntax.proofs.NumberLemmas.{number-decimal, number-lt}
+use Rattle.headers_syntax.{specs.Date.{date, fixdate}, specs.Lines.{Line, first_line, only_line, some_lines}}
+use Rattle.headers_syntax.{specs.Number.number, specs.EntityTag.is_tag, specs.Text.is_text, specs.HeaderLaws.HeaderLaws}
+use Rattle.headers_syntax.{specs.HeaderLaws.{SameBy, ReadsBy, written_by, ReadsBack, laws_by}, specs.Shapes.line_if}
+use Rattle.headers_syntax.specs.Shapes.{text_line, word_line, one_line, first_kept, only_number, only_text, only_word}
+use Rattle.headers_syntax.specs.Shapes.{first_word, all_kept, only_date, tag_line, only_tag}
+use Rattle.headers_syntax.{proofs.DateLemmas.date_back, proofs.NumberLemmas.{number-decimal, number-lt}}
 
 -- what is written of a value that a line reads, reads as that value
 abbrev pub ReadsBackLine : {A : Type 0} → (Line → Option A) → (A → Line) → Type 0

@@ -1,21 +1,15 @@
 -- What `trim_start_matches` and `trim_end_matches` leave of a text, where the characters that go are ASCII.
 use Rattle.std.proofs.Common.{◌≡◌, ℕ, suc, ◌+◌, ◌-◌, ◌<◌, Bool, true, false, List, [], ◌∷◌, ◌++◌, length, take, drop}
-use Rattle.std.proofs.Common.{get_or, Option, Some, None, IfSome, refl, sym, ◌∙◌, ap, arith, inl, inr}
-use Rattle.std.proofs.Common.{take-append-drop, length-append}
-use Rattle.std.specs.List.{prefix_len, suffix_len}
-use Rattle.std.proofs.Common.{⊎_elim, ◌==◌}
-use Rattle.std.specs.Char.{char_set_contains}
-use Rattle.std.proofs.lemmas.Bool.{eqb-true, or_cases}
+use Rattle.std.proofs.Common.{get_or, Option, Some, None, IfSome, refl, sym, ◌∙◌, ap, arith, inl, inr, take-append-drop}
+use Rattle.std.{proofs.Common.{length-append, ⊎_elim, ◌==◌}, specs.List.{prefix_len, suffix_len}}
+use Rattle.std.{specs.Char.char_set_contains, proofs.lemmas.Bool.{eqb-true, or_cases}}
 use Rattle.std.proofs.lemmas.Bool.Decides.{nat_tests}
-use Rattle.headers_syntax.specs.Text.{is_blank}
-use Rattle.headers_syntax.specs.Text.{is_quote}
+use Rattle.headers_syntax.specs.Text.{is_blank, is_quote}
 use lib.Utf8.{low_scalar}
 use Rattle.std.specs.Str.Pattern.{FindsPrefixBy, FindsSuffixBy, IsTrimStartMatches, IsTrimEndMatches, CutsPrefixes}
-use Rattle.std.specs.Str.Pattern.{CutsSuffixes}
-use Rattle.std.proofs.lemmas.Bool.{cases_Bool}
-use Rattle.std.proofs.lemmas.List.{reverse-append, take-append-le, drop_all, take_all, take_more}
-use Rattle.std.proofs.lemmas.List.Sums.{suffix_len_is}
-use Rattle.std.proofs.lemmas.Str.{encode_ascii}
+use Rattle.std.{specs.Str.Pattern.CutsSuffixes, proofs.lemmas.Bool.cases_Bool, proofs.lemmas.List.reverse-append}
+use Rattle.std.proofs.lemmas.List.{take-append-le, drop_all, take_all, take_more}
+use Rattle.std.{proofs.lemmas.List.Sums.suffix_len_is, proofs.lemmas.Str.encode_ascii}
 use Rattle.std.proofs.lemmas.Str.Pattern.{drop_at_char}
 
 -- the test holds of ASCII alone

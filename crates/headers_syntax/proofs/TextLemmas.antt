@@ -1,15 +1,12 @@
 -- What is text.
 use Rattle.std.proofs.Common.{◌≡◌, ℕ, ◌-◌, Bool, true, false, List, [], ◌∷◌, ◌++◌, take, drop, refl, sym, ◌∙◌, ap}
-use Rattle.std.proofs.Common.{arith, inl, inr}
-use Rattle.std.proofs.lemmas.Bool.{cases_Bool, false_from_ne_true, and_parts, and_from, ne_eqb}
-use Rattle.std.proofs.lemmas.Bool.Decides.{nat_tests}
-use Rattle.std.proofs.lemmas.List.{take-append-drop}
-use Rattle.std.specs.List.{list_all, slice_range}
-use Rattle.std.proofs.lemmas.List.Folds.{list_all-append}
-use Rattle.std.proofs.lemmas.List.Sums.{AllPass-from_list_all, list_all-from_AllPass}
+use Rattle.std.{proofs.Common.{arith, inl, inr}, proofs.lemmas.Bool.{cases_Bool, false_from_ne_true, and_parts}}
+use Rattle.std.{proofs.lemmas.Bool.{and_from, ne_eqb}, proofs.lemmas.Bool.Decides.nat_tests}
+use Rattle.std.{proofs.lemmas.List.take-append-drop, specs.List.{list_all, slice_range}}
+use Rattle.std.{proofs.lemmas.List.Folds.list_all-append, proofs.lemmas.List.Sums.AllPass-from_list_all}
+use Rattle.std.proofs.lemmas.List.Sums.{list_all-from_AllPass}
 use Rattle.http_header.specs.Token.{is_token_byte, is_visible_or_blank, is_value_byte}
-use Rattle.http_header.proofs.TokenLemmas.{token_byte_range}
-use Rattle.http_header.specs.FieldValue.{IsVisibleAscii, IsFieldValue}
+use Rattle.http_header.{proofs.TokenLemmas.token_byte_range, specs.FieldValue.{IsVisibleAscii, IsFieldValue}}
 use Rattle.headers_syntax.specs.Text.{is_blank, is_quote, is_text, quote}
 
 pub is_text-from_visible : (s : List ℕ) → IsVisibleAscii s → is_text s ≡ true

@@ -1,12 +1,8 @@
 -- Dates in field lines, as seconds since 1970, and the text of the date of a time.
 use Rattle.std.specs.Prelude.{ℕ, zero, suc, ◌+◌, ◌-◌, ◌/◌, ◌%◌, ◌<◌, Option, None, if◌then◌else◌, nat_lt, ◌≡◌, IsTrue}
-use Rattle.httpdate.specs.declared.parts.Parts.{Parts}
-use Rattle.httpdate.specs.Calendar.{days_in_year, days_in_month, weekday}
-use Rattle.httpdate.specs.Date.{IsPartsText, parse_secs}
-use Rattle.httpdate.specs.Text.{imf_fixdate}
-use Rattle.httpdate.specs.Valid.{IsValid, parts_secs}
-use Rattle.headers_syntax.specs.Lines.{Line}
-use Rattle.headers_syntax.specs.Text.{is_text, trim}
+use Rattle.httpdate.{specs.declared.parts.Parts.Parts, specs.Calendar.{days_in_year, days_in_month, weekday}}
+use Rattle.httpdate.{specs.Date.{IsPartsText, parse_secs}, specs.Text.imf_fixdate, specs.Valid.{IsValid, parts_secs}}
+use Rattle.headers_syntax.{specs.Lines.Line, specs.Text.{is_text, trim}}
 
 -- the time that a field line shows: the line is text that is, without spaces and tabs at its ends, a date in one of the
 -- three formats

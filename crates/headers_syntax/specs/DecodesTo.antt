@@ -1,7 +1,6 @@
 -- What the result of decoding says about a list of field lines.
 use Rattle.std.specs.Prelude.{List, ⊤, Result, Ok, Err}
-use Rattle.headers_syntax.specs.Lines.{Line}
-use Rattle.headers_syntax.specs.declared.error.Refused.{Refused}
+use Rattle.headers_syntax.{specs.Lines.Line, specs.declared.error.Refused.Refused}
 use Rattle.headers_syntax.specs.declared.error.Refused.TheVariants.{Invalid, Memory}
 
 -- the field lines decode to this result: to a value only if they encode it, to `Invalid` only if they encode none

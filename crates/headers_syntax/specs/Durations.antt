@@ -1,7 +1,5 @@
 -- Durations of whole seconds.
-use Rattle.std.specs.Prelude.{◌≡◌, ℕ, ◌*◌, ◌%◌}
-use Rattle.std.specs.Duration.{as_nanos}
-use Rattle.std.specs.declared.time.Duration.{Duration}
+use Rattle.std.{specs.Prelude.{◌≡◌, ℕ, ◌*◌, ◌%◌}, specs.Duration.as_nanos, specs.declared.time.Duration.Duration}
 
 -- it has no part of a second
 abbrev pub IsWholeSeconds : Duration → Type 0

@@ -1,6 +1,5 @@
 -- The laws of every header type, and header types whose grammar is a pair of functions.
-use Rattle.std.specs.Prelude.{◌≡◌, List, Option, Some, refl}
-use Rattle.std.proofs.Common.{sym, ◌∙◌, ap}
+use Rattle.std.{specs.Prelude.{◌≡◌, List, Option, Some, refl}, proofs.Common.{sym, ◌∙◌, ap}}
 use Rattle.headers_syntax.specs.Lines.{Line}
 
 -- The laws of a header type. `same` is an equivalence, and decoding and encoding respect it. Field lines decode to at

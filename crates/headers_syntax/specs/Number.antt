@@ -1,7 +1,6 @@
 -- Numbers in field lines.
 use Rattle.std.specs.Prelude.{ℕ, ◌+◌, ◌-◌, ◌*◌, ◌^◌, Bool, ◌&&◌, [], ◌∷◌, length, Option, Some, None, if◌then◌else◌}
-use Rattle.std.specs.Prelude.{◌==◌, nat_lt}
-use Rattle.std.specs.Str.{all_ascii_digits}
+use Rattle.std.{specs.Prelude.{◌==◌, nat_lt}, specs.Str.all_ascii_digits}
 use Rattle.headers_syntax.specs.Lines.{Line}
 
 -- what follows an optional plus sign

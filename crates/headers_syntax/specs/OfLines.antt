@@ -1,6 +1,5 @@
 -- What calls of an iterator over header values say about its list of field lines.
-use Rattle.std.specs.Prelude.{◌≡◌, Bool, IsTrue, List, [], ◌++◌, map, Option, None}
-use Rattle.std.specs.Bool.{MatchBool}
+use Rattle.std.{specs.Prelude.{◌≡◌, Bool, IsTrue, List, [], ◌++◌, map, Option, None}, specs.Bool.MatchBool}
 use Rattle.std.specs.Iterator.{Yields, YieldsThen}
 use Rattle.http_header.specs.FieldValue.{FieldValue}
 use Rattle.headers_syntax.specs.Lines.{Line}

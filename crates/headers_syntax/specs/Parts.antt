@@ -1,8 +1,6 @@
 -- Field lines cut at a byte, also where it is in quotes.
-use Rattle.std.specs.Prelude.{ℕ, List, [], map, ◌==◌, if◌then◌else◌}
-use Rattle.std.specs.List.{slice_split, flat_map}
-use Rattle.headers_syntax.specs.Lines.{Line}
-use Rattle.headers_syntax.specs.Text.{is_text, trim}
+use Rattle.std.{specs.Prelude.{ℕ, List, [], map, ◌==◌, if◌then◌else◌}, specs.List.{slice_split, flat_map}}
+use Rattle.headers_syntax.{specs.Lines.Line, specs.Text.{is_text, trim}}
 
 -- the trimmed slices between all bytes c of a field line; a line that isn't text has none
 abbrev pub parts : ℕ → Line → List (List ℕ)

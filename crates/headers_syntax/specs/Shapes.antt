@@ -1,12 +1,8 @@
 -- Grammars that many headers share, by what a header stores. Their laws are in proofs/ShapeLemmas.
 use Rattle.std.specs.Prelude.{ℕ, Bool, List, [], ◌∷◌, Option, Some, None, decimal, bytes_eq, if◌then◌else◌}
 use Rattle.std.specs.Option.{option_and_then}
-use Rattle.headers_syntax.specs.Date.{date, fixdate}
-use Rattle.headers_syntax.specs.Lines.{Line, first_line, only_line, some_lines}
-use Rattle.headers_syntax.specs.Number.{number}
-use Rattle.headers_syntax.specs.EntityTag.{is_tag}
-use Rattle.headers_syntax.specs.Text.{is_text}
-use Rattle.headers_syntax.specs.HeaderLaws.{Grammar}
+use Rattle.headers_syntax.{specs.Date.{date, fixdate}, specs.Lines.{Line, first_line, only_line, some_lines}}
+use Rattle.headers_syntax.{specs.Number.number, specs.EntityTag.is_tag, specs.Text.is_text, specs.HeaderLaws.Grammar}
 
 -- the field line, if it passes a test
 abbrev pub line_if : (Line → Bool) → Line → Option Line

@@ -1,12 +1,8 @@
 //! Dates of header fields.
-ghost use Rattle.std.specs.Prelude.{◌≡◌, ◌↔◌, ℕ, Some, IfOk};
-ghost use Rattle.std.specs.Option.{option_and_then};
+ghost use Rattle.std.{specs.Prelude.{◌≡◌, ◌↔◌, ℕ, Some, IfOk}, specs.Option.option_and_then};
 ghost use Rattle.http_header.specs.FieldValue.{plain_value};
-ghost use Rattle.httpdate.specs.declared.parts.Parts.{Parts};
-ghost use Rattle.httpdate.specs.Text.{imf_fixdate};
-ghost use Rattle.httpdate.specs.Valid.{IsValid, parts_secs};
-ghost use Rattle.headers_syntax.specs.Date.{date, fixdate, IsDated, ShowsDate};
-ghost use Rattle.headers_syntax.specs.OfLines.{OfLines};
+ghost use Rattle.httpdate.{specs.declared.parts.Parts.Parts, specs.Text.imf_fixdate, specs.Valid.{IsValid, parts_secs}};
+ghost use Rattle.headers_syntax.{specs.Date.{date, fixdate, IsDated, ShowsDate}, specs.OfLines.OfLines};
 ghost use Rattle.headers_syntax.specs.Lines.{Line, only_line};
 
 use crate::item::AsHeaderValue;

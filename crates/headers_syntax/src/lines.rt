@@ -1,11 +1,7 @@
 //! Parsers for one field line, and a copy of a field line.
-ghost use Rattle.std.specs.Prelude.{◌≡◌, [], ◌∷◌, ◌++◌, Some, None, IfSome, OnOk, OnErr};
-ghost use Rattle.std.specs.Prelude.{option_map, if◌then◌else◌};
-ghost use Rattle.std.specs.Iterator.{YieldsThen};
-ghost use Rattle.headers_syntax.specs.Lines.{first_line, only_line};
-ghost use Rattle.std.specs.Option.{option_and_then};
-ghost use Rattle.headers_syntax.specs.Shapes.{word_line};
-ghost use Rattle.headers_syntax.specs.OfLines.{OfLines};
+ghost use Rattle.std.specs.Prelude.{◌≡◌, [], ◌∷◌, ◌++◌, Some, None, IfSome, OnOk, OnErr, option_map, if◌then◌else◌};
+ghost use Rattle.std.{specs.Iterator.YieldsThen, specs.Option.option_and_then};
+ghost use Rattle.headers_syntax.{specs.Lines.{first_line, only_line}, specs.Shapes.word_line, specs.OfLines.OfLines};
 
 use crate::item::AsHeaderValue;
 use http_header::HeaderValue;

@@ -1,11 +1,8 @@
 //! Whole seconds, the unit of time in header fields.
-ghost use Rattle.std.specs.Prelude.{◌≡◌, IfOk, decimal};
-ghost use Rattle.std.specs.Option.{option_and_then};
+ghost use Rattle.std.{specs.Prelude.{◌≡◌, IfOk, decimal}, specs.Option.option_and_then};
 ghost use Rattle.http_header.specs.FieldValue.{plain_value};
-ghost use Rattle.headers_syntax.specs.Durations.{IsWholeSeconds, LastsSeconds};
-ghost use Rattle.headers_syntax.specs.OfLines.{OfLines};
-ghost use Rattle.headers_syntax.specs.Lines.{only_line};
-ghost use Rattle.headers_syntax.specs.Number.{number};
+ghost use Rattle.headers_syntax.{specs.Durations.{IsWholeSeconds, LastsSeconds}, specs.OfLines.OfLines};
+ghost use Rattle.headers_syntax.{specs.Lines.only_line, specs.Number.number};
 
 use crate::item::AsHeaderValue;
 use crate::lines::just_one;

@@ -1,10 +1,7 @@
 //! Header values as text, and text without blanks or quotes at its ends.
-ghost use Rattle.std.specs.Prelude.{◌≡◌, ◌==◌, true, false, MatchOption};
-ghost use Rattle.std.specs.List.{after_last};
+ghost use Rattle.std.{specs.Prelude.{◌≡◌, ◌==◌, true, false, MatchOption}, specs.List.after_last};
 ghost use Rattle.std.specs.Option.{option_copied};
-ghost use Rattle.headers_syntax.specs.Text.{is_text};
-ghost use Rattle.headers_syntax.specs.Text.{trim, without_quotes};
-ghost use Rattle.headers_syntax.specs.Shapes.{text_line};
+ghost use Rattle.headers_syntax.{specs.Text.{is_text, trim, without_quotes}, specs.Shapes.text_line};
 
 use http_header::HeaderValue;
 use memchr::memrchr;

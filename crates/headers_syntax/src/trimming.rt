@@ -1,6 +1,5 @@
 //! Removal of spaces and tabs at the ends of a slice.
-ghost use Rattle.std.specs.Prelude.{◌≡◌, ◌-◌, ◌≤◌, length};
-ghost use Rattle.std.specs.List.{prefix_len, suffix_len, slice_range};
+ghost use Rattle.std.{specs.Prelude.{◌≡◌, ◌-◌, ◌≤◌, length}, specs.List.{prefix_len, suffix_len, slice_range}};
 ghost use Rattle.headers_syntax.specs.Text.{is_blank, trim, trim_start};
 
 fn is_blank(byte: u8) -> bool

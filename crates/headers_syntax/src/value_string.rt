@@ -1,8 +1,7 @@
 //! A header value that is text.
 ghost use Rattle.std.specs.Prelude.{◌≡◌, ◌↔◌, IsTrue, IfOk, IsUtf8};
 ghost use Rattle.http_header.specs.FieldValue.{IsFieldValue, plain_value};
-ghost use Rattle.headers_syntax.specs.Text.{is_text};
-ghost use Rattle.headers_syntax.specs.Refusal.{IsInvalid};
+ghost use Rattle.headers_syntax.{specs.Text.is_text, specs.Refusal.IsInvalid};
 
 use crate::error::{Error, Refused};
 use crate::text::read_text;

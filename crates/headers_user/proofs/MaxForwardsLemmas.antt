@@ -1,12 +1,8 @@
 -- Lines that write no number hold no `max-forwards`.
 use Rattle.std.proofs.Common.{ℕ, List, Option, Some, None, Err}
 use Rattle.http_header.specs.FieldValue.{FieldValue}
-use Rattle.headers.specs.DecodesTo.{DecodesTo}
-use Rattle.headers.specs.HeaderLaws.{ReadsBy}
-use Rattle.headers.specs.Lines.{Line}
-use Rattle.headers.specs.OfLines.{OfLines}
-use Rattle.headers.specs.Shapes.{only_number}
-use Rattle.headers.specs.declared.Refused.{Refused}
+use Rattle.headers.{specs.DecodesTo.DecodesTo, specs.HeaderLaws.ReadsBy, specs.Lines.Line, specs.OfLines.OfLines}
+use Rattle.headers.{specs.Shapes.only_number, specs.declared.Refused.Refused}
 use Rattle.headers.specs.declared.Refused.TheVariants.{Invalid, Memory}
 use Rattle.headers_user.specs.MaxForwards.{max_forwards_reads}
 

@@ -1,9 +1,7 @@
 -- Credentials of the scheme `ApiKey`: the scheme, one space and a key.
 use Rattle.std.specs.Prelude.{◌≡◌, ℕ, Bool, ◌&&◌, ◌||◌, ◌==◌, List, ◌++◌, drop, length, nat_lt, codes, IsTrue}
-use Rattle.std.specs.Char.{is_ascii_alphanumeric}
-use Rattle.std.specs.List.{list_all}
-use Rattle.headers.specs.Lines.{Line}
-use Rattle.headers.specs.Scheme.{FirstReads}
+use Rattle.std.{specs.Char.is_ascii_alphanumeric, specs.List.list_all}
+use Rattle.headers.{specs.Lines.Line, specs.Scheme.FirstReads}
 
 abbrev pub api_key_scheme : List ℕ
 api_key_scheme = codes "ApiKey"

@@ -1,6 +1,5 @@
 -- The laws of credentials of the scheme `ApiKey`.
-use Rattle.std.specs.Prelude.{◌≡◌, refl}
-use Rattle.std.proofs.Common.{sym, ◌∙◌, ap, subst, arith}
+use Rattle.std.{specs.Prelude.{◌≡◌, refl}, proofs.Common.{sym, ◌∙◌, ap, subst, arith}}
 use Rattle.headers.specs.CredentialLaws.{CredentialLaws}
 use Rattle.headers_user.specs.ApiKey.{api_key_scheme, ReadsApiKey, api_key_writes}
 

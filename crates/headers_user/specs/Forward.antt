@@ -1,11 +1,8 @@
 -- What `forward` does to a map (RFC 9110, sections 7.6.2 and 11.7.2).
 use Rattle.std.specs.Prelude.{◌≡◌, ℕ, ◌+◌, List, [], ◌∷◌, Option, Some, None, codes}
-use Rattle.headers.specs.LineMap.{LineMap, run}
-use Rattle.headers.specs.Lines.{Line, lines_of}
-use Rattle.headers.specs.Typed.{HasLine}
-use Rattle.headers.specs.declared.Encoded.{Encoded}
-use Rattle.headers.specs.declared.Step.{Step}
-use Rattle.headers.specs.declared.Step.TheVariants.{Put, Remove}
+use Rattle.headers.{specs.LineMap.{LineMap, run}, specs.Lines.{Line, lines_of}, specs.Typed.HasLine}
+use Rattle.headers.{specs.declared.Encoded.Encoded, specs.declared.Step.Step, specs.declared.Step.TheVariants.Put}
+use Rattle.headers.specs.declared.Step.TheVariants.{Remove}
 use Rattle.headers_user.specs.MaxForwards.{max_forwards_reads, max_forwards_writes}
 use Rattle.headers_user.specs.declared.forwarding.Forwarded.{Forwarded}
 use Rattle.headers_user.specs.declared.forwarding.Forwarded.TheVariants.{Stop, Passed, Unlimited}

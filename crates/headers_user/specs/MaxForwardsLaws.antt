@@ -1,9 +1,6 @@
 -- The laws of the header `max-forwards`.
-use Rattle.std.specs.Prelude.{◌≡◌, ℕ, List, Option, Some, None, refl}
-use Rattle.std.proofs.Common.{sym, ◌∙◌, ap, subst}
-use Rattle.headers.specs.Lines.{Line}
-use Rattle.headers.specs.HeaderLaws.{HeaderLaws}
-use Rattle.headers.specs.ShapeLemmas.{only_number_back}
+use Rattle.std.{specs.Prelude.{◌≡◌, ℕ, List, Option, Some, None, refl}, proofs.Common.{sym, ◌∙◌, ap, subst}}
+use Rattle.headers.{specs.Lines.Line, specs.HeaderLaws.HeaderLaws, specs.ShapeLemmas.only_number_back}
 use Rattle.headers_user.specs.MaxForwards.{max_forwards_reads, max_forwards_writes}
 
 reads_once : (lines : List Line) (v w : Option ℕ) → max_forwards_reads lines v → max_forwards_reads lines w → v ≡ w

@@ -1,8 +1,6 @@
 //! Credentials that are a key.
-ghost use Rattle.std.specs.Prelude.{◌≡◌, codes};
-ghost use Rattle.std.specs.List.{list_all};
-ghost use Rattle.headers.specs.LineMap.{lines_at};
-ghost use Rattle.headers.specs.Typed.{IsTypedRead};
+ghost use Rattle.std.{specs.Prelude.{◌≡◌, codes}, specs.List.list_all};
+ghost use Rattle.headers.{specs.LineMap.lines_at, specs.Typed.IsTypedRead};
 ghost use Rattle.headers_user.specs.ApiKey.{is_key, is_key_byte, CarryKey};
 
 use headers::authorization::{Authorization, Credentials};

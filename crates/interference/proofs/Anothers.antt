@@ -1,7 +1,6 @@
 -- A client gets the content of an answer to another request.
 use Rattle.std.proofs.Common.{◌≡◌, ℕ}
-use Rattle.interference.specs.Statements.{GetsAnothers, Has}
-use Rattle.interference.specs.Worlds.{Request, Origin, Dated, World}
+use Rattle.interference.{specs.Statements.{GetsAnothers, Has}, specs.Worlds.{Request, Origin, Dated, World}}
 
 pub anothers : (origin : Origin) (w : World) (client version time : ℕ) (request : Request) (given : Dated)
     → Has w.received

@@ -1,9 +1,7 @@
 -- Places in lists, and stores.
 use Rattle.std.proofs.Common.{◌≡◌, ℕ, zero, suc, true, false, cond, List, [], ◌∷◌, ◌++◌, nat_eq, Some, None, refl, sym}
-use Rattle.std.proofs.Common.{subst, ◌∙◌}
-use Rattle.std.proofs.lemmas.Bool.{eqb-true}
-use Rattle.interference.specs.Events.{nth, with_number, without}
-use Rattle.interference.specs.Worlds.{Stored}
+use Rattle.std.{proofs.Common.{subst, ◌∙◌}, proofs.lemmas.Bool.eqb-true}
+use Rattle.interference.{specs.Events.{nth, with_number, without}, specs.Worlds.Stored}
 
 -- what holds of each element, and behind them
 pub nth-more : {X : Type 0} (P : X → Type 0) (d : X) (xs : List X) (x : X) → P d → ((k : ℕ) → P (nth d xs k)) → P x

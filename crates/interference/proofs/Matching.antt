@@ -1,7 +1,6 @@
 -- Requests that agree.
 use Rattle.std.proofs.Common.{◌≡◌, ℕ, true, List, [], ◌∷◌, nat_eq, Option, Some, None, refl, sym, ◌∙◌}
-use Rattle.std.proofs.lemmas.Bool.{eq-eqb, eqb-true, and_parts, and_from}
-use Rattle.std.proofs.lemmas.Slice.Eq.{bytes_eq-Decides}
+use Rattle.std.{proofs.lemmas.Bool.{eq-eqb, eqb-true, and_parts, and_from}, proofs.lemmas.Slice.Eq.bytes_eq-Decides}
 use Rattle.interference.specs.Worlds.{Request, Storing, Head, same_value, agree, agree_as, matches}
 use Rattle.interference.specs.Worlds.Storing.{NotShared, Shared}
 

@@ -1,31 +1,23 @@
 -- What each event keeps, for confidentiality.
 use Rattle.std.proofs.Common.{◌≡◌, ◌⊎◌, ℕ, suc, ◌+◌, ◌<◌, ◌≤◌, Bool, true, false, cond, List, [], ◌∷◌, ◌++◌, nat_eq}
 use Rattle.std.proofs.Common.{nat_le, Option, Some, None, refl, sym, ap, subst, ◌∙◌, arith, inl, inr, bytes_eq, ◌&&◌}
-use Rattle.std.specs.Prelude.{⊤}
-use Rattle.std.proofs.lemmas.Option.{same_Some}
-use Rattle.std.proofs.lemmas.Bool.{cond_both, eqb-true, and_parts, false≢true}
-use Rattle.std.proofs.lemmas.Bool.Decides.{nat_tests}
+use Rattle.std.{specs.Prelude.⊤, proofs.lemmas.Option.same_Some, proofs.lemmas.Bool.{cond_both, eqb-true, and_parts}}
+use Rattle.std.{proofs.lemmas.Bool.false≢true, proofs.lemmas.Bool.Decides.nat_tests}
 use Rattle.std.proofs.lemmas.Slice.Eq.{bytes_eq-Decides}
 use Rattle.interference.specs.Events.{Event, Setting, happens, run_from, run, nth, with_number, is_usable, begins}
 use Rattle.interference.specs.Events.{asks_on, comes_back, completed, content_of, looks, nodes_after, reply_of}
 use Rattle.interference.specs.Events.{reply_stored, replies, answered, answers, changed_by, arrives, message_at}
-use Rattle.interference.specs.Events.{after_storing, with_stored, forgotten, changed_at}
-use Rattle.interference.specs.Events.{is_renewable, freshened, nodes_freshened}
-use Rattle.interference.specs.Events.Event.{Ticks, Changes, Sends, Begins, Asks, Answers, AnswersNotModified, Returns}
-use Rattle.interference.specs.Events.Event.{Looks, Stores, Freshens, Replies, Forgets, Arrives}
-use Rattle.interference.specs.Statements.{Has, HasStrongTags, IsFor, IsOwn, IsRecent, SaysWhatAllDependsOn}
-use Rattle.interference.specs.Statements.{SaysWhatItDependsOn}
-use Rattle.interference.specs.Worlds.{Request, Head, Answer, Origin, Dated, Stored, Node, Asked, Reply, Message, Place}
-use Rattle.interference.specs.Worlds.{Doing, Pass, Received, Clients, World, start, matches, may_store, is_fresh}
-use Rattle.interference.specs.Worlds.{is_allowed, is_authorized}
-use Rattle.interference.specs.Worlds.Kind.{Right}
-use Rattle.interference.specs.Worlds.Storing.{NotShared}
-use Rattle.interference.specs.Worlds.Reply.{Whole, NotModified}
-use Rattle.interference.specs.Worlds.Message.{Going, Coming, Nothing}
-use Rattle.interference.specs.Worlds.Doing.{Waits, GivesStored, Completes, Gives}
-use Rattle.interference.specs.Worlds.Pass.{At, Ended}
-use Rattle.interference.proofs.Lists.{nth-more, still}
-use Rattle.interference.proofs.Matching.{matches-trans, matches-target, matches-sym}
+use Rattle.interference.specs.Events.{after_storing, with_stored, forgotten, changed_at, is_renewable, freshened}
+use Rattle.interference.{specs.Events.nodes_freshened, specs.Events.Event.{Ticks, Changes, Sends, Begins, Asks}}
+use Rattle.interference.specs.Events.Event.{Answers, AnswersNotModified, Returns, Looks, Stores, Freshens, Replies}
+use Rattle.interference.{specs.Events.Event.{Forgets, Arrives}, specs.Statements.{Has, HasStrongTags, IsFor, IsOwn}}
+use Rattle.interference.{specs.Statements.{IsRecent, SaysWhatAllDependsOn, SaysWhatItDependsOn}, specs.Worlds.Request}
+use Rattle.interference.specs.Worlds.{Head, Answer, Origin, Dated, Stored, Node, Asked, Reply, Message, Place, Doing}
+use Rattle.interference.specs.Worlds.{Pass, Received, Clients, World, start, matches, may_store, is_fresh, is_allowed}
+use Rattle.interference.{specs.Worlds.is_authorized, specs.Worlds.Kind.Right, specs.Worlds.Storing.NotShared}
+use Rattle.interference.{specs.Worlds.Reply.{Whole, NotModified}, specs.Worlds.Message.{Going, Coming, Nothing}}
+use Rattle.interference.{specs.Worlds.Doing.{Waits, GivesStored, Completes, Gives}, specs.Worlds.Pass.{At, Ended}}
+use Rattle.interference.{proofs.Lists.{nth-more, still}, proofs.Matching.{matches-trans, matches-target, matches-sym}}
 
 -- ---- what holds
 

@@ -1,32 +1,25 @@
 -- What each event keeps the same in two runs.
 use Rattle.std.proofs.Common.{◌≡◌, ℕ, suc, Bool, true, false, cond, List, [], ◌∷◌, ◌++◌, nat_eq, Option, Some, None}
-use Rattle.std.proofs.Common.{◌&&◌, bytes_eq, refl, sym, ap, subst, ◌∙◌, inl, inr}
-use Rattle.std.proofs.lemmas.Bool.{cond_both, eqb-true, false≢true, and_parts}
+use Rattle.std.{proofs.Common.{◌&&◌, bytes_eq, refl, sym, ap, subst, ◌∙◌, inl, inr}, proofs.lemmas.Bool.cond_both}
+use Rattle.std.proofs.lemmas.Bool.{eqb-true, false≢true, and_parts}
 use Rattle.interference.specs.Events.{Event, Setting, happens, run_from, run, with_number, with_stored, is_usable}
 use Rattle.interference.specs.Events.{begins, asks_on, comes_back, completed, content_of, looks, nodes_after, reply_of}
 use Rattle.interference.specs.Events.{reply_stored, replies, answers, changed_by, arrives, message_at, pass_at}
-use Rattle.interference.specs.Events.{after_storing, forgotten, place_of, asked_now, is_renewable}
-use Rattle.interference.specs.Events.{freshened, nodes_freshened}
-use Rattle.interference.specs.Events.Event.{Ticks, Changes, Sends, Begins, Asks, Answers, AnswersNotModified, Returns}
-use Rattle.interference.specs.Events.Event.{Looks, Stores, Freshens, Replies, Forgets, Arrives}
-use Rattle.interference.specs.Statements.{Alike, VariesByNone}
+use Rattle.interference.specs.Events.{after_storing, forgotten, place_of, asked_now, is_renewable, freshened}
+use Rattle.interference.{specs.Events.nodes_freshened, specs.Events.Event.{Ticks, Changes, Sends, Begins, Asks}}
+use Rattle.interference.specs.Events.Event.{Answers, AnswersNotModified, Returns, Looks, Stores, Freshens, Replies}
+use Rattle.interference.{specs.Events.Event.{Forgets, Arrives}, specs.Statements.{Alike, VariesByNone}}
 use Rattle.interference.specs.Worlds.{Request, Head, Answer, Origin, Dated, Stored, Node, Asked, Hop, Message, Place}
-use Rattle.interference.specs.Worlds.{Pass, Received, World, start, may_store, matches, told}
-use Rattle.interference.specs.Worlds.Kind.{Right}
-use Rattle.interference.specs.Worlds.Reply.{Whole, NotModified}
-use Rattle.interference.specs.Worlds.Message.{Going, Coming, Nothing}
-use Rattle.interference.specs.Worlds.Doing.{Waits, GivesStored, Completes, Gives}
-use Rattle.interference.specs.Worlds.Pass.{At, Ended}
+use Rattle.interference.{specs.Worlds.{Pass, Received, World, start, may_store, matches, told}, specs.Worlds.Kind.Right}
+use Rattle.interference.{specs.Worlds.Reply.{Whole, NotModified}, specs.Worlds.Message.{Going, Coming, Nothing}}
+use Rattle.interference.{specs.Worlds.Doing.{Waits, GivesStored, Completes, Gives}, specs.Worlds.Pass.{At, Ended}}
 use Rattle.interference.proofs.Twins.{twin_if, twin-nth, twin-push, Two, Premises, Twin, with_request, head_of}
 use Rattle.interference.proofs.Twins.{IsPublic, IsQuiet, QuietMessage, TwinMessage, QuietPass, PublicDoing, with_place}
 use Rattle.interference.proofs.Twins.{TwinPass, TwinFound, TwinNode, TwinWorld, twin-number, twin-forgotten}
 use Rattle.interference.proofs.Twins.{twin-with_stored, alike-store, alike-target, alike-usable, alike-renewable}
-use Rattle.interference.proofs.Twins.TwinList.{none}
-use Rattle.interference.proofs.Twins.TwinMessage.{going, coming, quiet}
-use Rattle.interference.proofs.Twins.TwinPass.{at, resting}
-use Rattle.interference.proofs.Twins.TwinFound.{neither, both}
-use Rattle.interference.proofs.Twins.TwinNode.{node}
-use Rattle.interference.proofs.Twins.TwinWorld.{world}
+use Rattle.interference.{proofs.Twins.TwinList.none, proofs.Twins.TwinMessage.{going, coming, quiet}}
+use Rattle.interference.{proofs.Twins.TwinPass.{at, resting}, proofs.Twins.TwinFound.{neither, both}}
+use Rattle.interference.{proofs.Twins.TwinNode.node, proofs.Twins.TwinWorld.world}
 
 found-twin : (t : Two) (n : ℕ) (a b : Node) → TwinNode t a b → TwinFound t (with_number n a.stored)
     (with_number n b.stored)

@@ -1,19 +1,15 @@
 -- Two runs that differ in secrets: what is the same in both.
 use Rattle.std.proofs.Common.{◌≡◌, ℕ, zero, suc, Bool, true, false, cond, List, [], ◌∷◌, ◌++◌, nat_eq, Option, Some}
-use Rattle.std.proofs.Common.{None, ◌&&◌, refl, ap, subst, ◌∙◌}
-use Rattle.std.specs.Prelude.{⊤}
+use Rattle.std.{proofs.Common.{None, ◌&&◌, refl, ap, subst, ◌∙◌}, specs.Prelude.⊤}
 use Rattle.interference.specs.Events.{nth, with_number, without, with_stored, forgotten, is_usable, is_renewable}
 use Rattle.interference.specs.Statements.{Alike, DifferInPrivate, DifferInSecrets, NamesNone, NoVaryNamesASecret}
-use Rattle.interference.specs.Statements.{VariesByNone}
-use Rattle.interference.specs.Worlds.{Request, Storing, Head, Origin, Dated, Stored, Node, Asked, Hop, Reply, Message}
-use Rattle.interference.specs.Worlds.{Place, Doing, Pass, Received, Clients, World, may_store, matches, agree, agree_as}
-use Rattle.interference.specs.Worlds.{same_value, is_fresh, is_authorized, is_allowed, told}
-use Rattle.interference.specs.Worlds.Storing.{NotShared, Shared}
-use Rattle.interference.specs.Worlds.Kind.{Right}
-use Rattle.interference.specs.Worlds.Reply.{Whole, NotModified}
-use Rattle.interference.specs.Worlds.Message.{Going, Coming, Nothing}
-use Rattle.interference.specs.Worlds.Doing.{Waits, GivesStored, Completes, Gives}
-use Rattle.interference.specs.Worlds.Pass.{At, Ended}
+use Rattle.interference.{specs.Statements.VariesByNone, specs.Worlds.{Request, Storing, Head, Origin, Dated, Stored}}
+use Rattle.interference.specs.Worlds.{Node, Asked, Hop, Reply, Message, Place, Doing, Pass, Received, Clients, World}
+use Rattle.interference.specs.Worlds.{may_store, matches, agree, agree_as, same_value, is_fresh, is_authorized}
+use Rattle.interference.{specs.Worlds.{is_allowed, told}, specs.Worlds.Storing.{NotShared, Shared}}
+use Rattle.interference.{specs.Worlds.Kind.Right, specs.Worlds.Reply.{Whole, NotModified}, specs.Worlds.Message.Going}
+use Rattle.interference.{specs.Worlds.Message.{Coming, Nothing}, specs.Worlds.Doing.{Waits, GivesStored, Completes}}
+use Rattle.interference.{specs.Worlds.Doing.Gives, specs.Worlds.Pass.{At, Ended}}
 
 -- ---- two lists, element by element
 

@@ -3,12 +3,10 @@ use Rattle.std.specs.Prelude.{ℕ, zero, suc, Bool, true, false, List, [], ◌�
 use Rattle.std.specs.Prelude.{Option, Some, None}
 use Rattle.interference.specs.Worlds.{Request, Head, Origin, Dated, Stored, Node, Kind, Asked, Hop, Reply, Message}
 use Rattle.interference.specs.Worlds.{Place, Pass, Received, Clients, World, is_fresh, matches, may_store}
-use Rattle.interference.specs.Worlds.{authorization, start, told}
-use Rattle.interference.specs.Worlds.Kind.{ByPlace, OneSlot, IgnoresAuthorization, FreshensOthers, FreshensInPlace}
-use Rattle.interference.specs.Worlds.Reply.{Whole, NotModified}
-use Rattle.interference.specs.Worlds.Message.{Going, Coming, Nothing}
-use Rattle.interference.specs.Worlds.Doing.{Waits, GivesStored, Completes, Gives}
-use Rattle.interference.specs.Worlds.Pass.{At, Ended}
+use Rattle.interference.{specs.Worlds.{authorization, start, told}, specs.Worlds.Kind.{ByPlace, OneSlot}}
+use Rattle.interference.specs.Worlds.Kind.{IgnoresAuthorization, FreshensOthers, FreshensInPlace}
+use Rattle.interference.{specs.Worlds.Reply.{Whole, NotModified}, specs.Worlds.Message.{Going, Coming, Nothing}}
+use Rattle.interference.{specs.Worlds.Doing.{Waits, GivesStored, Completes, Gives}, specs.Worlds.Pass.{At, Ended}}
 
 -- What a run is of: caches of one kind, an origin server, and clients.
 pub record Setting : Type 0 where

@@ -2,11 +2,10 @@
 -- the places of the messages (m) and passes (p) that its events add.
 use Rattle.std.specs.Prelude.{ℕ, zero, suc, Bool, true, false, List, [], ◌∷◌, ◌++◌, ◌==◌, if◌then◌else◌, Option, Some}
 use Rattle.std.specs.Prelude.{None}
-use Rattle.interference.specs.Events.{Event, Setting}
-use Rattle.interference.specs.Events.Event.{Ticks, Changes, Sends, Begins, Asks, Answers, AnswersNotModified, Returns}
-use Rattle.interference.specs.Events.Event.{Looks, Stores, Freshens, Replies, Arrives}
-use Rattle.interference.specs.Worlds.{Request, Storing, Answer, Origin, Dated, Kind, Clients, authorization, cookie}
-use Rattle.interference.specs.Worlds.Storing.{NotShared, Shared}
+use Rattle.interference.{specs.Events.{Event, Setting}, specs.Events.Event.{Ticks, Changes, Sends, Begins, Asks}}
+use Rattle.interference.specs.Events.Event.{Answers, AnswersNotModified, Returns, Looks, Stores, Freshens, Replies}
+use Rattle.interference.{specs.Events.Event.Arrives, specs.Worlds.{Request, Storing, Answer, Origin, Dated, Kind}}
+use Rattle.interference.{specs.Worlds.{Clients, authorization, cookie}, specs.Worlds.Storing.{NotShared, Shared}}
 
 abbrev pub ann : ℕ
 ann = 1

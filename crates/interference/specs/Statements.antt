@@ -1,8 +1,7 @@
 -- What is said of a run.
 use Rattle.std.specs.Prelude.{◌≡◌, ◌⊎◌, ℕ, ◌+◌, ◌≤◌, Bool, true, false, List, [], ◌∷◌, ⊤}
 use Rattle.interference.specs.Worlds.{Request, Storing, Origin, Asked, Dated, Received, Clients, World, is_authorized}
-use Rattle.interference.specs.Worlds.{matches, may_store}
-use Rattle.interference.specs.Worlds.Storing.{NotShared, Shared}
+use Rattle.interference.{specs.Worlds.{matches, may_store}, specs.Worlds.Storing.{NotShared, Shared}}
 
 -- the list has this element
 abbrev pub Has : {X : Type 0} → List X → X → Type 0

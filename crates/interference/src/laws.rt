@@ -1,13 +1,10 @@
 //! What holds after any events, in any order: requests and replies are lost, repeated, delayed and overtaken, caches
 //! forget, and between two steps of a pass there may be any steps of others.
 ghost use Rattle.std.specs.Prelude.{◌≡◌, ℕ, Bool, true, List};
-ghost use Rattle.interference.specs.Events.{Event, run};
-ghost use Rattle.interference.specs.Statements.{DifferInPrivate, DifferInSecrets, Has};
-ghost use Rattle.interference.specs.Statements.{HasStrongTags, IsFor, IsOwn, NoVaryNamesASecret};
-ghost use Rattle.interference.specs.Statements.{SaysWhatAllDependsOn, SaysWhatItDependsOn};
-ghost use Rattle.interference.specs.Worlds.{Clients, Origin, Received, told};
-ghost use Rattle.interference.specs.Worlds.Kind.{Right};
-ghost use Rattle.interference.specs.Worlds.Storing.{NotShared};
+ghost use Rattle.interference.{specs.Events.{Event, run}, specs.Statements.{DifferInPrivate, DifferInSecrets, Has}};
+ghost use Rattle.interference.specs.Statements.{HasStrongTags, IsFor, IsOwn, NoVaryNamesASecret, SaysWhatAllDependsOn};
+ghost use Rattle.interference.{specs.Statements.SaysWhatItDependsOn, specs.Worlds.{Clients, Origin, Received, told}};
+ghost use Rattle.interference.{specs.Worlds.Kind.Right, specs.Worlds.Storing.NotShared};
 
 /// Theorem: confidentiality by content. Whatever a client receives is, byte for byte, what the
 /// origin server would have answered to that client's own request, in a version no later than now:

@@ -1,19 +1,14 @@
 //! Runs that show that the theorems aren't vacuous, and that each of their premises is needed.
 ghost use Rattle.std.specs.Prelude.{◌≡◌, ◌∷◌, [], true, false};
-ghost use Rattle.interference.specs.Events.{run};
-ghost use Rattle.interference.specs.Runs.{ann, bob, by_cookies, by_credentials, cache, carl};
-ghost use Rattle.interference.specs.Runs.{cautious, dated, forgets_vary, freshened_by_bob};
-ghost use Rattle.interference.specs.Runs.{freshened_meanwhile, greetings, if_bob, is_ann};
-ghost use Rattle.interference.specs.Runs.{is_authorization, is_cookie, members, news, once_each};
-ghost use Rattle.interference.specs.Runs.{one_tag, open_news, overtaken, pages, plain};
-ghost use Rattle.interference.specs.Runs.{private_pages, sharing, shrinks, site, then_asks};
-ghost use Rattle.interference.specs.Runs.{then_validated, turns, validated_by_ann};
+ghost use Rattle.interference.{specs.Events.run, specs.Runs.{ann, bob, by_cookies, by_credentials, cache, carl}};
+ghost use Rattle.interference.specs.Runs.{cautious, dated, forgets_vary, freshened_by_bob, freshened_meanwhile};
+ghost use Rattle.interference.specs.Runs.{greetings, if_bob, is_ann, is_authorization, is_cookie, members, news};
+ghost use Rattle.interference.specs.Runs.{once_each, one_tag, open_news, overtaken, pages, plain, private_pages};
+ghost use Rattle.interference.specs.Runs.{sharing, shrinks, site, then_asks, then_validated, turns, validated_by_ann};
 ghost use Rattle.interference.specs.Runs.{with_a_private_page, with_bobs, with_caches};
-ghost use Rattle.interference.specs.Statements.{DifferInPrivate, DifferInSecrets, GetsAnothers};
-ghost use Rattle.interference.specs.Statements.{HasStrongTags, NoVaryNamesASecret};
-ghost use Rattle.interference.specs.Statements.{SaysWhatAllDependsOn, SaysWhatItDependsOn};
-ghost use Rattle.interference.specs.Worlds.{told};
-ghost use Rattle.interference.specs.Worlds.Kind.{ByPlace, FreshensInPlace, FreshensOthers};
+ghost use Rattle.interference.specs.Statements.{DifferInPrivate, DifferInSecrets, GetsAnothers, HasStrongTags};
+ghost use Rattle.interference.specs.Statements.{NoVaryNamesASecret, SaysWhatAllDependsOn, SaysWhatItDependsOn};
+ghost use Rattle.interference.{specs.Worlds.told, specs.Worlds.Kind.{ByPlace, FreshensInPlace, FreshensOthers}};
 ghost use Rattle.interference.specs.Worlds.Kind.{IgnoresAuthorization, OneSlot, Right};
 
 /// A run with the premises of `clients_get_their_own_answers` in which a stored answer is served to

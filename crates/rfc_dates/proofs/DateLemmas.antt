@@ -1,25 +1,19 @@
 -- The function that reads a date reads exactly what the definition says.
-use Rattle.std.proofs.Common.{◌≡◌, ℕ, zero, suc, ◌+◌, ◌*◌, ◌%◌, ◌==◌, Bool, true, false, cond}
-use Rattle.std.proofs.Common.{List, [], ◌∷◌, ◌++◌, get_or, Option, Some, None, MatchOption, option_map, option_and_then}
-use Rattle.std.proofs.Common.{refl, sym, ap, ◌∙◌, subst, arith, inl, inr}
-use Rattle.std.proofs.lemmas.Bool.{and_parts, leb-true, ltb-true}
-use Rattle.std.proofs.lemmas.Bool.Decides.{nat_tests}
-use Rattle.std.proofs.lemmas.Option.{none-some, same_Some}
-use Rattle.std.specs.Int.{IsInRange}
-use Rattle.httpdate.specs.Reader.{read_tag, read_name, read_padded_day}
-use Rattle.httpdate.specs.Text.{day_name, day_name_rest, two_digits}
-use Rattle.httpdate.proofs.OptionLemmas.{cond_some, and_then_some}
+use Rattle.std.proofs.Common.{◌≡◌, ℕ, zero, suc, ◌+◌, ◌*◌, ◌%◌, ◌==◌, Bool, true, false, cond, List, [], ◌∷◌, ◌++◌}
+use Rattle.std.proofs.Common.{get_or, Option, Some, None, MatchOption, option_map, option_and_then, refl, sym, ap, ◌∙◌}
+use Rattle.std.{proofs.Common.{subst, arith, inl, inr}, proofs.lemmas.Bool.{and_parts, leb-true, ltb-true}}
+use Rattle.std.{proofs.lemmas.Bool.Decides.nat_tests, proofs.lemmas.Option.{none-some, same_Some}, specs.Int.IsInRange}
+use Rattle.httpdate.{specs.Reader.{read_tag, read_name, read_padded_day}, specs.Text.{day_name, day_name_rest}}
+use Rattle.httpdate.{specs.Text.two_digits, proofs.OptionLemmas.{cond_some, and_then_some}}
 use Rattle.httpdate.proofs.ReaderLemmas.{after_tag_sound, read_name_sound, read_name-day_name, read_tag_complete}
 use Rattle.httpdate.proofs.ReaderLemmas.{read_padded_day_digits, read_padded_day_space}
-use Rattle.rfc_dates.specs.declared.date_time.DateTime.{DateTime}
-use Rattle.rfc_dates.specs.Calendar.{seconds, in_year, IsDateTime, IsNear}
-use Rattle.rfc_dates.specs.Date.{ShowsDate, ShowsNamed, Denotes, timestamp}
-use Rattle.rfc_dates.specs.Reader.{is_date_time, in_near_century, read_imf_fixdate, read_rfc850_date}
-use Rattle.rfc_dates.specs.Reader.{read_asctime_date, read_form, date_time}
-use Rattle.rfc_dates.proofs.CalendarLemmas.{short_month}
-use Rattle.rfc_dates.proofs.FormatLemmas.{imf_rest, rfc850_rest, asctime_rest, imf_fixdate_grouped}
-use Rattle.rfc_dates.proofs.FormatLemmas.{rfc850_date_grouped, asctime_date_grouped, Fits, imf_complete}
-use Rattle.rfc_dates.proofs.FormatLemmas.{rfc850_complete, asctime_complete, imf_sound, rfc850_sound, asctime_sound}
+use Rattle.rfc_dates.{specs.declared.date_time.DateTime.DateTime, specs.Calendar.{seconds, in_year, IsDateTime, IsNear}}
+use Rattle.rfc_dates.{specs.Date.{ShowsDate, ShowsNamed, Denotes, timestamp}, specs.Reader.is_date_time}
+use Rattle.rfc_dates.specs.Reader.{in_near_century, read_imf_fixdate, read_rfc850_date, read_asctime_date, read_form}
+use Rattle.rfc_dates.{specs.Reader.date_time, proofs.CalendarLemmas.short_month, proofs.FormatLemmas.imf_rest}
+use Rattle.rfc_dates.proofs.FormatLemmas.{rfc850_rest, asctime_rest, imf_fixdate_grouped, rfc850_date_grouped}
+use Rattle.rfc_dates.proofs.FormatLemmas.{asctime_date_grouped, Fits, imf_complete, rfc850_complete, asctime_complete}
+use Rattle.rfc_dates.proofs.FormatLemmas.{imf_sound, rfc850_sound, asctime_sound}
 use Rattle.rfc_dates.proofs.YearLemmas.{near_century_sound, near_century_complete}
 
 -- ---- the test of a date

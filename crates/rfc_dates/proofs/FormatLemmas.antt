@@ -1,22 +1,16 @@
 -- The functions that read the three forms read them, and nothing else.
-use Rattle.std.proofs.Common.{◌≡◌, ℕ, ◌+◌, ◌%◌, ◌<◌, ◌≤◌, ◌⊎◌, List, [], ◌∷◌, ◌++◌}
-use Rattle.std.proofs.Common.{Some, option_and_then, ap, ◌∙◌, subst, arith, inl, inr, append_assoc, eqb-true}
-use Rattle.std.proofs.lemmas.List.{nil_from_length}
-use Rattle.std.proofs.lemmas.Slice.Eq.{bytes_eq-Decides}
-use Rattle.std.specs.Int.{IsInRange}
+use Rattle.std.proofs.Common.{◌≡◌, ℕ, ◌+◌, ◌%◌, ◌<◌, ◌≤◌, ◌⊎◌, List, [], ◌∷◌, ◌++◌, Some, option_and_then, ap, ◌∙◌}
+use Rattle.std.{proofs.Common.{subst, arith, inl, inr, append_assoc, eqb-true}, proofs.lemmas.List.nil_from_length}
+use Rattle.std.{proofs.lemmas.Slice.Eq.bytes_eq-Decides, specs.Int.IsInRange, proofs.lemmas.Option.same_Some}
 use Rattle.httpdate.specs.Reader.{read_tag, read_two_digits, read_name, read_year, read_time, read_padded_day}
 use Rattle.httpdate.specs.Text.{day_name, day_name_rest, month_name, two_digits, four_digits}
-use Rattle.httpdate.proofs.OptionLemmas.{cond_some, and_then_some, same_parts}
-use Rattle.httpdate.proofs.ReaderLemmas.{after_tag_sound, clock, read_tag_sound, read_two_digits_complete}
-use Rattle.httpdate.proofs.ReaderLemmas.{read_two_digits_sound, read_name_sound, read_name-month_name}
-use Rattle.httpdate.proofs.ReaderLemmas.{read_year_complete, read_year_sound, read_time_complete, read_time_sound}
-use Rattle.httpdate.proofs.ReaderLemmas.{read_padded_day_sound}
-use Rattle.std.proofs.lemmas.Option.{same_Some}
-use Rattle.rfc_dates.specs.declared.date_time.DateTime.{DateTime}
-use Rattle.rfc_dates.specs.Calendar.{in_year}
+use Rattle.httpdate.{proofs.OptionLemmas.{cond_some, and_then_some, same_parts}, proofs.ReaderLemmas.after_tag_sound}
+use Rattle.httpdate.proofs.ReaderLemmas.{clock, read_tag_sound, read_two_digits_complete, read_two_digits_sound}
+use Rattle.httpdate.proofs.ReaderLemmas.{read_name_sound, read_name-month_name, read_year_complete, read_year_sound}
+use Rattle.httpdate.proofs.ReaderLemmas.{read_time_complete, read_time_sound, read_padded_day_sound}
+use Rattle.rfc_dates.{specs.declared.date_time.DateTime.DateTime, specs.Calendar.in_year}
 use Rattle.rfc_dates.specs.Reader.{read_day_and_month, read_time_in_gmt, read_imf_fixdate, read_rfc850_date}
-use Rattle.rfc_dates.specs.Reader.{read_asctime_date}
-use Rattle.rfc_dates.specs.Text.{imf_fixdate, rfc850_date, asctime_date}
+use Rattle.rfc_dates.{specs.Reader.read_asctime_date, specs.Text.{imf_fixdate, rfc850_date, asctime_date}}
 
 abbrev gmt : List ℕ
 gmt = 32 ∷ 71 ∷ 77 ∷ 84 ∷ []

@@ -1,16 +1,11 @@
 -- What httpdate writes of a second denotes that second.
-use Rattle.std.proofs.Common.{◌≡◌, ℕ, ◌+◌, ◌-◌, ◌≤◌, Some, refl, inl, arith}
-use Rattle.std.specs.Int.{IsInRange}
-use Rattle.httpdate.specs.declared.date.HttpDate.{HttpDate}
-use Rattle.httpdate.specs.declared.parts.Parts.{Parts}
+use Rattle.std.{proofs.Common.{◌≡◌, ℕ, ◌+◌, ◌-◌, ◌≤◌, Some, refl, inl, arith}, specs.Int.IsInRange}
+use Rattle.httpdate.{specs.declared.date.HttpDate.HttpDate, specs.declared.parts.Parts.Parts}
 use Rattle.httpdate.specs.Calendar as Http
 use Rattle.httpdate.specs.Date.{date_text, unix_secs}
-use Rattle.rfc_dates.specs.declared.date_time.DateTime.{DateTime}
-use Rattle.rfc_dates.specs.Calendar.{day_number, seconds, unix_epoch, IsDateTime}
-use Rattle.rfc_dates.specs.Date.{timestamp}
-use Rattle.rfc_dates.specs.Text.{imf_fixdate}
-use Rattle.rfc_dates.proofs.CalendarLemmas.{days_before_year-1970}
-use Rattle.rfc_dates.proofs.DateLemmas.{timestamp_complete}
+use Rattle.rfc_dates.{specs.declared.date_time.DateTime.DateTime, specs.Calendar.{day_number, seconds, unix_epoch}}
+use Rattle.rfc_dates.{specs.Calendar.IsDateTime, specs.Date.timestamp, specs.Text.imf_fixdate}
+use Rattle.rfc_dates.{proofs.CalendarLemmas.days_before_year-1970, proofs.DateLemmas.timestamp_complete}
 
 -- the numbers of a date of httpdate
 abbrev shown_by : Parts → DateTime

@@ -1,12 +1,10 @@
 -- Years that end with the same two digits, and which of them is near now.
 use Rattle.std.proofs.Common.{◌≡◌, ℕ, zero, suc, ◌+◌, ◌-◌, ◌*◌, ◌/◌, ◌%◌, ◌<◌, ◌≤◌, Bool, true, false, cond, nat_lt}
-use Rattle.std.proofs.Common.{Option, Some, None, refl, sym, ap, ◌∙◌, arith, inl, inr}
-use Rattle.std.proofs.lemmas.Bool.{cases_Bool, and_parts, leb-true, ltb-true, ltb-false}
-use Rattle.std.proofs.lemmas.Bool.Decides.{nat_tests}
+use Rattle.std.{proofs.Common.{Option, Some, None, refl, sym, ap, ◌∙◌, arith, inl, inr}, proofs.lemmas.Bool.cases_Bool}
+use Rattle.std.{proofs.lemmas.Bool.{and_parts, leb-true, ltb-true, ltb-false}, proofs.lemmas.Bool.Decides.nat_tests}
 use Rattle.std.proofs.lemmas.Option.{none-some, same_Some}
-use Rattle.rfc_dates.specs.declared.date_time.DateTime.{DateTime}
-use Rattle.rfc_dates.specs.Calendar.{day_number, seconds, in_year, unix_epoch, IsDateTime, IsNear}
-use Rattle.rfc_dates.specs.Reader.{is_near, in_near_century}
+use Rattle.rfc_dates.{specs.declared.date_time.DateTime.DateTime, specs.Calendar.{day_number, seconds, in_year}}
+use Rattle.rfc_dates.{specs.Calendar.{unix_epoch, IsDateTime, IsNear}, specs.Reader.{is_near, in_near_century}}
 use Rattle.rfc_dates.proofs.CalendarLemmas.{days_before_year_closed, days_before_year_later, days_of_months_bound}
 use Rattle.rfc_dates.proofs.CalendarLemmas.{days_of_months_near, short_month}
 

@@ -1,6 +1,5 @@
 -- The proleptic Gregorian calendar, counted from the start of the year 0.
-use Rattle.std.specs.Prelude.{ℕ, zero, suc, ◌+◌, ◌-◌, ◌*◌, ◌<◌, ◌≤◌}
-use Rattle.std.specs.Int.{IsInRange}
+use Rattle.std.{specs.Prelude.{ℕ, zero, suc, ◌+◌, ◌-◌, ◌*◌, ◌<◌, ◌≤◌}, specs.Int.IsInRange}
 use Rattle.httpdate.specs.Calendar.{days_in_year, days_in_month, days_of_months}
 use Rattle.rfc_dates.specs.declared.date_time.DateTime.{DateTime}
 

@@ -1,11 +1,8 @@
 -- Which second a text denotes as an HTTP-date (RFC 9110, section 5.6.7).
-use Rattle.std.specs.Prelude.{◌≡◌, ℕ, ◌+◌, ◌<◌, ◌⊎◌, List, [], ◌∷◌, Option, option_map}
-use Rattle.std.specs.Int.{IsInRange}
+use Rattle.std.{specs.Prelude.{◌≡◌, ℕ, ◌+◌, ◌<◌, ◌⊎◌, List, [], ◌∷◌, Option, option_map}, specs.Int.IsInRange}
 use Rattle.httpdate.specs.Text.{space, digit_zero, two_digits}
-use Rattle.rfc_dates.specs.declared.date_time.DateTime.{DateTime}
-use Rattle.rfc_dates.specs.Calendar.{seconds, IsDateTime, IsNear}
-use Rattle.rfc_dates.specs.Reader.{date_time}
-use Rattle.rfc_dates.specs.Text.{imf_fixdate, rfc850_date, asctime_date}
+use Rattle.rfc_dates.{specs.declared.date_time.DateTime.DateTime, specs.Calendar.{seconds, IsDateTime, IsNear}}
+use Rattle.rfc_dates.{specs.Reader.date_time, specs.Text.{imf_fixdate, rfc850_date, asctime_date}}
 
 -- The text shows the date in one of the three formats, with the name of this day of the week. In the RFC 850 format the
 -- two digits mean the year near now. In the asctime format a day below 10 has a zero or a space before its digit.

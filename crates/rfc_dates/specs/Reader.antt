@@ -1,11 +1,10 @@
 -- What the private functions compute. The theorems of the crate show that it parses the three formats, and no other.
 use Rattle.std.specs.Prelude.{ℕ, zero, suc, ◌+◌, ◌*◌, ◌-◌, ◌&&◌, Bool, List, slice_index, length, codes, bytes_eq}
 use Rattle.std.specs.Prelude.{Option, Some, None, option_and_then, ◌==◌, nat_lt, nat_le, if◌then◌else◌}
-use Rattle.httpdate.specs.Calendar.{days_in_month}
-use Rattle.httpdate.specs.Reader.{Read, read_tag, read_two_digits, read_name, read_year, read_time, read_padded_day}
-use Rattle.httpdate.specs.Text.{comma, space, day_name, day_name_rest, month_name}
-use Rattle.rfc_dates.specs.declared.date_time.DateTime.{DateTime}
-use Rattle.rfc_dates.specs.Calendar.{seconds, unix_epoch, in_year}
+use Rattle.httpdate.{specs.Calendar.days_in_month, specs.Reader.{Read, read_tag, read_two_digits, read_name, read_year}}
+use Rattle.httpdate.{specs.Reader.{read_time, read_padded_day}, specs.Text.{comma, space, day_name, day_name_rest}}
+use Rattle.httpdate.specs.Text.{month_name}
+use Rattle.rfc_dates.{specs.declared.date_time.DateTime.DateTime, specs.Calendar.{seconds, unix_epoch, in_year}}
 
 infixl 10 ◌>>=◌
 abbrev ◌>>=◌ : {A B : Type 0} → Option A → (A → Option B) → Option B

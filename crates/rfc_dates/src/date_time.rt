@@ -1,6 +1,5 @@
 //! The calendar: days and times of day, from the year 0 on.
-ghost use Rattle.std.specs.Prelude.{◌≡◌, ◌-◌, ◌^◌, ◌<◌, ◌↔◌, IfSome, IsTrue};
-ghost use Rattle.std.specs.Int.{IsInRange};
+ghost use Rattle.std.{specs.Prelude.{◌≡◌, ◌-◌, ◌^◌, ◌<◌, ◌↔◌, IfSome, IsTrue}, specs.Int.IsInRange};
 ghost use Rattle.httpdate.specs.Calendar as Calendar;
 ghost use Rattle.rfc_dates.specs.Calendar.{days_before_year};
 

@@ -1,9 +1,7 @@
 //! Theorems, as functions with an empty body. To cite one in a proof, call it.
 ghost use Rattle.std.specs.Prelude.{◌≡◌, ◌+◌, ◌↔◌, ℕ, List, Some};
-ghost use Rattle.httpdate.specs.Date.{date_text, unix_secs};
-ghost use Rattle.httpdate.specs.declared.date.HttpDate.{HttpDate};
-ghost use Rattle.rfc_dates.specs.Calendar.{unix_epoch};
-ghost use Rattle.rfc_dates.specs.Date.{timestamp, Denotes};
+ghost use Rattle.httpdate.{specs.Date.{date_text, unix_secs}, specs.declared.date.HttpDate.HttpDate};
+ghost use Rattle.rfc_dates.{specs.Calendar.unix_epoch, specs.Date.{timestamp, Denotes}};
 
 /// Theorem: `timestamp` returns a time exactly if the text denotes it. So a text denotes at most
 /// one.

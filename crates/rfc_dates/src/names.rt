@@ -1,6 +1,5 @@
 //! The names of days and months.
-ghost use Rattle.std.specs.Prelude.{◌≡◌};
-ghost use Rattle.std.specs.Int.{IsInRange};
+ghost use Rattle.std.{specs.Prelude.◌≡◌, specs.Int.IsInRange};
 ghost use Rattle.httpdate.specs.Text as Text;
 
 /// Returns the first three letters of a day's name; Monday is 1.

@@ -1,7 +1,6 @@
 //! The three formats of a date. A function that returns the rest of the text parses the front of
 //! it.
-ghost use Rattle.std.specs.Prelude.{◌≡◌, ◌<◌, IfSome, option_copied};
-ghost use Rattle.std.specs.Int.{IsInRange};
+ghost use Rattle.std.{specs.Prelude.{◌≡◌, ◌<◌, IfSome, option_copied}, specs.Int.IsInRange};
 ghost use Rattle.httpdate.specs.Text as Text;
 ghost use Rattle.httpdate.specs.Reader as Reader;
 ghost use Rattle.rfc_dates.specs.Reader as Dates;

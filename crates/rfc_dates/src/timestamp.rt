@@ -1,7 +1,6 @@
 //! The time that a date denotes, and how it compares with other times.
 ghost use Rattle.std.specs.Prelude.{◌≡◌, ℕ, ◌+◌, ◌-◌, ◌^◌, ◌<◌, ◌↔◌, IsTrue, MatchOption, min};
-ghost use Rattle.rfc_dates.specs.Calendar.{unix_epoch};
-ghost use Rattle.rfc_dates.specs.Date.{timestamp, Denotes};
+ghost use Rattle.rfc_dates.{specs.Calendar.unix_epoch, specs.Date.{timestamp, Denotes}};
 
 use crate::date_time::UNIX_EPOCH;
 use crate::parser::read_date_time;

@@ -1,14 +1,12 @@
 -- A comment by the grammar ends where the scan over its bytes ends, and what the scan passes is a comment.
 use Rattle.std.proofs.Common.{◌≡◌, ℕ, zero, suc, Bool, true, false, not, cond, List, [], ◌∷◌, ◌++◌, refl, sym, ◌∙◌, ap}
 use Rattle.std.proofs.Common.{subst, ◌+◌, ◌<◌, ◌≤◌, length, get_or, drop, Option, Some, None, add-one, arith}
-use Rattle.std.proofs.{lemmas.Bool.and_parts, lemmas.Bool.eqb-true, lemmas.List.append_assoc, lemmas.List.drop_all}
-use Rattle.std.proofs.{lemmas.Option.none-some, lemmas.Option.same_Some, Math.Seq.drop-cons}
-use Rattle.std.specs.Prelude.{◌&&◌, ◌==◌}
+use Rattle.std.{proofs.lemmas.Bool.{and_parts, eqb-true}, proofs.lemmas.List.{append_assoc, drop_all}}
+use Rattle.std.{proofs.lemmas.Option.{none-some, same_Some}, proofs.Math.Seq.drop-cons, specs.Prelude.{◌&&◌, ◌==◌}}
 use Rattle.http_header.specs.Token.{is_value_byte}
 use Rattle.rfc_fields.specs.Comments.{Content, HasComment, CommentsParseOneWay, content_text, is_content, is_ctext}
-use Rattle.rfc_fields.specs.Comments.Content.{Nothing, Text, Pair, Inner}
-use Rattle.rfc_fields.specs.CommentScan.{after, after_any, after_plain, behind, closing, lead}
-use Rattle.rfc_fields.specs.declared.comments.Nesting.{Nesting}
+use Rattle.rfc_fields.{specs.Comments.Content.{Nothing, Text, Pair, Inner}, specs.CommentScan.{after, after_any}}
+use Rattle.rfc_fields.{specs.CommentScan.{after_plain, behind, closing, lead}, specs.declared.comments.Nesting.Nesting}
 use Rattle.rfc_fields.specs.declared.comments.Progress.TheVariants.{Within, Closed, Never}
 use Rattle.rfc_fields.proofs.GrammarLemmas.{not_true}
 

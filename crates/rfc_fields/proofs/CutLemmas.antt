@@ -1,7 +1,6 @@
 -- A search for a byte finds where a text is cut.
 use Rattle.std.proofs.Common.{◌≡◌, ℕ, not, ◌==◌, Bool, List, length, Option, Some, None, arith, ap, refl, position}
-use Rattle.std.specs.List.{position_or_len}
-use Rattle.std.proofs.lemmas.Bool.{false_from_ne_true, le-ltb, lt-ltb}
+use Rattle.std.{specs.List.position_or_len, proofs.lemmas.Bool.{false_from_ne_true, le-ltb, lt-ltb}}
 use Rattle.std.proofs.lemmas.List.Sums.{prefix_len_is}
 use Rattle.memchr.specs.Find.{IsFirstByte, NoneBefore, Nowhere, Passes, is_byte}
 

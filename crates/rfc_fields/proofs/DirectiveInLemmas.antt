@@ -1,15 +1,14 @@
 -- The directive that a text is, by the grammar.
 use Rattle.std.proofs.Common.{◌≡◌, ◌∙◌, ℕ, ◌-◌, Bool, true, false, List, [], ◌∷◌, ◌++◌, length, take, drop, Option}
-use Rattle.std.proofs.Common.{Some, None, refl, sym, ap, subst, inl, inr, arith}
-use Rattle.std.proofs.{lemmas.Bool.and_parts, lemmas.Bool.and_right, lemmas.Bool.cases_Bool, lemmas.List.length-append}
-use Rattle.std.proofs.{lemmas.Slice.Eq.bytes_eq-Decides, Math.Seq.drop-append_seam, Math.Seq.take-append_seam}
-use Rattle.std.specs.Prelude.{⊤, ◌&&◌, ◌==◌, not, bytes_eq, if◌then◌else◌}
-use Rattle.std.specs.List.{list_all, prefix_len}
+use Rattle.std.{proofs.Common.{Some, None, refl, sym, ap, subst, inl, inr, arith}, proofs.lemmas.Bool.and_parts}
+use Rattle.std.{proofs.lemmas.Bool.{and_right, cases_Bool}, proofs.lemmas.List.length-append}
+use Rattle.std.{proofs.lemmas.Slice.Eq.bytes_eq-Decides, proofs.Math.Seq.{drop-append_seam, take-append_seam}}
+use Rattle.std.{specs.Prelude.{⊤, ◌&&◌, ◌==◌, not, bytes_eq, if◌then◌else◌}, specs.List.{list_all, prefix_len}}
 use Rattle.http_header.specs.Token.{is_token_byte}
 use Rattle.rfc_fields.specs.Directives.{DirectiveParts, IsDirective, argument_text, directive_text, equals, argument_at}
 use Rattle.rfc_fields.specs.Directives.{directive_in, is_argument, is_directive, parts_at, value_at}
-use Rattle.rfc_fields.specs.{Grammar.quote, Values.ValueParts.TokenText, Values.ValueParts.QuotedText}
-use Rattle.rfc_fields.specs.Values.{ValueParts, is_token, is_value, value_text}
+use Rattle.rfc_fields.{specs.Grammar.quote, specs.Values.ValueParts.{TokenText, QuotedText}, specs.Values.ValueParts}
+use Rattle.rfc_fields.specs.Values.{is_token, is_value, value_text}
 
 -- the text begins with no byte of a token
 abbrev pub Stops : List ℕ → Type 0

@@ -1,15 +1,13 @@
 -- What a text that is a directive begins with, and that it is one directive only.
 use Rattle.std.proofs.Common.{◌≡◌, ℕ, suc, ◌+◌, ◌-◌, ◌<◌, ◌≤◌, Bool, true, false, not, cond, List, [], ◌∷◌, ◌++◌}
 use Rattle.std.proofs.Common.{length, get_or, take, drop, Option, Some, None, refl, sym, ◌∙◌, ap, arith, length-drop}
-use Rattle.std.proofs.{Math.Seq.take-append_seam, lemmas.List.take_all, lemmas.List.take-append-drop}
-use Rattle.std.proofs.{lemmas.List.Folds.length-prefix_len, lemmas.Bool.and_parts, lemmas.Bool.ne_eqb}
-use Rattle.std.specs.{Prelude.◌&&◌, Prelude.◌==◌, List.list_all, List.prefix_len}
+use Rattle.std.{proofs.Math.Seq.take-append_seam, proofs.lemmas.List.{take_all, take-append-drop}}
+use Rattle.std.{proofs.lemmas.List.Folds.length-prefix_len, proofs.lemmas.Bool.{and_parts, ne_eqb}, specs.Prelude.◌&&◌}
+use Rattle.std.{specs.Prelude.◌==◌, specs.List.{list_all, prefix_len}}
 use Rattle.http_header.specs.Token.{is_token_byte}
-use Rattle.rfc_fields.specs.Values.{ValueParts, is_token, is_value, value_text}
-use Rattle.rfc_fields.specs.Values.ValueParts.{TokenText, QuotedText}
-use Rattle.rfc_fields.specs.Directives.{DirectiveParts, IsDirective, IsArgument, argument_text, is_argument}
-use Rattle.rfc_fields.specs.Directives.{is_directive}
-use Rattle.rfc_fields.proofs.GrammarLemmas.{false_true}
+use Rattle.rfc_fields.{specs.Values.{ValueParts, is_token, is_value, value_text}, specs.Values.ValueParts.TokenText}
+use Rattle.rfc_fields.{specs.Values.ValueParts.QuotedText, specs.Directives.{DirectiveParts, IsDirective, IsArgument}}
+use Rattle.rfc_fields.{specs.Directives.{argument_text, is_argument, is_directive}, proofs.GrammarLemmas.false_true}
 
 -- the name ends where the bytes of a token do
 argument_ends : (a : Option ValueParts) → prefix_len is_token_byte (argument_text a) ≡ 0

@@ -1,17 +1,16 @@
 -- The loops over the members of a field.
 use Rattle.std.proofs.Common.{◌≡◌, ℕ, Bool, true, false, cond, List, [], ◌∷◌, ◌++◌, map, find, Option, Some, None, refl}
-use Rattle.std.proofs.Common.{sym, ◌∙◌, ap, subst}
-use Rattle.std.proofs.{lemmas.Bool.and_parts, lemmas.List.append-nil, lemmas.List.Folds.list_all-append}
-use Rattle.std.specs.{Prelude.◌&&◌, List.list_all}
+use Rattle.std.{proofs.Common.{sym, ◌∙◌, ap, subst}, proofs.lemmas.Bool.and_parts, proofs.lemmas.List.append-nil}
+use Rattle.std.{proofs.lemmas.List.Folds.list_all-append, specs.Prelude.◌&&◌, specs.List.list_all}
 use Rattle.headers_syntax.specs.Lines.{Line}
-use Rattle.rfc_fields.specs.{Scan.Member, Scan.closes, Scan.Member.Whole, Scan.Member.Malformed}
-use Rattle.rfc_fields.specs.{Laws.DirectivesParseOneWay, Laws.JoinKeepsDirectives, Laws.WellFormedFieldIsWhole}
-use Rattle.rfc_fields.specs.{Laws.MalformedIsClearOfNone, declared.scan.State.TheVariants.Outside}
+use Rattle.rfc_fields.{specs.Scan.{Member, closes}, specs.Scan.Member.{Whole, Malformed}}
+use Rattle.rfc_fields.specs.Laws.{DirectivesParseOneWay, JoinKeepsDirectives, WellFormedFieldIsWhole}
+use Rattle.rfc_fields.{specs.Laws.MalformedIsClearOfNone, specs.declared.scan.State.TheVariants.Outside}
 use Rattle.rfc_fields.specs.Members.{members, field_members, combined, is_whole, is_well_formed}
 use Rattle.rfc_fields.specs.Directives.{DirectiveParts, IsMemberDirective, AreDirectives, FindsDirective, IsClearOf}
 use Rattle.rfc_fields.specs.Directives.{HasOtherThanDirectives, directive_text, directive_member, is_directive}
-use Rattle.rfc_fields.specs.Directives.{is_named, or_named}
-use Rattle.rfc_fields.proofs.{DirectiveLemmas.directive_once, JoinLemmas.join_keeps_members, PieceLemmas.whole_members}
+use Rattle.rfc_fields.{specs.Directives.{is_named, or_named}, proofs.DirectiveLemmas.directive_once}
+use Rattle.rfc_fields.{proofs.JoinLemmas.join_keeps_members, proofs.PieceLemmas.whole_members}
 
 -- the members up to what is left are directives, and the first of the name among them was found
 pub record SoFar (name : List ℕ) (initial left : List Member) (found : Option DirectiveParts) : Type 0 where

@@ -1,15 +1,14 @@
 -- A list by the grammar is cut in its elements.
 use Rattle.std.proofs.Common.{◌≡◌, ℕ, Bool, true, false, not, cond, List, [], ◌∷◌, ◌++◌, map, refl, sym, ◌∙◌, ap}
-use Rattle.std.proofs.{lemmas.Bool.and_parts, lemmas.Bool.eq-eqb, lemmas.List.append_assoc, lemmas.List.append-nil}
-use Rattle.std.specs.{Prelude.◌&&◌, Prelude.◌==◌, List.flat_map, List.list_all}
+use Rattle.std.{proofs.lemmas.Bool.{and_parts, eq-eqb}, proofs.lemmas.List.{append_assoc, append-nil}}
+use Rattle.std.{specs.Prelude.{◌&&◌, ◌==◌}, specs.List.{flat_map, list_all}}
 use Rattle.http_header.specs.Token.{is_value_byte}
 use Rattle.rfc_fields.specs.Grammar.{Octet, Part, Element, is_octet, octet_text, is_part, part_text, is_element}
-use Rattle.rfc_fields.specs.Grammar.{element_text, list_text, IsSeparator}
-use Rattle.rfc_fields.specs.{Grammar.Octet.Plain, Grammar.Octet.Pair, Grammar.Part.Byte, Grammar.Part.Quoted}
-use Rattle.rfc_fields.specs.{Scan.Member.Whole, Laws.ParsesOneWay, declared.scan.State.State}
-use Rattle.rfc_fields.specs.Scan.{Member, state_after, is_cut, closes, push, pieces}
-use Rattle.rfc_fields.specs.declared.scan.State.TheVariants.{Outside, Inside, Escaped}
-use Rattle.rfc_fields.proofs.ScanLemmas.{pieces-push, pieces-cut}
+use Rattle.rfc_fields.{specs.Grammar.{element_text, list_text, IsSeparator}, specs.Grammar.Octet.{Plain, Pair}}
+use Rattle.rfc_fields.{specs.Grammar.Part.{Byte, Quoted}, specs.Scan.Member.Whole, specs.Laws.ParsesOneWay}
+use Rattle.rfc_fields.{specs.declared.scan.State.State, specs.Scan.{Member, state_after, is_cut, closes, push, pieces}}
+use Rattle.rfc_fields.{specs.declared.scan.State.TheVariants.{Outside, Inside, Escaped}, proofs.ScanLemmas.pieces-push}
+use Rattle.rfc_fields.proofs.ScanLemmas.{pieces-cut}
 
 pub false_true : false ≡ true → ⊥
 false_true e = cc

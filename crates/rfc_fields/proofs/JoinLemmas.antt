@@ -1,17 +1,16 @@
 -- Lines that are joined by a comma and a space, and lines that end malformed.
 use Rattle.std.proofs.Common.{◌≡◌, ℕ, suc, ◌+◌, Bool, true, false, cond, List, [], ◌∷◌, ◌++◌, map, filter, drop, refl}
-use Rattle.std.proofs.Common.{sym, ◌∙◌, ap, arith, inl, inr, ◌⊎◌}
-use Rattle.std.proofs.{lemmas.Bool.and_parts, lemmas.Bool.eqb-true, lemmas.List.Elements.filter-append}
-use Rattle.std.proofs.lemmas.List.{map-append, append_assoc, append-nil}
-use Rattle.std.specs.{Prelude.◌==◌, List.list_all, List.prefix_len}
+use Rattle.std.{proofs.Common.{sym, ◌∙◌, ap, arith, inl, inr, ◌⊎◌}, proofs.lemmas.Bool.{and_parts, eqb-true}}
+use Rattle.std.{proofs.lemmas.List.Elements.filter-append, proofs.lemmas.List.{map-append, append_assoc, append-nil}}
+use Rattle.std.{specs.Prelude.◌==◌, specs.List.{list_all, prefix_len}}
 use Rattle.headers_syntax.specs.Text.{trim, trim_end, is_blank}
 use Rattle.rfc_fields.specs.Scan.{Member, state_after, is_cut, is_outside, closes, push, pieces}
-use Rattle.rfc_fields.specs.{Scan.Member.Whole, Scan.Member.Malformed, declared.scan.State.State}
-use Rattle.rfc_fields.specs.Members.{members_of, members, combined, is_member, trimmed}
-use Rattle.rfc_fields.specs.Laws.{KeepsMembersBefore, JoinKeepsMembers, EndsMalformed, MalformedComesLast}
-use Rattle.rfc_fields.specs.declared.scan.State.TheVariants.{Outside, Inside, Escaped}
-use Rattle.rfc_fields.proofs.{ScanLemmas.pieces-push, GrammarLemmas.false_true}
-use Rattle.rfc_fields.proofs.PieceLemmas.{SomePieces, some_pieces, cut_outside, no_members}
+use Rattle.rfc_fields.{specs.Scan.Member.{Whole, Malformed}, specs.declared.scan.State.State, specs.Members.members_of}
+use Rattle.rfc_fields.{specs.Members.{members, combined, is_member, trimmed}, specs.Laws.KeepsMembersBefore}
+use Rattle.rfc_fields.specs.Laws.{JoinKeepsMembers, EndsMalformed, MalformedComesLast}
+use Rattle.rfc_fields.{specs.declared.scan.State.TheVariants.{Outside, Inside, Escaped}, proofs.ScanLemmas.pieces-push}
+use Rattle.rfc_fields.{proofs.GrammarLemmas.false_true, proofs.PieceLemmas.{SomePieces, some_pieces, cut_outside}}
+use Rattle.rfc_fields.proofs.PieceLemmas.{no_members}
 
 push-append : (b : ℕ) (ps qs : List Member) → SomePieces ps → push b (ps ++ qs) ≡ push b ps ++ qs
 unfolding push

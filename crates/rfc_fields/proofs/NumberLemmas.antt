@@ -1,8 +1,7 @@
 -- Digits, read with a greatest number.
 use Rattle.std.proofs.Common.{◌≡◌, ℕ, ◌+◌, ◌-◌, ◌*◌, ◌^◌, Bool, true, false, cond, List, [], ◌∷◌, length, Option, Some}
-use Rattle.std.proofs.Common.{None, refl, sym, ◌∙◌, ap, arith}
-use Rattle.std.proofs.Math.Nat.{pow-suc}
-use Rattle.std.specs.{Prelude.◌&&◌, Prelude.min, Prelude.option_and_then, Char.is_ascii_digit, Str.all_ascii_digits}
+use Rattle.std.{proofs.Common.{None, refl, sym, ◌∙◌, ap, arith}, proofs.Math.Nat.pow-suc, specs.Prelude.{◌&&◌, min}}
+use Rattle.std.{specs.Prelude.option_and_then, specs.Char.is_ascii_digit, specs.Str.all_ascii_digits}
 use Rattle.headers_syntax.specs.Number.{decimal_value}
 use Rattle.rfc_fields.specs.Numbers.{with_digit, number_within}
 

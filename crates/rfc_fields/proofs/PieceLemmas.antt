@@ -1,13 +1,11 @@
 -- Pieces: that there is one, and which of them are whole.
 use Rattle.std.proofs.Common.{◌≡◌, ℕ, Bool, true, false, not, cond, List, [], ◌∷◌, length, refl, sym, ◌∙◌, ap}
-use Rattle.std.proofs.lemmas.Bool.{and_parts, eqb-true}
-use Rattle.std.specs.{Prelude.◌&&◌, Prelude.◌==◌, List.list_all}
+use Rattle.std.{proofs.lemmas.Bool.{and_parts, eqb-true}, specs.Prelude.{◌&&◌, ◌==◌}, specs.List.list_all}
 use Rattle.headers_syntax.specs.Text.{trim}
-use Rattle.rfc_fields.specs.{Grammar.comma, Scan.Member.Whole, Scan.Member.Malformed, declared.scan.State.State}
+use Rattle.rfc_fields.{specs.Grammar.comma, specs.Scan.Member.{Whole, Malformed}, specs.declared.scan.State.State}
 use Rattle.rfc_fields.specs.Scan.{Member, state_after, is_cut, closes, last_member, with_byte, push, pieces}
-use Rattle.rfc_fields.specs.Members.{is_whole, members_of, members}
-use Rattle.rfc_fields.specs.declared.scan.State.TheVariants.{Outside, Inside, Escaped}
-use Rattle.rfc_fields.proofs.GrammarLemmas.{false_true}
+use Rattle.rfc_fields.{specs.Members.{is_whole, members_of, members}, specs.declared.scan.State.TheVariants.Outside}
+use Rattle.rfc_fields.{specs.declared.scan.State.TheVariants.{Inside, Escaped}, proofs.GrammarLemmas.false_true}
 
 -- some pieces, of which there's one at least
 pub record SomePieces (ps : List Member) : Type 0 where

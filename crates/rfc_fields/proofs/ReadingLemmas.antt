@@ -1,14 +1,13 @@
 -- A well formed text is a list by the grammar.
 use Rattle.std.proofs.Common.{◌≡◌, ℕ, Bool, true, false, not, cond, List, [], ◌∷◌, ◌++◌, refl, sym, ◌∙◌, ap}
-use Rattle.std.proofs.{lemmas.Bool.and_parts, lemmas.Bool.eqb-true, lemmas.List.append_assoc}
-use Rattle.std.specs.{Prelude.◌&&◌, Prelude.◌==◌, List.flat_map, List.list_all}
+use Rattle.std.{proofs.lemmas.Bool.{and_parts, eqb-true}, proofs.lemmas.List.append_assoc, specs.Prelude.{◌&&◌, ◌==◌}}
+use Rattle.std.specs.List.{flat_map, list_all}
 use Rattle.http_header.specs.Token.{is_value_byte}
 use Rattle.rfc_fields.specs.Grammar.{Octet, Part, Element, is_octet, octet_text, is_part, part_text, is_element}
-use Rattle.rfc_fields.specs.Grammar.{element_text, list_text, IsList}
-use Rattle.rfc_fields.specs.{Grammar.Octet.Plain, Grammar.Octet.Pair, Grammar.Part.Byte, Grammar.Part.Quoted}
-use Rattle.rfc_fields.specs.{Scan.state_after, Scan.closes, Laws.HasAReading, declared.scan.State.State}
-use Rattle.rfc_fields.specs.declared.scan.State.TheVariants.{Outside, Inside, Escaped}
-use Rattle.rfc_fields.proofs.GrammarLemmas.{false_true}
+use Rattle.rfc_fields.{specs.Grammar.{element_text, list_text, IsList}, specs.Grammar.Octet.{Plain, Pair}}
+use Rattle.rfc_fields.{specs.Grammar.Part.{Byte, Quoted}, specs.Scan.{state_after, closes}, specs.Laws.HasAReading}
+use Rattle.rfc_fields.{specs.declared.scan.State.State, specs.declared.scan.State.TheVariants.{Outside, Inside}}
+use Rattle.rfc_fields.{specs.declared.scan.State.TheVariants.Escaped, proofs.GrammarLemmas.false_true}
 
 -- s is the rest of what stands between two quotes, and then of a list
 pub record EndsQuoted (sep : ℕ) (p : Bool) (s : List ℕ) : Type 0 where

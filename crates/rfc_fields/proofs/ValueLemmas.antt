@@ -1,9 +1,8 @@
 -- The loop over what stands between quotes, and its octets.
 use Rattle.std.proofs.Common.{◌≡◌, ℕ, ◌+◌, ◌<◌, ◌≤◌, Bool, true, false, not, cond, List, [], ◌∷◌, length, get_or, take}
-use Rattle.std.proofs.Common.{drop, ◌-◌, Option, refl, sym, ◌∙◌, ap, add-one, arith}
-use Rattle.std.proofs.{Math.Seq.drop-cons, lemmas.List.drop_all, lemmas.List.take_all, lemmas.Bool.eqb-true}
-use Rattle.std.proofs.{lemmas.Bool.false_from_ne_true}
-use Rattle.std.specs.{Prelude.◌==◌, Option.option_map_or}
+use Rattle.std.{proofs.Common.{drop, ◌-◌, Option, refl, sym, ◌∙◌, ap, add-one, arith}, proofs.Math.Seq.drop-cons}
+use Rattle.std.{proofs.lemmas.List.{drop_all, take_all}, proofs.lemmas.Bool.{eqb-true, false_from_ne_true}}
+use Rattle.std.{specs.Prelude.◌==◌, specs.Option.option_map_or}
 use Rattle.rfc_fields.specs.Values.{escape_after, is_quoted_text, octets_from, octets_after}
 use Rattle.rfc_fields.proofs.GrammarLemmas.{false_true}
 

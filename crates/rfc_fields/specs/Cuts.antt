@@ -1,6 +1,5 @@
 -- A text cut at a byte.
-use Rattle.std.specs.Prelude.{ℕ, ◌+◌, ◌==◌, List, Option, option_map, take, drop}
-use Rattle.std.specs.List.{position}
+use Rattle.std.{specs.Prelude.{ℕ, ◌+◌, ◌==◌, List, Option, option_map, take, drop}, specs.List.position}
 
 -- what is before the first such byte of a text, and after it, if there is one
 abbrev pub cut : ℕ → List ℕ → Option (List ℕ × List ℕ)

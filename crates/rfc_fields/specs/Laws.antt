@@ -1,13 +1,12 @@
 -- Theorems about the definitions alone.
-use Rattle.std.specs.Prelude.{◌≡◌, ℕ, Bool, true, false, List, [], ◌∷◌, ◌++◌, map}
-use Rattle.std.specs.List.{flat_map, list_all}
+use Rattle.std.{specs.Prelude.{◌≡◌, ℕ, Bool, true, false, List, [], ◌∷◌, ◌++◌, map}, specs.List.{flat_map, list_all}}
 use Rattle.http_header.specs.Token.{is_value_byte}
 use Rattle.headers_syntax.specs.Lines.{Line}
 use Rattle.rfc_fields.specs.Grammar.{Octet, is_octet, octet_text, octet_value, Element, is_element, element_text}
-use Rattle.rfc_fields.specs.Grammar.{list_text, IsList, IsSeparator, comma, semicolon, space}
-use Rattle.rfc_fields.specs.{Scan.closes, Scan.pieces, Scan.Member.Whole, Scan.Member.Malformed, Values.is_quoted_text}
-use Rattle.rfc_fields.specs.{Values.octets_from, declared.scan.State.TheVariants.Outside}
-use Rattle.rfc_fields.specs.Members.{members, field_members, closes_member, combined, is_whole, is_well_formed}
+use Rattle.rfc_fields.{specs.Grammar.{list_text, IsList, IsSeparator, comma, semicolon, space}, specs.Scan.closes}
+use Rattle.rfc_fields.{specs.Scan.pieces, specs.Scan.Member.{Whole, Malformed}, specs.Values.is_quoted_text}
+use Rattle.rfc_fields.{specs.Values.octets_from, specs.declared.scan.State.TheVariants.Outside, specs.Members.members}
+use Rattle.rfc_fields.specs.Members.{field_members, closes_member, combined, is_whole, is_well_formed}
 use Rattle.rfc_fields.specs.Directives.{DirectiveParts, IsDirective, AreDirectives, IsClearOf}
 
 -- A list by the grammar is well formed, and is cut into its elements, whichever they are. So it has no others.

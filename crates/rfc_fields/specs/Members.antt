@@ -1,7 +1,6 @@
 -- The members of a field, and the state of an iterator over them as a contract sees it.
-use Rattle.std.specs.Prelude.{ℕ, Bool, true, false, List, [], ◌∷◌, ◌++◌, length, map, filter, not, ◌==◌}
-use Rattle.std.specs.Prelude.{Result, Ok, Err, if◌then◌else◌}
-use Rattle.std.specs.List.{flat_map}
+use Rattle.std.specs.Prelude.{ℕ, Bool, true, false, List, [], ◌∷◌, ◌++◌, length, map, filter, not, ◌==◌, Result, Ok}
+use Rattle.std.{specs.Prelude.{Err, if◌then◌else◌}, specs.List.flat_map}
 use denote.Ref.{Bor}
 use Rattle.http_header.specs.FieldValue.{FieldValue}
 use Rattle.headers_syntax.specs.{Lines.Line, Lines.lines_of, Text.trim}

@@ -1,7 +1,6 @@
 -- Numbers (RFC 9110, section 8.6; RFC 9111, section 1.2.2).
 use Rattle.std.specs.Prelude.{ℕ, ◌+◌, ◌-◌, ◌*◌, Bool, false, List, [], ◌∷◌, Option, None, Some, unwrap_or, min}
-use Rattle.std.specs.Prelude.{if◌then◌else◌}
-use Rattle.std.specs.{Char.is_ascii_digit, Str.all_ascii_digits}
+use Rattle.std.{specs.Prelude.if◌then◌else◌, specs.Char.is_ascii_digit, specs.Str.all_ascii_digits}
 use Rattle.headers_syntax.specs.Number.{decimal_value}
 
 -- 1*DIGIT

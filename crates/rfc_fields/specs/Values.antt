@@ -1,11 +1,9 @@
 -- Tokens, quoted-strings and what they mean (RFC 9110, sections 5.6.2 and 5.6.4).
 use Rattle.std.specs.Prelude.{◌≡◌, ℕ, Bool, true, false, ◌&&◌, ◌==◌, not, List, [], ◌∷◌, ◌++◌, length, Option, None}
-use Rattle.std.specs.Prelude.{Some, if◌then◌else◌}
-use Rattle.std.specs.{Option.option_map_or, List.list_all}
+use Rattle.std.{specs.Prelude.{Some, if◌then◌else◌}, specs.Option.option_map_or, specs.List.list_all}
 use Rattle.http_header.specs.Token.{is_token_byte, is_value_byte}
-use Rattle.rfc_fields.specs.Grammar.{quote, backslash, is_octet}
-use Rattle.rfc_fields.specs.{Grammar.Octet.Plain, declared.values.Value.Value}
-use Rattle.rfc_fields.specs.declared.values.Value.TheVariants.{Token, Quoted}
+use Rattle.rfc_fields.{specs.Grammar.{quote, backslash, is_octet}, specs.Grammar.Octet.Plain}
+use Rattle.rfc_fields.{specs.declared.values.Value.Value, specs.declared.values.Value.TheVariants.{Token, Quoted}}
 
 -- token = 1*tchar
 abbrev pub is_token : List ℕ → Bool

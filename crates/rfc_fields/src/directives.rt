@@ -1,10 +1,8 @@
 //! Directives: a name, and perhaps a value (RFC 9111, section 5.2).
-ghost use Rattle.std.specs.Prelude.{◌≡◌, ◌≤◌, length, MatchResult, Option, option_map};
-ghost use Rattle.std.specs.List.{prefix_len};
+ghost use Rattle.std.{specs.Prelude.{◌≡◌, ◌≤◌, length, MatchResult, Option, option_map}, specs.List.prefix_len};
 ghost use Rattle.http_header.specs.Token.{is_token_byte};
-ghost use Rattle.rfc_fields.specs.Directives.{DirectiveParts, IsArgument, IsDirective, directive_in};
-ghost use Rattle.rfc_fields.specs.Directives.{directive_parts, is_named};
-ghost use Rattle.rfc_fields.specs.Values.{ValueParts, value_parts};
+ghost use Rattle.rfc_fields.specs.Directives.{DirectiveParts, IsArgument, IsDirective, directive_in, directive_parts};
+ghost use Rattle.rfc_fields.{specs.Directives.is_named, specs.Values.{ValueParts, value_parts}};
 
 use crate::error::Malformed;
 use crate::values::{Value, read_value};

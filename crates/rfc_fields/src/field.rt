@@ -1,11 +1,10 @@
 //! What all lines of a field mean together.
-ghost use Rattle.std.specs.Prelude.{◌≡◌, ◌<◌, [], length, true, MatchResult};
-ghost use Rattle.std.specs.{Bool.MatchBool, Option.option_map, List.list_all, List.list_any};
+ghost use Rattle.std.{specs.Prelude.{◌≡◌, ◌<◌, [], length, true, MatchResult}, specs.Bool.MatchBool};
+ghost use Rattle.std.{specs.Option.option_map, specs.List.{list_all, list_any}};
 ghost use Rattle.headers_syntax.specs.Lines.{lines_of, only_line};
-ghost use Rattle.rfc_fields.specs.Members.{field_members, member_of};
-ghost use Rattle.rfc_fields.specs.Directives.{DirectiveParts, FindsDirective, HasOtherThanDirectives, IsClearOf};
-ghost use Rattle.rfc_fields.specs.Directives.{IsMemberDirective, directive_parts, is_same_token, is_token_member};
-ghost use Rattle.rfc_fields.specs.Directives.{or_named};
+ghost use Rattle.rfc_fields.{specs.Members.{field_members, member_of}, specs.Directives.DirectiveParts};
+ghost use Rattle.rfc_fields.specs.Directives.{FindsDirective, HasOtherThanDirectives, IsClearOf, IsMemberDirective};
+ghost use Rattle.rfc_fields.specs.Directives.{directive_parts, is_same_token, is_token_member, or_named};
 
 use crate::directives::{Directive, read_directive};
 use crate::error::Malformed;

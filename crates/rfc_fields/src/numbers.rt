@@ -1,8 +1,7 @@
 //! Numbers: `1*DIGIT`.
 ghost use Rattle.std.specs.Prelude.{◌≡◌, ◌≤◌, ◌<◌, ◌^◌, ◌-◌, ◌+◌, ◌*◌, Some, None, IfSome, min, unwrap_or};
-ghost use Rattle.std.specs.Prelude.{if◌then◌else◌};
-ghost use Rattle.std.specs.Char.{is_ascii_digit};
-ghost use Rattle.rfc_fields.specs.{Numbers.number_within, Numbers.with_digit, Values.octets_of, Values.value_parts};
+ghost use Rattle.std.{specs.Prelude.if◌then◌else◌, specs.Char.is_ascii_digit};
+ghost use Rattle.rfc_fields.{specs.Numbers.{number_within, with_digit}, specs.Values.{octets_of, value_parts}};
 
 use crate::values::Value;
 

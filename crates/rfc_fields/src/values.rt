@@ -1,10 +1,9 @@
 //! Tokens, quoted-strings and the octets that they mean (RFC 9110, sections 5.6.2 and 5.6.4).
 ghost use Rattle.std.specs.Prelude.{◌≡◌, ◌≢◌, ◌++◌, ◌∷◌, [], ℕ, List, false, true, MatchOption, MatchResult};
-ghost use Rattle.std.specs.{Bool.MatchBool, Iterator.YieldsFirst, Iterator.item_count, List.list_all};
+ghost use Rattle.std.{specs.Bool.MatchBool, specs.Iterator.{YieldsFirst, item_count}, specs.List.list_all};
 ghost use Rattle.http_header.specs.Token.{is_token_byte, is_value_byte};
-ghost use Rattle.rfc_fields.specs.Grammar.{quote};
-ghost use Rattle.rfc_fields.specs.Values.{IsValue, ValueParts, escape_after, is_qdtext, is_quoted_text, is_token};
-ghost use Rattle.rfc_fields.specs.Values.{octets_after, octets_left, octets_of, value_parts};
+ghost use Rattle.rfc_fields.{specs.Grammar.quote, specs.Values.{IsValue, ValueParts, escape_after, is_qdtext}};
+ghost use Rattle.rfc_fields.specs.Values.{is_quoted_text, is_token, octets_after, octets_left, octets_of, value_parts};
 
 use crate::error::Malformed;
 use http_header::is_token_char;

@@ -1,15 +1,13 @@
 -- The members of a dictionary, one after the other.
 use Rattle.std.proofs.Common.{◌≡◌, ℕ, zero, suc, Bool, true, false, List, [], ◌∷◌, refl, sym, ◌∙◌, ap, ◌<◌, ◌≤◌, length}
-use Rattle.std.proofs.Common.{cond, Option, Some, None, option_and_then, option_map, arith}
-use Rattle.std.specs.Prelude.{◌==◌}
-use Rattle.rfc_structured.specs.Bytes.{after_run, before}
-use Rattle.rfc_structured.specs.Dictionaries.{Entry, MemberParts, after_comma, entry, entry_by, length_of}
-use Rattle.rfc_structured.specs.Dictionaries.{member_value, members_in, members_within, next_members, value_behind}
-use Rattle.rfc_structured.specs.Items.{Reading, after_inner, after_key, after_parameters, bare_item}
-use Rattle.rfc_structured.specs.Items.ValueParts.{Other}
-use Rattle.rfc_structured.specs.declared.bytes.Class.TheVariants.{Blank}
-use Rattle.rfc_structured.proofs.ItemLemmas.{ReadsWithin, Within, inner-within, item-shorter, key-shorter}
-use Rattle.rfc_structured.proofs.ItemLemmas.{parameters-within, reads-cond, reads-none, reads-some, run-shorter}
+use Rattle.std.{proofs.Common.{cond, Option, Some, None, option_and_then, option_map, arith}, specs.Prelude.◌==◌}
+use Rattle.rfc_structured.{specs.Bytes.{after_run, before}, specs.Dictionaries.{Entry, MemberParts, after_comma, entry}}
+use Rattle.rfc_structured.specs.Dictionaries.{entry_by, length_of, member_value, members_in, members_within}
+use Rattle.rfc_structured.{specs.Dictionaries.{next_members, value_behind}, specs.Items.{Reading, after_inner}}
+use Rattle.rfc_structured.{specs.Items.{after_key, after_parameters, bare_item}, specs.Items.ValueParts.Other}
+use Rattle.rfc_structured.{specs.declared.bytes.Class.TheVariants.Blank, proofs.ItemLemmas.{ReadsWithin, Within}}
+use Rattle.rfc_structured.proofs.ItemLemmas.{inner-within, item-shorter, key-shorter, parameters-within, reads-cond}
+use Rattle.rfc_structured.proofs.ItemLemmas.{reads-none, reads-some, run-shorter}
 
 inner-reads : (n : ℕ) (o : Option (List ℕ)) → Within n o
     → ReadsWithin n (option_map (λ rest. record { value = Other; rest = rest }) o)

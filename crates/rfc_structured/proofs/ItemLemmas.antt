@@ -1,20 +1,17 @@
 -- What follows an item is shorter than the text.
 use Rattle.std.proofs.Common.{◌≡◌, ℕ, Bool, true, false, List, [], ◌∷◌, refl, sym, ◌∙◌, ap, subst, ◌<◌, ◌≤◌, ◌-◌}
 use Rattle.std.proofs.Common.{length, cond, Option, Some, None, IfSome, option_and_then, option_map, arith}
-use Rattle.std.specs.Prelude.{◌&&◌, ◌||◌, ◌==◌, nat_le, nat_lt, if◌then◌else◌}
-use Rattle.std.specs.Char.{is_ascii_digit}
-use Rattle.std.proofs.lemmas.Bool.{ltb-true}
-use Rattle.std.proofs.lemmas.Option.{none-some, same_Some}
+use Rattle.std.{specs.Prelude.{◌&&◌, ◌||◌, ◌==◌, nat_le, nat_lt, if◌then◌else◌}, specs.Char.is_ascii_digit}
+use Rattle.std.{proofs.lemmas.Bool.ltb-true, proofs.lemmas.Option.{none-some, same_Some}}
 use Rattle.rfc_structured.specs.Bytes.{after_run, before, begins_key, begins_token, is_in, is_printable}
-use Rattle.rfc_structured.specs.Items.{Reading, Step, after_all, after_argument, after_colon, after_inner}
-use Rattle.rfc_structured.specs.Items.{after_item, after_key, after_parameter, after_parameters, after_string}
-use Rattle.rfc_structured.specs.Items.{bare_item, boolean, bounded, decimal, going, inner_by, inner_step, inside}
-use Rattle.rfc_structured.specs.Items.{integer, number, number_by, parameter_step, rest_of, string, unsigned}
-use Rattle.rfc_structured.specs.Items.Step.{Ends, Fails, Goes}
-use Rattle.rfc_structured.specs.Items.ValueParts.{Text}
-use Rattle.rfc_structured.specs.declared.bytes.Class.{Class}
-use Rattle.rfc_structured.specs.declared.bytes.Class.TheVariants.{Base64, Digit, Key, Space, Token}
-use Rattle.rfc_structured.proofs.RepeatLemmas.{Keeps, Takes, all-shorter}
+use Rattle.rfc_structured.specs.Items.{Reading, Step, after_all, after_argument, after_colon, after_inner, after_item}
+use Rattle.rfc_structured.specs.Items.{after_key, after_parameter, after_parameters, after_string, bare_item, boolean}
+use Rattle.rfc_structured.specs.Items.{bounded, decimal, going, inner_by, inner_step, inside, integer, number}
+use Rattle.rfc_structured.{specs.Items.{number_by, parameter_step, rest_of, string, unsigned}, specs.Items.Step.Ends}
+use Rattle.rfc_structured.{specs.Items.Step.{Fails, Goes}, specs.Items.ValueParts.Text}
+use Rattle.rfc_structured.{specs.declared.bytes.Class.Class, specs.declared.bytes.Class.TheVariants.{Base64, Digit}}
+use Rattle.rfc_structured.{specs.declared.bytes.Class.TheVariants.{Key, Space, Token}, proofs.RepeatLemmas.Keeps}
+use Rattle.rfc_structured.proofs.RepeatLemmas.{Takes, all-shorter}
 
 -- what there is has this many bytes at most
 abbrev pub Within : ℕ → Option (List ℕ) → Type 0

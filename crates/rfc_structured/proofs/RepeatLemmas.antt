@@ -1,9 +1,7 @@
 -- What is repeated doesn't depend on how often it might be, as long as each step takes a byte.
 use Rattle.std.proofs.Common.{◌≡◌, ℕ, zero, suc, List, [], ◌∷◌, refl, sym, ◌∙◌, ap, ◌<◌, ◌≤◌, length, Option, Some}
-use Rattle.std.proofs.Common.{None, arith}
-use Rattle.std.proofs.lemmas.Option.{same_Some}
-use Rattle.rfc_structured.specs.Items.{Step, after_all, led, repeated}
-use Rattle.rfc_structured.specs.Items.Step.{Ends, Fails, Goes}
+use Rattle.std.{proofs.Common.{None, arith}, proofs.lemmas.Option.same_Some}
+use Rattle.rfc_structured.{specs.Items.{Step, after_all, led, repeated}, specs.Items.Step.{Ends, Fails, Goes}}
 
 -- each step that may be followed by one takes a byte
 abbrev pub Takes : (List ℕ → Step) → Type 0

@@ -1,9 +1,8 @@
 -- Dictionaries (RFC 8941, sections 3.2 and 4.2.2).
-use Rattle.std.specs.Prelude.{ℕ, zero, suc, true, ◌==◌, List, [], ◌∷◌, length, Option, Some, None}
-use Rattle.std.specs.Prelude.{option_and_then, option_map, if◌then◌else◌}
-use Rattle.rfc_structured.specs.Bytes.{after_run, before}
-use Rattle.rfc_structured.specs.Items.{Reading, ValueParts, after_inner, after_key, after_parameters, bare_item}
-use Rattle.rfc_structured.specs.Items.ValueParts.{Boolean, Other}
+use Rattle.std.specs.Prelude.{ℕ, zero, suc, true, ◌==◌, List, [], ◌∷◌, length, Option, Some, None, option_and_then}
+use Rattle.std.specs.Prelude.{option_map, if◌then◌else◌}
+use Rattle.rfc_structured.{specs.Bytes.{after_run, before}, specs.Items.{Reading, ValueParts, after_inner, after_key}}
+use Rattle.rfc_structured.{specs.Items.{after_parameters, bare_item}, specs.Items.ValueParts.{Boolean, Other}}
 use Rattle.rfc_structured.specs.declared.bytes.Class.TheVariants.{Blank}
 
 -- a member: its key, and its value without parameters

@@ -1,8 +1,7 @@
 -- Items of structured fields, by the algorithms of RFC 8941, section 4.2: what a text begins with, and what follows it.
 -- Each takes as many bytes as it can, so there is one reading at most.
-use Rattle.std.specs.Prelude.{ℕ, zero, suc, Bool, true, false, ◌&&◌, ◌||◌, ◌==◌, ◌-◌, nat_le, nat_lt}
-use Rattle.std.specs.Prelude.{List, [], ◌∷◌, length, take, Option, Some, None, option_and_then, option_map}
-use Rattle.std.specs.Prelude.{if◌then◌else◌}
+use Rattle.std.specs.Prelude.{ℕ, zero, suc, Bool, true, false, ◌&&◌, ◌||◌, ◌==◌, ◌-◌, nat_le, nat_lt, List, [], ◌∷◌}
+use Rattle.std.specs.Prelude.{length, take, Option, Some, None, option_and_then, option_map, if◌then◌else◌}
 use Rattle.std.specs.Char.{is_ascii_digit}
 use Rattle.rfc_structured.specs.Bytes.{after_run, before, begins_key, begins_token, is_printable}
 use Rattle.rfc_structured.specs.declared.bytes.Class.TheVariants.{Base64, Digit, Key, Space, Token}

@@ -2,12 +2,9 @@
 use Rattle.std.specs.Prelude.{ℕ, List, option_copied}
 use Rattle.rfc_structured.specs.Dictionaries.{Entry as EntryParts, MemberParts}
 use Rattle.rfc_structured.specs.Items.{Reading as Read, Step as StepParts, ValueParts}
-use Rattle.rfc_structured.specs.Items.Step.{Ends, Fails, Goes}
-use Rattle.rfc_structured.specs.Items.ValueParts.{Integer, Boolean, Text, Other}
-use Rattle.rfc_structured.specs.declared.dictionaries.Entry.{Entry}
-use Rattle.rfc_structured.specs.declared.dictionaries.Member.{Member}
-use Rattle.rfc_structured.specs.declared.items.Reading.{Reading}
-use Rattle.rfc_structured.specs.declared.items.Value.{Value}
+use Rattle.rfc_structured.{specs.Items.Step.{Ends, Fails, Goes}, specs.Items.ValueParts.{Integer, Boolean, Text, Other}}
+use Rattle.rfc_structured.{specs.declared.dictionaries.Entry.Entry, specs.declared.dictionaries.Member.Member}
+use Rattle.rfc_structured.{specs.declared.items.Reading.Reading, specs.declared.items.Value.Value}
 use Rattle.rfc_structured.specs.declared.items.Value.TheVariants as value
 use Rattle.rfc_structured.specs.declared.parameters.Step.{Step}
 use Rattle.rfc_structured.specs.declared.parameters.Step.TheVariants as step

@@ -1,8 +1,7 @@
 //! Dictionaries (RFC 8941, section 3.2).
 ghost use Rattle.std.specs.Prelude.{◌≡◌, ◌<◌, ◌∷◌, length, option_copied, option_map};
 ghost use Rattle.rfc_structured.specs.Dictionaries.{after_comma, entry, entry_by, member_value, next_members};
-ghost use Rattle.rfc_structured.specs.Dictionaries.{value_behind};
-ghost use Rattle.rfc_structured.specs.Values.{entry_of, reading_of};
+ghost use Rattle.rfc_structured.{specs.Dictionaries.value_behind, specs.Values.{entry_of, reading_of}};
 
 use crate::bytes::{Class, before, skip};
 use crate::items::{Reading, Value, after_key, bare_item};

@@ -1,8 +1,7 @@
 //! Items of structured fields (RFC 8941, section 3.3).
 ghost use Rattle.std.specs.Prelude.{◌≡◌, ◌≤◌, ◌<◌, ◌∷◌, length, IfSome, option_copied, option_map, false};
-ghost use Rattle.rfc_structured.specs.Bytes.{after_run, before};
-ghost use Rattle.rfc_structured.specs.Items.{after_key, after_string, bare_item, boolean, decimal, integer, number};
-ghost use Rattle.rfc_structured.specs.Items.{after_colon, string, unsigned};
+ghost use Rattle.rfc_structured.{specs.Bytes.{after_run, before}, specs.Items.{after_key, after_string, bare_item}};
+ghost use Rattle.rfc_structured.specs.Items.{boolean, decimal, integer, number, after_colon, string, unsigned};
 ghost use Rattle.rfc_structured.specs.Values.{reading_of};
 
 use crate::bytes::{Class, before, begins_key, begins_token, is_printable, skip};

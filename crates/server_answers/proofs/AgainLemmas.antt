@@ -1,49 +1,35 @@
 -- What a request that is sent again has in common with the first, at another time.
 use Rattle.std.proofs.Common.{◌≡◌, ℕ, zero, suc, ◌<◌, Bool, false, not, ◌&&◌, List, [], ◌∷◌, length, get_or, map}
 use Rattle.std.proofs.Common.{Option, Some, None, refl, sym, ap, subst, ◌∙◌, inl, inr, arith}
-use Rattle.std.proofs.lemmas.List.{length-map}
-use Rattle.std.proofs.lemmas.Option.{slice_get-map}
-use Rattle.std.specs.Global.{Vec}
-use Rattle.std.specs.List.{list_all}
-use Rattle.std.specs.Option.{option_map_or}
-use Rattle.std.specs.Prelude.{◌==◌, codes, option_map, slice_get}
+use Rattle.std.{proofs.lemmas.List.length-map, proofs.lemmas.Option.slice_get-map, specs.Global.Vec}
+use Rattle.std.{specs.List.list_all, specs.Option.option_map_or, specs.Prelude.{◌==◌, codes, option_map, slice_get}}
 use Rattle.http_header.specs.FieldValue.{FieldValue}
-use Rattle.headers.specs.LineMap.{LineMap}
-use Rattle.headers.specs.Lines.{Line}
-use Rattle.headers.specs.Typed.{HasLine}
-use Rattle.gateway_messages.specs.Expectations.{has_known_expectation}
-use Rattle.gateway_messages.specs.Requests.{has_host}
+use Rattle.headers.{specs.LineMap.LineMap, specs.Lines.Line, specs.Typed.HasLine}
+use Rattle.gateway_messages.{specs.Expectations.has_known_expectation, specs.Requests.has_host}
 use Rattle.gateway_messages.specs.declared.protocol.Protocol.{Protocol}
-use Rattle.decide_negotiation.specs.Choice.{Picks, first_place}
-use Rattle.decide_negotiation.specs.Codings.{encoding_quality}
-use Rattle.decide_negotiation.specs.Languages.{language_says}
-use Rattle.decide_negotiation.specs.MediaRanges.{media_type_says}
+use Rattle.decide_negotiation.{specs.Choice.{Picks, first_place}, specs.Codings.encoding_quality}
+use Rattle.decide_negotiation.{specs.Languages.language_says, specs.MediaRanges.media_type_says}
 use Rattle.decide_negotiation.specs.Qualities.{quality_by}
-use Rattle.decide_preconditions.specs.Conditions.{IfMatchIsTrue, UnmodifiedSinceLets}
-use Rattle.decide_preconditions.specs.Fields.{etag_of, lines_sent}
-use Rattle.decide_preconditions.specs.Preconditions.{IsGetOrHead, StateIsKept}
+use Rattle.decide_preconditions.{specs.Conditions.{IfMatchIsTrue, UnmodifiedSinceLets}, specs.Fields.etag_of}
+use Rattle.decide_preconditions.{specs.Fields.lines_sent, specs.Preconditions.{IsGetOrHead, StateIsKept}}
 use Rattle.decide_preconditions.specs.declared.resource.Resource.{Resource as Target}
 use Rattle.decide_preconditions.specs.declared.resource.Resource.TheVariants.{Current}
 use Rattle.decide_preconditions.specs.declared.resource.Validators.{Validators}
-use Rattle.decide_resource.specs.Answers.{IsSelected, at_place, bare, place_in, target_of}
-use Rattle.decide_resource.specs.Applies.{applies, host_named, is_own, is_unacceptable, rule_for}
-use Rattle.decide_resource.specs.Reasons.{IsFirst}
+use Rattle.decide_resource.{specs.Answers.{IsSelected, at_place, bare, place_in, target_of}, specs.Applies.applies}
+use Rattle.decide_resource.{specs.Applies.{host_named, is_own, is_unacceptable, rule_for}, specs.Reasons.IsFirst}
 use Rattle.decide_resource.specs.Representations.{are_unacceptable, joined, rank_by, score}
 use Rattle.decide_resource.specs.Requests.{Request as Asked}
-use Rattle.decide_resource.specs.declared.reason.Reason.{Reason}
-use Rattle.decide_resource.specs.declared.reason.Reason.TheVariants.{InvalidHost, Misdirected, UnmetExpectation}
-use Rattle.decide_resource.specs.declared.reason.Reason.TheVariants.{PartialContent, UnsupportedMediaType}
-use Rattle.decide_resource.specs.declared.reason.Reason.TheVariants.{UnsupportedCoding, NotAcceptable}
-use Rattle.decide_resource.specs.declared.reason.Reason.TheVariants.{PreconditionRequired, Admitted}
+use Rattle.decide_resource.{specs.declared.reason.Reason.Reason, specs.declared.reason.Reason.TheVariants.InvalidHost}
+use Rattle.decide_resource.specs.declared.reason.Reason.TheVariants.{Misdirected, UnmetExpectation, PartialContent}
+use Rattle.decide_resource.specs.declared.reason.Reason.TheVariants.{UnsupportedMediaType, UnsupportedCoding}
+use Rattle.decide_resource.specs.declared.reason.Reason.TheVariants.{NotAcceptable, PreconditionRequired, Admitted}
 use Rattle.decide_resource.specs.declared.representation.Negotiation.{Negotiation}
 use Rattle.decide_resource.specs.declared.representation.Representation.{Representation}
 use Rattle.decide_resource.specs.declared.request.RequestContent.TheVariants.{Absent}
-use Rattle.decide_resource.specs.declared.resource.Resource.{Resource}
-use Rattle.decide_resource.specs.declared.resource.State.{State}
+use Rattle.decide_resource.{specs.declared.resource.Resource.Resource, specs.declared.resource.State.State}
 use Rattle.decide_resource.specs.declared.resource.State.TheVariants as state
 use Rattle.decide_resource.proofs.PickLemmas.{first_alike}
-use Rattle.server_service.specs.Answer.{file_at}
-use Rattle.server_service.specs.File.{coding_value, is_settled, representation_of}
+use Rattle.server_service.{specs.Answer.file_at, specs.File.{coding_value, is_settled, representation_of}}
 use Rattle.server_service.specs.declared.file.File.{File}
 use Rattle.server_answers.specs.Similar.{Label, label_of}
 

@@ -1,27 +1,20 @@
 -- Two parts that join are the content.
 use Rattle.std.proofs.Common.{◌≡◌, ◌≤◌, ℕ, ◌+◌, ◌-◌, ◌++◌, List, [], ◌∷◌, length, take, drop, Option, Some, None, refl}
-use Rattle.std.proofs.Common.{ap, append-nil, ◌∙◌, arith}
-use Rattle.std.proofs.lemmas.List.{length-drop, take-append-drop, take_all}
-use Rattle.std.specs.Prelude.{string_bytes}
+use Rattle.std.{proofs.Common.{ap, append-nil, ◌∙◌, arith}, proofs.lemmas.List.{length-drop, take-append-drop}}
+use Rattle.std.{proofs.lemmas.List.take_all, specs.Prelude.string_bytes}
 use Rattle.http.specs.declared.request.Request.{Request}
-use Rattle.server_connection.specs.Pieces.{AreSent}
-use Rattle.server_connection.specs.declared.piece.Piece.{Piece}
+use Rattle.server_connection.{specs.Pieces.AreSent, specs.declared.piece.Piece.Piece}
 use Rattle.server_connection.specs.declared.piece.Piece.TheVariants.{Range}
 use Rattle.server_connection.specs.declared.plan.Plan.{Plan as Response}
-use Rattle.decide_preconditions.specs.declared.part.Part.{Part}
-use Rattle.decide_preconditions.specs.declared.plan.Plan.TheVariants.{Single}
+use Rattle.decide_preconditions.{specs.declared.part.Part.Part, specs.declared.plan.Plan.TheVariants.Single}
 use Rattle.decide_resource.specs.declared.answer.Sends.TheVariants.{Planned}
-use Rattle.server_service.specs.Answer.{IsAnswerAt, file_at, pieces_of, source_of}
-use Rattle.server_service.specs.File.{gives_at, gives_of}
-use Rattle.server_service.specs.Parts.{bytes_of, part_extent}
-use Rattle.server_service.specs.declared.file.Entry.{Entry}
-use Rattle.server_service.specs.declared.file.File.{File}
-use Rattle.server_files.specs.declared.kept.Kept.{Kept}
-use Rattle.server_service.specs.declared.settings.Site.{Site}
+use Rattle.server_service.{specs.Answer.{IsAnswerAt, file_at, pieces_of, source_of}, specs.File.{gives_at, gives_of}}
+use Rattle.server_service.{specs.Parts.{bytes_of, part_extent}, specs.declared.file.Entry.Entry}
+use Rattle.server_service.{specs.declared.file.File.File, specs.declared.settings.Site.Site}
 use Rattle.server_service.specs.declared.source.Source.{Source}
+use Rattle.server_files.specs.declared.kept.Kept.{Kept}
 use Rattle.server_service.specs.declared.source.Source.TheVariants.{Kept as InMemory}
-use Rattle.server_answers.specs.Joined.{JoinTo}
-use Rattle.server_answers.specs.Stores.{has_at}
+use Rattle.server_answers.{specs.Joined.JoinTo, specs.Stores.has_at}
 
 -- what the law of bytes in memory says
 abbrev SendsRanges : Type 0

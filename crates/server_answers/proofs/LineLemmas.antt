@@ -1,27 +1,20 @@
 -- The field lines that a response has under a name.
 use Rattle.std.proofs.Common.{◌≡◌, ℕ, Bool, true, false, List, [], ◌∷◌, ◌++◌, cond, Option, Some, None, refl, sym, ap}
-use Rattle.std.proofs.Common.{◌∙◌, append_assoc, append-nil}
-use Rattle.std.proofs.lemmas.Grind.{flat_map-append}
-use Rattle.std.proofs.lemmas.List.Folds.{list_any-append}
-use Rattle.std.proofs.Math.Bool.{and-false}
-use Rattle.std.proofs.lemmas.Bool.{or_parts}
+use Rattle.std.{proofs.Common.{◌∙◌, append_assoc, append-nil}, proofs.lemmas.Grind.flat_map-append}
+use Rattle.std.{proofs.lemmas.List.Folds.list_any-append, proofs.Math.Bool.and-false, proofs.lemmas.Bool.or_parts}
 use Rattle.std.specs.Prelude.{◌&&◌, ◌==◌, ◌||◌, bytes_eq, codes, if◌then◌else◌, is_some, nat_lt}
 use Rattle.std.proofs.lemmas.Slice.Eq.{bytes_eq-Decides}
 use Rattle.http_header.specs.FieldValue.{FieldValue}
 use Rattle.http1.specs.Fields.{Header}
-use Rattle.headers.specs.Date.{fixdate}
-use Rattle.headers.specs.LineMap.{Field}
-use Rattle.headers.specs.Lines.{Line}
-use Rattle.headers.specs.Text.{trim}
+use Rattle.headers.{specs.Date.fixdate, specs.LineMap.Field, specs.Lines.Line, specs.Text.trim}
 use Rattle.server_connection.specs.declared.plan.Plan.{Plan as Response}
-use Rattle.decide_resource.specs.declared.answer.Sends.{Sends}
-use Rattle.decide_resource.specs.declared.answer.Sends.TheVariants.{Nothing, Alternatives}
+use Rattle.decide_resource.{specs.declared.answer.Sends.Sends, specs.declared.answer.Sends.TheVariants.Nothing}
+use Rattle.decide_resource.specs.declared.answer.Sends.TheVariants.{Alternatives}
 use Rattle.server_service.specs.Answer.{Carries, cache_fields, cache_sent, closing_fields, date_fields}
 use Rattle.server_service.specs.Answer.{explained_fields, first_fields, is_stored, sniff_field}
 use Rattle.server_service.specs.Response.{fields_of, headers_sent, html_field, is_kept, is_named, lines_under}
 use Rattle.server_service.specs.Response.{lines_unless, page_fields, trimmed_line, trimmed_lines}
-use Rattle.server_service.specs.declared.file.File.{File}
-use Rattle.server_service.specs.declared.settings.Site.{Site}
+use Rattle.server_service.{specs.declared.file.File.File, specs.declared.settings.Site.Site}
 use Rattle.server_answers.specs.ResponseLines.{line_named, lines_in}
 
 sent-cons : (has_policy : Bool) (field : Field) (fields : List Field)

@@ -1,38 +1,30 @@
 -- The response to a preflight, as a browser reads it.
 use Rattle.std.proofs.Common.{◌≡◌, ◌↔◌, ℕ, Bool, true, false, not, cond, List, [], ◌∷◌, ◌++◌, Option, Some, refl, sym}
-use Rattle.std.proofs.Common.{ap, ◌∙◌, append-nil, arith, inl, inr}
-use Rattle.std.proofs.lemmas.Slice.Eq.{bytes_eq-Decides}
+use Rattle.std.{proofs.Common.{ap, ◌∙◌, append-nil, arith, inl, inr}, proofs.lemmas.Slice.Eq.bytes_eq-Decides}
 use Rattle.std.specs.Prelude.{◌||◌, bytes_eq, codes, is_some, string_bytes}
-use Rattle.http.specs.Request.{head_of}
-use Rattle.http.specs.declared.request.Request.{Request}
+use Rattle.http.{specs.Request.head_of, specs.declared.request.Request.Request}
 use Rattle.headers.specs.LineMap.{Field, LineMap, fields_of as encoded_fields, lines_at, set, set_all}
 use Rattle.headers.specs.Lines.{Line}
 use Rattle.decide_cors.specs.Browser.{CorsCheck, IsPreflightFor, PreflightPasses, Request as Sent}
-use Rattle.decide_cors.specs.Policy.{Policy}
-use Rattle.decide_cors.specs.Rules.{AllowsCredentials, AllowsOrigin, AllowsRequest, IsLawful, IsPolicyOf}
-use Rattle.decide_cors.specs.declared.rules.CorsRules.{CorsRules}
+use Rattle.decide_cors.{specs.Policy.Policy, specs.Rules.{AllowsCredentials, AllowsOrigin, AllowsRequest, IsLawful}}
+use Rattle.decide_cors.{specs.Rules.IsPolicyOf, specs.declared.rules.CorsRules.CorsRules}
 use Rattle.server_connection.specs.declared.plan.Plan.{Plan as Response}
 use Rattle.gateway_messages.specs.Requests.{has_host}
-use Rattle.decide_resource.specs.Answers.{IsAnswer, Stops}
-use Rattle.decide_resource.specs.Applies.{applies, is_misdirected}
+use Rattle.decide_resource.{specs.Answers.{IsAnswer, Stops}, specs.Applies.{applies, is_misdirected}}
 use Rattle.decide_resource.specs.Reasons.{IsFirst}
 use Rattle.decide_resource.specs.Requests.{Request as Asked, head_of as as_head}
-use Rattle.decide_resource.specs.declared.answer.Answer.{Answer}
-use Rattle.decide_resource.specs.declared.reason.Reason.{Reason}
+use Rattle.decide_resource.{specs.declared.answer.Answer.Answer, specs.declared.reason.Reason.Reason}
 use Rattle.decide_resource.specs.declared.reason.Reason.TheVariants.{InvalidHost, Misdirected, UnknownMethod}
 use Rattle.decide_resource.specs.declared.reason.Reason.TheVariants.{MethodNotAllowed, Options}
 use Rattle.decide_resource.specs.declared.resource.Resource.{Resource}
-use Rattle.server_service.specs.Answer.{Decides, IsAnswerAt, clock, sends_several, status_for}
-use Rattle.server_service.specs.Asked.{Asks}
+use Rattle.server_service.{specs.Answer.{Decides, IsAnswerAt, clock, sends_several, status_for}, specs.Asked.Asks}
 use Rattle.server_service.specs.Response.{fields_of, headers_sent, headers_set, is_named, lines_under, lines_unless}
-use Rattle.server_service.specs.declared.file.Entry.{Entry}
-use Rattle.server_service.specs.declared.file.File.{File}
-use Rattle.server_service.specs.declared.settings.Site.{Site}
-use Rattle.server_service.specs.declared.source.Source.{Source}
+use Rattle.server_service.{specs.declared.file.Entry.Entry, specs.declared.file.File.File}
+use Rattle.server_service.{specs.declared.settings.Site.Site, specs.declared.source.Source.Source}
 use Rattle.server_service.proofs.OneResponseLemmas.{asked_once}
-use Rattle.server_answers.specs.ResponseLines.{lines_in}
-use Rattle.server_answers.proofs.LineLemmas.{IsOfAnswer, lines_in-append, lines_in-carried, lines_in-other}
-use Rattle.server_answers.proofs.LineLemmas.{lines_of_same, lines_unless-other, sent-other}
+use Rattle.server_answers.{specs.ResponseLines.lines_in, proofs.LineLemmas.{IsOfAnswer, lines_in-append}}
+use Rattle.server_answers.proofs.LineLemmas.{lines_in-carried, lines_in-other, lines_of_same, lines_unless-other}
+use Rattle.server_answers.proofs.LineLemmas.{sent-other}
 
 -- ---- fields that are set in their order
 

@@ -1,33 +1,23 @@
 -- The answer to a request is that to another one, or of another store.
 use Rattle.std.proofs.Common.{◌≡◌, ℕ, Bool, true, false, List, [], Option, refl, sym, ap, subst, ◌∙◌, inl, inr, ◌++◌}
-use Rattle.std.proofs.Common.{Some}
-use Rattle.std.proofs.lemmas.Slice.Eq.{bytes_eq-Decides}
-use Rattle.std.specs.Prelude.{bytes_eq, codes, string_bytes}
+use Rattle.std.{proofs.Common.Some, proofs.lemmas.Slice.Eq.bytes_eq-Decides, specs.Prelude.{bytes_eq, codes}}
+use Rattle.std.specs.Prelude.{string_bytes}
 use Rattle.http.specs.declared.request.Request.{Request}
 use Rattle.headers.specs.LineMap.{LineMap, lines_at, remove}
 use Rattle.server_connection.specs.declared.plan.Plan.{Plan as Response}
 use Rattle.decide_resource.specs.Answers.{IsAnswer}
 use Rattle.decide_resource.specs.Requests.{Request as Asked, get_of, head_of as as_head}
-use Rattle.decide_resource.specs.declared.answer.Answer.{Answer}
-use Rattle.decide_resource.specs.declared.resource.Resource.{Resource}
-use Rattle.server_service.specs.Answer.{Decides, IsAnswerAt, clock}
-use Rattle.server_service.specs.Asked.{Asks}
-use Rattle.server_service.specs.declared.file.Entry.{Entry}
-use Rattle.server_service.specs.declared.file.File.{File}
-use Rattle.server_service.specs.declared.settings.Site.{Site}
-use Rattle.server_service.specs.declared.source.Source.{Source}
-use Rattle.server_answers.specs.Requests.{IsHeadOf}
-use Rattle.server_answers.specs.Stores.{has_at, HaveAlike}
-use Rattle.http_uri.specs.Uri.{uri_path}
-use Rattle.http_uri.specs.declared.uri.Uri.{Uri}
-use Rattle.server_files.specs.Codings.{coding_suffix}
-use Rattle.server_service.specs.Found.{FindsEntry, LeadsTo}
-use Rattle.server_files.specs.Path.{Names}
+use Rattle.decide_resource.{specs.declared.answer.Answer.Answer, specs.declared.resource.Resource.Resource}
+use Rattle.server_service.{specs.Answer.{Decides, IsAnswerAt, clock}, specs.Asked.Asks, specs.declared.file.Entry.Entry}
+use Rattle.server_service.{specs.declared.file.File.File, specs.declared.settings.Site.Site}
+use Rattle.server_service.{specs.declared.source.Source.Source, specs.Found.{FindsEntry, LeadsTo}}
 use Rattle.server_service.specs.Representations.{AreContents, HasEntryAt}
-use Rattle.server_files.specs.declared.coding.Coding.{Coding}
-use Rattle.server_files.specs.declared.coding.Coding.TheVariants.{Brotli, Gzip}
 use Rattle.server_service.specs.declared.file.Entry.TheVariants.{Missing, Forbidden, Unavailable, Folder, Listed}
 use Rattle.server_service.specs.declared.file.Entry.TheVariants.{Readable}
+use Rattle.server_answers.{specs.Requests.IsHeadOf, specs.Stores.{has_at, HaveAlike}}
+use Rattle.http_uri.{specs.Uri.uri_path, specs.declared.uri.Uri.Uri}
+use Rattle.server_files.{specs.Codings.coding_suffix, specs.Path.Names, specs.declared.coding.Coding.Coding}
+use Rattle.server_files.specs.declared.coding.Coding.TheVariants.{Brotli, Gzip}
 
 -- ---- a HEAD gets the response of a GET
 

@@ -1,24 +1,18 @@
 -- What a request finds in two stores that have something similar where it looks.
 use Rattle.std.proofs.Common.{◌≡◌, ℕ, ◌++◌, Bool, true, false, List, [], ◌∷◌, map, refl, sym, ap, ◌∙◌, inl, inr, Option}
-use Rattle.std.proofs.Common.{Some}
-use Rattle.std.proofs.lemmas.List.{map-append}
+use Rattle.std.{proofs.Common.Some, proofs.lemmas.List.map-append}
 use Rattle.http_header.specs.FieldValue.{FieldValue}
-use Rattle.http_uri.specs.Uri.{uri_path, uri_query}
-use Rattle.http_uri.specs.declared.uri.Uri.{Uri}
-use Rattle.server_files.specs.Codings.{coding_suffix}
-use Rattle.server_files.specs.Path.{Names}
-use Rattle.server_files.specs.declared.coding.Coding.{Coding}
+use Rattle.http_uri.{specs.Uri.{uri_path, uri_query}, specs.declared.uri.Uri.Uri}
+use Rattle.server_files.{specs.Codings.coding_suffix, specs.Path.Names, specs.declared.coding.Coding.Coding}
 use Rattle.server_files.specs.declared.coding.Coding.TheVariants.{Identity, Brotli, Gzip}
 use Rattle.server_files.specs.declared.listing.Listing.{Listing}
 use Rattle.decide_resource.specs.declared.resource.State.{State}
 use Rattle.server_service.specs.Found.{FindsEntry, FindsFolder, FindsListing, IsAbsent, LeadsTo}
 use Rattle.server_service.specs.Representations.{AreContents, HasEntryAt, offered, represented}
-use Rattle.server_service.specs.declared.file.Entry.{Entry}
-use Rattle.server_service.specs.declared.file.Entry.TheVariants.{Missing, Forbidden, Unavailable, Folder, Listed}
-use Rattle.server_service.specs.declared.file.Entry.TheVariants.{Readable}
+use Rattle.server_service.{specs.declared.file.Entry.Entry, specs.declared.file.Entry.TheVariants.{Missing, Forbidden}}
+use Rattle.server_service.specs.declared.file.Entry.TheVariants.{Unavailable, Folder, Listed, Readable}
 use Rattle.server_service.specs.declared.file.File.{File}
-use Rattle.server_answers.specs.Similar.{AreSimilar, HaveSimilar, Label, label_of}
-use Rattle.server_answers.specs.Stores.{has_at}
+use Rattle.server_answers.{specs.Similar.{AreSimilar, HaveSimilar, Label, label_of}, specs.Stores.has_at}
 
 -- what was found has the same state, and files with the same labels in their order
 pub record AreSeenAlike (s t : State) (fs gs : List File) : Type 0 where

@@ -6,20 +6,16 @@ use Rattle.std.specs.Prelude.{◌||◌, bytes_eq, codes, if◌then◌else◌, is
 use Rattle.http_header.specs.FieldValue.{FieldValue}
 use Rattle.headers.specs.LineMap.{Field, LineMap, fields_of as encoded_fields, lines_at}
 use Rattle.headers.specs.Lines.{Line}
-use Rattle.decide_cors.specs.Fields.{covers_origin, grant_fields, granted, vary_sent}
-use Rattle.decide_cors.specs.Kinds.{is_preflight}
+use Rattle.decide_cors.{specs.Fields.{covers_origin, grant_fields, granted, vary_sent}, specs.Kinds.is_preflight}
 use Rattle.decide_cors.specs.Policy.{Policy}
-use Rattle.decide_preconditions.specs.Contents.{divisible_len, limits_of}
-use Rattle.decide_preconditions.specs.Fields.{etag_of, etag_sent, fields_removed, fields_sent, is_known_by, is_whole}
-use Rattle.decide_preconditions.specs.Fields.{keeps_encoding, lines_sent, status_of}
-use Rattle.decide_preconditions.specs.Plans.{IsPlan}
-use Rattle.decide_preconditions.proofs.HeadLemmas.{never_unconditional}
-use Rattle.decide_preconditions.specs.Preconditions.{Answers, AreIgnored, IsGetOrHead, StateIsKept}
-use Rattle.decide_preconditions.specs.Responses.{IsAnswered}
-use Rattle.decide_preconditions.specs.declared.content.Content.{Content}
-use Rattle.decide_preconditions.specs.declared.limits.RangeLimits.{RangeLimits}
-use Rattle.decide_preconditions.specs.declared.plan.Plan.{Plan}
-use Rattle.decide_preconditions.specs.declared.plan.Plan.TheVariants.{NotModified, Failed, Unsatisfiable}
+use Rattle.decide_preconditions.{specs.Contents.{divisible_len, limits_of}, specs.Fields.{etag_of, etag_sent}}
+use Rattle.decide_preconditions.specs.Fields.{fields_removed, fields_sent, is_known_by, is_whole, keeps_encoding}
+use Rattle.decide_preconditions.{specs.Fields.{lines_sent, status_of}, specs.Plans.IsPlan}
+use Rattle.decide_preconditions.{proofs.HeadLemmas.never_unconditional, specs.Preconditions.{Answers, AreIgnored}}
+use Rattle.decide_preconditions.{specs.Preconditions.{IsGetOrHead, StateIsKept}, specs.Responses.IsAnswered}
+use Rattle.decide_preconditions.{specs.declared.content.Content.Content, specs.declared.limits.RangeLimits.RangeLimits}
+use Rattle.decide_preconditions.{specs.declared.plan.Plan.Plan, specs.declared.plan.Plan.TheVariants.NotModified}
+use Rattle.decide_preconditions.specs.declared.plan.Plan.TheVariants.{Failed, Unsatisfiable}
 use Rattle.decide_preconditions.specs.declared.precondition.Precondition.{Precondition}
 use Rattle.decide_preconditions.specs.declared.precondition.Precondition.TheVariants as precondition
 use Rattle.decide_preconditions.specs.declared.resource.Resource.{Resource as Target}
@@ -29,60 +25,44 @@ use Rattle.decide_preconditions.specs.declared.response.Response.{Response as Pl
 use Rattle.decide_preconditions.proofs.PreconditionLemmas.{one_answer}
 use Rattle.decide_resource.specs.Answers.{GivesIf, GoesOn, IsAnswer, IsSelected, IsShared, at_place, content_of}
 use Rattle.decide_resource.specs.Answers.{is_admitted, is_sent, response_fields, status_sent, target_of, with_metadata}
-use Rattle.decide_resource.specs.Applies.{applies, rule, rule_for}
-use Rattle.decide_resource.specs.Fields.{location_fields, metadata_fields, reason_fields, types_fields, vary_fields}
-use Rattle.decide_resource.specs.Fields.{accept_encoding_fields, describes, vary_lines}
-use Rattle.decide_resource.specs.Reasons.{IsFirst}
+use Rattle.decide_resource.{specs.Applies.{applies, rule, rule_for}, specs.Fields.{location_fields, metadata_fields}}
+use Rattle.decide_resource.specs.Fields.{reason_fields, types_fields, vary_fields, accept_encoding_fields, describes}
+use Rattle.decide_resource.{specs.Fields.vary_lines, specs.Reasons.IsFirst}
 use Rattle.decide_resource.specs.Requests.{Request as Asked}
-use Rattle.decide_resource.specs.declared.answer.Answer.{Answer}
-use Rattle.decide_resource.specs.declared.answer.Sends.{Sends}
-use Rattle.decide_resource.specs.declared.answer.Sends.TheVariants.{Planned}
-use Rattle.decide_resource.specs.declared.reason.Reason.{Reason}
+use Rattle.decide_resource.{specs.declared.answer.Answer.Answer, specs.declared.answer.Sends.Sends}
+use Rattle.decide_resource.{specs.declared.answer.Sends.TheVariants.Planned, specs.declared.reason.Reason.Reason}
 use Rattle.decide_resource.specs.declared.reason.Reason.TheVariants.{MethodNotAllowed, Options, Moved}
 use Rattle.decide_resource.specs.declared.reason.Reason.TheVariants.{UnsupportedMediaType, UnsupportedCoding, Admitted}
 use Rattle.decide_resource.specs.declared.representation.Representation.{Representation}
-use Rattle.decide_resource.specs.declared.resource.MethodRule.{MethodRule}
-use Rattle.decide_resource.specs.declared.resource.Resource.{Resource}
+use Rattle.decide_resource.{specs.declared.resource.MethodRule.MethodRule, specs.declared.resource.Resource.Resource}
 use Rattle.decide_resource.specs.declared.resource.State.{State}
 use Rattle.decide_resource.specs.declared.resource.State.TheVariants as state
 use Rattle.decide_resource.proofs.AnswerLemmas.{one_place}
 use Rattle.server_service.specs.Response.{headers_sent, is_named, fields_of}
-use Rattle.server_answers.specs.ResponseLines.{lines_in}
-use Rattle.server_answers.proofs.AgainLemmas.{tag_lines, target_at, AskAlike, current_by, file_of_tag, first_again}
-use Rattle.server_answers.proofs.AgainLemmas.{kept_again, label_at, reading, same_label, selected_again}
-use Rattle.server_answers.proofs.AgainLemmas.{target_of_label, validators_by}
+use Rattle.server_answers.{specs.ResponseLines.lines_in, proofs.AgainLemmas.{tag_lines, target_at, AskAlike}}
+use Rattle.server_answers.proofs.AgainLemmas.{current_by, file_of_tag, first_again, kept_again, label_at, reading}
+use Rattle.server_answers.proofs.AgainLemmas.{same_label, selected_again, target_of_label, validators_by}
 use Rattle.server_answers.proofs.LineLemmas.{HasOne, HasOne-append, IsOfAnswer, sent-one, sent-other, lines_in-carried}
-use Rattle.std.specs.Global.{Vec}
-use Rattle.std.proofs.lemmas.Slice.Eq.{bytes_eq-Decides}
-use Rattle.std.proofs.lemmas.Bool.{or_parts}
+use Rattle.std.{specs.Global.Vec, proofs.lemmas.Slice.Eq.bytes_eq-Decides, proofs.lemmas.Bool.or_parts}
 use Rattle.std.specs.List.{list_any}
-use Rattle.http.specs.Request.{head_of}
-use Rattle.http.specs.declared.request.Request.{Request}
+use Rattle.http.{specs.Request.head_of, specs.declared.request.Request.Request}
 use Rattle.http_uri.specs.Uri.{uri_path}
-use Rattle.headers.specs.EntityTag.{IsSomeTag, IsTag, TagParts}
-use Rattle.headers.specs.Typed.{HasLine}
+use Rattle.headers.{specs.EntityTag.{IsSomeTag, IsTag, TagParts}, specs.Typed.HasLine}
 use Rattle.server_connection.specs.declared.plan.Plan.{Plan as Response}
 use Rattle.rfc_fields.specs.Laws.{ParsesOneWay}
 use Rattle.gateway_messages.specs.declared.protocol.Protocol.{Protocol}
-use Rattle.server_files.specs.Tags.{content_digest, strong_tag}
-use Rattle.server_files.specs.declared.kept.Kept.{Kept}
+use Rattle.server_files.{specs.Tags.{content_digest, strong_tag}, specs.declared.kept.Kept.Kept}
 use Rattle.server_files.proofs.DigestLemmas.{digest_is_boundary, tag_is_tag}
 use Rattle.headers_syntax.proofs.EntityTagLemmas.{passes_from_text}
 use Rattle.server_service.specs.Answer.{Decides, IsAnswerAt, clock, file_at, pieces_of, source_of, source_sent}
-use Rattle.server_service.specs.Answer.{status_for}
-use Rattle.server_service.specs.Asked.{Asks}
-use Rattle.server_service.specs.File.{representation_of, tag_of}
-use Rattle.server_service.specs.declared.file.Entry.{Entry}
-use Rattle.server_service.specs.declared.file.File.{File}
-use Rattle.server_service.specs.declared.settings.Site.{Site}
-use Rattle.server_service.specs.declared.source.Source.{Source}
+use Rattle.server_service.{specs.Answer.status_for, specs.Asked.Asks, specs.File.{representation_of, tag_of}}
+use Rattle.server_service.{specs.declared.file.Entry.Entry, specs.declared.file.File.File}
+use Rattle.server_service.{specs.declared.settings.Site.Site, specs.declared.source.Source.Source}
 use Rattle.server_service.specs.declared.source.Source.TheVariants.{Kept as InMemory}
 use Rattle.server_service.proofs.OneResponseLemmas.{asked_once}
-use Rattle.server_answers.specs.Again.{IsAgain}
-use Rattle.server_answers.specs.Similar.{HaveSimilar, Label, label_of}
-use Rattle.server_answers.specs.Stores.{has_at}
-use Rattle.server_answers.proofs.SimilarLemmas.{AreSeenAlike, leads_similar}
-use Rattle.server_answers.proofs.TagLineLemmas.{strongly_named, weakly_named}
+use Rattle.server_answers.{specs.Again.IsAgain, specs.Similar.{HaveSimilar, Label, label_of}, specs.Stores.has_at}
+use Rattle.server_answers.{proofs.SimilarLemmas.{AreSeenAlike, leads_similar}, proofs.TagLineLemmas.strongly_named}
+use Rattle.server_answers.proofs.TagLineLemmas.{weakly_named}
 
 abbrev pub etag : List ℕ
 etag = codes "etag"

@@ -1,30 +1,22 @@
 -- A field line that is one entity tag names it.
 use Rattle.std.proofs.Common.{◌≡◌, ℕ, ◌-◌, ◌<◌, Bool, true, false, not, ◌&&◌, List, [], ◌∷◌, ◌++◌, length, take, cond}
 use Rattle.std.proofs.Common.{Option, Some, None, refl, sym, ap, subst, ◌∙◌, append-nil, arith, map}
-use Rattle.std.proofs.Math.Bool.{or-true}
-use Rattle.std.proofs.lemmas.Bool.{and_from, and_parts, ne_eqb}
-use Rattle.std.proofs.lemmas.Bool.Decides.{nat_tests}
-use Rattle.std.proofs.lemmas.List.{reverse-append, take_all}
-use Rattle.std.proofs.lemmas.List.Sums.{list_all-from_AllPass}
-use Rattle.std.specs.List.{flat_map, list_all, list_any, prefix_len, suffix_len}
-use Rattle.std.specs.Prelude.{◌==◌, ◌||◌, bytes_eq, filter}
+use Rattle.std.{proofs.Math.Bool.or-true, proofs.lemmas.Bool.{and_from, and_parts, ne_eqb}}
+use Rattle.std.{proofs.lemmas.Bool.Decides.nat_tests, proofs.lemmas.List.{reverse-append, take_all}}
+use Rattle.std.{proofs.lemmas.List.Sums.list_all-from_AllPass, specs.List.{flat_map, list_all, list_any, prefix_len}}
+use Rattle.std.{specs.List.suffix_len, specs.Prelude.{◌==◌, ◌||◌, bytes_eq, filter}}
 use Rattle.http_header.specs.FieldValue.{FieldValue}
 use Rattle.headers.specs.EntityTag.{IsTag, TagParts, is_tag, is_tag_byte, parts_of, tag_text, weak_prefix}
-use Rattle.headers.specs.Lines.{Line}
-use Rattle.headers.specs.Text.{is_blank, quote, trim, trim_end}
+use Rattle.headers.{specs.Lines.Line, specs.Text.{is_blank, quote, trim, trim_end}}
 use Rattle.rfc_fields.specs.Grammar.{Element, comma, element_text, is_element, is_octet, octet_text}
-use Rattle.rfc_fields.specs.Grammar.Octet.{Plain}
-use Rattle.rfc_fields.specs.Grammar.Part.{Byte, Quoted}
-use Rattle.rfc_fields.specs.Laws.{ParsesOneWay}
-use Rattle.rfc_fields.specs.Members.{field_members, is_member, members, members_of}
-use Rattle.rfc_fields.specs.Scan.{Member}
+use Rattle.rfc_fields.{specs.Grammar.Octet.Plain, specs.Grammar.Part.{Byte, Quoted}, specs.Laws.ParsesOneWay}
+use Rattle.rfc_fields.{specs.Members.{field_members, is_member, members, members_of}, specs.Scan.Member}
 use Rattle.rfc_fields.specs.Scan.Member.{Whole, Malformed}
-use Rattle.decide_preconditions.specs.Conditions.{IfMatchIsTrue, IfNoneMatchIsFalse}
-use Rattle.decide_preconditions.specs.Fields.{lines_sent}
+use Rattle.decide_preconditions.{specs.Conditions.{IfMatchIsTrue, IfNoneMatchIsFalse}, specs.Fields.lines_sent}
 use Rattle.decide_preconditions.specs.Tags.{are_tags, is_star, is_tag_member}
 use Rattle.decide_preconditions.specs.declared.resource.Resource.TheVariants.{Current}
-use Rattle.decide_preconditions.specs.declared.resource.Validators.{Validators}
-use Rattle.decide_preconditions.proofs.TagLemmas.{strongly_equal, weakly_equal}
+use Rattle.decide_preconditions.{specs.declared.resource.Validators.Validators, proofs.TagLemmas.strongly_equal}
+use Rattle.decide_preconditions.proofs.TagLemmas.{weakly_equal}
 use Rattle.headers_syntax.proofs.EntityTagLemmas.{is_tag-true}
 
 -- ---- the line is one element of a list

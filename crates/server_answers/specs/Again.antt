@@ -1,9 +1,7 @@
 -- Requests that are sent again, with a condition.
 use Rattle.std.specs.Prelude.{◌≡◌, ◌≢◌, ℕ, List, [], ◌∷◌}
-use Rattle.http.specs.Request.{head_of}
-use Rattle.http.specs.declared.request.Request.{Request}
-use Rattle.headers.specs.LineMap.{lines_at}
-use Rattle.headers.specs.Lines.{Line}
+use Rattle.http.{specs.Request.head_of, specs.declared.request.Request.Request}
+use Rattle.headers.{specs.LineMap.lines_at, specs.Lines.Line}
 use Rattle.decide_preconditions.specs.Preconditions.{IsGetOrHead}
 
 -- Both are GET or HEAD, with the same target, version and fields, but for the field of this name: in the second it has

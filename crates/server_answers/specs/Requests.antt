@@ -1,7 +1,6 @@
 -- Requests that differ in their methods.
 use Rattle.std.specs.Prelude.{◌≡◌, ℕ, List, [], codes}
-use Rattle.http.specs.Request.{head_of}
-use Rattle.http.specs.declared.request.Request.{Request}
+use Rattle.http.{specs.Request.head_of, specs.declared.request.Request.Request}
 use Rattle.headers.specs.LineMap.{lines_at}
 
 -- one is a GET without Range, and the other a HEAD with the same target, version and fields

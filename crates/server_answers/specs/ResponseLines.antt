@@ -1,8 +1,7 @@
 -- The field lines of a response.
 use Rattle.std.specs.Prelude.{ℕ, List, [], ◌∷◌, bytes_eq, flat_map, if◌then◌else◌}
 use Rattle.http1.specs.Fields.{Header}
-use Rattle.headers.specs.LineMap.{LineMap}
-use Rattle.headers.specs.Lines.{Line}
+use Rattle.headers.{specs.LineMap.LineMap, specs.Lines.Line}
 
 -- the value of a field line, if it has this name
 abbrev pub line_named : List ℕ → Header → List Line

@@ -1,13 +1,9 @@
 -- Files that a client takes for one.
 use Rattle.std.specs.Prelude.{◌≡◌, ◌⊎◌, ℕ, ◌++◌, Bool, true, List, Option, Some}
 use Rattle.http_header.specs.FieldValue.{FieldValue}
-use Rattle.server_files.specs.Codings.{coding_suffix}
-use Rattle.server_files.specs.Path.{Names}
-use Rattle.server_files.specs.declared.coding.Coding.{Coding}
-use Rattle.server_service.specs.File.{tag_of}
-use Rattle.server_service.specs.declared.file.Entry.{Entry}
-use Rattle.server_service.specs.declared.file.Entry.TheVariants.{Readable}
-use Rattle.server_service.specs.declared.file.File.{File}
+use Rattle.server_files.{specs.Codings.coding_suffix, specs.Path.Names, specs.declared.coding.Coding.Coding}
+use Rattle.server_service.{specs.File.tag_of, specs.declared.file.Entry.Entry}
+use Rattle.server_service.{specs.declared.file.Entry.TheVariants.Readable, specs.declared.file.File.File}
 
 -- what a client knows a file by
 pub record Label : Type 0 where

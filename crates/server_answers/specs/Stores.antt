@@ -1,8 +1,6 @@
 -- Stores that have the same where a request looks.
 use Rattle.std.specs.Prelude.{◌≡◌, ◌++◌, ℕ, Bool, true, List, Some}
-use Rattle.server_files.specs.Codings.{coding_suffix}
-use Rattle.server_files.specs.Path.{Names}
-use Rattle.server_files.specs.declared.coding.Coding.{Coding}
+use Rattle.server_files.{specs.Codings.coding_suffix, specs.Path.Names, specs.declared.coding.Coding.Coding}
 use Rattle.server_service.specs.declared.file.Entry.{Entry}
 
 -- a store that has one entry at each path

@@ -1,42 +1,28 @@
 //! Theorems about the definitions alone. To cite one in a proof, call it.
 ghost use Rattle.std.specs.Prelude.{◌≡◌, ◌≢◌, ◌↔◌, ◌++◌, ℕ, false, true, List, [], ◌∷◌, length, Option, Some, codes};
-ghost use Rattle.http.specs.Request.{head_of};
-ghost use Rattle.http.specs.declared.request.Request.{Request};
+ghost use Rattle.http.{specs.Request.head_of, specs.declared.request.Request.Request};
 ghost use Rattle.http_uri.specs.Uri.{uri_path};
-ghost use Rattle.headers.specs.EntityTag.{IsSomeTag, IsTag, TagParts};
-ghost use Rattle.headers.specs.LineMap.{lines_at};
-ghost use Rattle.headers.specs.Lines.{Line};
+ghost use Rattle.headers.{specs.EntityTag.{IsSomeTag, IsTag, TagParts}, specs.LineMap.lines_at, specs.Lines.Line};
 ghost use Rattle.decide_cors.specs.Browser.{CorsCheck, IsPreflightFor, PreflightPasses};
 ghost use Rattle.decide_cors.specs.Browser.{Request as Sent};
-ghost use Rattle.decide_cors.specs.Policy.{Policy};
-ghost use Rattle.decide_cors.specs.Rules.{AllowsCredentials, AllowsOrigin, AllowsRequest, IsLawful};
-ghost use Rattle.decide_cors.specs.Rules.{IsPolicyOf};
-ghost use Rattle.decide_cors.specs.declared.rules.CorsRules.{CorsRules};
+ghost use Rattle.decide_cors.{specs.Policy.Policy, specs.Rules.{AllowsCredentials, AllowsOrigin, AllowsRequest}};
+ghost use Rattle.decide_cors.{specs.Rules.{IsLawful, IsPolicyOf}, specs.declared.rules.CorsRules.CorsRules};
 ghost use Rattle.server_connection.specs.Pieces.{AreSent};
 ghost use Rattle.server_connection.specs.declared.plan.Plan.{Plan as Response};
 ghost use Rattle.gateway_messages.specs.Requests.{has_host};
-ghost use Rattle.decide_preconditions.specs.Preconditions.{IsGetOrHead};
-ghost use Rattle.decide_preconditions.specs.declared.part.Part.{Part};
+ghost use Rattle.decide_preconditions.{specs.Preconditions.IsGetOrHead, specs.declared.part.Part.Part};
 ghost use Rattle.decide_preconditions.specs.declared.plan.Plan.TheVariants.{Single};
 ghost use Rattle.decide_resource.specs.Applies.{is_misdirected};
 ghost use Rattle.decide_resource.specs.Requests.{Request as Asked};
 ghost use Rattle.decide_resource.specs.declared.answer.Sends.TheVariants.{Planned};
-ghost use Rattle.server_service.specs.Answer.{IsAnswerAt};
-ghost use Rattle.server_service.specs.Asked.{Asks};
-ghost use Rattle.server_service.specs.File.{gives_of};
-ghost use Rattle.server_service.specs.Response.{fields_of};
-ghost use Rattle.server_service.specs.declared.file.Entry.{Entry};
-ghost use Rattle.server_files.specs.Tags.{content_digest, strong_tag};
-ghost use Rattle.server_files.specs.declared.kept.Kept.{Kept};
-ghost use Rattle.server_service.specs.declared.settings.Site.{Site};
-ghost use Rattle.server_service.specs.declared.source.Source.{Source};
+ghost use Rattle.server_service.{specs.Answer.IsAnswerAt, specs.Asked.Asks, specs.File.gives_of};
+ghost use Rattle.server_service.{specs.Response.fields_of, specs.declared.file.Entry.Entry};
+ghost use Rattle.server_service.{specs.declared.settings.Site.Site, specs.declared.source.Source.Source};
+ghost use Rattle.server_files.{specs.Tags.{content_digest, strong_tag}, specs.declared.kept.Kept.Kept};
 ghost use Rattle.server_service.specs.declared.source.Source.TheVariants.{Kept as InMemory};
-ghost use Rattle.server_answers.specs.Again.{IsAgain};
-ghost use Rattle.server_answers.specs.Joined.{JoinTo};
-ghost use Rattle.server_answers.specs.Requests.{IsHeadOf};
-ghost use Rattle.server_answers.specs.ResponseLines.{lines_in};
-ghost use Rattle.server_answers.specs.Similar.{HaveSimilar};
-ghost use Rattle.server_answers.specs.Stores.{HaveAlike, has_at};
+ghost use Rattle.server_answers.{specs.Again.IsAgain, specs.Joined.JoinTo, specs.Requests.IsHeadOf};
+ghost use Rattle.server_answers.{specs.ResponseLines.lines_in, specs.Similar.HaveSimilar, specs.Stores.HaveAlike};
+ghost use Rattle.server_answers.specs.Stores.{has_at};
 
 use decide_resource::laws::{
     answer_is_shared_by_rules, head_is_answered_as_get, preflight_is_answered,

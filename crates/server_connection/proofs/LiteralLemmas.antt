@@ -1,18 +1,12 @@
 -- The literal bytes of exchanges, as the stream goes on, and as one more exchange ends.
-use Rattle.std.proofs.Common.{◌≡◌, ℕ, List, [], ◌∷◌, ◌++◌, refl, sym, ap, ◌∙◌, subst, append_assoc}
-use Rattle.std.proofs.Common.{append-nil}
-use Rattle.http1.specs.declared.conn.Limits.{Limits}
-use Rattle.http1.proofs.OneParse.{request_message_unique}
-use Rattle.http_server.specs.declared.state.Config.{Config}
-use Rattle.http_server.specs.declared.state.State.{State}
+use Rattle.std.proofs.Common.{◌≡◌, ℕ, List, [], ◌∷◌, ◌++◌, refl, sym, ap, ◌∙◌, subst, append_assoc, append-nil}
+use Rattle.http1.{specs.declared.conn.Limits.Limits, proofs.OneParse.request_message_unique}
+use Rattle.http_server.{specs.declared.state.Config.Config, specs.declared.state.State.State}
 use Rattle.http_server.specs.declared.state.State.TheVariants.{Open, Closing, Upgraded, Aborted}
-use Rattle.http_server.specs.declared.state.Reason.TheVariants.{Asked, EndOfInput, Refused}
-use Rattle.http_server.specs.Exchange.{Call, Serves}
-use Rattle.http_server.proofs.StreamLemmas.{IsInterim-append, ReadsCall-append, Serves-append}
-use Rattle.server_connection.specs.Literal.{IsLater, SendsCall, SendsCalls}
-use Rattle.server_connection.specs.Machine.{Account, IsLaid}
-use Rattle.server_connection.specs.Pieces.{Gives}
-use Rattle.server_connection.specs.Plan.{Plans}
+use Rattle.http_server.{specs.declared.state.Reason.TheVariants.{Asked, EndOfInput, Refused}, specs.Exchange.Call}
+use Rattle.http_server.{specs.Exchange.Serves, proofs.StreamLemmas.{IsInterim-append, ReadsCall-append, Serves-append}}
+use Rattle.server_connection.{specs.Literal.{IsLater, SendsCall, SendsCalls}, specs.Machine.{Account, IsLaid}}
+use Rattle.server_connection.{specs.Pieces.Gives, specs.Plan.Plans}
 
 -- the calls say where the next request begins
 pub rest_same : (config : Config) (calls : List Call) (stream text other rest after : List ℕ)

@@ -1,9 +1,7 @@
 -- What a step of sending does, once its piece was taken from those that are left.
 use Rattle.std.proofs.Common.{◌≡◌, ℕ, List, [], refl, sym, subst, append-nil, inl, inr}
-use Rattle.server_connection.specs.declared.machine.Machine.{Machine}
-use Rattle.server_connection.specs.declared.piece.Piece.{Piece}
-use Rattle.server_connection.specs.Machine.{CutsOff, KeepsRest, PutsBytes, SendsOn}
-use Rattle.server_connection.specs.Pieces.{Advances, Gives}
+use Rattle.server_connection.{specs.declared.machine.Machine.Machine, specs.declared.piece.Piece.Piece}
+use Rattle.server_connection.{specs.Machine.{CutsOff, KeepsRest, PutsBytes, SendsOn}, specs.Pieces.{Advances, Gives}}
 
 -- the two differ in what is left alone
 abbrev pub IsPopped : Machine → Machine → Type 0

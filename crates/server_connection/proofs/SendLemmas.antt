@@ -1,43 +1,32 @@
 -- What a step of sending does to a response.
 use Rattle.std.proofs.Common.{◌≡◌, ℕ, ◌+◌, ◌^◌, ◌<◌, ◌≤◌, Bool, true, false, cond, List, [], ◌∷◌, ◌++◌, length}
 use Rattle.std.proofs.Common.{replicate, not, None, refl, sym, ap, ◌∙◌, subst, arith, append_assoc, append-nil, inl}
-use Rattle.std.proofs.Common.{inr}
-use Rattle.std.proofs.lemmas.Bool.{ne_eqb, cond-false}
-use Rattle.std.proofs.lemmas.List.{length-replicate, nil_from_length}
-use Rattle.http.specs.declared.request.Request.{Request}
-use Rattle.http.specs.Request.{head_of, body_of}
+use Rattle.std.{proofs.Common.inr, proofs.lemmas.Bool.{ne_eqb, cond-false}, proofs.lemmas.List.length-replicate}
+use Rattle.std.proofs.lemmas.List.{nil_from_length}
+use Rattle.http.{specs.declared.request.Request.Request, specs.Request.{head_of, body_of}}
 use Rattle.http1.specs.declared.conn.Writing.{Writing}
 use Rattle.http1.specs.declared.conn.Writing.TheVariants as Writes
-use Rattle.http1.specs.declared.server.Server.{Server}
-use Rattle.http1.specs.Conn.{after_data, data_prefix, data_refusal, data_suffix, data_text, finish_text}
-use Rattle.http1.specs.Framing.{method_kind}
-use Rattle.http1.specs.Message.{ReadsRequestMessage, known_of}
-use Rattle.http1.specs.Server.{is_head, peer_method, writing, with_writing, after_end, after_response}
-use Rattle.http1.specs.Server.{planned_response, response_refusal, IsClosed}
+use Rattle.http1.{specs.declared.server.Server.Server, specs.Conn.{after_data, data_prefix, data_refusal, data_suffix}}
+use Rattle.http1.{specs.Conn.{data_text, finish_text}, specs.Framing.method_kind, specs.Message.ReadsRequestMessage}
+use Rattle.http1.{specs.Message.known_of, specs.Server.{is_head, peer_method, writing, with_writing, after_end}}
+use Rattle.http1.specs.Server.{after_response, planned_response, response_refusal, IsClosed}
 use Rattle.http1_typed.specs.Parts.{reason_of}
-use Rattle.http_server.specs.declared.response.Response.{Response}
-use Rattle.http_server.specs.declared.state.State.{State}
+use Rattle.http_server.{specs.declared.response.Response.Response, specs.declared.state.State.State}
 use Rattle.http_server.specs.declared.state.State.TheVariants.{Open, Closing, Aborted}
-use Rattle.http_server.specs.declared.state.Reason.TheVariants.{Asked}
-use Rattle.http_server.specs.Encoding.{Encodes, answering, size_of, after_body, final_text}
+use Rattle.http_server.{specs.declared.state.Reason.TheVariants.Asked, specs.Encoding.{Encodes, answering, size_of}}
+use Rattle.http_server.specs.Encoding.{after_body, final_text}
 use Rattle.http_server.specs.Encoding as Whole
 use Rattle.http_server.specs.Exchange.{ArePartsOf, Call, Chain, Exchanges, IsAnswer, ReadsCall, Serves, keeps_open}
-use Rattle.http_server.specs.History.{History, IsServed, output}
-use Rattle.http_server.specs.Machine.{Core, HasRequest, HasResponse, IsRunning}
-use Rattle.http_server.proofs.AnswerLemmas.{body_is_taken, final_answer, starts_over}
-use Rattle.http_server.proofs.ReplyLemmas.{closes, goes_on}
-use Rattle.http_server.proofs.StreamLemmas.{Serves-push}
-use Rattle.server_connection.specs.declared.piece.Piece.{Piece}
-use Rattle.server_connection.specs.declared.plan.Plan.{Plan}
-use Rattle.server_connection.specs.Encoding.{Frames, after_content, after_head, content_len, head_text, plan_size}
-use Rattle.server_connection.specs.Encoding.{plan_fields, prefix_of, size_for}
-use Rattle.server_connection.specs.Literal.{IsLater, IsLiteral, SendsCall}
-use Rattle.server_connection.specs.Machine.{Account, IsLaid, IsSending, Sends, View}
-use Rattle.server_connection.specs.Pieces.{Advances, Gives}
-use Rattle.server_connection.specs.Pieces.Advances.{stays}
-use Rattle.server_connection.specs.Plan.{Answers, IsContentOf, Plans, sent_pieces}
-use Rattle.server_connection.proofs.LiteralLemmas.{SendsCalls-push, rest_same}
-use Rattle.server_connection.proofs.PieceLemmas.{Advances-length, Advances-then}
+use Rattle.http_server.{specs.History.{History, IsServed, output}, specs.Machine.{Core, HasRequest, HasResponse}}
+use Rattle.http_server.{specs.Machine.IsRunning, proofs.AnswerLemmas.{body_is_taken, final_answer, starts_over}}
+use Rattle.http_server.{proofs.ReplyLemmas.{closes, goes_on}, proofs.StreamLemmas.Serves-push}
+use Rattle.server_connection.{specs.declared.piece.Piece.Piece, specs.declared.plan.Plan.Plan, specs.Encoding.Frames}
+use Rattle.server_connection.specs.Encoding.{after_content, after_head, content_len, head_text, plan_size, plan_fields}
+use Rattle.server_connection.{specs.Encoding.{prefix_of, size_for}, specs.Literal.{IsLater, IsLiteral, SendsCall}}
+use Rattle.server_connection.{specs.Machine.{Account, IsLaid, IsSending, Sends, View}, specs.Pieces.{Advances, Gives}}
+use Rattle.server_connection.{specs.Pieces.Advances.stays, specs.Plan.{Answers, IsContentOf, Plans, sent_pieces}}
+use Rattle.server_connection.{proofs.LiteralLemmas.{SendsCalls-push, rest_same}, proofs.PieceLemmas.Advances-length}
+use Rattle.server_connection.proofs.PieceLemmas.{Advances-then}
 
 -- ---- a response with this content
 

@@ -1,58 +1,40 @@
 -- What steps, reads and writes do to a connection.
 use Rattle.std.proofs.Common.{◌≡◌, ◌≢◌, ◌⊎◌, ℕ, ◌==◌, Bool, true, false, List, [], ◌∷◌, ◌++◌, length, take, drop}
-use Rattle.std.proofs.Common.{if◌then◌else◌, Option, Some, None, Result, Ok, Err, OnOk, OnErr, IsTrue, IfSome, is_some, refl, sym, ap, ◌∙◌}
-use Rattle.std.proofs.Common.{subst, append_assoc, append-nil, inl, inr, arith, length-append, ◌≤◌}
-use Rattle.std.proofs.lemmas.Bool.{cond-false, eqb-true}
-use Rattle.std.proofs.lemmas.List.{nil_from_length, take-append-drop}
+use Rattle.std.proofs.Common.{if◌then◌else◌, Option, Some, None, Result, Ok, Err, OnOk, OnErr, IsTrue, IfSome, is_some}
+use Rattle.std.proofs.Common.{refl, sym, ap, ◌∙◌, subst, append_assoc, append-nil, inl, inr, arith, length-append, ◌≤◌}
+use Rattle.std.{proofs.lemmas.Bool.{cond-false, eqb-true}, proofs.lemmas.List.{nil_from_length, take-append-drop}}
 use Rattle.std.specs.Io.KnownBytes.{Appends, Consumes, Keeps as StaysKnown}
-use Rattle.http.specs.declared.request.Parts.{Parts}
-use Rattle.http.specs.Request.{body_of, head_of}
-use Rattle.http1.specs.declared.conn.Event.{Event}
-use Rattle.http1.specs.declared.conn.Event.TheVariants.{Head}
-use Rattle.http1.specs.declared.conn.Progress.{Progress}
-use Rattle.http1.specs.declared.server.Server.{Server}
-use Rattle.http1.specs.Conn.{ReadsPiece}
-use Rattle.http1.specs.Message.{ReadsRequestMessage}
-use Rattle.http1.specs.Server.{ReadsAt, ServerReads, reading}
-use Rattle.httparse.specs.declared.spans.HeaderSpan.{HeaderSpan}
-use Rattle.httparse.specs.declared.spans.RequestSpans.{RequestSpans}
-use Rattle.http_server.specs.declared.state.Config.{Config}
-use Rattle.http_server.specs.declared.state.State.{State}
+use Rattle.http.{specs.declared.request.Parts.Parts, specs.Request.{body_of, head_of}}
+use Rattle.http1.{specs.declared.conn.Event.Event, specs.declared.conn.Event.TheVariants.Head}
+use Rattle.http1.{specs.declared.conn.Progress.Progress, specs.declared.server.Server.Server, specs.Conn.ReadsPiece}
+use Rattle.http1.{specs.Message.ReadsRequestMessage, specs.Server.{ReadsAt, ServerReads, reading}}
+use Rattle.httparse.{specs.declared.spans.HeaderSpan.HeaderSpan, specs.declared.spans.RequestSpans.RequestSpans}
+use Rattle.http_server.{specs.declared.state.Config.Config, specs.declared.state.State.State}
 use Rattle.http_server.specs.declared.state.State.TheVariants.{Open, Closing, Upgraded, Aborted}
 use Rattle.http_server.specs.declared.state.Reason.TheVariants.{Asked, EndOfInput, Refused}
-use Rattle.http_server.specs.declared.state.Refusal.{Refusal}
-use Rattle.http_server.specs.declared.state.Refusal.TheVariants.{BodyTooLarge}
-use Rattle.http_server.specs.Encoding.{answering}
-use Rattle.http_server.specs.Exchange.{Call, ExpectsContinue, IsInterim, Serves, continue_text}
-use Rattle.http_server.specs.History.{History, IsServed, Stands, after_read, after_sent, output}
-use Rattle.http_server.specs.Machine.{Base, Core, HasHead, HasRequest, Holds, HoldsAt, IsPlaced}
-use Rattle.http_server.specs.Refusal.{refusal_text}
-use Rattle.http_server.proofs.MachineLemmas.{busy, may_abort, running, served}
-use Rattle.http_server.proofs.KnownLemmas.{Appends-then, Consumes-then}
-use Rattle.http_server.proofs.TransferLemmas.{hands_out, receives, with_history}
-use Rattle.server_connection.specs.declared.machine.Machine.{Machine}
-use Rattle.server_connection.specs.declared.piece.Extent.{Extent}
-use Rattle.server_connection.specs.declared.piece.Piece.{Piece}
-use Rattle.server_connection.specs.declared.piece.Piece.TheVariants.{Range}
-use Rattle.server_connection.specs.declared.plan.Plan.{Plan}
-use Rattle.server_connection.specs.Connection.{Exchanged, HasEnded, IsClosing, IsReached, IsSentLiterally, Turns}
-use Rattle.server_connection.specs.Connection.IsReached.{begun, moved}
-use Rattle.server_connection.specs.Literal.{IsLater, IsLiteral, SendsCalls}
-use Rattle.server_connection.specs.Machine.{Account, Begins, Ends, GoesOn, HandsOut, HasAnswered, HasAborted}
-use Rattle.server_connection.specs.Machine.{Asks, CutsOff, Drops, Empties, GivesUp, HasPlanned, IsLaid, Offers, Stays}
+use Rattle.http_server.{specs.declared.state.Refusal.Refusal, specs.declared.state.Refusal.TheVariants.BodyTooLarge}
+use Rattle.http_server.{specs.Encoding.answering, specs.Exchange.{Call, ExpectsContinue, IsInterim, Serves}}
+use Rattle.http_server.{specs.Exchange.continue_text, specs.History.{History, IsServed, Stands, after_read, after_sent}}
+use Rattle.http_server.{specs.History.output, specs.Machine.{Base, Core, HasHead, HasRequest, Holds, HoldsAt, IsPlaced}}
+use Rattle.http_server.{specs.Refusal.refusal_text, proofs.MachineLemmas.{busy, may_abort, running, served}}
+use Rattle.http_server.{proofs.KnownLemmas.{Appends-then, Consumes-then}, proofs.TransferLemmas.{hands_out, receives}}
+use Rattle.http_server.proofs.TransferLemmas.{with_history}
+use Rattle.server_connection.{specs.declared.machine.Machine.Machine, specs.declared.piece.Extent.Extent}
+use Rattle.server_connection.{specs.declared.piece.Piece.Piece, specs.declared.piece.Piece.TheVariants.Range}
+use Rattle.server_connection.{specs.declared.plan.Plan.Plan, specs.Connection.{Exchanged, HasEnded, IsClosing}}
+use Rattle.server_connection.{specs.Connection.{IsReached, IsSentLiterally, Turns}, specs.Connection.IsReached.begun}
+use Rattle.server_connection.{specs.Connection.IsReached.moved, specs.Literal.{IsLater, IsLiteral, SendsCalls}}
+use Rattle.server_connection.specs.Machine.{Account, Begins, Ends, GoesOn, HandsOut, HasAnswered, HasAborted, Asks}
+use Rattle.server_connection.specs.Machine.{CutsOff, Drops, Empties, GivesUp, HasPlanned, IsLaid, Offers, Stays}
 use Rattle.server_connection.specs.Machine.{IsSending, Keeps, Opens, PutsNothing, PutsRefusal, Refuses, account}
 use Rattle.server_connection.specs.Machine.{KeepsRest, KeepsState, Leads, Past, Runs, RunsAt, Sends, SendsOn, TakesIn}
 use Rattle.server_connection.specs.Machine.{Moves, core, core_asking, head_now, history_of, new_past, past_after, view}
-use Rattle.server_connection.specs.Machine.{with_calls}
-use Rattle.server_connection.specs.declared.machine.Phase.{Phase}
+use Rattle.server_connection.{specs.Machine.with_calls, specs.declared.machine.Phase.Phase}
 use Rattle.server_connection.specs.declared.machine.Phase.TheVariants.{Receiving, Asking, Responding}
-use Rattle.server_connection.specs.Pieces.{Advances, Gives, rest_of}
-use Rattle.server_connection.specs.Plan.{Answers, Plans, sent_pieces}
-use Rattle.server_connection.proofs.LiteralLemmas.{laid_more, rest_same}
-use Rattle.server_connection.proofs.PieceLemmas.{sends_range}
-use Rattle.server_connection.proofs.PopLemmas.{IsPopped, rest_from}
-use Rattle.server_connection.proofs.SendLemmas.{Chain-push, answers, call, closes_after, cuts, hands_on, laid_closed}
-use Rattle.server_connection.proofs.SendLemmas.{laid_open, moves, stays_open}
+use Rattle.server_connection.{specs.Pieces.{Advances, Gives, rest_of}, specs.Plan.{Answers, Plans, sent_pieces}}
+use Rattle.server_connection.{proofs.LiteralLemmas.{laid_more, rest_same}, proofs.PieceLemmas.sends_range}
+use Rattle.server_connection.{proofs.PopLemmas.{IsPopped, rest_from}, proofs.SendLemmas.{Chain-push, answers, call}}
+use Rattle.server_connection.proofs.SendLemmas.{closes_after, cuts, hands_on, laid_closed, laid_open, moves, stays_open}
 
 -- ---- known bytes
 

@@ -1,15 +1,12 @@
 -- What `http1` puts around the content of a plan.
 use Rattle.std.specs.Prelude.{◌≡◌, ◌≢◌, ℕ, ◌^◌, ◌<◌, Bool, true, false, List, [], ◌++◌, None, if◌then◌else◌, ◌==◌}
-use Rattle.http1.specs.declared.conn.BodySize.{BodySize}
-use Rattle.http1.specs.declared.conn.BodySize.TheVariants.{Empty, Known}
-use Rattle.http1.specs.declared.server.Server.{Server}
-use Rattle.http1.specs.Conn.{data_prefix, data_suffix, after_data, finish_text}
-use Rattle.http1.specs.Fields.{Header}
-use Rattle.http1.specs.Server.{writing, with_writing, after_end, response_refusal, planned_response, after_response}
+use Rattle.http1.{specs.declared.conn.BodySize.BodySize, specs.declared.conn.BodySize.TheVariants.{Empty, Known}}
+use Rattle.http1.{specs.declared.server.Server.Server, specs.Conn.{data_prefix, data_suffix, after_data, finish_text}}
+use Rattle.http1.{specs.Fields.Header, specs.Server.{writing, with_writing, after_end, response_refusal}}
+use Rattle.http1.specs.Server.{planned_response, after_response}
 use Rattle.http1_typed.specs.Parts.{reason_of}
 use Rattle.http_server.specs.Response.{fields}
-use Rattle.server_connection.specs.declared.plan.Plan.{Plan}
-use Rattle.server_connection.specs.Pieces.{total_len}
+use Rattle.server_connection.{specs.declared.plan.Plan.Plan, specs.Pieces.total_len}
 
 -- how long a plan's content is
 abbrev pub content_len : Plan → ℕ

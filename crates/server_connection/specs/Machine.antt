@@ -1,35 +1,24 @@
 -- What holds of a connection between its steps.
-use Rattle.std.specs.Prelude.{◌≡◌, ◌≢◌, ℕ, ◌≤◌, ◌⊎◌, Bool, true, false, List, [], ◌∷◌, ◌++◌, length, drop, Option}
-use Rattle.std.specs.Prelude.{Some, None, if◌then◌else◌, ◌==◌}
-use Rattle.http.specs.declared.request.Parts.{Parts}
-use Rattle.http.specs.declared.request.Request.{Request}
-use Rattle.http.specs.Request.{body_of, head_of, with_body}
+use Rattle.std.specs.Prelude.{◌≡◌, ◌≢◌, ℕ, ◌≤◌, ◌⊎◌, Bool, true, false, List, [], ◌∷◌, ◌++◌, length, drop, Option, Some}
+use Rattle.std.specs.Prelude.{None, if◌then◌else◌, ◌==◌}
+use Rattle.http.{specs.declared.request.Parts.Parts, specs.declared.request.Request.Request, specs.Request.body_of}
+use Rattle.http.specs.Request.{head_of, with_body}
 use Rattle.http1.specs.Framing.{method_kind}
 use Rattle.http1.specs.Message as Wire
-use Rattle.http1.specs.declared.server.Server.{Server}
-use Rattle.http1.specs.Server.{is_head, IsClosed}
-use Rattle.http_server.specs.declared.state.Config.{Config}
-use Rattle.http_server.specs.declared.state.State.{State}
+use Rattle.http1.{specs.declared.server.Server.Server, specs.Server.{is_head, IsClosed}}
+use Rattle.http_server.{specs.declared.state.Config.Config, specs.declared.state.State.State}
 use Rattle.http_server.specs.declared.state.State.TheVariants.{Open, Closing, Aborted}
 use Rattle.http_server.specs.declared.state.Reason.TheVariants.{Asked, EndOfInput, Refused}
-use Rattle.http_server.specs.declared.state.Refusal.{Refusal}
-use Rattle.http_server.specs.declared.state.Refusal.TheVariants.{BodyTooLarge}
-use Rattle.http_server.specs.Encoding.{answering}
-use Rattle.http_server.specs.Exchange.{Call, Chain, ExpectsContinue, IsInterim, ReadsCall, Serves, continue_text}
-use Rattle.http_server.specs.History.{History, output}
-use Rattle.http_server.specs.Machine.{Core, HasRequest, Holds, MayAbort}
-use Rattle.http_server.specs.Refusal.{refusal_text}
-use Rattle.server_connection.specs.declared.machine.Machine.{Machine}
-use Rattle.server_connection.specs.declared.machine.Phase.{Phase}
+use Rattle.http_server.{specs.declared.state.Refusal.Refusal, specs.declared.state.Refusal.TheVariants.BodyTooLarge}
+use Rattle.http_server.{specs.Encoding.answering, specs.Exchange.{Call, Chain, ExpectsContinue, IsInterim, ReadsCall}}
+use Rattle.http_server.{specs.Exchange.{Serves, continue_text}, specs.History.{History, output}, specs.Machine.Core}
+use Rattle.http_server.{specs.Machine.{HasRequest, Holds, MayAbort}, specs.Refusal.refusal_text}
+use Rattle.server_connection.{specs.declared.machine.Machine.Machine, specs.declared.machine.Phase.Phase}
 use Rattle.server_connection.specs.declared.machine.Phase.TheVariants.{Receiving, Asking, Responding}
-use Rattle.server_connection.specs.declared.piece.Extent.{Extent}
-use Rattle.server_connection.specs.declared.piece.Piece.{Piece}
-use Rattle.server_connection.specs.declared.piece.Piece.TheVariants.{Range}
-use Rattle.server_connection.specs.declared.plan.Plan.{Plan}
-use Rattle.server_connection.specs.Encoding.{Frames}
-use Rattle.server_connection.specs.Literal.{IsLiteral, SendsCalls}
-use Rattle.server_connection.specs.Pieces.{Gives, Advances, rest_of}
-use Rattle.server_connection.specs.Plan.{Plans, Answers, sent_pieces}
+use Rattle.server_connection.{specs.declared.piece.Extent.Extent, specs.declared.piece.Piece.Piece}
+use Rattle.server_connection.{specs.declared.piece.Piece.TheVariants.Range, specs.declared.plan.Plan.Plan}
+use Rattle.server_connection.{specs.Encoding.Frames, specs.Literal.{IsLiteral, SendsCalls}, specs.Pieces.Gives}
+use Rattle.server_connection.{specs.Pieces.{Advances, rest_of}, specs.Plan.{Plans, Answers, sent_pieces}}
 
 -- what a connection has received and sent, and the exchanges that it has completed
 pub record Past : Type 0 where

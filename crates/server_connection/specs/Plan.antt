@@ -1,14 +1,10 @@
 -- A plan, and the responses that carry it out.
 use Rattle.std.specs.Prelude.{◌≡◌, ℕ, Bool, true, false, List, [], length}
-use Rattle.http.specs.declared.request.Request.{Request}
-use Rattle.http.specs.Request.{head_of}
-use Rattle.http1.specs.Framing.{method_kind}
-use Rattle.http1.specs.Server.{is_head}
-use Rattle.http_server.specs.declared.response.Response.{Response}
-use Rattle.http_server.specs.Response.{fields, fields_of}
-use Rattle.server_connection.specs.declared.plan.Plan.{Plan}
-use Rattle.server_connection.specs.declared.piece.Piece.{Piece}
-use Rattle.server_connection.specs.Pieces.{Gives, AreSent, total_len}
+use Rattle.http.{specs.declared.request.Request.Request, specs.Request.head_of}
+use Rattle.http1.{specs.Framing.method_kind, specs.Server.is_head}
+use Rattle.http_server.{specs.declared.response.Response.Response, specs.Response.{fields, fields_of}}
+use Rattle.server_connection.{specs.declared.plan.Plan.Plan, specs.declared.piece.Piece.Piece, specs.Pieces.Gives}
+use Rattle.server_connection.specs.Pieces.{AreSent, total_len}
 
 -- what an application is given to fill: a 200 with no field line and no content
 pub record IsBlank (plan : Plan) : Type 0 where

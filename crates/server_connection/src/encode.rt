@@ -1,8 +1,7 @@
 //! From a plan to the bytes around its content.
 ghost use Rattle.std.specs.Prelude.{◌≡◌, ◌≢◌, ◌^◌, ◌<◌, ◌++◌, length, IfOk, OnOk};
-ghost use Rattle.http1.specs.Conn.{data_prefix, data_suffix, after_data};
-ghost use Rattle.http1.specs.Head.{pairs};
-ghost use Rattle.http1.specs.Server.{writing, with_writing};
+ghost use Rattle.http1.{specs.Conn.{data_prefix, data_suffix, after_data}, specs.Head.pairs, specs.Server.writing};
+ghost use Rattle.http1.specs.Server.{with_writing};
 ghost use Rattle.http1_typed.specs.Parts.{reason_of};
 ghost use Rattle.http_server.specs.Response.{fields};
 ghost use Rattle.server_connection.specs.Encoding.{Frames, WritesHead, plan_size};

@@ -1,9 +1,7 @@
 //! What an application gives to a connection.
-ghost use Rattle.std.specs.Prelude.{◌≡◌, ℕ, List, take, OnOk, IfOk};
-ghost use Rattle.std.specs.Io.{ReadsAtMost};
+ghost use Rattle.std.{specs.Prelude.{◌≡◌, ℕ, List, take, OnOk, IfOk}, specs.Io.ReadsAtMost};
 ghost use Rattle.http.specs.declared.request.Request.{Request};
-ghost use Rattle.server_connection.specs.declared.plan.Plan.{Plan};
-ghost use Rattle.server_connection.specs.Plan.{IsBlank};
+ghost use Rattle.server_connection.{specs.declared.plan.Plan.Plan, specs.Plan.IsBlank};
 
 use crate::Plan;
 use bytes::Bytes;

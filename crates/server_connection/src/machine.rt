@@ -8,12 +8,11 @@ ghost use Rattle.http1.specs.Server as http1;
 ghost use Rattle.http.specs.Request.{with_body};
 ghost use Rattle.http_server.specs.declared.state.State.TheVariants.{Closing};
 ghost use Rattle.http_server.specs.declared.state.Reason.TheVariants.{Refused};
-ghost use Rattle.http_server.specs.declared.state.Refusal.TheVariants.{BodyTooLarge};
-ghost use Rattle.http_server.specs.History.{Rests};
+ghost use Rattle.http_server.{specs.declared.state.Refusal.TheVariants.BodyTooLarge, specs.History.Rests};
 ghost use Rattle.http_server.specs.Machine.{Holds, IsStarved, HasHead, HasPiece, MayRefuse, MayAbort};
 ghost use Rattle.server_connection.specs.Machine.{core, history_of, Past, Keeps, KeepsRest, Puts, SendsOn, CutsOff};
-ghost use Rattle.server_connection.specs.Machine.{Finishes, HandsOut, Leads, Moves, Offers, Runs, Starts, Stays, TakesIn};
-ghost use Rattle.server_connection.specs.Machine.{GoesOn, Opens, Refuses, IsNextRange, Asks, Drops, GivesUp};
+ghost use Rattle.server_connection.specs.Machine.{Finishes, HandsOut, Leads, Moves, Offers, Runs, Starts, Stays};
+ghost use Rattle.server_connection.specs.Machine.{TakesIn, GoesOn, Opens, Refuses, IsNextRange, Asks, Drops, GivesUp};
 ghost use Rattle.server_connection.specs.Pieces.{rest_of};
 
 use crate::application::Application;

@@ -1,8 +1,7 @@
 //! One connection over a reader and a writer that block.
-ghost use Rattle.std.specs.Prelude.{◌≡◌, ℕ, List, [], is_ok};
-ghost use Rattle.std.specs.Io.KnownBytes.{Appends, Consumes};
-ghost use Rattle.server_connection.specs.Connection.{Exchanged, IsSaid, Turns};
-ghost use Rattle.server_connection.specs.Machine.{IsNextRange, Leads, Moves};
+ghost use Rattle.std.{specs.Prelude.{◌≡◌, ℕ, List, [], is_ok}, specs.Io.KnownBytes.{Appends, Consumes}};
+ghost use Rattle.server_connection.{specs.Connection.{Exchanged, IsSaid, Turns}, specs.Machine.{IsNextRange, Leads}};
+ghost use Rattle.server_connection.specs.Machine.{Moves};
 
 use crate::connection::{Connection, Event};
 use crate::handler::Handler;

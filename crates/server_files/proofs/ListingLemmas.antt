@@ -1,22 +1,15 @@
 -- The page that lists the names in a folder: what it shows, and where its links lead.
-use Rattle.std.proofs.Common.{◌≡◌, ℕ, ◌+◌, ◌<◌, Bool, true, false, not, ◌||◌, ◌==◌, List, [], ◌∷◌, ◌++◌}
-use Rattle.std.proofs.Common.{refl, sym, ap, subst, ◌∙◌}
-use Rattle.std.proofs.Common.{append-nil, append_assoc, arith, get_or, length, map, take}
-use Rattle.std.proofs.lemmas.Bool.Decides.{nat_tests}
-use Rattle.std.proofs.lemmas.List.Elements.{All-append, All-cons, All-head, All-nil, All-tail, All-weaker}
-use Rattle.std.proofs.lemmas.List.{map-append, take_more}
-use Rattle.std.proofs.lemmas.List.Concat.{flat_map-append}
-use Rattle.std.proofs.lemmas.List.Splits.{slice_split_at, slice_split_none}
-use Rattle.std.specs.List.{list_all}
-use Rattle.std.specs.Prelude.{All, codes, filter, flat_map, if◌then◌else◌, string_bytes, String}
-use Rattle.percent_encoding.proofs.PercentLemmas.{All-percent_encode_byte, IsByte, IsEscapeByte}
-use Rattle.percent_encoding.proofs.PercentLemmas.{percent_decode-nil, percent_decode-percent_encode_byte}
-use Rattle.percent_encoding.proofs.PercentLemmas.{percent_decode_not_percent}
+use Rattle.std.proofs.Common.{◌≡◌, ℕ, ◌+◌, ◌<◌, Bool, true, false, not, ◌||◌, ◌==◌, List, [], ◌∷◌, ◌++◌, refl, sym, ap}
+use Rattle.std.proofs.Common.{subst, ◌∙◌, append-nil, append_assoc, arith, get_or, length, map, take}
+use Rattle.std.{proofs.lemmas.Bool.Decides.nat_tests, proofs.lemmas.List.Elements.{All-append, All-cons, All-head}}
+use Rattle.std.{proofs.lemmas.List.Elements.{All-nil, All-tail, All-weaker}, proofs.lemmas.List.{map-append, take_more}}
+use Rattle.std.{proofs.lemmas.List.Concat.flat_map-append, proofs.lemmas.List.Splits.{slice_split_at, slice_split_none}}
+use Rattle.std.{specs.List.list_all, specs.Prelude.{All, codes, filter, flat_map, if◌then◌else◌, string_bytes, String}}
+use Rattle.percent_encoding.proofs.PercentLemmas.{All-percent_encode_byte, IsByte, IsEscapeByte, percent_decode-nil}
+use Rattle.percent_encoding.proofs.PercentLemmas.{percent_decode-percent_encode_byte, percent_decode_not_percent}
 use Rattle.percent_encoding.specs.Percent.{percent_decode, percent_encode_byte}
-use Rattle.server_files.specs.Listings.{is_escaped, is_unreserved, item, link, link_byte, listing_page, quoted}
-use Rattle.server_files.specs.Listings.{seconds}
-use Rattle.server_files.specs.Listings.{is_listable, listable, shown, shown_byte}
-use Rattle.server_files.specs.Pages.{page_with}
+use Rattle.server_files.specs.Listings.{is_escaped, is_unreserved, item, link, link_byte, listing_page, quoted, seconds}
+use Rattle.server_files.{specs.Listings.{is_listable, listable, shown, shown_byte}, specs.Pages.page_with}
 
 -- ---- what is shown
 

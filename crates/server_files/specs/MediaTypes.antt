@@ -1,7 +1,6 @@
 -- Media types, by the extensions of files' names: those whose registrations name them (RFC 6838), or that are in use
 -- where none does. Text that nothing else says of is UTF-8.
-use Rattle.std.specs.Prelude.{ℕ, List, [], ◌∷◌, bytes_eq, codes, find}
-use Rattle.std.specs.Option.{option_map_or}
+use Rattle.std.{specs.Prelude.{ℕ, List, [], ◌∷◌, bytes_eq, codes, find}, specs.Option.option_map_or}
 
 -- extensions in lower case, and their media types
 abbrev pub Types : Type 0

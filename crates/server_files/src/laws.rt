@@ -1,8 +1,7 @@
 //! What follows from the definitions alone. A proof cites a law by calling it.
 ghost use Rattle.std.specs.Prelude.{◌≡◌, ◌∷◌, ◌<◌, true, ℕ, All, List, Option, Some, codes, map};
 ghost use Rattle.percent_encoding.specs.Percent.{percent_decode};
-ghost use Rattle.server_files.specs.Listings.{is_escaped, listing_page, quoted, shown};
-ghost use Rattle.server_files.specs.Path.{Names};
+ghost use Rattle.server_files.{specs.Listings.{is_escaped, listing_page, quoted, shown}, specs.Path.Names};
 ghost use Rattle.server_files.specs.Redirect.{HasNoIndex, IsOnHost, index_target};
 
 /// A redirect of a path that names something leads to the host that was asked.

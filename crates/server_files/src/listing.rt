@@ -1,7 +1,6 @@
 //! The names in a folder, and the page that lists them.
 ghost use Rattle.std.specs.Prelude.{◌≡◌, true, not, ◌==◌, ◌++◌, All, IfOk, OnOk, IsSorted, codes, flat_map, map};
-ghost use Rattle.std.specs.Prelude.{string_bytes, string_cmp};
-ghost use Rattle.std.specs.List.{list_all};
+ghost use Rattle.std.{specs.Prelude.{string_bytes, string_cmp}, specs.List.list_all};
 ghost use Rattle.server_files.specs.Listings.{is_listable, is_unreserved, item, link, link_byte, listable};
 ghost use Rattle.server_files.specs.Listings.{listing_page, own_name, shown, shown_byte};
 

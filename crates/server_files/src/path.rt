@@ -1,7 +1,6 @@
 //! Paths of a store.
 ghost use Rattle.std.specs.Prelude.{◌≡◌, ◌==◌, true, false, IfOk, MatchOption, OnErr, drop, option_map, slice_index};
-ghost use Rattle.std.specs.Prelude.{string_bytes};
-ghost use Rattle.std.specs.List.{list_all};
+ghost use Rattle.std.{specs.Prelude.string_bytes, specs.List.list_all};
 ghost use Rattle.percent_encoding.specs.Percent.{percent_decode};
 ghost use Rattle.server_files.specs.Path.{IsDecoded, IsFolderOf, Names, ends_in_slash, is_first_name, is_name};
 ghost use Rattle.server_files.specs.Path.{is_name_byte, is_plain, names_folder, with_index};

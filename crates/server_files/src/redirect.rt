@@ -1,7 +1,6 @@
 //! Where the index of a folder is found.
 ghost use Rattle.std.specs.Prelude.{◌≡◌, false, IfOk, OnErr, option_copied, string_bytes};
-ghost use Rattle.server_files.specs.Path.{ends_in_slash};
-ghost use Rattle.server_files.specs.Redirect.{IsLocation, index_target};
+ghost use Rattle.server_files.{specs.Path.ends_in_slash, specs.Redirect.{IsLocation, index_target}};
 
 use crate::path::ends_in_slash;
 use headers::HeaderValue;

@@ -1,50 +1,38 @@
 -- What a connection sends in answer to a literal request.
 use Rattle.std.proofs.Common.{◌≡◌, ◌≢◌, ℕ, ◌+◌, ◌<◌, ◌≤◌, ◌⊎◌, Bool, true, List, [], ◌∷◌, ◌++◌, length, take, codes}
 use Rattle.std.proofs.Common.{Some, None, refl, sym, ap, subst, ◌∙◌, arith, append-nil, inl, inr, zero, suc}
-use Rattle.std.specs.Prelude.{Any, slice_index_or}
-use Rattle.std.proofs.lemmas.Bool.{ne_eqb, cond-false}
-use Rattle.std.proofs.lemmas.List.{length-append}
-use Rattle.std.proofs.lemmas.List.Elements.{All-nil, All-cons}
+use Rattle.std.{specs.Prelude.{Any, slice_index_or}, proofs.lemmas.Bool.{ne_eqb, cond-false}}
+use Rattle.std.{proofs.lemmas.List.length-append, proofs.lemmas.List.Elements.{All-nil, All-cons}}
 use Rattle.std.proofs.lemmas.List.Sums.{AllPass-from_list_all}
 use Rattle.http.specs.declared.error.Error.{Error}
 use Rattle.http.specs.declared.error.Error.TheVariants as Invalid
 use Rattle.http.specs.declared.request.Request.{Request}
-use Rattle.httparse.specs.Grammar.{RequestHead, trim_ows}
-use Rattle.httparse.proofs.GrammarLemmas.{ReadsRequest-append, request_unique}
-use Rattle.http_header.specs.FieldName.{IsFieldName}
-use Rattle.http_header.specs.FieldValue.{FieldValue, IsFieldValue}
-use Rattle.http_header.specs.HeaderMap.{Entries, RefusesAppend, value_count}
-use Rattle.http_header.specs.Token.{is_token_byte, is_value_byte}
-use Rattle.http1.specs.declared.conn.Limits.{Limits}
-use Rattle.http1.specs.declared.framing.Framing.{Framing}
-use Rattle.http1.specs.Fields.{Header, known_fields}
+use Rattle.httparse.{specs.Grammar.{RequestHead, trim_ows}, proofs.GrammarLemmas.{ReadsRequest-append, request_unique}}
+use Rattle.http_header.{specs.FieldName.IsFieldName, specs.FieldValue.{FieldValue, IsFieldValue}}
+use Rattle.http_header.{specs.HeaderMap.{Entries, RefusesAppend, value_count}, specs.Token.is_token_byte}
+use Rattle.http_header.specs.Token.{is_value_byte}
+use Rattle.http1.{specs.declared.conn.Limits.Limits, specs.declared.framing.Framing.Framing, specs.Fields.Header}
+use Rattle.http1.specs.Fields.{known_fields}
 use Rattle.http1.specs.Message as Wire
-use Rattle.http1.specs.Message.{ReadsRequestMessage}
-use Rattle.http1.specs.Server.{request_of, response_refusal}
+use Rattle.http1.{specs.Message.ReadsRequestMessage, specs.Server.{request_of, response_refusal}}
 use Rattle.http1.specs.Text.{eq_ignore_case}
 use Rattle.http1_typed.specs.Parts.{reason_of}
-use Rattle.http_server.specs.declared.state.Config.{Config}
-use Rattle.http_server.specs.declared.state.Reason.TheVariants.{Asked, EndOfInput, Refused}
-use Rattle.http_server.specs.declared.state.Refusal.{Refusal}
+use Rattle.http_server.{specs.declared.state.Config.Config, specs.declared.state.Reason.TheVariants.{Asked, EndOfInput}}
+use Rattle.http_server.{specs.declared.state.Reason.TheVariants.Refused, specs.declared.state.Refusal.Refusal}
 use Rattle.http_server.specs.declared.state.Refusal.TheVariants.{Truncated, Unreadable, BodyTooLarge, InvalidPart}
 use Rattle.http_server.specs.declared.state.Refusal.TheVariants.{InvalidHost, UnknownCoding, InvalidResponse}
-use Rattle.http_server.specs.declared.state.State.{State}
-use Rattle.http_server.specs.declared.state.State.TheVariants.{Open, Closing, Upgraded, Aborted}
-use Rattle.http_server.specs.Encoding.{answering, refusal_of, size_of}
-use Rattle.http_server.specs.Exchange.{Call, Chain, Exchanges, ExpectsContinue, ReadsCall, Serves, map_of}
-use Rattle.http_server.specs.History.{HasInvalidHost, HasInvalidPart, HasTooManyFields, HasUnknownCoding, History}
-use Rattle.http_server.specs.History.{IsPartError, Justifies, NextIs, Stands}
-use Rattle.http_server.specs.Host.{IsHostValid}
-use Rattle.http_server.specs.Response.{fields_of}
-use Rattle.server_connection.specs.Connection.{Exchanged, IsClosing}
-use Rattle.server_connection.specs.Encoding.{content_len, plan_fields, plan_size, size_for}
-use Rattle.server_connection.specs.Literal.{IsLiteral, SendsCall, SendsCalls}
-use Rattle.server_connection.specs.Pieces.{AreSent, Gives}
-use Rattle.server_connection.specs.Plan.{Answers, HasHeadOf, Plans}
-use Rattle.server_connection.specs.declared.plan.Plan.{Plan}
-use Rattle.server_connection.proofs.PieceLemmas.{Advances-length}
-use Rattle.server_laws.specs.Literal.{AsksForRoot, request_text, root_head}
-use Rattle.server_laws.proofs.RequestLemmas.{get_asked, get_reads, get_valid, message_with, one_get, root_text}
+use Rattle.http_server.{specs.declared.state.State.State, specs.declared.state.State.TheVariants.{Open, Closing}}
+use Rattle.http_server.{specs.declared.state.State.TheVariants.{Upgraded, Aborted}, specs.Encoding.answering}
+use Rattle.http_server.{specs.Encoding.{refusal_of, size_of}, specs.Exchange.{Call, Chain, Exchanges, ExpectsContinue}}
+use Rattle.http_server.{specs.Exchange.{ReadsCall, Serves, map_of}, specs.History.{HasInvalidHost, HasInvalidPart}}
+use Rattle.http_server.specs.History.{HasTooManyFields, HasUnknownCoding, History, IsPartError, Justifies, NextIs}
+use Rattle.http_server.{specs.History.Stands, specs.Host.IsHostValid, specs.Response.fields_of}
+use Rattle.server_connection.{specs.Connection.{Exchanged, IsClosing}, specs.Encoding.{content_len, plan_fields}}
+use Rattle.server_connection.{specs.Encoding.{plan_size, size_for}, specs.Literal.{IsLiteral, SendsCall, SendsCalls}}
+use Rattle.server_connection.{specs.Pieces.{AreSent, Gives}, specs.Plan.{Answers, HasHeadOf, Plans}}
+use Rattle.server_connection.{specs.declared.plan.Plan.Plan, proofs.PieceLemmas.Advances-length}
+use Rattle.server_laws.{specs.Literal.{AsksForRoot, request_text, root_head}, proofs.RequestLemmas.get_asked}
+use Rattle.server_laws.proofs.RequestLemmas.{get_reads, get_valid, message_with, one_get, root_text}
 
 abbrev stream : List ℕ
 stream = request_text (codes "GET")

@@ -1,26 +1,18 @@
 -- Fields none of which says where a message ends, but for one that states the length.
 use Rattle.std.proofs.Common.{◌≡◌, ℕ, ◌^◌, ◌<◌, Bool, true, false, not, ◌&&◌, ◌||◌, cond, List, [], ◌∷◌, ◌++◌, Option}
 use Rattle.std.proofs.Common.{Some, None, ap, append-nil, append_assoc, codes, refl, reverse, subst, sym, inl, inr, ◌∙◌}
-use Rattle.std.proofs.Math.Bool.{and-false}
-use Rattle.std.specs.List.{list_all}
-use Rattle.std.specs.Prelude.{bytes_eq, decimal}
+use Rattle.std.{proofs.Math.Bool.and-false, specs.List.list_all, specs.Prelude.{bytes_eq, decimal}}
 use Rattle.std.proofs.lemmas.Bool.{and_from, and_parts, cases_Bool, cond-false, cond-true, not-true}
-use Rattle.std.proofs.lemmas.List.{map-append}
-use Rattle.std.proofs.lemmas.List.Folds.{list_all-append, list_all-map}
+use Rattle.std.{proofs.lemmas.List.map-append, proofs.lemmas.List.Folds.{list_all-append, list_all-map}}
 use Rattle.std.proofs.lemmas.Slice.Eq.{bytes_eq-Decides}
 use Rattle.httparse.specs.Grammar.{is_token}
-use Rattle.http1.specs.Fields.{Header, is_framing_field}
-use Rattle.http1.specs.Head.{is_field_value, is_header, starts_visible}
+use Rattle.http1.{specs.Fields.{Header, is_framing_field}, specs.Head.{is_field_value, is_header, starts_visible}}
 use Rattle.http1.specs.Text.{eq_ignore_case}
-use Rattle.headers.specs.LineMap.{Field}
-use Rattle.headers.specs.Lines.{Line}
-use Rattle.headers.specs.Text.{trim}
+use Rattle.headers.{specs.LineMap.Field, specs.Lines.Line, specs.Text.trim}
 use Rattle.server_service.specs.Response.{headers_sent, is_bare, is_kept, is_line, is_named as is_given, lines_under}
-use Rattle.server_service.specs.Response.{lines_unless, trimmed_line, trimmed_lines}
-use Rattle.server_service.proofs.TrimLemmas.{trim_bare}
-use Rattle.server_laws.specs.Sendable.{StatesLength}
-use Rattle.server_laws.proofs.FramingLemmas.{decimal_is_numeral, states_before, states_length, states_none}
-use Rattle.server_laws.proofs.FramingLemmas.{states_other, states_then}
+use Rattle.server_service.{specs.Response.{lines_unless, trimmed_line, trimmed_lines}, proofs.TrimLemmas.trim_bare}
+use Rattle.server_laws.{specs.Sendable.StatesLength, proofs.FramingLemmas.{decimal_is_numeral, states_before}}
+use Rattle.server_laws.proofs.FramingLemmas.{states_length, states_none, states_other, states_then}
 use Rattle.server_laws.proofs.TrimmedLemmas.{decimal_trimmed}
 
 -- ---- lists with something in their midst

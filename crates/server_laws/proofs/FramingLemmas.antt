@@ -2,42 +2,30 @@
 use Rattle.std.proofs.Common.{◌≡◌, ◌≢◌, ℕ, ◌+◌, ◌^◌, ◌<◌, ◌≤◌, ◌⊎◌, min, Bool, true, false, not, cond, eqb, ◌&&◌, ◌||◌}
 use Rattle.std.proofs.Common.{List, [], ◌∷◌, ◌++◌, codes, None, Result, Ok, Err, refl, sym, ap, ◌∙◌, subst, arith}
 use Rattle.std.proofs.Common.{append_assoc, append-nil, inl, inr, length, map, nat_lt, zero-add, suc}
-use Rattle.std.specs.List.{list_all}
-use Rattle.std.specs.Str.Parse.{digits_value}
-use Rattle.std.proofs.lemmas.Bool.{and_parts, and_from, ne_eqb, eq-eqb, cond-true, cond-false, cases_Bool, eqb-true}
-use Rattle.std.proofs.lemmas.Bool.{le-leb, eqb-false, not-true, or_cases, or_parts}
-use Rattle.std.proofs.lemmas.Bool.Decides.{nat_tests}
-use Rattle.std.proofs.lemmas.Grind.{flat_map-append}
-use Rattle.std.proofs.lemmas.List.Folds.{list_all-append}
-use Rattle.std.proofs.lemmas.List.Sums.{sum_by-cons}
-use Rattle.std.proofs.lemmas.Fmt.{decimal-digits_of, decimal_digit}
-use Rattle.std.proofs.lemmas.Int.Digits.{all_below_base_digits_of}
-use Rattle.std.specs.Char.{digit_char}
-use Rattle.std.specs.Int.Digits.{AllBelowBase, digits_of}
-use Rattle.std.specs.Prelude.{count_by, decimal}
-use Rattle.std.proofs.Math.Bool.{and-false}
+use Rattle.std.{specs.List.list_all, specs.Str.Parse.digits_value, proofs.lemmas.Bool.{and_parts, and_from, ne_eqb}}
+use Rattle.std.proofs.lemmas.Bool.{eq-eqb, cond-true, cond-false, cases_Bool, eqb-true, le-leb, eqb-false, not-true}
+use Rattle.std.{proofs.lemmas.Bool.{or_cases, or_parts}, proofs.lemmas.Bool.Decides.nat_tests}
+use Rattle.std.{proofs.lemmas.Grind.flat_map-append, proofs.lemmas.List.Folds.list_all-append}
+use Rattle.std.{proofs.lemmas.List.Sums.sum_by-cons, proofs.lemmas.Fmt.{decimal-digits_of, decimal_digit}}
+use Rattle.std.{proofs.lemmas.Int.Digits.all_below_base_digits_of, specs.Char.digit_char, specs.Int.Digits.AllBelowBase}
+use Rattle.std.{specs.Int.Digits.digits_of, specs.Prelude.{count_by, decimal}, proofs.Math.Bool.and-false}
 use Rattle.httparse.specs.Grammar.{RequestHead, is_token_byte}
-use Rattle.http1.specs.declared.conn.BodySize.{BodySize}
-use Rattle.http1.specs.declared.conn.BodySize.TheVariants.{Empty, Known}
-use Rattle.http1.specs.declared.conn.Limits.{Limits}
-use Rattle.http1.specs.declared.error.WriteError.{WriteError}
+use Rattle.http1.{specs.declared.conn.BodySize.BodySize, specs.declared.conn.BodySize.TheVariants.{Empty, Known}}
+use Rattle.http1.{specs.declared.conn.Limits.Limits, specs.declared.error.WriteError.WriteError}
 use Rattle.http1.specs.declared.error.WriteError.TheVariants as Refusal
 use Rattle.http1.specs.declared.fields.ContentLength.TheVariants as Length
 use Rattle.http1.specs.declared.fields.TransferEncoding.TheVariants as Coding
-use Rattle.http1.specs.declared.fields.KnownFields.{KnownFields}
-use Rattle.http1.specs.declared.framing.Framing.{Framing}
+use Rattle.http1.{specs.declared.fields.KnownFields.KnownFields, specs.declared.framing.Framing.Framing}
 use Rattle.http1.specs.declared.framing.Framing.TheVariants.{NoBody, Length as Sized, UntilClose}
 use Rattle.http1.specs.declared.framing.FramingError.TheVariants.{UnexpectedTransferEncoding}
 use Rattle.http1.specs.declared.framing.MethodKind.TheVariants as Method
-use Rattle.http1.specs.declared.server.Request.{Request}
-use Rattle.http1.specs.Text.{eq_ignore_case, numeral}
-use Rattle.http1.specs.Fields.{Header, content_length, elements, elements_named, values_named, frames_plainly}
-use Rattle.http1.specs.Fields.{is_framing_field, is_named, is_plain_chunked, is_plain_number, known_fields}
-use Rattle.http1.specs.Fields.{transfer_encoding}
+use Rattle.http1.{specs.declared.server.Request.Request, specs.Text.{eq_ignore_case, numeral}, specs.Fields.Header}
+use Rattle.http1.specs.Fields.{content_length, elements, elements_named, values_named, frames_plainly, is_framing_field}
+use Rattle.http1.specs.Fields.{is_named, is_plain_chunked, is_plain_number, known_fields, transfer_encoding}
 use Rattle.http1.specs.Framing.{by_fields, is_bodiless_status, has_no_body, response_framing, method_kind}
 use Rattle.http1.specs.Conn.{Plan, connection_header, fits, is_coded, is_plain, length_header, plan_refusal}
-use Rattle.http1.specs.Conn.{size_headers, states_framing, states_no_content, with_framing}
-use Rattle.http1.specs.Head.{are_headers, head_refusal, is_field_value, is_header, is_status_line, is_trimmed_value}
+use Rattle.http1.{specs.Conn.{size_headers, states_framing, states_no_content, with_framing}, specs.Head.are_headers}
+use Rattle.http1.specs.Head.{head_refusal, is_field_value, is_header, is_status_line, is_trimmed_value}
 use Rattle.http1.specs.Server.{connection_headers, is_205_with_content, is_coded_304, is_sized, plan_fields}
 use Rattle.http1.specs.Server.{plan_stated, response_plan, response_refusal, stays_open}
 use Rattle.http1.proofs.NumeralLemmas.{decimal_is_number, decimal_is_plain, decimal_is_trimmed, numeral_reads_back}

@@ -1,46 +1,32 @@
 -- A 200 that states its length: the head that is written, and what is around its content.
 use Rattle.std.proofs.Common.{◌≡◌, ℕ, ◌+◌, ◌^◌, ◌<◌, Bool, true, false, not, ◌&&◌, ◌||◌, List, [], ◌∷◌, ◌++◌, codes}
 use Rattle.std.proofs.Common.{Option, Some, None, Result, Ok, Err, refl, sym, ap, ◌∙◌, arith, append-nil, cond, eqb}
-use Rattle.std.proofs.Common.{inl, inr, nat_lt}
-use Rattle.std.specs.List.{list_all}
-use Rattle.std.specs.Prelude.{decimal}
-use Rattle.std.proofs.lemmas.Bool.{and_parts, cond-false}
-use Rattle.std.proofs.lemmas.List.Folds.{list_all-append}
+use Rattle.std.{proofs.Common.{inl, inr, nat_lt}, specs.List.list_all, specs.Prelude.decimal}
+use Rattle.std.{proofs.lemmas.Bool.{and_parts, cond-false}, proofs.lemmas.List.Folds.list_all-append}
 use Rattle.httparse.specs.Grammar.{RequestHead, print_response}
-use Rattle.http1.specs.declared.conn.Limits.{Limits}
-use Rattle.http1.specs.declared.error.WriteError.{WriteError}
+use Rattle.http1.{specs.declared.conn.Limits.Limits, specs.declared.error.WriteError.WriteError}
 use Rattle.http1.specs.declared.framing.Framing.{Framing}
 use Rattle.http1.specs.declared.framing.Framing.TheVariants.{NoBody, Length as Sized}
-use Rattle.http1.specs.declared.server.Request.{Request}
-use Rattle.http1.specs.Conn.{Plan, connection_header, is_connect, keeps_alive, plan_refusal, planned_headers}
-use Rattle.http1.specs.Conn.{after_data, data_prefix, data_suffix, finish_text}
-use Rattle.http1.specs.Fields.{Header, known_fields}
-use Rattle.http1.specs.Framing.{has_no_body, method_kind}
-use Rattle.http1.specs.Head.{are_headers, is_header, is_status_line, response_text}
-use Rattle.http1.specs.Message.{known_of}
+use Rattle.http1.{specs.declared.server.Request.Request, specs.Conn.{Plan, connection_header, is_connect, keeps_alive}}
+use Rattle.http1.specs.Conn.{plan_refusal, planned_headers, after_data, data_prefix, data_suffix, finish_text}
+use Rattle.http1.{specs.Fields.{Header, known_fields}, specs.Framing.{has_no_body, method_kind}, specs.Head.are_headers}
+use Rattle.http1.{specs.Head.{is_header, is_status_line, response_text}, specs.Message.known_of}
 use Rattle.http1.specs.Server.{connection_headers, planned_response, response_plan, response_refusal, stays_open}
-use Rattle.http1.specs.Server.{after_response, is_head, responding, writing}
-use Rattle.http1.specs.Text.{eq_ignore_case}
+use Rattle.http1.{specs.Server.{after_response, is_head, responding, writing}, specs.Text.eq_ignore_case}
 use Rattle.http1.proofs.HeadRoundTrip.{not_refused}
 use Rattle.http1_typed.specs.Parts.{reason_of}
 use Rattle.http_server.specs.Encoding.{answering}
 use Rattle.server_connection.specs.Encoding.{content_len, head_text, plan_fields, plan_size, size_for, Frames}
 use Rattle.server_connection.specs.Encoding.{after_content, after_head, prefix_of, suffix_of}
 use Rattle.server_connection.specs.declared.plan.Plan.{Plan as ResponsePlan}
-use Rattle.server_laws.specs.Literal.{date_text, field_text, ok_fields, ok_text}
-use Rattle.server_laws.specs.Sendable.{IsFinal, StatesLength}
-use Rattle.server_laws.proofs.FramingLemmas.{planned_stated}
+use Rattle.server_laws.{specs.Literal.{date_text, field_text, ok_fields, ok_text}, specs.Sendable.IsFinal}
+use Rattle.server_laws.{specs.Sendable.StatesLength, proofs.FramingLemmas.planned_stated}
 use Rattle.http1.specs.declared.conn.Writing.{Writing}
 use Rattle.http1.specs.declared.conn.Writing.TheVariants as Writes
-use Rattle.http1.specs.declared.encode.Encoder.TheVariants.{Length}
-use Rattle.http1.specs.declared.framing.MethodKind.{MethodKind}
-use Rattle.http1.specs.declared.server.Server.{Server}
-use Rattle.http1.specs.Encoder.{encoder_for}
-use Rattle.http_server.specs.History.{History, output}
-use Rattle.http_server.specs.declared.state.Config.{Config}
-use Rattle.server_connection.specs.Machine.{Sends}
-use Rattle.server_connection.specs.Pieces.{Gives}
-use Rattle.server_connection.specs.Plan.{Plans}
+use Rattle.http1.{specs.declared.encode.Encoder.TheVariants.Length, specs.declared.framing.MethodKind.MethodKind}
+use Rattle.http1.{specs.declared.server.Server.Server, specs.Encoder.encoder_for}
+use Rattle.http_server.{specs.History.{History, output}, specs.declared.state.Config.Config}
+use Rattle.server_connection.{specs.Machine.Sends, specs.Pieces.Gives, specs.Plan.Plans}
 use Rattle.server_laws.specs.Framed.{IsOk, StaysOpen}
 
 -- ---- the response

@@ -1,30 +1,21 @@
 -- The request that a literal text is.
 use Rattle.std.proofs.Common.{◌≡◌, ℕ, ◌≤◌, List, [], ◌∷◌, ◌++◌, codes, Option, Some, None, Ok, refl, sym, ap, subst}
-use Rattle.std.proofs.Common.{◌∙◌, arith, inr, cond, eqb, not, ◌||◌, length}
-use Rattle.std.specs.Prelude.{is_some}
+use Rattle.std.{proofs.Common.{◌∙◌, arith, inr, cond, eqb, not, ◌||◌, length}, specs.Prelude.is_some}
 use Rattle.std.proofs.lemmas.List.{nil_from_length}
-use Rattle.http.specs.declared.request.Request.{Request}
-use Rattle.http.specs.Request.{head_of}
+use Rattle.http.{specs.declared.request.Request.Request, specs.Request.head_of}
 use Rattle.httparse.specs.Grammar.{RequestHead, print_request, trim_ows, is_token_byte, ReadsRequest}
 use Rattle.httparse.proofs.GrammarLemmas.{request_unique}
-use Rattle.http_uri.specs.declared.uri.Uri.{Uri}
-use Rattle.http_uri.specs.Uri.{Spells, uri_authority, uri_data, uri_path, uri_query, uri_scheme}
-use Rattle.http_uri.specs.Grammar.{IsForm, IsUriText, path_of, query_of}
-use Rattle.http_uri.proofs.PathLemmas.{IsPathAndQuery_slash}
-use Rattle.http_uri.proofs.UriLemmas.{cut_first}
-use Rattle.http1.specs.declared.conn.Limits.{Limits}
-use Rattle.http1.specs.declared.framing.Framing.{Framing}
+use Rattle.http_uri.{specs.declared.uri.Uri.Uri, specs.Uri.{Spells, uri_authority, uri_data, uri_path, uri_query}}
+use Rattle.http_uri.{specs.Uri.uri_scheme, specs.Grammar.{IsForm, IsUriText, path_of, query_of}}
+use Rattle.http_uri.{proofs.PathLemmas.IsPathAndQuery_slash, proofs.UriLemmas.cut_first}
+use Rattle.http1.{specs.declared.conn.Limits.Limits, specs.declared.framing.Framing.Framing}
 use Rattle.http1.specs.declared.framing.Framing.TheVariants.{NoBody}
 use Rattle.http1.specs.Body.{Body, ReadsBody, body_of as whole_body}
-use Rattle.http1.specs.Fields.{known_fields}
-use Rattle.http1.specs.Framing.{method_kind, request_framing}
-use Rattle.http1.specs.Head.{are_headers}
+use Rattle.http1.{specs.Fields.known_fields, specs.Framing.{method_kind, request_framing}, specs.Head.are_headers}
 use Rattle.http1.specs.Message as Wire
-use Rattle.http1.specs.Message.{ReadsRequestMessage, known_of}
-use Rattle.http1.specs.Text.{eq_ignore_case}
+use Rattle.http1.{specs.Message.{ReadsRequestMessage, known_of}, specs.Text.eq_ignore_case}
 use Rattle.http1.proofs.HeadRoundTrip.{request_reads_back}
-use Rattle.http_server.specs.declared.state.Config.{Config}
-use Rattle.http_server.specs.Exchange.{ArePartsOf, ReadsCall}
+use Rattle.http_server.{specs.declared.state.Config.Config, specs.Exchange.{ArePartsOf, ReadsCall}}
 use Rattle.server_laws.specs.Literal.{AsksForRoot, request_text, root_head}
 
 -- ---- the target

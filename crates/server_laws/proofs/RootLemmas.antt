@@ -1,67 +1,46 @@
 -- The response to a GET of the root.
 use Rattle.std.proofs.Common.{◌≡◌, ℕ, Bool, true, false, List, [], ◌∷◌, ◌++◌, length, Option, Some, None, refl, sym}
-use Rattle.std.proofs.Common.{subst, ◌∙◌, ap, inl, inr, arith, append-nil, map, ◌≢◌}
-use Rattle.std.specs.Global.{Vec}
-use Rattle.std.specs.Option.{option_map_or}
-use Rattle.std.specs.Prelude.{codes, is_some, not, slice_get, string_bytes}
-use Rattle.http.specs.declared.request.Request.{Request}
-use Rattle.http.specs.Request.{head_of}
+use Rattle.std.{proofs.Common.{subst, ◌∙◌, ap, inl, inr, arith, append-nil, map, ◌≢◌}, specs.Global.Vec}
+use Rattle.std.{specs.Option.option_map_or, specs.Prelude.{codes, is_some, not, slice_get, string_bytes}}
+use Rattle.http.{specs.declared.request.Request.Request, specs.Request.head_of}
 use Rattle.http1.specs.Fields.{Header}
-use Rattle.http_header.specs.FieldValue.{FieldValue}
-use Rattle.http_header.specs.HeaderMap.{Entries}
-use Rattle.http_uri.specs.declared.uri.Uri.{Uri}
-use Rattle.http_uri.specs.Uri.{uri_path}
+use Rattle.http_header.{specs.FieldValue.FieldValue, specs.HeaderMap.Entries}
+use Rattle.http_uri.{specs.declared.uri.Uri.Uri, specs.Uri.uri_path}
 use Rattle.headers.specs.LineMap.{Field, LineMap, fields_of as encoded_fields, lines_at}
 use Rattle.headers.specs.Lines.{Line}
 use Rattle.server_connection.specs.declared.plan.Plan.{Plan as Response}
-use Rattle.gateway_messages.specs.Expectations.{has_known_expectation}
-use Rattle.gateway_messages.specs.HostTests.{is_reg_name}
-use Rattle.gateway_messages.specs.Requests.{has_host}
-use Rattle.gateway_messages.specs.declared.protocol.Protocol.{Protocol}
+use Rattle.gateway_messages.{specs.Expectations.has_known_expectation, specs.HostTests.is_reg_name}
+use Rattle.gateway_messages.{specs.Requests.has_host, specs.declared.protocol.Protocol.Protocol}
 use Rattle.gateway_messages.specs.declared.protocol.Protocol.TheVariants.{Http10, Http11}
 use Rattle.decide_negotiation.specs.Choice.{Picks}
 use Rattle.percent_encoding.specs.Percent.{percent_decode}
-use Rattle.decide_preconditions.specs.Fields.{fields_sent, is_known_by, status_of}
-use Rattle.decide_preconditions.specs.Preconditions.{IsGetOrHead}
-use Rattle.decide_preconditions.specs.Responses.{IsAnswered}
-use Rattle.decide_preconditions.specs.declared.plan.Plan.{Plan}
+use Rattle.decide_preconditions.{specs.Fields.{fields_sent, is_known_by, status_of}, specs.Preconditions.IsGetOrHead}
+use Rattle.decide_preconditions.{specs.Responses.IsAnswered, specs.declared.plan.Plan.Plan}
 use Rattle.decide_preconditions.specs.declared.plan.Plan.TheVariants.{Full}
 use Rattle.decide_preconditions.specs.declared.response.Response.{Response as Planning}
 use Rattle.decide_resource.specs.Answers.{GivesIf, is_admitted, Goes, GoesOn, IsAnswer, IsShared, at_place, is_sent}
 use Rattle.decide_resource.specs.Answers.{place_of, response_fields, status_sent}
 use Rattle.decide_resource.specs.Applies.{applies, host_named, is_misdirected, is_own}
 use Rattle.decide_resource.specs.Fields.{status_of as code_of, describes, line_if, metadata_fields, vary_fields}
-use Rattle.decide_resource.specs.Fields.{vary_lines}
-use Rattle.decide_resource.specs.Representations.{score}
+use Rattle.decide_resource.{specs.Fields.vary_lines, specs.Representations.score}
 use Rattle.decide_resource.specs.Requests.{Request as Asked, head_of as as_head}
-use Rattle.decide_resource.specs.declared.answer.Answer.{Answer}
-use Rattle.decide_resource.specs.declared.answer.Sends.{Sends}
-use Rattle.decide_resource.specs.declared.answer.Sends.TheVariants.{Planned}
-use Rattle.decide_resource.specs.declared.reason.Reason.{Reason}
+use Rattle.decide_resource.{specs.declared.answer.Answer.Answer, specs.declared.answer.Sends.Sends}
+use Rattle.decide_resource.{specs.declared.answer.Sends.TheVariants.Planned, specs.declared.reason.Reason.Reason}
 use Rattle.decide_resource.specs.declared.reason.Reason.TheVariants.{Admitted, Moved}
 use Rattle.decide_resource.specs.declared.representation.Representation.{Representation}
-use Rattle.decide_resource.specs.declared.resource.Resource.{Resource}
-use Rattle.decide_resource.specs.declared.resource.State.{State}
+use Rattle.decide_resource.{specs.declared.resource.Resource.Resource, specs.declared.resource.State.State}
 use Rattle.decide_resource.specs.declared.resource.State.TheVariants.{Current}
 use Rattle.server_service.specs.Answer.{AsksForAll, Decides, IsAnswerAt, cache_fields, cache_sent, clock}
 use Rattle.server_service.specs.Answer.{explained_fields, first_fields, pieces_for, source_sent, status_for}
-use Rattle.server_service.specs.File.{content_of, current_of, representation_of}
-use Rattle.server_service.specs.Found.{FindsEntry}
-use Rattle.server_service.specs.Memory.{HasOne}
+use Rattle.server_service.{specs.File.{content_of, current_of, representation_of}, specs.Found.FindsEntry}
+use Rattle.server_service.{specs.Memory.HasOne, specs.Representations.AreContents, specs.Response.headers_of}
+use Rattle.server_service.{specs.Response.{headers_sent, trimmed_lines}, specs.SiteSettings.{IsSiteOf, hosts_in}}
+use Rattle.server_service.{specs.declared.file.Entry.Entry, specs.declared.file.Entry.TheVariants.{Missing, Readable}}
+use Rattle.server_service.{specs.declared.file.File.File, specs.declared.memory.Memory.Memory}
+use Rattle.server_service.{specs.declared.settings.Settings.Settings, specs.declared.settings.Site.Site}
+use Rattle.server_service.{specs.declared.source.Source.Source, proofs.WholeLemmas.get_whole}
 use Rattle.server_files.specs.Path.{IsStorePath, Names}
-use Rattle.server_service.specs.Representations.{AreContents}
-use Rattle.server_service.specs.Response.{headers_of, headers_sent, trimmed_lines}
-use Rattle.server_service.specs.SiteSettings.{IsSiteOf, hosts_in}
-use Rattle.server_service.specs.declared.file.Entry.{Entry}
-use Rattle.server_service.specs.declared.file.Entry.TheVariants.{Missing, Readable}
-use Rattle.server_service.specs.declared.file.File.{File}
-use Rattle.server_service.specs.declared.memory.Memory.{Memory}
-use Rattle.server_service.specs.declared.settings.Settings.{Settings}
-use Rattle.server_service.specs.declared.settings.Site.{Site}
-use Rattle.server_service.specs.declared.source.Source.{Source}
-use Rattle.server_service.proofs.WholeLemmas.{get_whole}
-use Rattle.server_laws.specs.Answered.{HasNoOptions, IsWhole, SendsContent, whole_fields}
-use Rattle.server_laws.specs.Literal.{AsksForRoot}
+use Rattle.server_laws.{specs.Answered.{HasNoOptions, IsWhole, SendsContent, whole_fields}, specs.Literal.AsksForRoot}
 
 -- ---- a 200
 

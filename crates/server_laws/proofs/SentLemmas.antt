@@ -1,87 +1,65 @@
 -- Each answer of the file server is one that `http1` sends.
 use Rattle.std.proofs.Common.{◌≡◌, ◌≢◌, ◌⊎◌, ℕ, ◌+◌, ◌-◌, ◌^◌, ◌<◌, ◌≤◌, Bool, true, false, not, ◌&&◌, cond, List, []}
 use Rattle.std.proofs.Common.{◌∷◌, ◌++◌, Option, Some, None, ap, arith, codes, inl, inr, map, nat_lt, refl, subst, sym}
-use Rattle.std.proofs.Common.{◌∙◌}
-use Rattle.std.specs.List.{list_all, list_any}
-use Rattle.std.specs.Option.{is_some, option_map, option_map_or}
+use Rattle.std.{proofs.Common.◌∙◌, specs.List.{list_all, list_any}, specs.Option.{is_some, option_map, option_map_or}}
 use Rattle.std.specs.Prelude.{◌==◌, bytes_eq, decimal, find, nat_le, slice_get, string_bytes}
-use Rattle.std.proofs.Math.Bool.{and-false}
-use Rattle.std.proofs.lemmas.Bool.{and_parts, cases_Bool, eq-eqb, leb-true, not-true, and_from, or_cases}
-use Rattle.std.proofs.lemmas.Bool.Decides.{nat_tests}
-use Rattle.std.proofs.lemmas.Option.{slice_get-map}
-use Rattle.std.proofs.lemmas.Slice.Eq.{bytes_eq-Decides}
-use Rattle.http.specs.declared.request.Request.{Request}
-use Rattle.http.specs.Request.{head_of}
+use Rattle.std.{proofs.Math.Bool.and-false, proofs.lemmas.Bool.{and_parts, cases_Bool, eq-eqb, leb-true, not-true}}
+use Rattle.std.{proofs.lemmas.Bool.{and_from, or_cases}, proofs.lemmas.Bool.Decides.nat_tests}
+use Rattle.std.{proofs.lemmas.Option.slice_get-map, proofs.lemmas.Slice.Eq.bytes_eq-Decides}
+use Rattle.http.{specs.declared.request.Request.Request, specs.Request.head_of}
 use Rattle.httparse.specs.Grammar.{RequestHead}
 use Rattle.http_header.specs.FieldValue.{FieldValue}
 use Rattle.http_uri.specs.declared.uri.Uri.{Uri}
-use Rattle.http1.specs.declared.conn.Limits.{Limits}
-use Rattle.http1.specs.declared.framing.Framing.{Framing}
+use Rattle.http1.{specs.declared.conn.Limits.Limits, specs.declared.framing.Framing.Framing}
 use Rattle.http1.specs.declared.framing.MethodKind.{MethodKind}
 use Rattle.http1.specs.declared.framing.MethodKind.TheVariants as kind
-use Rattle.http1.specs.Conn.{is_connect}
-use Rattle.http1.specs.Fields.{Header}
-use Rattle.http1.specs.Framing.{method_kind}
-use Rattle.http1.specs.Head.{is_field_value}
+use Rattle.http1.{specs.Conn.is_connect, specs.Fields.Header, specs.Framing.method_kind, specs.Head.is_field_value}
 use Rattle.http1.specs.Server.{response_refusal}
 use Rattle.http1_typed.specs.Parts.{reason_of}
 use Rattle.http_server.specs.Encoding.{answering}
 use Rattle.headers.specs.LineMap.{Field, fields_of as encoded_fields, LineMap}
 use Rattle.headers.specs.Lines.{Line, only_line}
-use Rattle.server_connection.specs.Encoding.{content_len, plan_fields, plan_size}
-use Rattle.server_connection.specs.Pieces.{total_len}
+use Rattle.server_connection.{specs.Encoding.{content_len, plan_fields, plan_size}, specs.Pieces.total_len}
 use Rattle.server_connection.specs.declared.plan.Plan.{Plan as Response}
 use Rattle.decide_preconditions.specs.Contents.{divisible_len, limits_of}
 use Rattle.decide_preconditions.specs.Fields.{etag_of, fields_sent, is_known_by, length_sent, lines_sent}
 use Rattle.decide_preconditions.specs.Fields.{status_of as plan_status, etag_sent, is_whole, keeps_encoding}
-use Rattle.decide_preconditions.specs.Responses.{IsAnswered}
-use Rattle.decide_preconditions.specs.declared.plan.Plan.{Plan}
+use Rattle.decide_preconditions.{specs.Responses.IsAnswered, specs.declared.plan.Plan.Plan}
 use Rattle.decide_preconditions.specs.declared.plan.Plan.TheVariants as plans
 use Rattle.decide_preconditions.specs.declared.resource.Resource.{Resource as Target}
 use Rattle.decide_preconditions.specs.declared.response.Response.{Response as Planning}
 use Rattle.decide_resource.specs.Answers.{Gives, GivesIf, is_admitted, Goes, GoesOn, IsAnswer, at_place, content_of}
 use Rattle.decide_resource.specs.Answers.{is_sent, response_fields, sent_for, status_sent, target_of, with_metadata}
-use Rattle.decide_resource.specs.Answers.{IsShared}
-use Rattle.decide_resource.specs.Applies.{applies, has_method, has_moved, rule_for, rule}
+use Rattle.decide_resource.{specs.Answers.IsShared, specs.Applies.{applies, has_method, has_moved, rule_for, rule}}
 use Rattle.decide_resource.specs.Fields.{moved_status, status_of, vary_fields, vary_lines, accept_encoding_fields}
 use Rattle.decide_resource.specs.Fields.{describes, location_fields, metadata_fields, reason_fields, types_fields}
 use Rattle.decide_resource.specs.Reasons.{IsFirst}
 use Rattle.decide_resource.specs.Requests.{Request as Asked, head_of as as_head}
-use Rattle.decide_resource.specs.declared.answer.Answer.{Answer}
-use Rattle.decide_resource.specs.declared.answer.Sends.{Sends}
-use Rattle.decide_resource.specs.declared.reason.Reason.{Reason}
-use Rattle.decide_resource.specs.declared.reason.Reason.TheVariants.{Admitted, MethodNotAllowed, Moved, NotAcceptable}
-use Rattle.decide_resource.specs.declared.reason.Reason.TheVariants.{NotFound, Options, UnsupportedMediaType}
-use Rattle.decide_resource.specs.declared.reason.Reason.TheVariants.{UnsupportedCoding}
+use Rattle.decide_resource.{specs.declared.answer.Answer.Answer, specs.declared.answer.Sends.Sends}
+use Rattle.decide_resource.{specs.declared.reason.Reason.Reason, specs.declared.reason.Reason.TheVariants.Admitted}
+use Rattle.decide_resource.specs.declared.reason.Reason.TheVariants.{MethodNotAllowed, Moved, NotAcceptable, NotFound}
+use Rattle.decide_resource.specs.declared.reason.Reason.TheVariants.{Options, UnsupportedMediaType, UnsupportedCoding}
 use Rattle.decide_resource.specs.declared.representation.Representation.{Representation}
 use Rattle.decide_resource.specs.declared.resource.MethodRule.{MethodRule}
 use Rattle.decide_resource.specs.declared.resource.Redirect.TheVariants as redirect
-use Rattle.decide_resource.specs.declared.resource.Resource.{Resource}
-use Rattle.decide_resource.specs.declared.resource.State.{State}
+use Rattle.decide_resource.{specs.declared.resource.Resource.Resource, specs.declared.resource.State.State}
 use Rattle.decide_resource.specs.declared.resource.State.TheVariants as state
 use Rattle.server_service.specs.Answer.{IsAnswerAt, cache_sent, clock, closing_fields, date_fields, explained_fields}
 use Rattle.server_service.specs.Answer.{file_at, first_fields, is_stored, pieces_for, pieces_of, sends_several}
-use Rattle.server_service.specs.Answer.{sniff_field, status_for, tag_in, tag_sent, cache_fields}
-use Rattle.server_service.specs.File.{len_of, representation_of}
-use Rattle.server_service.specs.Found.{FindsEntry, LeadsTo}
-use Rattle.server_service.specs.Parts.{Fits}
-use Rattle.server_service.specs.Response.{headers_sent, is_bare_tag, is_line, html_field, is_bare}
-use Rattle.server_service.specs.Sites.{IsSite}
+use Rattle.server_service.{specs.Answer.{sniff_field, status_for, tag_in, tag_sent, cache_fields}, specs.File.len_of}
+use Rattle.server_service.{specs.File.representation_of, specs.Found.{FindsEntry, LeadsTo}, specs.Parts.Fits}
+use Rattle.server_service.{specs.Response.{headers_sent, is_bare_tag, is_line, html_field, is_bare}, specs.Sites.IsSite}
 use Rattle.server_service.specs.declared.file.Entry.{Entry}
 use Rattle.server_service.specs.declared.file.Entry.TheVariants as entry
-use Rattle.server_service.specs.declared.file.File.{File}
-use Rattle.server_service.specs.declared.settings.Page.{Page}
-use Rattle.server_service.specs.declared.settings.Site.{Site}
-use Rattle.server_service.specs.declared.source.Source.{Source}
+use Rattle.server_service.{specs.declared.file.File.File, specs.declared.settings.Page.Page}
+use Rattle.server_service.{specs.declared.settings.Site.Site, specs.declared.source.Source.Source}
 use Rattle.server_service.proofs.AnswerLemmas.{Fits-from_plan}
 use Rattle.server_laws.specs.Sendable.{IsBareIfAny, IsFinal, StatesLength, IsBarePolicy}
 use Rattle.server_laws.proofs.FramingLemmas.{plan_sent}
 use Rattle.http1.specs.Text.{eq_ignore_case}
 use Rattle.decide_cors.specs.Elements.{is_filled}
 use Rattle.decide_cors.specs.Fields.{covers_origin, fields_sent as policy_fields, filled_line, grant, lines_if}
-use Rattle.decide_cors.specs.Fields.{vary_sent}
-use Rattle.decide_cors.specs.Kinds.{is_preflight}
-use Rattle.decide_cors.specs.Policy.{Policy}
+use Rattle.decide_cors.{specs.Fields.vary_sent, specs.Kinds.is_preflight, specs.Policy.Policy}
 use Rattle.decide_preconditions.specs.declared.content.Content.{Content}
 use Rattle.decide_resource.specs.declared.answer.Sends.TheVariants as sends
 use Rattle.server_laws.proofs.FieldLemmas.{Between, after_all, all_append, none_between, before_all, between_sent}

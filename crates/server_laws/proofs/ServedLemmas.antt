@@ -1,49 +1,34 @@
 -- What the file server sends in answer to a literal request.
 use Rattle.std.proofs.Common.{◌≡◌, ℕ, ◌+◌, ◌^◌, ◌<◌, ◌≤◌, true, false, List, [], ◌∷◌, ◌++◌, length, codes, Option, Some}
 use Rattle.std.proofs.Common.{None, refl, sym, ap, subst, ◌∙◌, append-nil, arith, inl, inr, Bool, cond}
-use Rattle.std.specs.Prelude.{All, string_bytes}
-use Rattle.std.proofs.lemmas.Bool.{cond-true, lt-ltb}
+use Rattle.std.{specs.Prelude.{All, string_bytes}, proofs.lemmas.Bool.{cond-true, lt-ltb}}
 use Rattle.http.specs.declared.request.Request.{Request}
 use Rattle.httparse.specs.Grammar.{trim_ows, RequestHead}
 use Rattle.http_header.specs.FieldValue.{FieldValue}
-use Rattle.http1.specs.Fields.{Header, known_fields}
-use Rattle.http1.specs.Framing.{method_kind}
-use Rattle.http1.specs.Text.{eq_ignore_case}
+use Rattle.http1.{specs.Fields.{Header, known_fields}, specs.Framing.method_kind, specs.Text.eq_ignore_case}
 use Rattle.http_server.specs.declared.state.Config.{Config}
 use Rattle.http_server.specs.Exchange.{IsAdded, Call, IsAnswer as IsAnswerOf}
-use Rattle.server_connection.specs.Connection.{Exchanged}
-use Rattle.server_connection.specs.Encoding.{content_len, plan_fields}
-use Rattle.server_connection.specs.Pieces.{total_len}
-use Rattle.server_connection.specs.declared.plan.Plan.{Plan}
+use Rattle.server_connection.{specs.Connection.Exchanged, specs.Encoding.{content_len, plan_fields}}
+use Rattle.server_connection.{specs.Pieces.total_len, specs.declared.plan.Plan.Plan}
 use Rattle.server_service.specs.Answer.{cache_fields, clock, closing_fields, date_fields, date_of, sniff_field}
-use Rattle.server_service.specs.File.{len_of}
-use Rattle.server_service.specs.Response.{trimmed_lines}
-use Rattle.headers.specs.Text.{trim}
-use Rattle.server_service.specs.Memory.{HasOne, IsKept}
-use Rattle.server_service.specs.SiteSettings.{IsSiteOf}
-use Rattle.server_files.specs.Tags.{content_digest, strong_tag}
-use Rattle.server_files.specs.declared.coding.Coding.TheVariants.{Identity}
-use Rattle.server_service.specs.declared.file.Entry.TheVariants.{Readable}
-use Rattle.server_service.specs.declared.file.File.{File}
-use Rattle.server_files.specs.declared.kept.Kept.{Kept}
-use Rattle.server_service.specs.declared.memory.Memory.{Memory}
-use Rattle.server_service.specs.declared.service.FileService.{FileService}
-use Rattle.server_service.specs.declared.settings.Settings.{Settings}
+use Rattle.server_service.{specs.File.len_of, specs.Response.trimmed_lines, specs.Memory.{HasOne, IsKept}}
+use Rattle.server_service.{specs.SiteSettings.IsSiteOf, specs.declared.file.Entry.TheVariants.Readable}
+use Rattle.server_service.{specs.declared.file.File.File, specs.declared.memory.Memory.Memory}
+use Rattle.server_service.{specs.declared.service.FileService.FileService, specs.declared.settings.Settings.Settings}
 use Rattle.server_service.specs.declared.source.Source.{Source}
+use Rattle.headers.specs.Text.{trim}
+use Rattle.server_files.{specs.Tags.{content_digest, strong_tag}, specs.declared.coding.Coding.TheVariants.Identity}
+use Rattle.server_files.specs.declared.kept.Kept.{Kept}
 use Rattle.server_service.specs.declared.source.Source.TheVariants.{Kept as InMemory, Opened}
-use Rattle.server_laws.specs.Answered.{HasNoOptions, IsWhole, SendsContent, whole_fields}
-use Rattle.server_laws.specs.Framed.{IsOk, StaysOpen}
-use Rattle.server_laws.specs.Literal.{AsksForRoot, ok_fields, ok_text, request_text, root_head}
-use Rattle.server_laws.specs.Served.{IsServedFile, gives, plans}
-use Rattle.server_laws.proofs.ExchangeLemmas.{IsSendable, one_call, waits_for_nothing}
-use Rattle.server_laws.proofs.RequestLemmas.{get_asked, one_get}
-use Rattle.server_laws.proofs.SentLemmas.{answer_sent}
+use Rattle.server_laws.{specs.Answered.{HasNoOptions, IsWhole, SendsContent, whole_fields}, specs.Framed.IsOk}
+use Rattle.server_laws.{specs.Framed.StaysOpen, specs.Literal.{AsksForRoot, ok_fields, ok_text, request_text}}
+use Rattle.server_laws.{specs.Literal.root_head, specs.Served.{IsServedFile, gives, plans}}
+use Rattle.server_laws.{proofs.ExchangeLemmas.{IsSendable, one_call, waits_for_nothing}, proofs.RequestLemmas.get_asked}
+use Rattle.server_laws.{proofs.RequestLemmas.one_get, proofs.SentLemmas.answer_sent, specs.Sendable.IsBareIfAny}
+use Rattle.server_laws.{proofs.OkLemmas.framed_literally, proofs.RootLemmas.get_root}
+use Rattle.server_laws.proofs.TrimmedLemmas.{decimal_trimmed, fixdate_trimmed}
 use Rattle.server_connection.specs.Literal.{SendsCall}
 use Rattle.http1.specs.Server.{is_head}
-use Rattle.server_laws.specs.Sendable.{IsBareIfAny}
-use Rattle.server_laws.proofs.OkLemmas.{framed_literally}
-use Rattle.server_laws.proofs.RootLemmas.{get_root}
-use Rattle.server_laws.proofs.TrimmedLemmas.{decimal_trimmed, fixdate_trimmed}
 
 -- ---- the fields
 

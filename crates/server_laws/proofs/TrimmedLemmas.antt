@@ -1,15 +1,11 @@
 -- Values of the server's own that have no white space at their ends.
 use Rattle.std.proofs.Common.{◌≡◌, ℕ, zero, suc, ◌-◌, ◌^◌, ◌<◌, true, List, [], ◌∷◌, ◌++◌, codes, reverse, refl, sym}
-use Rattle.std.proofs.Common.{ap, ◌∙◌}
-use Rattle.std.specs.Prelude.{decimal, slice_index_or}
-use Rattle.std.proofs.lemmas.Bool.{and_parts}
-use Rattle.http1.specs.Head.{is_field_value, starts_visible}
-use Rattle.http1.specs.Text.{numeral}
+use Rattle.std.{proofs.Common.{ap, ◌∙◌}, specs.Prelude.{decimal, slice_index_or}, proofs.lemmas.Bool.and_parts}
+use Rattle.http1.{specs.Head.{is_field_value, starts_visible}, specs.Text.numeral}
 use Rattle.http1.proofs.NumeralLemmas.{decimal_is_trimmed}
 use Rattle.httpdate.specs.Text.{day_name, four_digits, imf_fixdate, month_name, time_of_day, two_digits}
 use Rattle.httpdate.specs.declared.parts.Parts.{Parts}
-use Rattle.headers.specs.Date.{fixdate, parts_at}
-use Rattle.headers.specs.Text.{trim}
+use Rattle.headers.{specs.Date.{fixdate, parts_at}, specs.Text.trim}
 use Rattle.server_service.proofs.TrimLemmas.{ends_append, trim_ended, trim_visible}
 use Rattle.server_laws.proofs.FramingLemmas.{decimal_is_numeral}
 

@@ -3,20 +3,16 @@ use Rattle.std.specs.Prelude.{◌≡◌, ℕ, false, List, [], ◌∷◌, ◌++�
 use Rattle.http1.specs.Fields.{Header}
 use Rattle.http_header.specs.FieldValue.{FieldValue}
 use Rattle.headers.specs.Date.{fixdate}
-use Rattle.server_connection.specs.Pieces.{AreSent}
-use Rattle.server_connection.specs.declared.piece.Piece.{Piece}
+use Rattle.server_connection.{specs.Pieces.AreSent, specs.declared.piece.Piece.Piece}
 use Rattle.server_connection.specs.declared.piece.Piece.TheVariants.{Range}
 use Rattle.server_connection.specs.declared.plan.Plan.{Plan as Response}
 use Rattle.decide_preconditions.specs.Fields.{lines_sent, not_after}
 use Rattle.decide_resource.specs.Fields.{lines_of_value}
-use Rattle.server_service.specs.Answer.{cache_fields, clock, first_fields}
-use Rattle.server_service.specs.File.{coding_value, gives_of, len_of, tag_of}
-use Rattle.server_service.specs.Response.{fields_of, lines_under, trimmed_lines}
-use Rattle.server_service.specs.declared.file.File.{File}
+use Rattle.server_service.{specs.Answer.{cache_fields, clock, first_fields}, specs.File.{coding_value, gives_of}}
+use Rattle.server_service.{specs.File.{len_of, tag_of}, specs.Response.{fields_of, lines_under, trimmed_lines}}
+use Rattle.server_service.{specs.declared.file.File.File, specs.declared.settings.Settings.Settings}
+use Rattle.server_service.{specs.declared.settings.Site.Site, specs.declared.source.Source.Source}
 use Rattle.server_files.specs.declared.kept.Kept.{Kept}
-use Rattle.server_service.specs.declared.settings.Settings.{Settings}
-use Rattle.server_service.specs.declared.settings.Site.{Site}
-use Rattle.server_service.specs.declared.source.Source.{Source}
 use Rattle.server_service.specs.declared.source.Source.TheVariants.{Kept as InMemory}
 
 -- Cache-Control isn't asked for, all hosts are served, no codings are negotiated, and there is no policy for requests

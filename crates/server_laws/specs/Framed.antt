@@ -1,12 +1,9 @@
 -- Responses whose heads are literal.
 use Rattle.std.specs.Prelude.{◌≡◌, ℕ, true, List, Option}
 use Rattle.httparse.specs.Grammar.{RequestHead}
-use Rattle.http1.specs.declared.framing.MethodKind.TheVariants.{Other}
-use Rattle.http1.specs.Conn.{keeps_alive}
-use Rattle.http1.specs.Framing.{method_kind}
-use Rattle.http1.specs.Message.{known_of}
-use Rattle.server_connection.specs.declared.plan.Plan.{Plan}
-use Rattle.server_connection.specs.Encoding.{content_len, plan_fields}
+use Rattle.http1.{specs.declared.framing.MethodKind.TheVariants.Other, specs.Conn.keeps_alive}
+use Rattle.http1.{specs.Framing.method_kind, specs.Message.known_of}
+use Rattle.server_connection.{specs.declared.plan.Plan.Plan, specs.Encoding.{content_len, plan_fields}}
 use Rattle.server_laws.specs.Literal.{ok_fields}
 
 -- the request is one of HTTP/1.1 that lets the connection stay open, and neither HEAD nor CONNECT

@@ -1,12 +1,10 @@
 -- Requests that are written out.
 use Rattle.std.specs.Prelude.{◌≡◌, ℕ, List, [], ◌∷◌, ◌++◌, Option, Some, None, codes, decimal}
-use Rattle.http.specs.declared.request.Request.{Request}
-use Rattle.http.specs.Request.{body_of, head_of}
+use Rattle.http.{specs.declared.request.Request.Request, specs.Request.{body_of, head_of}}
 use Rattle.httparse.specs.Grammar.{RequestHead}
 use Rattle.http_header.specs.FieldValue.{plain_value}
 use Rattle.http_uri.specs.Uri.{uri_authority, uri_path, uri_query}
-use Rattle.http1.specs.Fields.{Header}
-use Rattle.http1.specs.Head.{request_head}
+use Rattle.http1.{specs.Fields.Header, specs.Head.request_head}
 use Rattle.http1_typed.specs.Parts.{version_of}
 use Rattle.headers.specs.Date.{fixdate}
 use Rattle.server_service.specs.Answer.{date_fields}

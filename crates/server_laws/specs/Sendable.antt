@@ -1,12 +1,9 @@
 -- Responses that a connection sends.
 use Rattle.std.specs.Prelude.{◌≡◌, ◌≢◌, ◌⊎◌, ℕ, ◌≤◌, Bool, true, false, ◌&&◌, List, [], ◌∷◌, codes, decimal}
-use Rattle.std.specs.Prelude.{if◌then◌else◌, nat_lt, Option, Some, None, ⊤}
-use Rattle.std.specs.List.{list_all}
+use Rattle.std.{specs.Prelude.{if◌then◌else◌, nat_lt, Option, Some, None, ⊤}, specs.List.list_all}
 use Rattle.std.specs.Option.{option_map_or}
-use Rattle.http1.specs.declared.framing.MethodKind.{MethodKind}
-use Rattle.http1.specs.Conn.{is_connect}
-use Rattle.http1.specs.Fields.{Header, values_named}
-use Rattle.http1.specs.Head.{is_header}
+use Rattle.http1.{specs.declared.framing.MethodKind.MethodKind, specs.Conn.is_connect, specs.Fields.Header}
+use Rattle.http1.{specs.Fields.values_named, specs.Head.is_header}
 use Rattle.decide_cors.specs.Policy.{Policy}
 use Rattle.server_service.specs.Response.{is_bare}
 

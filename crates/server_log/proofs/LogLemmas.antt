@@ -1,10 +1,8 @@
 -- What is logged of a text has no quote.
 use Rattle.std.proofs.Common.{◌≡◌, ℕ, ◌/◌, ◌%◌, ◌<◌, Bool, true, false, List, [], ◌∷◌, ◌++◌, refl, arith}
-use Rattle.std.proofs.lemmas.Bool.Decides.{nat_tests}
-use Rattle.std.proofs.lemmas.List.Elements.{All-head, All-tail}
-use Rattle.std.proofs.lemmas.List.Sums.{AllPass-from_list_all}
-use Rattle.std.specs.List.{list_all}
-use Rattle.std.specs.Prelude.{All, codes, if◌then◌else◌, slice_index}
+use Rattle.std.{proofs.lemmas.Bool.Decides.nat_tests, proofs.lemmas.List.Elements.{All-head, All-tail}}
+use Rattle.std.{proofs.lemmas.List.Sums.AllPass-from_list_all, specs.List.list_all, specs.Prelude.{All, codes}}
+use Rattle.std.specs.Prelude.{if◌then◌else◌, slice_index}
 use Rattle.hex.specs.Hex.{encode_lower, encode_with, lower_digits}
 use Rattle.server_log.specs.Log.{is_plain_byte, is_quotable, logged, logged_byte}
 

@@ -1,14 +1,9 @@
 -- The components of a path, one by one, and whether one of them is `..`.
-use Rattle.std.proofs.Common.{◌≡◌, ◌≢◌, ◌↔◌, ◌<◌, ℕ, Bool, List, Option, ap, codes, length, subst}
-use Rattle.std.proofs.Common.{All, HoldsAt, IsTrue, MatchBool}
-use Rattle.std.proofs.lemmas.Bool.{MatchBool-at_true}
-use Rattle.std.proofs.lemmas.Iterator.{YieldsList}
-use Rattle.std.proofs.lemmas.Iterator.Consumers.{YieldsList-from_shown}
-use Rattle.std.proofs.lemmas.Iterator.Search.{true_from_All}
-use Rattle.std.proofs.lemmas.List.Elements.{All-from_all_within}
-use Rattle.std.specs.List.{AllWithin}
-use Rattle.std.specs.Path.{IsNextComponent, component_bytes, components_remaining}
-use Rattle.std.specs.declared.path.components.Component.{Component}
+use Rattle.std.proofs.Common.{◌≡◌, ◌≢◌, ◌↔◌, ◌<◌, ℕ, Bool, List, Option, ap, codes, length, subst, All, HoldsAt, IsTrue}
+use Rattle.std.{proofs.Common.MatchBool, proofs.lemmas.Bool.MatchBool-at_true, proofs.lemmas.Iterator.YieldsList}
+use Rattle.std.{proofs.lemmas.Iterator.Consumers.YieldsList-from_shown, proofs.lemmas.Iterator.Search.true_from_All}
+use Rattle.std.{proofs.lemmas.List.Elements.All-from_all_within, specs.List.AllWithin, specs.Path.IsNextComponent}
+use Rattle.std.{specs.Path.{component_bytes, components_remaining}, specs.declared.path.components.Component.Component}
 use Rattle.std.specs.declared.path.components.Components.{Components}
 
 abbrev Steps : Components → Option Component → Components → Type 0

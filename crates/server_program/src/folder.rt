@@ -1,6 +1,5 @@
 //! The files of a folder.
-ghost use Rattle.std.specs.Prelude.{◌≡◌, ◌&&◌, ℕ, false, List, IfOk};
-ghost use Rattle.std.specs.IoError.{error_kind};
+ghost use Rattle.std.{specs.Prelude.{◌≡◌, ◌&&◌, ℕ, false, List, IfOk}, specs.IoError.error_kind};
 ghost use Rattle.server_service.specs.Stores.{ListsOwn};
 ghost use Rattle.server_program.specs.Entries.{entry_for, is_missing};
 

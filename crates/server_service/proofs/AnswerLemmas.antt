@@ -1,48 +1,36 @@
 -- What the answer of a resource sends.
-use Rattle.std.proofs.Common.{◌≡◌, ℕ, Bool, true, false, List, [], ◌++◌, Option, Some, None, ap, sym, subst, arith}
-use Rattle.std.proofs.Common.{◌∙◌, Bor}
-use Rattle.std.proofs.lemmas.List.Elements.{All-head}
-use Rattle.std.proofs.lemmas.Option.{slice_get-map}
-use Rattle.std.specs.Bool.{MatchBool}
-use Rattle.std.specs.Option.{is_some, option_map}
-use Rattle.std.specs.Prelude.{⊤, map, option_copied, slice_get, string_bytes}
+use Rattle.std.proofs.Common.{◌≡◌, ℕ, Bool, true, false, List, [], ◌++◌, Option, Some, None, ap, sym, subst, arith, ◌∙◌}
+use Rattle.std.{proofs.Common.Bor, proofs.lemmas.List.Elements.All-head, proofs.lemmas.Option.slice_get-map}
+use Rattle.std.{specs.Bool.MatchBool, specs.Option.{is_some, option_map}, specs.Prelude.{⊤, map, option_copied}}
+use Rattle.std.specs.Prelude.{slice_get, string_bytes}
 use Rattle.http_header.specs.FieldValue.{FieldValue}
 use Rattle.http1.specs.Fields.{Header}
 use Rattle.headers.specs.LineMap.{Field, LineMap}
 use Rattle.memchr.specs.Find.{FindsNeedle}
-use Rattle.decide_preconditions.specs.Contents.{divisible_len, limits_of}
-use Rattle.decide_preconditions.specs.Parts.{IsPartOf}
-use Rattle.decide_preconditions.specs.Plans.{IsPlan}
-use Rattle.decide_preconditions.specs.Responses.{IsAnswered}
-use Rattle.decide_preconditions.specs.declared.limits.RangeLimits.{RangeLimits}
-use Rattle.decide_preconditions.specs.declared.plan.Plan.{Plan}
-use Rattle.decide_preconditions.specs.declared.plan.Plan.TheVariants.{NotModified, Failed, Full, Single, Multiple}
-use Rattle.decide_preconditions.specs.declared.plan.Plan.TheVariants.{Unsatisfiable}
+use Rattle.decide_preconditions.{specs.Contents.{divisible_len, limits_of}, specs.Parts.IsPartOf, specs.Plans.IsPlan}
+use Rattle.decide_preconditions.{specs.Responses.IsAnswered, specs.declared.limits.RangeLimits.RangeLimits}
+use Rattle.decide_preconditions.{specs.declared.plan.Plan.Plan, specs.declared.plan.Plan.TheVariants.NotModified}
+use Rattle.decide_preconditions.specs.declared.plan.Plan.TheVariants.{Failed, Full, Single, Multiple, Unsatisfiable}
 use Rattle.decide_preconditions.specs.declared.resource.Resource.{Resource as Target}
 use Rattle.decide_preconditions.specs.declared.response.Response.{Response}
 use Rattle.decide_resource.specs.Answers.{GivesIf, IsAnswer, at_place, content_of, is_admitted, is_sent, sent_for}
 use Rattle.decide_resource.specs.Answers.{target_of}
 use Rattle.decide_resource.specs.Requests.{Request as Asked}
-use Rattle.decide_resource.specs.declared.answer.Answer.{Answer}
-use Rattle.decide_resource.specs.declared.answer.Sends.{Sends}
+use Rattle.decide_resource.{specs.declared.answer.Answer.Answer, specs.declared.answer.Sends.Sends}
 use Rattle.decide_resource.specs.declared.answer.Sends.TheVariants.{Nothing, Alternatives, Planned, Perform}
-use Rattle.decide_resource.specs.declared.reason.Reason.{Reason}
-use Rattle.decide_resource.specs.declared.reason.Reason.TheVariants.{InvalidHost, Misdirected, UnknownMethod}
-use Rattle.decide_resource.specs.declared.reason.Reason.TheVariants.{MethodNotAllowed, Options, UnmetExpectation}
-use Rattle.decide_resource.specs.declared.reason.Reason.TheVariants.{PartialContent}
-use Rattle.decide_resource.specs.declared.reason.Reason.TheVariants.{Moved, Gone, NotFound, LengthRequired}
-use Rattle.decide_resource.specs.declared.reason.Reason.TheVariants.{ContentTooLarge, UnsupportedMediaType}
-use Rattle.decide_resource.specs.declared.reason.Reason.TheVariants.{UnsupportedCoding, NotAcceptable}
-use Rattle.decide_resource.specs.declared.reason.Reason.TheVariants.{PreconditionRequired, Admitted}
+use Rattle.decide_resource.{specs.declared.reason.Reason.Reason, specs.declared.reason.Reason.TheVariants.InvalidHost}
+use Rattle.decide_resource.specs.declared.reason.Reason.TheVariants.{Misdirected, UnknownMethod, MethodNotAllowed}
+use Rattle.decide_resource.specs.declared.reason.Reason.TheVariants.{Options, UnmetExpectation, PartialContent, Moved}
+use Rattle.decide_resource.specs.declared.reason.Reason.TheVariants.{Gone, NotFound, LengthRequired, ContentTooLarge}
+use Rattle.decide_resource.specs.declared.reason.Reason.TheVariants.{UnsupportedMediaType, UnsupportedCoding}
+use Rattle.decide_resource.specs.declared.reason.Reason.TheVariants.{NotAcceptable, PreconditionRequired, Admitted}
 use Rattle.decide_resource.specs.declared.representation.Representation.{Representation}
 use Rattle.decide_resource.specs.declared.resource.Resource.{Resource}
 use Rattle.decide_cors.specs.Policy.{Policy}
 use Rattle.server_connection.specs.declared.plan.Plan.{Plan as Exchanged}
 use Rattle.server_service.specs.Answer.{Carries, FitsIn, FitsOf, cache_sent, explained_fields, pieces_for}
-use Rattle.server_service.specs.File.{len_of, representation_of}
-use Rattle.server_service.specs.Parts.{Fits, Occurs}
-use Rattle.server_service.specs.Response.{headers_sent, trimmed_lines}
-use Rattle.server_service.specs.declared.settings.Site.{Site}
+use Rattle.server_service.{specs.File.{len_of, representation_of}, specs.Parts.{Fits, Occurs}}
+use Rattle.server_service.{specs.Response.{headers_sent, trimmed_lines}, specs.declared.settings.Site.Site}
 use Rattle.server_service.specs.declared.file.File.{File}
 
 -- the parts of a plan lie in the representation

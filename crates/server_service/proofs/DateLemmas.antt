@@ -1,12 +1,8 @@
 -- Without a clock a content has its own date.
-use Rattle.std.proofs.Common.{◌≡◌, ◌≤◌, ℕ, zero, suc, List, [], ◌∷◌, Option, Some, None, ap, refl, max, min}
-use Rattle.std.proofs.Common.{arith}
-use Rattle.std.specs.List.{fold}
-use Rattle.std.specs.Option.{option_and_then, unwrap_or}
-use Rattle.std.specs.Prelude.{slice_get}
+use Rattle.std.proofs.Common.{◌≡◌, ◌≤◌, ℕ, zero, suc, List, [], ◌∷◌, Option, Some, None, ap, refl, max, min, arith}
+use Rattle.std.{specs.List.fold, specs.Option.{option_and_then, unwrap_or}, specs.Prelude.slice_get}
 use Rattle.decide_preconditions.specs.Fields.{not_after}
-use Rattle.server_service.specs.Answer.{clock, later}
-use Rattle.server_service.specs.declared.file.File.{File}
+use Rattle.server_service.{specs.Answer.{clock, later}, specs.declared.file.File.File}
 
 abbrev seconds : File → ℕ
 seconds file = unwrap_or file.modified 0

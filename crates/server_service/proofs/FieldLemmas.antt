@@ -1,8 +1,6 @@
 -- Fields that are set in their order.
-use Rattle.std.proofs.Common.{◌≡◌, ℕ, Bool, ◌||◌, ◌≤◌, ◌<◌, ◌-◌, List, [], ◌∷◌, ◌++◌, length, take, drop, get_or}
-use Rattle.std.proofs.Common.{arith, refl, ap, sym, ◌∙◌}
-use Rattle.std.proofs.lemmas.List.{take_all}
-use Rattle.std.specs.List.{list_any}
+use Rattle.std.proofs.Common.{◌≡◌, ℕ, Bool, ◌||◌, ◌≤◌, ◌<◌, ◌-◌, List, [], ◌∷◌, ◌++◌, length, take, drop, get_or, arith}
+use Rattle.std.{proofs.Common.{refl, ap, sym, ◌∙◌}, proofs.lemmas.List.take_all, specs.List.list_any}
 use Rattle.std.specs.Prelude.{bytes_eq}
 use Rattle.headers.specs.LineMap.{field_of, fields_of as encoded_fields}
 use Rattle.headers.specs.declared.Encoded.{Encoded}

@@ -1,49 +1,35 @@
 -- A request has one response at most.
-use Rattle.std.proofs.Common.{◌≡◌, ℕ, Bool, true, List, [], ◌++◌, Option, Some, None, refl, map}
-use Rattle.std.proofs.Common.{sym, ap, subst, ◌∙◌, inl, inr}
-use Rattle.std.specs.Prelude.{is_some, string_bytes}
-use Rattle.http.specs.declared.request.Request.{Request}
-use Rattle.http.specs.Request.{head_of}
-use Rattle.http_uri.specs.declared.uri.Uri.{Uri}
-use Rattle.http_uri.specs.Uri.{uri_authority, uri_path, uri_query}
+use Rattle.std.proofs.Common.{◌≡◌, ℕ, Bool, true, List, [], ◌++◌, Option, Some, None, refl, map, sym, ap, subst, ◌∙◌}
+use Rattle.std.{proofs.Common.{inl, inr}, specs.Prelude.{is_some, string_bytes}}
+use Rattle.http.{specs.declared.request.Request.Request, specs.Request.head_of}
+use Rattle.http_uri.{specs.declared.uri.Uri.Uri, specs.Uri.{uri_authority, uri_path, uri_query}}
 use Rattle.http1.specs.Fields.{Header}
 use Rattle.headers.specs.LineMap.{Field, LineMap, fields_of as encoded_fields}
 use Rattle.headers.specs.Lines.{Line}
 use Rattle.server_connection.specs.declared.piece.Piece.{Piece}
 use Rattle.server_connection.specs.declared.plan.Plan.{Plan as Response}
 use Rattle.gateway_messages.specs.declared.protocol.Protocol.{Protocol}
-use Rattle.decide_preconditions.specs.Contents.{divisible_len, limits_of}
-use Rattle.decide_preconditions.specs.declared.part.Part.{Part}
+use Rattle.decide_preconditions.{specs.Contents.{divisible_len, limits_of}, specs.declared.part.Part.Part}
 use Rattle.decide_preconditions.specs.declared.plan.Plan.TheVariants.{Full, Multiple}
 use Rattle.decide_resource.specs.Answers.{AreSame, AreSent, IsAnswer, at_place, content_of, target_of}
 use Rattle.decide_resource.specs.Requests.{Request as Asked, head_of as as_head}
-use Rattle.decide_resource.specs.declared.answer.Answer.{Answer}
-use Rattle.decide_resource.specs.declared.answer.Sends.{Sends}
+use Rattle.decide_resource.{specs.declared.answer.Answer.Answer, specs.declared.answer.Sends.Sends}
 use Rattle.decide_resource.specs.declared.answer.Sends.TheVariants.{Nothing, Alternatives, Planned, Perform}
-use Rattle.decide_resource.specs.declared.reason.Reason.{Reason}
-use Rattle.decide_resource.specs.declared.request.RequestContent.{RequestContent}
-use Rattle.decide_resource.specs.declared.resource.Resource.{Resource}
-use Rattle.decide_resource.specs.declared.resource.State.{State}
-use Rattle.decide_resource.proofs.AnswerLemmas.{one_answer}
-use Rattle.decide_resource.proofs.ItemLemmas.{same_answer}
+use Rattle.decide_resource.{specs.declared.reason.Reason.Reason, specs.declared.request.RequestContent.RequestContent}
+use Rattle.decide_resource.{specs.declared.resource.Resource.Resource, specs.declared.resource.State.State}
+use Rattle.decide_resource.{proofs.AnswerLemmas.one_answer, proofs.ItemLemmas.same_answer}
 use Rattle.server_files.specs.declared.listing.Listing.{Listing}
 use Rattle.server_service.specs.Answer.{Carries, Decides, IsAnswerAt, IsDescribed, IsHeldBy, IsSendable, cache_sent}
 use Rattle.server_service.specs.Answer.{clock, explained_fields, file_at, file_sent, first_fields, pieces_for}
-use Rattle.server_service.specs.Answer.{pieces_of, sends_several, status_for}
-use Rattle.server_service.specs.Asked.{Asks, HasAuthority, IsProtocolOf}
-use Rattle.server_service.specs.File.{representation_of}
-use Rattle.server_service.specs.Found.{FindsEntry, FindsFolder, FindsListing, IsAbsent, LeadsTo}
-use Rattle.server_service.specs.Multipart.{multipart}
+use Rattle.server_service.{specs.Answer.{pieces_of, sends_several, status_for}, specs.Asked.{Asks, HasAuthority}}
+use Rattle.server_service.{specs.Asked.IsProtocolOf, specs.File.representation_of, specs.Found.FindsEntry}
+use Rattle.server_service.{specs.Found.{FindsFolder, FindsListing, IsAbsent, LeadsTo}, specs.Multipart.multipart}
 use Rattle.server_service.specs.Response.{IsSameResponse, headers_sent, trimmed_lines}
-use Rattle.server_service.specs.declared.file.Entry.{Entry}
-use Rattle.server_service.specs.declared.file.Entry.TheVariants.{Missing, Forbidden, Unavailable}
-use Rattle.server_service.specs.declared.file.Entry.TheVariants.{Folder, Listed, Readable}
-use Rattle.server_service.specs.declared.file.File.{File}
-use Rattle.server_service.specs.declared.found.Found.{Found}
-use Rattle.server_service.specs.declared.settings.Site.{Site}
-use Rattle.server_service.specs.declared.source.Source.{Source}
-use Rattle.server_service.proofs.AnswerLemmas.{IsPlanOf, IsPlannedIn, planned_in}
-use Rattle.server_service.proofs.PlanLemmas.{same_by_plan}
+use Rattle.server_service.{specs.declared.file.Entry.Entry, specs.declared.file.Entry.TheVariants.{Missing, Forbidden}}
+use Rattle.server_service.specs.declared.file.Entry.TheVariants.{Unavailable, Folder, Listed, Readable}
+use Rattle.server_service.{specs.declared.file.File.File, specs.declared.found.Found.Found}
+use Rattle.server_service.{specs.declared.settings.Site.Site, specs.declared.source.Source.Source}
+use Rattle.server_service.{proofs.AnswerLemmas.{IsPlanOf, IsPlannedIn, planned_in}, proofs.PlanLemmas.same_by_plan}
 use Rattle.server_service.proofs.RepresentationLemmas.{contents_once}
 
 -- ---- what a path leads to

@@ -1,11 +1,8 @@
 -- Reads of the bytes of a file.
-use Rattle.std.proofs.Common.{◌≡◌, ℕ, ◌-◌, ◌≤◌, List, ◌++◌, length, min, take, drop, arith, ap, sym, ◌∙◌}
-use Rattle.std.proofs.Common.{IfOk, Result, Ok, Err, take_all}
-use Rattle.std.proofs.Math.Nat.{min-le_left}
-use Rattle.std.proofs.lemmas.List.{length-append, length-drop, length-take-le, take-append-le}
-use Rattle.std.specs.Io.{ReadsAtMost}
-use Rattle.server_service.specs.File.{Reads, gives_at}
-use Rattle.server_service.specs.declared.source.Source.{Source}
+use Rattle.std.proofs.Common.{◌≡◌, ℕ, ◌-◌, ◌≤◌, List, ◌++◌, length, min, take, drop, arith, ap, sym, ◌∙◌, IfOk, Result}
+use Rattle.std.{proofs.Common.{Ok, Err, take_all}, proofs.Math.Nat.min-le_left, proofs.lemmas.List.length-append}
+use Rattle.std.{proofs.lemmas.List.{length-drop, length-take-le, take-append-le}, specs.Io.ReadsAtMost}
+use Rattle.server_service.{specs.File.{Reads, gives_at}, specs.declared.source.Source.Source}
 use Rattle.server_service.specs.declared.source.Source.TheVariants.{Kept, Opened}
 
 -- so many bytes of a content were read from a place on into a buffer

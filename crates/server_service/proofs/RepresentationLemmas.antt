@@ -1,10 +1,8 @@
 -- A file has one list of contents.
 use Rattle.std.proofs.Common.{◌≡◌, ℕ, Bool, true, false, List, [], ◌∷◌, ◌++◌, refl, sym, ap, ◌∙◌, inl, inr}
-use Rattle.server_files.specs.Codings.{coding_suffix}
+use Rattle.server_files.{specs.Codings.coding_suffix, specs.declared.coding.Coding.TheVariants.{Identity, Brotli, Gzip}}
 use Rattle.server_service.specs.Representations.{AreContents, AreOffers, HasEntryAt, offered, represented}
-use Rattle.server_files.specs.declared.coding.Coding.TheVariants.{Identity, Brotli, Gzip}
-use Rattle.server_service.specs.declared.file.Entry.{Entry}
-use Rattle.server_service.specs.declared.file.File.{File}
+use Rattle.server_service.{specs.declared.file.Entry.Entry, specs.declared.file.File.File}
 
 module _ (look : List ℕ → Entry) where
   abbrev Has : List ℕ → Entry → Type 0

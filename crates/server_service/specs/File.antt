@@ -1,21 +1,17 @@
 -- What a file gives: its bytes, and its validators.
 use Rattle.std.specs.Prelude.{◌≡◌, ℕ, ◌+◌, ◌-◌, min, nat_le, Bool, false, if◌then◌else◌, List, [], ◌++◌, length, take}
-use Rattle.std.specs.Prelude.{drop, Option, Some, None, Result, Ok, IsOkAnd, ⊤}
-use Rattle.std.specs.Io.{ReadsAtMost}
+use Rattle.std.{specs.Prelude.{drop, Option, Some, None, Result, Ok, IsOkAnd, ⊤}, specs.Io.ReadsAtMost}
 use Rattle.http_header.specs.FieldValue.{FieldValue, plain_value}
 use Rattle.server_connection.specs.Pieces.{Gives}
-use Rattle.decide_preconditions.specs.Limits.{usual_limits}
-use Rattle.decide_preconditions.specs.declared.content.Content.{Content}
+use Rattle.decide_preconditions.{specs.Limits.usual_limits, specs.declared.content.Content.Content}
 use Rattle.decide_preconditions.specs.declared.limits.RangeLimits.{RangeLimits}
 use Rattle.decide_preconditions.specs.declared.resource.Resource.{Resource}
 use Rattle.decide_preconditions.specs.declared.resource.Resource.TheVariants.{Current}
 use Rattle.decide_preconditions.specs.declared.resource.Validators.{Validators}
 use Rattle.decide_resource.specs.declared.representation.Representation.{Representation}
-use Rattle.server_files.specs.Codings.{coding_name, is_encoded}
-use Rattle.server_files.specs.Tags.{content_digest, strong_tag}
+use Rattle.server_files.{specs.Codings.{coding_name, is_encoded}, specs.Tags.{content_digest, strong_tag}}
 use Rattle.server_files.specs.declared.coding.Coding.{Coding}
-use Rattle.server_service.specs.declared.file.File.{File}
-use Rattle.server_service.specs.declared.source.Source.{Source}
+use Rattle.server_service.{specs.declared.file.File.File, specs.declared.source.Source.Source}
 use Rattle.server_service.specs.declared.source.Source.TheVariants.{Kept, Opened}
 
 -- how many bytes there are; of an open file, how many there were when it was opened

@@ -1,21 +1,15 @@
 -- What the path of a request leads to.
 use Rattle.std.specs.Prelude.{◌≡◌, ◌⊎◌, ℕ, Bool, true, false, List, [], ◌∷◌, Option, Some, None, codes, string_bytes}
 use Rattle.http_header.specs.FieldValue.{plain_value}
-use Rattle.http_uri.specs.declared.uri.Uri.{Uri}
-use Rattle.http_uri.specs.Uri.{uri_path, uri_query}
+use Rattle.http_uri.{specs.declared.uri.Uri.Uri, specs.Uri.{uri_path, uri_query}}
 use Rattle.decide_resource.specs.declared.resource.Redirect.TheVariants.{MovedPermanently}
 use Rattle.decide_resource.specs.declared.resource.State.TheVariants as state
-use Rattle.server_files.specs.Path.{IsIndexOf, Names, ends_in_slash}
-use Rattle.server_files.specs.Redirect.{HasNoIndex, index_target}
-use Rattle.server_files.specs.declared.coding.Coding.TheVariants.{Identity}
-use Rattle.server_files.specs.declared.listing.Listing.{Listing}
-use Rattle.server_service.specs.Representations.{AreContents}
-use Rattle.server_service.specs.declared.file.Entry.{Entry}
-use Rattle.server_service.specs.declared.file.Entry.TheVariants.{Missing, Forbidden, Unavailable}
-use Rattle.server_service.specs.declared.file.Entry.TheVariants.{Folder, Listed, Readable}
-use Rattle.server_service.specs.declared.file.File.{File}
-use Rattle.server_service.specs.declared.found.Found.{Found}
-use Rattle.server_service.specs.declared.source.Source.TheVariants.{Kept}
+use Rattle.server_files.{specs.Path.{IsIndexOf, Names, ends_in_slash}, specs.Redirect.{HasNoIndex, index_target}}
+use Rattle.server_files.{specs.declared.coding.Coding.TheVariants.Identity, specs.declared.listing.Listing.Listing}
+use Rattle.server_service.{specs.Representations.AreContents, specs.declared.file.Entry.Entry}
+use Rattle.server_service.specs.declared.file.Entry.TheVariants.{Missing, Forbidden, Unavailable, Folder, Listed}
+use Rattle.server_service.{specs.declared.file.Entry.TheVariants.Readable, specs.declared.file.File.File}
+use Rattle.server_service.{specs.declared.found.Found.Found, specs.declared.source.Source.TheVariants.Kept}
 
 -- there is nothing to send, and a read is answered by this status
 pub record IsAbsent (code : ℕ) (found : Found) : Type 0 where

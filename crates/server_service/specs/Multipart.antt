@@ -1,14 +1,9 @@
 -- Bodies of several parts (RFC 9110, section 14.6).
-use Rattle.std.specs.Prelude.{ℕ, List, [], ◌∷◌, ◌++◌, codes}
-use Rattle.std.specs.List.{flat_map}
-use Rattle.headers.specs.ContentBytes.{content_text}
-use Rattle.headers.specs.Lines.{Line}
-use Rattle.server_connection.specs.declared.piece.Piece.{Piece}
-use Rattle.server_connection.specs.declared.piece.Piece.TheVariants.{Literal, Range}
+use Rattle.std.{specs.Prelude.{ℕ, List, [], ◌∷◌, ◌++◌, codes}, specs.List.flat_map}
+use Rattle.headers.{specs.ContentBytes.content_text, specs.Lines.Line}
+use Rattle.server_connection.{specs.declared.piece.Piece.Piece, specs.declared.piece.Piece.TheVariants.{Literal, Range}}
 use Rattle.decide_preconditions.specs.declared.part.Part.{Part}
-use Rattle.server_service.specs.File.{len_of}
-use Rattle.server_service.specs.Parts.{part_extent, part_range}
-use Rattle.server_service.specs.declared.file.File.{File}
+use Rattle.server_service.{specs.File.len_of, specs.Parts.{part_extent, part_range}, specs.declared.file.File.File}
 
 -- one header line
 abbrev pub header_line : List ℕ → Line → List ℕ

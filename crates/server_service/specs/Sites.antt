@@ -1,8 +1,7 @@
 -- What all resources of a store have in common.
 use Rattle.std.specs.Prelude.{◌≡◌, ℕ, false, List, [], ◌∷◌, None, codes}
 use Rattle.decide_preconditions.specs.Boundaries.{multipart_type}
-use Rattle.decide_resource.specs.declared.resource.MethodRule.{MethodRule}
-use Rattle.decide_resource.specs.declared.resource.Resource.{Resource}
+use Rattle.decide_resource.{specs.declared.resource.MethodRule.MethodRule, specs.declared.resource.Resource.Resource}
 
 -- the method is GET, which stands for HEAD too, and asks nothing of a request
 pub record IsRead (rule : MethodRule) : Type 0 where

@@ -1,9 +1,7 @@
 //! The answer of a resource to a request.
-ghost use Rattle.std.specs.Prelude.{◌≡◌, IfOk, map, option_copied};
-ghost use Rattle.std.specs.Bool.{MatchBool};
+ghost use Rattle.std.{specs.Prelude.{◌≡◌, IfOk, map, option_copied}, specs.Bool.MatchBool};
 ghost use Rattle.decide_resource.specs.Requests.{request_of};
-ghost use Rattle.server_service.specs.Answer.{Decides, FitsIn, IsHeldBy, IsSendable};
-ghost use Rattle.server_service.specs.File.{representation_of};
+ghost use Rattle.server_service.{specs.Answer.{Decides, FitsIn, IsHeldBy, IsSendable}, specs.File.representation_of};
 ghost use Rattle.server_service.specs.Parts.{IsKnownToHold, Occurs};
 
 use crate::file::File;

@@ -1,9 +1,7 @@
 //! A store served over one connection.
-ghost use Rattle.std.specs.Prelude.{◌≡◌, ◌-◌, ℕ, List, is_ok};
-ghost use Rattle.std.specs.Io.KnownBytes.{Appends, Consumes};
+ghost use Rattle.std.{specs.Prelude.{◌≡◌, ◌-◌, ℕ, List, is_ok}, specs.Io.KnownBytes.{Appends, Consumes}};
 ghost use Rattle.server_connection.specs.Connection.{Exchanged};
-ghost use Rattle.server_service.specs.Answer.{IsAnswer, IsSameSite};
-ghost use Rattle.server_service.specs.File.{gives_of};
+ghost use Rattle.server_service.{specs.Answer.{IsAnswer, IsSameSite}, specs.File.gives_of};
 
 use crate::service::FileService;
 use crate::store::Store;

@@ -2,8 +2,7 @@
 ghost use Rattle.std.specs.Prelude.{◌≡◌, IfOk, option_copied};
 ghost use Rattle.http.specs.Request.{head_of};
 ghost use Rattle.http_uri.specs.Uri.{uri_path, uri_query};
-ghost use Rattle.server_service.specs.Found.{FindsEntry, FindsFolder, FindsListing, IsAbsent, LeadsTo};
-ghost use Rattle.server_service.specs.Found.{listed_file};
+ghost use Rattle.server_service.specs.Found.{FindsEntry, FindsFolder, FindsListing, IsAbsent, LeadsTo, listed_file};
 ghost use Rattle.server_service.specs.Stores.{ListsOwn};
 
 use crate::file::{Entry, File};

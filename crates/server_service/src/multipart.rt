@@ -1,9 +1,8 @@
 //! Bodies of several parts (RFC 9110, section 14.6).
 ghost use Rattle.std.specs.Prelude.{◌≡◌, ◌++◌, ◌∷◌, [], All, IfOk, OnOk, codes};
 ghost use Rattle.decide_preconditions.specs.Parts.{IsPartOf};
-ghost use Rattle.server_service.specs.File.{len_of};
-ghost use Rattle.server_service.specs.Multipart.{closing, header_line, header_text, multipart, opening};
-ghost use Rattle.server_service.specs.Multipart.{part_fields, part_head, part_pieces};
+ghost use Rattle.server_service.{specs.File.len_of, specs.Multipart.{closing, header_line, header_text, multipart}};
+ghost use Rattle.server_service.specs.Multipart.{opening, part_fields, part_head, part_pieces};
 ghost use Rattle.server_service.specs.Parts.{part_extent};
 
 use crate::file::File;

@@ -1,14 +1,11 @@
 //! The service: a request is answered from a store.
-ghost use Rattle.std.specs.Prelude.{◌≡◌, true, [], ◌++◌, IfOk, OnOk, take};
-ghost use Rattle.std.specs.Io.{ReadsAtMost};
-ghost use Rattle.std.specs.List.{fold};
+ghost use Rattle.std.{specs.Prelude.{◌≡◌, true, [], ◌++◌, IfOk, OnOk, take}, specs.Io.ReadsAtMost, specs.List.fold};
 ghost use Rattle.std.specs.Option.{unwrap_or};
 ghost use Rattle.headers.specs.LineMap.{fields_of as encoded_fields};
-ghost use Rattle.server_service.specs.Answer.{Carries, FitsIn, IsDescribed, clock, explained_fields, later};
-ghost use Rattle.server_service.specs.Answer.{pieces_for, pieces_sent, source_sent, status_for, tag_sent};
-ghost use Rattle.server_service.specs.File.{ReadsOf, gives_of, len_of};
-ghost use Rattle.server_service.specs.Parts.{Fits};
-ghost use Rattle.server_service.specs.Response.{fields_of, is_bare_tag};
+ghost use Rattle.server_service.specs.Answer.{Carries, FitsIn, IsDescribed, clock, explained_fields, later, pieces_for};
+ghost use Rattle.server_service.{specs.Answer.{pieces_sent, source_sent, status_for, tag_sent}, specs.File.ReadsOf};
+ghost use Rattle.server_service.{specs.File.{gives_of, len_of}, specs.Parts.Fits, specs.Response.fields_of};
+ghost use Rattle.server_service.specs.Response.{is_bare_tag};
 
 use crate::answer::decide;
 use crate::asked::{asked, authority_of};
@@ -218,8 +215,7 @@ fn describe(
 
 impl<S: Store> Handler for FileService<S> {
     ghost use Rattle.std.specs.Prelude.{◌≡◌, ◌-◌};
-    ghost use Rattle.server_service.specs.Answer.{IsAnswer, IsSameSite};
-    ghost use Rattle.server_service.specs.File.{gives_of};
+    ghost use Rattle.server_service.{specs.Answer.{IsAnswer, IsSameSite}, specs.File.gives_of};
 
     ghost plans = { λ before request plan after.
         IsAnswer (S.tells before.store) before.left before.site (S.has before.store) request plan after.source

@@ -1,7 +1,6 @@
 //! Where the bytes of a file come from.
 ghost use Rattle.std.specs.Prelude.{◌≡◌, true};
-ghost use Rattle.server_service.specs.File.{Reads, len_of, tag_of};
-ghost use Rattle.server_service.specs.Response.{is_bare_tag};
+ghost use Rattle.server_service.{specs.File.{Reads, len_of, tag_of}, specs.Response.is_bare_tag};
 
 use headers::ETag;
 use server_files::Kept;

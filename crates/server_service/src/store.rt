@@ -1,8 +1,7 @@
 //! Where files come from.
 ghost use Rattle.std.specs.Prelude.{◌≡◌, ℕ, true, List, Option, IfOk};
 ghost use Rattle.server_files.specs.Path.{is_plain};
-ghost use Rattle.server_service.specs.Stores.{ListsOwn};
-ghost use Rattle.server_service.specs.declared.file.Entry.{Entry};
+ghost use Rattle.server_service.{specs.Stores.ListsOwn, specs.declared.file.Entry.Entry};
 
 use crate::file::Entry;
 use bytes::Bytes;

@@ -1,8 +1,7 @@
 //! Calls of lists, below the headers: their items, their marks, and the pieces of a cut.
 ghost use Rattle.std.specs.Prelude.{◌≡◌, ◌<◌, true, length, count_by, IsTrue};
 ghost use Rattle.headers_syntax.specs.Text.{is_quote};
-ghost use Rattle.headers_items.specs.Places.{comma, is_counting_place};
-ghost use Rattle.headers_items.specs.CutLaw.{AreCuts};
+ghost use Rattle.headers_items.{specs.Places.{comma, is_counting_place}, specs.CutLaw.AreCuts};
 
 use headers::HeaderValue;
 use headers_items::{Comma, FlatCsv, Scan, Separator};

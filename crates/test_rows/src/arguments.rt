@@ -1,7 +1,6 @@
 //! The arguments of a call, as words.
 ghost use Rattle.std.specs.Prelude.{IfOk, IfSome};
-ghost use Rattle.headers_syntax.specs.Date.{IsDated};
-ghost use Rattle.headers_syntax.specs.Durations.{IsWholeSeconds};
+ghost use Rattle.headers_syntax.{specs.Date.IsDated, specs.Durations.IsWholeSeconds};
 
 use crate::failure::Failure;
 use crate::word::{NONE, read_bytes};

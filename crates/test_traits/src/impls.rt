@@ -1,6 +1,5 @@
 //! What the impls of equality, order, hash and copies promise to a caller.
-ghost use Rattle.std.specs.Prelude.{◌≡◌, ◌↔◌, IsTrue, IfOk, fold};
-ghost use Rattle.std.specs.Cmp.Lexicographic.{slice_cmp};
+ghost use Rattle.std.{specs.Prelude.{◌≡◌, ◌↔◌, IsTrue, IfOk, fold}, specs.Cmp.Lexicographic.slice_cmp};
 ghost use Rattle.std.specs.Hash as fed;
 ghost use Rattle.std.specs.Hash.DefaultHasher as sip;
 ghost use Rattle.std.specs.Ordering.{nat_cmp};

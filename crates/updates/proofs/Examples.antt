@@ -1,11 +1,8 @@
 -- What runs show: a lost update, and a client that reads a version older than its own.
 use Rattle.std.proofs.Common.{◌≡◌, ℕ, List, [], ◌∷◌, codes, slice_get, Some, refl, arith, inl}
-use Rattle.updates.specs.Events.{Guard, condition_on, run}
-use Rattle.updates.specs.Runs.{ann, bob, both_change, eggs, milk, numbered}
-use Rattle.updates.specs.Statements.{Has, LosesAnUpdate, ReadsOlder}
-use Rattle.updates.specs.Worlds.{Change, Put, Version, World, start}
-use Rattle.updates.specs.Worlds.Request.{Get}
-use Rattle.updates.specs.Worlds.Response.{Status200}
+use Rattle.updates.{specs.Events.{Guard, condition_on, run}, specs.Runs.{ann, bob, both_change, eggs, milk, numbered}}
+use Rattle.updates.{specs.Statements.{Has, LosesAnUpdate, ReadsOlder}, specs.Worlds.{Change, Put, Version, World}}
+use Rattle.updates.{specs.Worlds.start, specs.Worlds.Request.Get, specs.Worlds.Response.Status200}
 
 abbrev put_of : ℕ → Guard → List ℕ → Put
 put_of client guard content =

@@ -3,12 +3,10 @@ use Rattle.std.proofs.Common.{◌≡◌, ℕ, Bool, true, false, cond, List, [],
 use Rattle.std.proofs.Common.{sym, ap, ◌∙◌, append_assoc}
 use Rattle.updates.specs.Events.{Event, Guard, happens, run, sends, sends_put, arrives, forwards, sends_stored, serves}
 use Rattle.updates.specs.Events.{returns, made_of, performs, refusal, answers_put, answers, refuses, with_tag, freshens}
-use Rattle.updates.specs.Events.{answers_tag}
-use Rattle.updates.specs.Events.Event.{Ticks, SendsGet, SendsPut, Forwards, Serves, ServesTag, AnswersTag, Freshens}
-use Rattle.updates.specs.Events.Event.{Answers, Refuses, Returns, Arrives}
+use Rattle.updates.{specs.Events.answers_tag, specs.Events.Event.{Ticks, SendsGet, SendsPut, Forwards, Serves}}
+use Rattle.updates.specs.Events.Event.{ServesTag, AnswersTag, Freshens, Answers, Refuses, Returns, Arrives}
 use Rattle.updates.specs.Worlds.{Version, Put, Request, Response, Hop, Message, Change, World, given, is_true}
-use Rattle.updates.specs.Worlds.Request.{Get, Puts}
-use Rattle.updates.specs.Worlds.Response.{Status200, Status204, Status304}
+use Rattle.updates.{specs.Worlds.Request.{Get, Puts}, specs.Worlds.Response.{Status200, Status204, Status304}}
 use Rattle.updates.specs.Worlds.Message.{Going, Coming}
 
 abbrev pub Keeps : World → World → Type 0

@@ -1,24 +1,19 @@
 -- What a client reads after its own write.
 use Rattle.std.proofs.Common.{◌≡◌, ℕ, zero, ◌≤◌, Bool, true, false, cond, max, List, [], ◌∷◌, slice_get, nat_eq}
 use Rattle.std.proofs.Common.{bytes_eq, Option, Some, None, refl, sym, ap, subst, arith, ◌∙◌, eq-eqb, inl, inr, le_refl}
-use Rattle.std.proofs.Common.{le_trans}
-use Rattle.std.proofs.Math.Nat.{le-max_left, le-max_right, max-le}
-use Rattle.std.specs.Prelude.{⊤}
+use Rattle.std.{proofs.Common.le_trans, proofs.Math.Nat.{le-max_left, le-max_right, max-le}, specs.Prelude.⊤}
+use Rattle.std.proofs.lemmas.Bool.{cond_both}
 use Rattle.updates.specs.Events.{Event, Guard, happens, run, sends, sends_put, arrives, forwards, serves}
 use Rattle.updates.specs.Events.{after_removing, after_storing, with_node, returns, made_of, performs, refusal}
 use Rattle.updates.specs.Events.{answers_put, answers, refuses, with_tag, freshens, answers_tag}
 use Rattle.updates.specs.Events.Event.{Ticks, SendsGet, SendsPut, Forwards, Serves, ServesTag, AnswersTag, Freshens}
-use Rattle.updates.specs.Events.Event.{Answers, Refuses, Returns, Arrives}
-use Rattle.updates.specs.Statements.{Has, Routes, next_after, ComesTo, IsRouted, Invalidates, InvalidatesOn}
-use Rattle.updates.specs.Statements.{IsCurrentAt, StoresNoneFromBefore, Throughout, ReadsOlder}
-use Rattle.updates.specs.Worlds.{Version, Put, Request, Response, Hop, Message, Node, Received, World, client_of}
-use Rattle.updates.specs.Worlds.{confirmed, given, written_by, start, is_true}
-use Rattle.updates.specs.Worlds.Request.{Get, Puts}
-use Rattle.updates.specs.Worlds.Response.{Status200, Status204, Status304, Refused}
-use Rattle.updates.specs.Worlds.Message.{Going, Coming}
-use Rattle.std.proofs.lemmas.Bool.{cond_both}
-use Rattle.updates.proofs.Steps.{sent_stored, tagged}
-use Rattle.updates.proofs.Lists.{Has-append, Has-slice_get}
+use Rattle.updates.{specs.Events.Event.{Answers, Refuses, Returns, Arrives}, specs.Statements.{Has, Routes, next_after}}
+use Rattle.updates.specs.Statements.{ComesTo, IsRouted, Invalidates, InvalidatesOn, IsCurrentAt, StoresNoneFromBefore}
+use Rattle.updates.{specs.Statements.{Throughout, ReadsOlder}, specs.Worlds.{Version, Put, Request, Response, Hop}}
+use Rattle.updates.specs.Worlds.{Message, Node, Received, World, client_of, confirmed, given, written_by, start}
+use Rattle.updates.{specs.Worlds.is_true, specs.Worlds.Request.{Get, Puts}, specs.Worlds.Response.Status200}
+use Rattle.updates.{specs.Worlds.Response.{Status204, Status304, Refused}, specs.Worlds.Message.{Going, Coming}}
+use Rattle.updates.{proofs.Steps.{sent_stored, tagged}, proofs.Lists.{Has-append, Has-slice_get}}
 
 -- ---- how old things may be
 

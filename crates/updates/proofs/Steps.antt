@@ -1,22 +1,16 @@
 -- What each event keeps.
 use Rattle.std.proofs.Common.{◌≡◌, ℕ, suc, Bool, true, false, cond, List, [], ◌∷◌, slice_get, nat_eq, bytes_eq, Option}
-use Rattle.std.proofs.Common.{Some, None, refl, sym, ap, subst, ◌∙◌, inl, inr}
-use Rattle.std.specs.Prelude.{⊤}
-use Rattle.std.proofs.lemmas.Bool.{cond_both}
-use Rattle.std.proofs.lemmas.Option.{same_Some}
-use Rattle.std.proofs.lemmas.Slice.Eq.{bytes_eq-Decides}
+use Rattle.std.{proofs.Common.{Some, None, refl, sym, ap, subst, ◌∙◌, inl, inr}, specs.Prelude.⊤}
+use Rattle.std.{proofs.lemmas.Bool.cond_both, proofs.lemmas.Option.same_Some, proofs.lemmas.Slice.Eq.bytes_eq-Decides}
 use Rattle.updates.specs.Events.{Event, Guard, happens, run, sends, sends_put, arrives, forwards, sends_stored, serves}
 use Rattle.updates.specs.Events.{after_removing, after_storing, with_node, returns, made_of, performs, refusal}
 use Rattle.updates.specs.Events.{answers_put, answers, refuses, with_tag, freshens, answers_tag}
 use Rattle.updates.specs.Events.Event.{Ticks, SendsGet, SendsPut, Forwards, Serves, ServesTag, AnswersTag, Freshens}
-use Rattle.updates.specs.Events.Event.{Answers, Refuses, Returns, Arrives}
-use Rattle.updates.specs.Statements.{Has}
-use Rattle.updates.specs.Worlds.{Version, Put, Request, Response, Hop, Message, Node, Received, Change, World}
-use Rattle.updates.specs.Worlds.{client_of, given, shown, start, versions, is_true}
-use Rattle.updates.specs.Worlds.Request.{Get, Puts}
-use Rattle.updates.specs.Worlds.Response.{Status200, Status204, Status304, Refused}
-use Rattle.updates.specs.Worlds.Message.{Going, Coming}
-use Rattle.updates.proofs.Lists.{Has-append, Has-right, Has-slice_get}
+use Rattle.updates.{specs.Events.Event.{Answers, Refuses, Returns, Arrives}, specs.Statements.Has, specs.Worlds.Version}
+use Rattle.updates.specs.Worlds.{Put, Request, Response, Hop, Message, Node, Received, Change, World, client_of, given}
+use Rattle.updates.{specs.Worlds.{shown, start, versions, is_true}, specs.Worlds.Request.{Get, Puts}}
+use Rattle.updates.{specs.Worlds.Response.{Status200, Status204, Status304, Refused}, specs.Worlds.Message.Going}
+use Rattle.updates.{specs.Worlds.Message.Coming, proofs.Lists.{Has-append, Has-right, Has-slice_get}}
 
 -- ---- what holds of each world
 

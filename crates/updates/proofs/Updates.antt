@@ -1,13 +1,10 @@
 -- What follows for changes, and for what clients get.
-use Rattle.std.proofs.Common.{◌≡◌, ℕ, zero, suc, ◌<◌, true, cond, List, [], ◌∷◌, slice_get, nat_eq, Some, refl}
-use Rattle.std.proofs.Common.{ap, subst, arith, inl, inr}
-use Rattle.std.proofs.lemmas.Bool.{cond_both}
-use Rattle.std.proofs.lemmas.Option.{same_Some}
+use Rattle.std.proofs.Common.{◌≡◌, ℕ, zero, suc, ◌<◌, true, cond, List, [], ◌∷◌, slice_get, nat_eq, Some, refl, ap}
+use Rattle.std.{proofs.Common.{subst, arith, inl, inr}, proofs.lemmas.Bool.cond_both, proofs.lemmas.Option.same_Some}
 use Rattle.std.proofs.lemmas.Slice.Eq.{bytes_eq-Decides}
-use Rattle.updates.specs.Statements.{Has, HasStrongTags, HasUniqueTags, IsGuarded, LeadsTo}
-use Rattle.updates.specs.Worlds.{Version, Received, Change, World, client_of, given, shown, versions, is_true}
-use Rattle.updates.proofs.Lists.{Has-append, Has-map}
-use Rattle.updates.proofs.Steps.{Holds, Links, shown-about}
+use Rattle.updates.{specs.Statements.{Has, HasStrongTags, HasUniqueTags, IsGuarded, LeadsTo}, specs.Worlds.Version}
+use Rattle.updates.specs.Worlds.{Received, Change, World, client_of, given, shown, versions, is_true}
+use Rattle.updates.{proofs.Lists.{Has-append, Has-map}, proofs.Steps.{Holds, Links, shown-about}}
 
 -- what has been given was in a response
 among : (client : ℕ) (received : List Received) (v : Version) → Has (given client received) v

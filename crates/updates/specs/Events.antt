@@ -3,10 +3,8 @@
 use Rattle.std.specs.Prelude.{ℕ, suc, Bool, true, false, List, [], ◌∷◌, ◌++◌, ◌==◌, ◌&&◌, bytes_eq, if◌then◌else◌}
 use Rattle.std.specs.Prelude.{slice_get, Option, Some, None}
 use Rattle.updates.specs.Worlds.{Version, Condition, Put, Request, Response, Hop, Message, Node, World, is_true, given}
-use Rattle.updates.specs.Worlds.{written_by}
-use Rattle.updates.specs.Worlds.Condition.{IfMatch, IfUnmodifiedSince, Unconditional}
-use Rattle.updates.specs.Worlds.Request.{Get, Puts}
-use Rattle.updates.specs.Worlds.Response.{Status200, Status204, Status304, Refused}
+use Rattle.updates.{specs.Worlds.written_by, specs.Worlds.Condition.{IfMatch, IfUnmodifiedSince, Unconditional}}
+use Rattle.updates.{specs.Worlds.Request.{Get, Puts}, specs.Worlds.Response.{Status200, Status204, Status304, Refused}}
 use Rattle.updates.specs.Worlds.Message.{Going, Coming}
 
 -- how a client guards a PUT

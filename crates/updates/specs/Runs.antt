@@ -1,12 +1,9 @@
 -- Runs that show that the theorems aren't vacuous, and that each of their premises is needed. The numbers at the end
 -- of a line are the places of the messages that its events send.
 use Rattle.std.specs.Prelude.{ℕ, Bool, true, false, List, [], ◌∷◌, ◌++◌, ◌==◌, if◌then◌else◌, codes, Some, None}
-use Rattle.updates.specs.Events.{Event, Guard}
-use Rattle.updates.specs.Events.Guard.{ByTag}
-use Rattle.updates.specs.Events.Event.{SendsGet, SendsPut, Forwards, Serves, Answers, AnswersTag, Freshens, Returns}
-use Rattle.updates.specs.Events.Event.{Arrives}
-use Rattle.updates.specs.Statements.{Routes}
-use Rattle.updates.specs.Worlds.{Response, Received, Version, client_of}
+use Rattle.updates.{specs.Events.{Event, Guard}, specs.Events.Guard.ByTag, specs.Events.Event.{SendsGet, SendsPut}}
+use Rattle.updates.specs.Events.Event.{Forwards, Serves, Answers, AnswersTag, Freshens, Returns, Arrives}
+use Rattle.updates.{specs.Statements.Routes, specs.Worlds.{Response, Received, Version, client_of}}
 
 abbrev pub ann : ℕ
 ann = 1

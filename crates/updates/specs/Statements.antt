@@ -1,12 +1,9 @@
 -- What is said of a world that some events have made.
 use Rattle.std.specs.Prelude.{◌≡◌, ◌≢◌, ◌⊎◌, ℕ, ◌<◌, Bool, true, List, [], ◌∷◌, slice_get, Option, Some, None, ⊤}
-use Rattle.updates.specs.Events.{Event, happens}
-use Rattle.updates.specs.Events.Event.{Forwards, Serves, ServesTag, AnswersTag, Answers, Returns}
-use Rattle.updates.specs.Worlds.{Version, Put, Hop, Message, Change, World, client_of, versions}
-use Rattle.updates.specs.Worlds.Condition.{IfMatch}
-use Rattle.updates.specs.Worlds.Request.{Get}
-use Rattle.updates.specs.Worlds.Response.{Status200, Status204}
-use Rattle.updates.specs.Worlds.Message.{Going, Coming}
+use Rattle.updates.{specs.Events.{Event, happens}, specs.Events.Event.{Forwards, Serves, ServesTag, AnswersTag}}
+use Rattle.updates.{specs.Events.Event.{Answers, Returns}, specs.Worlds.{Version, Put, Hop, Message, Change, World}}
+use Rattle.updates.{specs.Worlds.{client_of, versions}, specs.Worlds.Condition.IfMatch, specs.Worlds.Request.Get}
+use Rattle.updates.{specs.Worlds.Response.{Status200, Status204}, specs.Worlds.Message.{Going, Coming}}
 
 -- the list has this element
 abbrev pub Has : {X : Type 0} → List X → X → Type 0

@@ -1,14 +1,11 @@
 //! What holds after any events, in any order: clients send, caches answer with what they store, however old,
 //! messages are lost, repeated, delayed and overtaken. A proof cites a law by calling it.
 ghost use Rattle.std.specs.Prelude.{◌≡◌, ◌++◌, ℕ, List, Some, slice_get};
-ghost use Rattle.updates.specs.Events.{Event, run};
-ghost use Rattle.updates.specs.Statements.{Has, HasStrongTags, HasUniqueTags, IsGuarded, IsStored, LeadsTo};
-ghost use Rattle.updates.specs.Statements.{Invalidates, IsRouted, ReadsOlder, Routes};
-ghost use Rattle.updates.specs.Statements.{StoresNoneFromBefore, Throughout};
-ghost use Rattle.updates.specs.Worlds.{Change, Hop, Put, Received, Version, World, given, shown, start, versions};
-ghost use Rattle.updates.specs.Worlds.Message.{Going};
-ghost use Rattle.updates.specs.Worlds.Request.{Puts};
-ghost use Rattle.updates.specs.Worlds.Response.{Status204};
+ghost use Rattle.updates.{specs.Events.{Event, run}, specs.Statements.{Has, HasStrongTags, HasUniqueTags, IsGuarded}};
+ghost use Rattle.updates.specs.Statements.{IsStored, LeadsTo, Invalidates, IsRouted, ReadsOlder, Routes};
+ghost use Rattle.updates.{specs.Statements.{StoresNoneFromBefore, Throughout}, specs.Worlds.{Change, Hop, Put}};
+ghost use Rattle.updates.specs.Worlds.{Received, Version, World, given, shown, start, versions};
+ghost use Rattle.updates.{specs.Worlds.Message.Going, specs.Worlds.Request.Puts, specs.Worlds.Response.Status204};
 
 /// Theorem: If-Match is compare-and-swap. Each PUT with If-Match that the origin server performed
 /// replaced the very version that its client had read, if no two versions have the same tag. If

@@ -1,14 +1,10 @@
 //! Runs that show that the theorems aren't vacuous, and that each of their premises is needed.
 ghost use Rattle.std.specs.Prelude.{◌≡◌, ◌∷◌, [], None, codes, false, slice_get, true};
-ghost use Rattle.updates.specs.Events.{run};
-ghost use Rattle.updates.specs.Events.Guard.{ByDate, Not};
-ghost use Rattle.updates.specs.Runs.{sent_again, ann, as_asked, bob, both_change, bread};
-ghost use Rattle.updates.specs.Runs.{by_two_ways, carl, digested, eggs, guarded, milk, one_cache};
-ghost use Rattle.updates.specs.Runs.{storing_late, taken_back, told, validating, without_removing};
-ghost use Rattle.updates.specs.Statements.{HasStrongTags, HasUniqueTags, Invalidates, IsRouted};
-ghost use Rattle.updates.specs.Statements.{LosesAnUpdate, ReadsOlder, StoresNoneFromBefore};
-ghost use Rattle.updates.specs.Statements.{Throughout};
-ghost use Rattle.updates.specs.Worlds.{start};
+ghost use Rattle.updates.{specs.Events.run, specs.Events.Guard.{ByDate, Not}, specs.Runs.{sent_again, ann, as_asked}};
+ghost use Rattle.updates.specs.Runs.{bob, both_change, bread, by_two_ways, carl, digested, eggs, guarded, milk};
+ghost use Rattle.updates.specs.Runs.{one_cache, storing_late, taken_back, told, validating, without_removing};
+ghost use Rattle.updates.specs.Statements.{HasStrongTags, HasUniqueTags, Invalidates, IsRouted, LosesAnUpdate};
+ghost use Rattle.updates.{specs.Statements.{ReadsOlder, StoresNoneFromBefore, Throughout}, specs.Worlds.start};
 ghost use Rattle.updates.specs.Worlds.Response.{Status200, Status204, Refused};
 
 /// A run with unique tags in which a cache serves an old version, a guarded PUT succeeds, another

@@ -1,12 +1,9 @@
 -- What follows from the answers of a store.
-use Rattle.std.proofs.Common.{ℕ, List, inl, inr}
-use Rattle.std.specs.Prelude.{IsSome}
-use Rattle.cache_policy.specs.Policies.{Policy}
-use Rattle.cache_policy.specs.Requests.{Request}
+use Rattle.std.{proofs.Common.{ℕ, List, inl, inr}, specs.Prelude.IsSome}
+use Rattle.cache_policy.{specs.Policies.Policy, specs.Requests.Request}
 use Rattle.cache_policy.specs.declared.decision.Decision.TheVariants as decisions
 use Rattle.cache_rules.specs.declared.stored.StoredResponse.{StoredResponse}
-use Rattle.cache_store.specs.Lookups.{HasFields, IsAnswer}
-use Rattle.cache_store.specs.declared.lookup.Lookup.{Lookup}
+use Rattle.cache_store.{specs.Lookups.{HasFields, IsAnswer}, specs.declared.lookup.Lookup.Lookup}
 use Rattle.cache_store.specs.declared.lookup.Lookup.TheVariants.{Serve, ServeAndRevalidate, Validate, ValidateOrServe}
 use Rattle.cache_store.specs.declared.lookup.Lookup.TheVariants.{Unavailable, Forward}
 use Rattle.c_handles.specs.Cache.Lookups.{number_of}

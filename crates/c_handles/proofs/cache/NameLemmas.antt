@@ -1,17 +1,11 @@
 -- The names of fields that lines are, one each.
-use Rattle.std.proofs.Common.{◌≡◌, ◌∙◌, ℕ, zero, suc, ◌+◌, ◌<◌, List, [], ◌∷◌, ◌++◌, All, length, take}
-use Rattle.std.proofs.Common.{get_or, refl, sym, ap, subst, arith, Err}
-use Rattle.std.specs.Prelude.{map}
-use Rattle.std.proofs.lemmas.List.{map-append, take_more}
-use Rattle.std.proofs.lemmas.List.Elements.{All-get_or, All-push, All-weaker}
-use Rattle.http_header.specs.FieldName.{IsFieldName}
-use Rattle.http_header.specs.FieldValue.{FieldValue, IsFieldValue}
-use Rattle.http_header.specs.Token.{lowercase}
+use Rattle.std.proofs.Common.{◌≡◌, ◌∙◌, ℕ, zero, suc, ◌+◌, ◌<◌, List, [], ◌∷◌, ◌++◌, All, length, take, get_or, refl}
+use Rattle.std.{proofs.Common.{sym, ap, subst, arith, Err}, specs.Prelude.map, proofs.lemmas.List.map-append}
+use Rattle.std.{proofs.lemmas.List.take_more, proofs.lemmas.List.Elements.{All-get_or, All-push, All-weaker}}
+use Rattle.http_header.{specs.FieldName.IsFieldName, specs.FieldValue.{FieldValue, IsFieldValue}, specs.Token.lowercase}
 use Rattle.http_header.proofs.TokenLemmas.{IsFieldValue-from_visible, IsVisibleAscii-from_token}
-use Rattle.headers.specs.Lines.{Line, lines_of}
-use Rattle.headers.specs.Typed.{HasLine}
-use Rattle.c_parts.specs.FieldText.{IsNameOf, field_lines}
-use Rattle.c_parts.specs.declared.status.Failure.{Failure}
+use Rattle.headers.{specs.Lines.{Line, lines_of}, specs.Typed.HasLine}
+use Rattle.c_parts.{specs.FieldText.{IsNameOf, field_lines}, specs.declared.status.Failure.Failure}
 use Rattle.c_parts.specs.declared.status.Failure.TheVariants.{Refused, Memory, Absent, TooLarge}
 use Rattle.c_handles.specs.Cache.Names.{AreNames, IsNamesOf}
 

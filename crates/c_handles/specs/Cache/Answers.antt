@@ -1,16 +1,11 @@
 -- How a stored response answers a client's own conditions and ranges, by what a caller hands in.
 use Rattle.std.specs.Prelude.{◌≡◌, ◌⊎◌, ℕ, Bool, IsSomeAnd, None, Result, Ok, Err}
-use Rattle.http_header.specs.FieldValue.{FieldValue}
-use Rattle.http_header.specs.HeaderMap.{Entries}
-use Rattle.cache_rules.specs.Conditions.{IsStoredAnswer}
-use Rattle.cache_rules.specs.declared.conditions.StoredAnswer.{StoredAnswer}
+use Rattle.http_header.{specs.FieldValue.FieldValue, specs.HeaderMap.Entries}
+use Rattle.cache_rules.{specs.Conditions.IsStoredAnswer, specs.declared.conditions.StoredAnswer.StoredAnswer}
 use Rattle.cache_rules.specs.declared.conditions.StoredAnswer.TheVariants as stored_answer
-use Rattle.c_parts.specs.declared.status.Failure.{Failure}
-use Rattle.c_parts.specs.declared.status.Failure.TheVariants.{Memory, Absent}
-use Rattle.c_handles.specs.Cache.Reading.{FailsRequest, IsRequest, asked_by}
-use Rattle.c_handles.specs.Cache.Shown.{response_in}
-use Rattle.c_handles.specs.declared.cache.answering.AnswerFacts.{AnswerFacts}
-use Rattle.c_handles.specs.declared.cache.held.Held.{Held}
+use Rattle.c_parts.{specs.declared.status.Failure.Failure, specs.declared.status.Failure.TheVariants.{Memory, Absent}}
+use Rattle.c_handles.{specs.Cache.Reading.{FailsRequest, IsRequest, asked_by}, specs.Cache.Shown.response_in}
+use Rattle.c_handles.{specs.declared.cache.answering.AnswerFacts.AnswerFacts, specs.declared.cache.held.Held.Held}
 use Rattle.c_handles.specs.declared.cache.reading.CacheRequest.{CacheRequest}
 
 -- the number of an answer, and the part of the content that it sends

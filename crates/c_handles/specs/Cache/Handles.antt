@@ -1,15 +1,11 @@
 -- Calls on the handle of a cache.
 use Rattle.std.specs.Prelude.{◌≡◌, ◌⊎◌, Bool, true, false, [], Option, Some, None, Result, Ok, Err}
-use Rattle.cache_policy.specs.declared.Kind.{Kind}
-use Rattle.cache_policy.specs.declared.Kind.TheVariants.{Shared, Private}
+use Rattle.cache_policy.{specs.declared.Kind.Kind, specs.declared.Kind.TheVariants.{Shared, Private}}
 use Rattle.cache_policy.specs.Policies.{Policy, plain}
-use Rattle.cache_store.specs.Kept.{contents_of, policy_of_store}
-use Rattle.cache_store.specs.declared.limits.Limits.{Limits}
-use Rattle.c_parts.specs.declared.keys.HashKeys.{HashKeys}
-use Rattle.c_parts.specs.declared.status.Failure.{Failure}
+use Rattle.cache_store.{specs.Kept.{contents_of, policy_of_store}, specs.declared.limits.Limits.Limits}
+use Rattle.c_parts.{specs.declared.keys.HashKeys.HashKeys, specs.declared.status.Failure.Failure}
 use Rattle.c_parts.specs.declared.status.Failure.TheVariants.{Refused, Memory, Absent}
-use Rattle.c_handles.specs.declared.cache.held.Held.{Held}
-use Rattle.c_handles.specs.Cache.Names.{AreNames, names_in}
+use Rattle.c_handles.{specs.declared.cache.held.Held.Held, specs.Cache.Names.{AreNames, names_in}}
 use Rattle.c_handles.specs.declared.cache.opening.CacheExtensions.{CacheExtensions}
 use Rattle.c_handles.specs.declared.cache.opening.CacheOptions.{CacheOptions}
 

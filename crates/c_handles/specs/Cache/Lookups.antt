@@ -1,24 +1,18 @@
 -- What a cache does with a request, by what a caller hands in.
 use Rattle.std.specs.Prelude.{◌≡◌, ◌⊎◌, ℕ, List, [], Option, Some, None, unwrap_or, Result, Ok, Err}
 use Rattle.std.specs.Option.{option_map_or}
-use Rattle.http_header.specs.FieldValue.{FieldValue}
-use Rattle.http_header.specs.HeaderMap.{Entries}
+use Rattle.http_header.{specs.FieldValue.FieldValue, specs.HeaderMap.Entries}
 use Rattle.headers.specs.LineMap.{fields_of}
 use Rattle.cache_rules.specs.declared.stored.StoredResponse.{StoredResponse}
-use Rattle.cache_store.specs.Contents.{responses_at, used}
-use Rattle.cache_store.specs.Kept.{contents_of, policy_of_store}
-use Rattle.cache_store.specs.Lookups.{HasFields, IsAnswer}
-use Rattle.cache_store.specs.Numbers.{numbered}
-use Rattle.cache_store.specs.declared.lookup.Lookup.{Lookup}
-use Rattle.cache_store.specs.declared.lookup.Lookup.TheVariants.{Serve, ServeAndRevalidate, Validate, ValidateOrServe}
+use Rattle.cache_store.{specs.Contents.{responses_at, used}, specs.Kept.{contents_of, policy_of_store}}
+use Rattle.cache_store.{specs.Lookups.{HasFields, IsAnswer}, specs.Numbers.numbered}
+use Rattle.cache_store.{specs.declared.lookup.Lookup.Lookup, specs.declared.lookup.Lookup.TheVariants.Serve}
+use Rattle.cache_store.specs.declared.lookup.Lookup.TheVariants.{ServeAndRevalidate, Validate, ValidateOrServe}
 use Rattle.cache_store.specs.declared.lookup.Lookup.TheVariants.{Unavailable, Forward}
 use Rattle.c_decisions.specs.FieldLines.{fields_text}
-use Rattle.c_parts.specs.declared.status.Failure.{Failure}
-use Rattle.c_parts.specs.declared.status.Failure.TheVariants.{Memory}
-use Rattle.c_handles.specs.Cache.Handles.{KeepsSettings}
-use Rattle.c_handles.specs.Cache.Reading.{FailsRequest, IsRequest, asked_by}
-use Rattle.c_handles.specs.Cache.Shown.{no_facts, served_text, stored_facts}
-use Rattle.c_handles.specs.declared.cache.held.Held.{Held}
+use Rattle.c_parts.{specs.declared.status.Failure.Failure, specs.declared.status.Failure.TheVariants.Memory}
+use Rattle.c_handles.{specs.Cache.Handles.KeepsSettings, specs.Cache.Reading.{FailsRequest, IsRequest, asked_by}}
+use Rattle.c_handles.{specs.Cache.Shown.{no_facts, served_text, stored_facts}, specs.declared.cache.held.Held.Held}
 use Rattle.c_handles.specs.declared.cache.lookup.LookedUp.{LookedUp}
 use Rattle.c_handles.specs.declared.cache.lookup.LookupFacts.{LookupFacts}
 use Rattle.c_handles.specs.declared.cache.reading.CacheRequest.{CacheRequest}

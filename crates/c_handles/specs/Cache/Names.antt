@@ -1,12 +1,8 @@
 -- Names of fields, as a caller hands them in.
-use Rattle.std.specs.Prelude.{◌≡◌, ℕ, List, All, map, Result, Ok, Err}
-use Rattle.std.specs.Global.{Vec}
-use Rattle.http_header.specs.FieldName.{IsFieldName}
-use Rattle.http_header.specs.Token.{lowercase}
-use Rattle.headers.specs.Lines.{Line}
-use Rattle.headers.specs.Typed.{HasLine}
-use Rattle.c_parts.specs.FieldText.{field_lines}
-use Rattle.c_parts.specs.declared.status.Failure.{Failure}
+use Rattle.std.{specs.Prelude.{◌≡◌, ℕ, List, All, map, Result, Ok, Err}, specs.Global.Vec}
+use Rattle.http_header.{specs.FieldName.IsFieldName, specs.Token.lowercase}
+use Rattle.headers.{specs.Lines.Line, specs.Typed.HasLine}
+use Rattle.c_parts.{specs.FieldText.field_lines, specs.declared.status.Failure.Failure}
 use Rattle.c_parts.specs.declared.status.Failure.TheVariants.{Refused, Memory, Absent, TooLarge}
 
 -- each line of a text is the name of a field

@@ -1,15 +1,11 @@
 -- Requests and responses, as a caller hands them in.
-use Rattle.std.specs.Prelude.{◌≡◌, ◌⊎◌, ℕ, List, Err}
-use Rattle.std.specs.Str.{IsUtf8}
-use Rattle.http_header.specs.FieldValue.{FieldValue}
-use Rattle.http_header.specs.HeaderMap.{Entries}
-use Rattle.http_header.specs.Token.{IsToken}
+use Rattle.std.{specs.Prelude.{◌≡◌, ◌⊎◌, ℕ, List, Err}, specs.Str.IsUtf8}
+use Rattle.http_header.{specs.FieldValue.FieldValue, specs.HeaderMap.Entries, specs.Token.IsToken}
 use Rattle.headers.specs.LineMap.{lines_at}
 use Rattle.headers_section.specs.Section.{Holds}
 use Rattle.cache_policy.specs.Requests.{Request}
 use Rattle.c_decisions.specs.Methods.{IsMethodOf}
-use Rattle.c_parts.specs.SectionMap.{IsMapOf}
-use Rattle.c_parts.specs.declared.status.Failure.{Failure}
+use Rattle.c_parts.{specs.SectionMap.IsMapOf, specs.declared.status.Failure.Failure}
 use Rattle.c_parts.specs.declared.status.Failure.TheVariants.{Refused}
 use Rattle.c_handles.specs.declared.cache.reading.CacheRequest.{CacheRequest}
 

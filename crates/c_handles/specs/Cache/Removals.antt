@@ -1,16 +1,12 @@
 -- What is removed, by what a caller hands in.
-use Rattle.std.specs.Prelude.{◌≡◌, ◌⊎◌, ℕ, List, None, Result, Ok, Err}
-use Rattle.std.specs.Str.{IsUtf8}
+use Rattle.std.{specs.Prelude.{◌≡◌, ◌⊎◌, ℕ, List, None, Result, Ok, Err}, specs.Str.IsUtf8}
 use Rattle.http.specs.StatusCode.{IsStatusCode}
 use Rattle.http_header.specs.Token.{IsToken}
 use Rattle.cache_rules.specs.Invalidation.{Invalidates}
-use Rattle.cache_store.specs.Contents.{without}
-use Rattle.cache_store.specs.Kept.{contents_of}
-use Rattle.c_decisions.specs.Methods.{IsMethodOf}
-use Rattle.c_decisions.specs.StatusCodes.{IsStatusOf}
+use Rattle.cache_store.{specs.Contents.without, specs.Kept.contents_of}
+use Rattle.c_decisions.{specs.Methods.IsMethodOf, specs.StatusCodes.IsStatusOf}
 use Rattle.c_parts.specs.declared.status.Failure.{Failure}
-use Rattle.c_handles.specs.Cache.Handles.{KeepsSettings}
-use Rattle.c_handles.specs.Cache.Reading.{FailsText}
+use Rattle.c_handles.{specs.Cache.Handles.KeepsSettings, specs.Cache.Reading.FailsText}
 use Rattle.c_handles.specs.declared.cache.held.Held.{Held}
 
 module _ (target : List ℕ) (old new : Held) where

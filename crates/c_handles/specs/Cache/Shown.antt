@@ -1,29 +1,18 @@
 -- What is told of a stored response.
-use Rattle.std.specs.Prelude.{◌≡◌, ℕ, ◌++◌, Bool, not, List, length, filter, flat_map, bytes_eq, codes}
-use Rattle.std.specs.Prelude.{◌==◌, ◌&&◌, if◌then◌else◌, string_bytes, drop, take, IsSomeAnd, IsSome, Option, Some}
-use Rattle.std.specs.Prelude.{None}
-use Rattle.std.specs.Prelude.{Result, Ok, Err}
-use Rattle.std.specs.Option.{option_or}
-use Rattle.std.specs.Str.{IsUtf8}
-use Rattle.http_header.specs.FieldValue.{FieldValue}
-use Rattle.http_header.specs.HeaderMap.{Entries, pairs}
+use Rattle.std.specs.Prelude.{◌≡◌, ℕ, ◌++◌, Bool, not, List, length, filter, flat_map, bytes_eq, codes, ◌==◌, ◌&&◌}
+use Rattle.std.specs.Prelude.{if◌then◌else◌, string_bytes, drop, take, IsSomeAnd, IsSome, Option, Some, None, Result}
+use Rattle.std.{specs.Prelude.{Ok, Err}, specs.Option.option_or, specs.Str.IsUtf8}
+use Rattle.http_header.{specs.FieldValue.FieldValue, specs.HeaderMap.{Entries, pairs}}
 use Rattle.headers_section.specs.CanonicalText.{line_text}
-use Rattle.cache_policy.specs.Age.{age_at}
-use Rattle.cache_policy.specs.Fields.{capped}
-use Rattle.cache_rules.specs.Stored.{fields_of_stored, times_of}
-use Rattle.cache_rules.specs.declared.stored.StoredResponse.{StoredResponse}
-use Rattle.cache_store.specs.Contents.{responses_at}
-use Rattle.cache_store.specs.Kept.{contents_of}
-use Rattle.cache_store.specs.Lookups.{age_of_stored}
+use Rattle.cache_policy.{specs.Age.age_at, specs.Fields.capped}
+use Rattle.cache_rules.{specs.Stored.{fields_of_stored, times_of}, specs.declared.stored.StoredResponse.StoredResponse}
+use Rattle.cache_store.{specs.Contents.responses_at, specs.Kept.contents_of, specs.Lookups.age_of_stored}
 use Rattle.cache_store.specs.Numbers.{numbered}
 use Rattle.c_decisions.specs.FieldLines.{field_text}
-use Rattle.c_parts.specs.Endings.{IsWritten, done}
-use Rattle.c_parts.specs.declared.status.Failure.{Failure}
+use Rattle.c_parts.{specs.Endings.{IsWritten, done}, specs.declared.status.Failure.Failure}
 use Rattle.c_parts.specs.declared.status.Failure.TheVariants.{Refused, Memory, Absent, TooLarge}
-use Rattle.c_handles.specs.declared.cache.held.Held.{Held}
-use Rattle.c_handles.specs.declared.cache.held.Once.{Once}
-use Rattle.c_handles.specs.declared.cache.shown.Shown.{Shown}
-use Rattle.c_handles.specs.declared.cache.shown.StoredFacts.{StoredFacts}
+use Rattle.c_handles.{specs.declared.cache.held.Held.Held, specs.declared.cache.held.Once.Once}
+use Rattle.c_handles.{specs.declared.cache.shown.Shown.Shown, specs.declared.cache.shown.StoredFacts.StoredFacts}
 
 -- a field line with its name
 abbrev pub FieldLine : Type 0

@@ -1,24 +1,19 @@
 -- Whether a response is stored, by what a caller hands in.
-use Rattle.std.specs.Prelude.{◌≡◌, ◌⊎◌, ℕ, ◌<◌, Bool, true, false, List, length, Option, None, MatchOption, Result}
-use Rattle.std.specs.Prelude.{Ok, Err}
+use Rattle.std.specs.Prelude.{◌≡◌, ◌⊎◌, ℕ, ◌<◌, Bool, true, false, List, length, Option, None, MatchOption, Result, Ok}
+use Rattle.std.specs.Prelude.{Err}
 use Rattle.http.specs.StatusCode.{IsStatusCode}
-use Rattle.http_header.specs.FieldValue.{FieldValue}
-use Rattle.http_header.specs.HeaderMap.{Entries}
+use Rattle.http_header.{specs.FieldValue.FieldValue, specs.HeaderMap.Entries}
 use Rattle.headers_section.specs.Section.{Holds}
 use Rattle.cache_rules.specs.declared.storing.Reception.{Reception}
 use Rattle.cache_rules.specs.declared.storing.Reception.TheVariants.{Complete, Incomplete}
 use Rattle.cache_rules.specs.declared.stored.StoredResponse.{StoredResponse}
 use Rattle.cache_store.specs.Changes.{FitsAlone, IsFront, IsInserted, IsStoredAs, IsToStore, IsTooSmallToStore}
-use Rattle.cache_store.specs.Contents.{size_of, without}
-use Rattle.cache_store.specs.Kept.{contents_of, policy_of_store}
+use Rattle.cache_store.{specs.Contents.{size_of, without}, specs.Kept.{contents_of, policy_of_store}}
 use Rattle.c_decisions.specs.StatusCodes.{IsStatusOf}
-use Rattle.c_parts.specs.SectionMap.{IsMapOf}
-use Rattle.c_parts.specs.declared.status.Failure.{Failure}
+use Rattle.c_parts.{specs.SectionMap.IsMapOf, specs.declared.status.Failure.Failure}
 use Rattle.c_parts.specs.declared.status.Failure.TheVariants.{Memory, TooLarge}
-use Rattle.c_handles.specs.Cache.Handles.{KeepsSettings}
-use Rattle.c_handles.specs.Cache.Reading.{FailsRequest, IsRequest}
-use Rattle.c_handles.specs.declared.cache.held.Held.{Held}
-use Rattle.c_handles.specs.declared.cache.reading.CacheRequest.{CacheRequest}
+use Rattle.c_handles.{specs.Cache.Handles.KeepsSettings, specs.Cache.Reading.{FailsRequest, IsRequest}}
+use Rattle.c_handles.{specs.declared.cache.held.Held.Held, specs.declared.cache.reading.CacheRequest.CacheRequest}
 use Rattle.c_handles.specs.declared.cache.storing.CacheResponse.{CacheResponse}
 
 -- A store fails only if it runs out of memory, or if a map has no room for the fields that are set in it.

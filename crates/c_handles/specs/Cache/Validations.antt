@@ -1,28 +1,19 @@
 -- What a validating response makes of what is stored, by what a caller hands in.
 use Rattle.std.specs.Prelude.{◌≡◌, ◌⊎◌, ℕ, ◌<◌, List, length, Option, None, IsSomeAnd, Result, Ok, Err, string_bytes}
-use Rattle.http_header.specs.FieldValue.{FieldValue}
-use Rattle.http_header.specs.HeaderMap.{Entries}
+use Rattle.http_header.{specs.FieldValue.FieldValue, specs.HeaderMap.Entries}
 use Rattle.headers.specs.LineMap.{lines_at}
 use Rattle.headers_section.specs.Section.{Holds}
-use Rattle.cache_rules.specs.Freshening.{renewing_fields}
-use Rattle.cache_rules.specs.Identifying.{IsIdentified}
-use Rattle.cache_rules.specs.Selection.{IsSomewhere}
+use Rattle.cache_rules.{specs.Freshening.renewing_fields, specs.Identifying.IsIdentified, specs.Selection.IsSomewhere}
 use Rattle.cache_rules.specs.declared.freshening.Exchange.{Exchange}
-use Rattle.cache_store.specs.Changes.{IsRefreshed, IsRefreshedByHead}
-use Rattle.cache_store.specs.Contents.{responses_at, without}
-use Rattle.cache_store.specs.Kept.{contents_of, policy_of_store}
-use Rattle.cache_store.specs.Updates.{IsOneTooSmallFor}
+use Rattle.cache_store.{specs.Changes.{IsRefreshed, IsRefreshedByHead}, specs.Contents.{responses_at, without}}
+use Rattle.cache_store.{specs.Kept.{contents_of, policy_of_store}, specs.Updates.IsOneTooSmallFor}
 use Rattle.cache_store.specs.declared.freshening.Refreshed.{Refreshed}
 use Rattle.cache_store.specs.declared.freshening.Refreshed.TheVariants as refreshed
-use Rattle.c_parts.specs.SectionMap.{IsMapOf}
-use Rattle.c_parts.specs.declared.status.Failure.{Failure}
+use Rattle.c_parts.{specs.SectionMap.IsMapOf, specs.declared.status.Failure.Failure}
 use Rattle.c_parts.specs.declared.status.Failure.TheVariants.{Memory}
-use Rattle.c_handles.specs.Cache.Handles.{KeepsSettings}
-use Rattle.c_handles.specs.Cache.Reading.{FailsRequest, IsRequest, asked_by}
-use Rattle.c_handles.specs.Cache.Storing.{IsStoreFailure}
-use Rattle.c_handles.specs.declared.cache.held.Held.{Held}
-use Rattle.c_handles.specs.declared.cache.held.Once.{Once}
-use Rattle.c_handles.specs.declared.cache.reading.CacheRequest.{CacheRequest}
+use Rattle.c_handles.{specs.Cache.Handles.KeepsSettings, specs.Cache.Reading.{FailsRequest, IsRequest, asked_by}}
+use Rattle.c_handles.{specs.Cache.Storing.IsStoreFailure, specs.declared.cache.held.Held.Held}
+use Rattle.c_handles.{specs.declared.cache.held.Once.Once, specs.declared.cache.reading.CacheRequest.CacheRequest}
 use Rattle.c_handles.specs.declared.cache.validating.FreshenedFacts.{FreshenedFacts}
 
 -- the number of what a 304 makes of stored responses, and the number of the answer

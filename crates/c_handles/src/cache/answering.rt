@@ -1,7 +1,6 @@
 //! How a stored response answers a client's own conditions and ranges.
 ghost use Rattle.std.specs.Prelude.{◌≡◌};
-ghost use Rattle.c_handles.specs.Cache.Answers.{AnswersClient, answer_facts};
-ghost use Rattle.c_handles.specs.Cache.Handles.{OnOpen, Reads};
+ghost use Rattle.c_handles.{specs.Cache.Answers.{AnswersClient, answer_facts}, specs.Cache.Handles.{OnOpen, Reads}};
 
 use crate::cache::handle::Cache;
 use crate::cache::held::Held;

@@ -1,7 +1,6 @@
 //! The content of a stored response.
 ghost use Rattle.std.specs.Prelude.{◌≡◌, None};
-ghost use Rattle.c_handles.specs.Cache.Handles.{OnOpen, Reads};
-ghost use Rattle.c_handles.specs.Cache.Shown.{CopiesContent, part_from};
+ghost use Rattle.c_handles.{specs.Cache.Handles.{OnOpen, Reads}, specs.Cache.Shown.{CopiesContent, part_from}};
 
 use crate::cache::handle::Cache;
 use crate::cache::held::Held;

@@ -1,7 +1,6 @@
 //! The handle of a cache, as C has it.
 ghost use Rattle.std.specs.Prelude.{◌≡◌, Option, Some, None, is_some, true, false, MatchOption};
-ghost use Rattle.c_handles.specs.Cache.Ownership.{cache_owns};
-ghost use Rattle.c_handles.specs.declared.cache.held.Held.{Held};
+ghost use Rattle.c_handles.{specs.Cache.Ownership.cache_owns, specs.declared.cache.held.Held.Held};
 
 use crate::cache::held::Held;
 use c_boxes::{Loose, RawBox};

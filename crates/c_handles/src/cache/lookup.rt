@@ -1,10 +1,8 @@
 //! What a cache does with a request.
 ghost use Rattle.std.specs.Prelude.{◌≡◌, IfOk, IsErr, IsSome};
-ghost use Rattle.c_handles.specs.Cache.Handles.{OnOpen};
-ghost use Rattle.c_handles.specs.Cache.Lookups.{IsShownLookup, LooksUp, action_of, facts_at, lookup_facts};
-ghost use Rattle.c_handles.specs.Cache.Lookups.{lookup_text, number_of, text_at};
-ghost use Rattle.cache_store.specs.Contents.{responses_at};
-ghost use Rattle.cache_store.specs.Kept.{contents_of};
+ghost use Rattle.c_handles.{specs.Cache.Handles.OnOpen, specs.Cache.Lookups.{IsShownLookup, LooksUp, action_of}};
+ghost use Rattle.c_handles.specs.Cache.Lookups.{facts_at, lookup_facts, lookup_text, number_of, text_at};
+ghost use Rattle.cache_store.{specs.Contents.responses_at, specs.Kept.contents_of};
 
 use crate::cache::handle::Cache;
 use crate::cache::held::Held;

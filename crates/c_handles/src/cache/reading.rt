@@ -1,6 +1,5 @@
 //! Requests, as a caller hands them in.
-ghost use Rattle.std.specs.Prelude.{◌≡◌, MatchResult};
-ghost use Rattle.std.specs.Str.{IsUtf8};
+ghost use Rattle.std.{specs.Prelude.{◌≡◌, MatchResult}, specs.Str.IsUtf8};
 ghost use Rattle.c_handles.specs.Cache.Reading.{FailsText};
 
 use c_parts::Failure;

@@ -1,6 +1,5 @@
 //! What is removed.
-ghost use Rattle.c_handles.specs.Cache.Handles.{OnOpen};
-ghost use Rattle.c_handles.specs.Cache.Removals.{InvalidatesTarget, Removes};
+ghost use Rattle.c_handles.{specs.Cache.Handles.OnOpen, specs.Cache.Removals.{InvalidatesTarget, Removes}};
 
 use crate::cache::handle::Cache;
 use crate::cache::held::Held;

@@ -1,9 +1,8 @@
 -- What holds of each byte of two parts, at its position, holds of each byte of their combination.
 use Rattle.std.proofs.Common.{◌≡◌, ◌∙◌, ◌⊎◌, ℕ, zero, suc, ◌+◌, ◌-◌, ◌≤◌, List, [], ◌∷◌, ◌++◌, length, take, drop, min}
 use Rattle.std.proofs.Common.{Some, ap, subst, arith, inl, inr, slice_get, length-append}
-use Rattle.std.proofs.lemmas.List.{length-drop, length-take, length-take-le}
-use Rattle.std.proofs.lemmas.Option.{slice_get_within}
-use Rattle.cache_store.specs.{Parts.Answers.IsWithin, Parts.Answers.bytes_within, declared.parts.extent.Extent.Extent}
+use Rattle.std.{proofs.lemmas.List.{length-drop, length-take, length-take-le}, proofs.lemmas.Option.slice_get_within}
+use Rattle.cache_store.{specs.Parts.Answers.{IsWithin, bytes_within}, specs.declared.parts.extent.Extent.Extent}
 use Rattle.cache_store.specs.Parts.Extents.{Touch, joined, joint, size}
 
 -- each byte has the property at its position, if the first one is at this position

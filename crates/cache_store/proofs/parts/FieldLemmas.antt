@@ -1,21 +1,19 @@
 -- What the fields of stored parts say of them.
 use Rattle.std.proofs.Common.{◌≡◌, ◌≢◌, ◌∙◌, ◌⊎◌, ℕ, ◌+◌, ◌-◌, ◌<◌, ◌≤◌, ◌^◌, ◌==◌, Bool, true, false, ◌&&◌, not, cond}
 use Rattle.std.proofs.Common.{if◌then◌else◌, List, [], ◌∷◌, length, get_or, Option, Some, None, refl, sym, ap, subst}
-use Rattle.std.proofs.Common.{nat_le, nat_lt, IsSome, IsSomeAnd, codes, arith, inl, inr}
-use Rattle.std.proofs.{lemmas.Bool.and_parts, lemmas.Bool.cases_Bool, lemmas.Bool.Decides.nat_tests}
-use Rattle.std.proofs.{lemmas.Option.cond_some, lemmas.Option.none-some}
-use Rattle.std.specs.Option.{option_and_then}
-use Rattle.headers.specs.ContentBytes.{ContentBytes, FitsContent, content_bytes}
-use Rattle.headers.specs.{EntityTag.is_tag, LineMap.LineMap, Lines.Line, Lines.only_line, Typed.HasLine}
-use Rattle.cache_store.specs.{Changes.IsStoredAs, declared.parts.extent.Extent.Extent}
-use Rattle.cache_store.specs.Parts.Combining.{HaveSameTag, IsCombination}
-use Rattle.cache_store.specs.Parts.Extents.{extent_by, extent_in, greatest, is_extent, is_whole, joint, range_line}
-use Rattle.cache_store.specs.Parts.Extents.{size, strong_tag}
+use Rattle.std.{proofs.Common.{nat_le, nat_lt, IsSome, IsSomeAnd, codes, arith, inl, inr}, proofs.lemmas.Bool.and_parts}
+use Rattle.std.{proofs.lemmas.Bool.cases_Bool, proofs.lemmas.Bool.Decides.nat_tests, proofs.lemmas.Option.cond_some}
+use Rattle.std.{proofs.lemmas.Option.none-some, specs.Option.option_and_then}
+use Rattle.headers.{specs.ContentBytes.{ContentBytes, FitsContent, content_bytes}, specs.EntityTag.is_tag}
+use Rattle.headers.{specs.LineMap.LineMap, specs.Lines.{Line, only_line}, specs.Typed.HasLine}
+use Rattle.cache_store.{specs.Changes.IsStoredAs, specs.declared.parts.extent.Extent.Extent}
+use Rattle.cache_store.{specs.Parts.Combining.{HaveSameTag, IsCombination}, specs.Parts.Extents.{extent_by, extent_in}}
+use Rattle.cache_store.specs.Parts.Extents.{greatest, is_extent, is_whole, joint, range_line, size, strong_tag}
 use Rattle.cache_store.specs.Parts.Received.{IsRecorded, came_of_part, came_of_whole, is_signed, length_in}
 use Rattle.cache_store.specs.Parts.Received.{received_extent}
-use Rattle.cache_policy.specs.{Freshening.freshened, Freshening.is_kept, Updating.is_weak}
-use Rattle.cache_rules.specs.{Stored.fields_of_stored, Storing.IsAsStored, declared.storing.Reception.Reception}
-use Rattle.cache_rules.specs.{declared.stored.StoredResponse.StoredResponse}
+use Rattle.cache_policy.{specs.Freshening.{freshened, is_kept}, specs.Updating.is_weak}
+use Rattle.cache_rules.{specs.Stored.fields_of_stored, specs.Storing.IsAsStored}
+use Rattle.cache_rules.{specs.declared.storing.Reception.Reception, specs.declared.stored.StoredResponse.StoredResponse}
 use Rattle.cache_rules.specs.declared.storing.Reception.TheVariants.{Complete, Incomplete}
 use Rattle.gateway_messages.specs.HopByHop.{connection_options, is_hop_by_hop}
 use Rattle.headers_ranges.specs.ContentRangeLaws.{content_read}

@@ -1,22 +1,21 @@
 -- What a store of parts has after any calls was received.
 use Rattle.std.proofs.Common.{◌≡◌, ◌∙◌, ℕ, ◌+◌, ◌-◌, ◌≤◌, List, [], ◌∷◌, length, slice_get, codes, Option, Some, refl}
 use Rattle.std.proofs.Common.{sym, ap, subst, arith, inl, inr, IsSome, IsSomeAnd, nat_le}
-use Rattle.std.proofs.{lemmas.Bool.and_parts, lemmas.Bool.Decides.nat_tests, lemmas.Option.same_Some}
+use Rattle.std.{proofs.lemmas.Bool.and_parts, proofs.lemmas.Bool.Decides.nat_tests, proofs.lemmas.Option.same_Some}
 use Rattle.headers.specs.Lines.{Line}
 use Rattle.cache_store.proofs.HistoryLemmas.{Has-slice_get, HasUnder-responses_at, run-justified}
-use Rattle.cache_store.proofs.NumberLemmas.{Has-numbered}
-use Rattle.cache_store.proofs.parts.ByteLemmas.{AllAt, all-joined, all-within, length-joined, length-within}
-use Rattle.cache_store.proofs.parts.FieldLemmas.{IsPartOf, combined-range, combined-tag, extent-is, extent-stored}
-use Rattle.cache_store.proofs.parts.FieldLemmas.{joint-is, received-is, recorded-range, recorded-says, recorded-tag}
+use Rattle.cache_store.{proofs.NumberLemmas.Has-numbered, proofs.parts.ByteLemmas.{AllAt, all-joined, all-within}}
+use Rattle.cache_store.{proofs.parts.ByteLemmas.{length-joined, length-within}, proofs.parts.FieldLemmas.IsPartOf}
+use Rattle.cache_store.proofs.parts.FieldLemmas.{combined-range, combined-tag, extent-is, extent-stored, joint-is}
+use Rattle.cache_store.proofs.parts.FieldLemmas.{received-is, recorded-range, recorded-says, recorded-tag}
 use Rattle.cache_store.proofs.parts.FieldLemmas.{recorded_lines, some-tag, tag-stored, tags-same, whole-lines}
-use Rattle.cache_store.specs.{Changes.IsStoredAs, Numbers.numbered, declared.limits.Limits.Limits}
-use Rattle.cache_store.specs.{Parts.Answering.HasBytesAt, Parts.Answering.IsLookedUp, Parts.Answers.HasBytes}
-use Rattle.cache_store.specs.{Parts.Answers.IsPartAnswer, Parts.Extents.joint, Parts.Extents.strong_tag}
-use Rattle.cache_store.specs.{Parts.Received.IsRecorded, Parts.Received.received_extent, Parts.Recording.IsTaken}
-use Rattle.cache_store.specs.{Parts.Recording.IsWhole, declared.parts.extent.Extent.Extent}
-use Rattle.cache_store.specs.{declared.parts.store_answering.PartAnswer.PartAnswer}
-use Rattle.cache_store.specs.{declared.parts.store_answering.PartLookup.TheVariants.Serve}
-use Rattle.cache_store.specs.Contents.{Contents, responses_at, used, without}
+use Rattle.cache_store.{specs.Changes.IsStoredAs, specs.Numbers.numbered, specs.declared.limits.Limits.Limits}
+use Rattle.cache_store.{specs.Parts.Answering.{HasBytesAt, IsLookedUp}, specs.Parts.Answers.{HasBytes, IsPartAnswer}}
+use Rattle.cache_store.{specs.Parts.Extents.{joint, strong_tag}, specs.Parts.Received.{IsRecorded, received_extent}}
+use Rattle.cache_store.{specs.Parts.Recording.{IsTaken, IsWhole}, specs.declared.parts.extent.Extent.Extent}
+use Rattle.cache_store.specs.declared.parts.store_answering.PartAnswer.{PartAnswer}
+use Rattle.cache_store.{specs.declared.parts.store_answering.PartLookup.TheVariants.Serve, specs.Contents.Contents}
+use Rattle.cache_store.specs.Contents.{responses_at, used, without}
 use Rattle.cache_store.specs.History.Call.{Arrived, Looked as StoreLooked, Removed as StoreRemoved}
 use Rattle.cache_store.specs.History.{Has, History, IsJustified, Run as StoreRun}
 use Rattle.cache_store.specs.Parts.Combining.{AreCombinable, Holds, IsCombination}

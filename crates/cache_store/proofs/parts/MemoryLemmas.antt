@@ -1,16 +1,14 @@
 -- Which responses memory is allocated for.
 use Rattle.std.proofs.Common.{◌≡◌, ◌∙◌, ◌⊎◌, ℕ, List, Some, Result, OnErr, sym, ap, inl, inr, slice_get}
-use Rattle.std.proofs.{lemmas.Option.same_Some, lemmas.Result.on_err_weaker}
-use Rattle.cache_store.specs.{Contents.Contents, Contents.responses_at, declared.limits.Limits.Limits}
-use Rattle.cache_store.specs.{Parts.Received.IsPart, Parts.Received.IsSelfContained}
-use Rattle.cache_store.specs.{declared.parts.extent.Extent.Extent, declared.parts.store_recording.Recorded.Recorded}
-use Rattle.cache_store.specs.Parts.Recording.{IsCombinable, IsMerged, IsNotTaken, IsRecordedAs, IsSelectedPart, IsTaken}
-use Rattle.cache_store.specs.Parts.Recording.{NeedsMemory}
+use Rattle.std.{proofs.lemmas.Option.same_Some, proofs.lemmas.Result.on_err_weaker}
+use Rattle.cache_store.{specs.Contents.{Contents, responses_at}, specs.declared.limits.Limits.Limits}
+use Rattle.cache_store.{specs.Parts.Received.{IsPart, IsSelfContained}, specs.declared.parts.extent.Extent.Extent}
+use Rattle.cache_store.{specs.declared.parts.store_recording.Recorded.Recorded, specs.Parts.Recording.IsCombinable}
+use Rattle.cache_store.specs.Parts.Recording.{IsMerged, IsNotTaken, IsRecordedAs, IsSelectedPart, IsTaken, NeedsMemory}
 use Rattle.cache_store.specs.declared.parts.store_recording.Recorded.TheVariants.{Unstored, Stored, Whole, Once}
-use Rattle.cache_policy.specs.{Policies.Policy, Requests.Request}
-use Rattle.cache_rules.proofs.SelectionLemmas.{selects_one}
-use Rattle.cache_rules.specs.{Selection.IsCandidate, declared.storing.Reception.Reception}
-use Rattle.cache_rules.specs.{declared.stored.StoredResponse.StoredResponse}
+use Rattle.cache_policy.{specs.Policies.Policy, specs.Requests.Request}
+use Rattle.cache_rules.{proofs.SelectionLemmas.selects_one, specs.Selection.IsCandidate}
+use Rattle.cache_rules.{specs.declared.storing.Reception.Reception, specs.declared.stored.StoredResponse.StoredResponse}
 use Rattle.headers_map.proofs.InsertLemmas.{OnErr-from}
 use Rattle.cache_store.specs.declared.parts.combining.Combined.TheVariants as combined
 

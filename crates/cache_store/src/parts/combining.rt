@@ -1,6 +1,5 @@
 //! How a received part and a stored one are combined.
-ghost use Rattle.std.specs.Prelude.{◌≡◌, ◌<◌, ◌≤◌, IfOk, IfSome, IsErrOf, OnErr, MatchOption};
-ghost use Rattle.std.specs.Bool.{MatchBool};
+ghost use Rattle.std.{specs.Prelude.{◌≡◌, ◌<◌, ◌≤◌, IfOk, IfSome, IsErrOf, OnErr, MatchOption}, specs.Bool.MatchBool};
 ghost use Rattle.headers.specs.LineMap.{fields_of};
 ghost use Rattle.cache_policy.specs.Policies.{policy_of};
 ghost use Rattle.cache_rules.specs.Fields.{IsTooSmallFor};

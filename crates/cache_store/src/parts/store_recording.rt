@@ -1,14 +1,13 @@
 //! What is stored of a received response.
 ghost use Rattle.std.specs.Prelude.{◌≡◌, ◌⊎◌, ◌<◌, IfOk, IsErrOf, MatchOption, None, OnErr, Some};
 ghost use Rattle.std.specs.Bool.{MatchBool};
-ghost use Rattle.cache_store.specs.{Changes.IsFront, Changes.IsTooSmallToStore, Contents.responses_at};
-ghost use Rattle.cache_store.specs.{Contents.without, Parts.History.PartCall.Received, Parts.History.Step};
-ghost use Rattle.cache_store.specs.{Parts.Received.IsSelfContained};
-ghost use Rattle.cache_store.specs.Parts.Kept.{limits_of_parts, parts_of, policy_of_parts};
-ghost use Rattle.cache_store.specs.Parts.Recording.{Changes, IsCombinable, IsContent, IsCurrent, IsKeptAs, IsLeft};
-ghost use Rattle.cache_store.specs.Parts.Recording.{IsMerged, IsRecordedAs, IsSelectedPart, IsSuperseded, IsTakenAlone};
-ghost use Rattle.cache_store.specs.Parts.Recording.{IsTooSmallToMerge, IsTooSmallToRecord, IsTooSmallToTake};
-ghost use Rattle.cache_store.specs.Parts.Recording.{NeedsMemory};
+ghost use Rattle.cache_store.{specs.Changes.{IsFront, IsTooSmallToStore}, specs.Contents.{responses_at, without}};
+ghost use Rattle.cache_store.{specs.Parts.History.PartCall.Received, specs.Parts.History.Step};
+ghost use Rattle.cache_store.{specs.Parts.Received.IsSelfContained, specs.Parts.Kept.{limits_of_parts, parts_of}};
+ghost use Rattle.cache_store.{specs.Parts.Kept.policy_of_parts, specs.Parts.Recording.{Changes, IsCombinable}};
+ghost use Rattle.cache_store.specs.Parts.Recording.{IsContent, IsCurrent, IsKeptAs, IsLeft, IsMerged, IsRecordedAs};
+ghost use Rattle.cache_store.specs.Parts.Recording.{IsSelectedPart, IsSuperseded, IsTakenAlone, IsTooSmallToMerge};
+ghost use Rattle.cache_store.specs.Parts.Recording.{IsTooSmallToRecord, IsTooSmallToTake, NeedsMemory};
 ghost use Rattle.cache_rules.specs.Stored.{request_of_stored};
 
 use crate::parts::combining::{Combined, combine, have_same_tag};

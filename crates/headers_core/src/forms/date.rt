@@ -7,8 +7,7 @@ use std::alloc::{AllocError, Global};
 
 impl FieldForm for Date1 {
     ghost use Rattle.std.specs.Prelude.{true, ℕ};
-    ghost use Rattle.headers_syntax.specs.Shapes.{only_date};
-    ghost use Rattle.headers_syntax.proofs.ShapeLemmas.{only_date_back};
+    ghost use Rattle.headers_syntax.{specs.Shapes.only_date, proofs.ShapeLemmas.only_date_back};
 
     ghost free = { true };
 

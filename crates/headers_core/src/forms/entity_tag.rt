@@ -8,9 +8,7 @@ use std::alloc::{AllocError, Global};
 impl FieldForm for EntityTag {
     ghost use Rattle.std.specs.Prelude.{false};
     ghost use Rattle.http_header.specs.FieldValue.{FieldValue};
-    ghost use Rattle.headers_syntax.specs.Shapes.{only_tag};
-    ghost use Rattle.headers_syntax.specs.Lines.{Line};
-    ghost use Rattle.headers_syntax.proofs.ShapeLemmas.{only_tag_back};
+    ghost use Rattle.headers_syntax.{specs.Shapes.only_tag, specs.Lines.Line, proofs.ShapeLemmas.only_tag_back};
 
     ghost free = { false };
 

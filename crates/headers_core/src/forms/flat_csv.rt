@@ -8,9 +8,8 @@ use std::alloc::{AllocError, Global};
 
 impl<S: Separator> FieldForm for FlatCsv<S> {
     ghost use Rattle.std.specs.Prelude.{false};
-    ghost use Rattle.headers_items.specs.Merge.{merged};
+    ghost use Rattle.headers_items.{specs.Merge.merged, proofs.MergeLemmas.merged_back};
     ghost use Rattle.headers_syntax.specs.Lines.{Line};
-    ghost use Rattle.headers_items.proofs.MergeLemmas.{merged_back};
 
     ghost free = { false };
 

@@ -7,8 +7,7 @@ use std::alloc::{AllocError, Global};
 
 impl FieldForm for Seconds {
     ghost use Rattle.std.specs.Prelude.{true, ℕ};
-    ghost use Rattle.headers_syntax.specs.Shapes.{only_number};
-    ghost use Rattle.headers_syntax.proofs.ShapeLemmas.{only_number_back};
+    ghost use Rattle.headers_syntax.{specs.Shapes.only_number, proofs.ShapeLemmas.only_number_back};
 
     ghost free = { true };
 

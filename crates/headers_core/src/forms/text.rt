@@ -8,9 +8,7 @@ use std::alloc::{AllocError, Global};
 impl FieldForm for HeaderValueString {
     ghost use Rattle.std.specs.Prelude.{false};
     ghost use Rattle.http_header.specs.FieldValue.{FieldValue};
-    ghost use Rattle.headers_syntax.specs.Shapes.{only_text};
-    ghost use Rattle.headers_syntax.specs.Lines.{Line};
-    ghost use Rattle.headers_syntax.proofs.ShapeLemmas.{only_text_back};
+    ghost use Rattle.headers_syntax.{specs.Shapes.only_text, specs.Lines.Line, proofs.ShapeLemmas.only_text_back};
 
     ghost free = { false };
 

@@ -8,9 +8,7 @@ use std::alloc::{AllocError, Global};
 impl FieldForm for HeaderValue {
     ghost use Rattle.std.specs.Prelude.{false};
     ghost use Rattle.http_header.specs.FieldValue.{FieldValue};
-    ghost use Rattle.headers_syntax.specs.Shapes.{first_kept};
-    ghost use Rattle.headers_syntax.specs.Lines.{Line};
-    ghost use Rattle.headers_syntax.proofs.ShapeLemmas.{first_kept_back};
+    ghost use Rattle.headers_syntax.{specs.Shapes.first_kept, specs.Lines.Line, proofs.ShapeLemmas.first_kept_back};
 
     ghost free = { false };
 

@@ -1,5 +1,4 @@
-use Rattle.c_connection.specs.Calls.{Finishes}
-use Rattle.c_connection.proofs.OpenLemmas.{on_open}
+use Rattle.c_connection.{specs.Calls.Finishes, proofs.OpenLemmas.on_open}
 use Rattle.c_connection.proofs.moving.finish_input.Goals as goal
 
 pub returns : goal.returns

@@ -1,9 +1,7 @@
 use Rattle.std.proofs.Common.{[], refl, sym, subst}
-use Rattle.server_connection.specs.Connection.{IsReached}
-use Rattle.server_connection.specs.Plan.{IsBlank}
+use Rattle.server_connection.{specs.Connection.IsReached, specs.Plan.IsBlank}
 use Rattle.http_server.specs.declared.state.Config.{Config}
-use Rattle.c_connection.specs.declared.held.Held.{Held}
-use Rattle.c_connection.specs.Calls.{host_gives, host_plans}
+use Rattle.c_connection.{specs.declared.held.Held.Held, specs.Calls.{host_gives, host_plans}}
 use Rattle.c_connection.proofs.moving.new_held.Goals as goal
 
 pub returns-in-Ok-new-clause-made : goal.returns-in-Ok-new-clause-made

@@ -1,5 +1,4 @@
-use Rattle.c_connection.specs.Calls.{Wants}
-use Rattle.c_connection.proofs.OpenLemmas.{on_open}
+use Rattle.c_connection.{specs.Calls.Wants, proofs.OpenLemmas.on_open}
 use Rattle.c_connection.proofs.moving.next.Goals as goal
 
 pub returns : goal.returns

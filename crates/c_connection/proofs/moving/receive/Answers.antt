@@ -1,5 +1,4 @@
-use Rattle.c_connection.specs.Calls.{Receives}
-use Rattle.c_connection.proofs.OpenLemmas.{on_open}
+use Rattle.c_connection.{specs.Calls.Receives, proofs.OpenLemmas.on_open}
 use Rattle.c_connection.proofs.moving.receive.Goals as goal
 
 pub returns : goal.returns

@@ -1,5 +1,4 @@
-use Rattle.c_connection.specs.Calls.{Responds}
-use Rattle.c_connection.proofs.OpenLemmas.{on_open}
+use Rattle.c_connection.{specs.Calls.Responds, proofs.OpenLemmas.on_open}
 use Rattle.c_connection.proofs.moving.respond.Goals as goal
 
 pub returns : goal.returns

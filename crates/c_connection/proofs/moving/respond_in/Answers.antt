@@ -1,6 +1,5 @@
 use Rattle.std.proofs.Common.{[], sym, subst}
-use Rattle.server_connection.specs.declared.connection.Connection.{Connection}
-use Rattle.server_connection.specs.declared.plan.Plan.{Plan}
+use Rattle.server_connection.{specs.declared.connection.Connection.Connection, specs.declared.plan.Plan.Plan}
 use Rattle.server_connection.specs.Machine.{Moves}
 use Rattle.c_connection.specs.Calls.{host_gives, host_plans}
 use Rattle.c_connection.proofs.moving.respond_in.Goals as goal

@@ -1,5 +1,4 @@
-use Rattle.c_connection.specs.Calls.{HandsOut}
-use Rattle.c_connection.proofs.OpenLemmas.{on_open}
+use Rattle.c_connection.{specs.Calls.HandsOut, proofs.OpenLemmas.on_open}
 use Rattle.c_connection.proofs.moving.sent.Goals as goal
 
 pub returns : goal.returns

@@ -1,5 +1,4 @@
-use Rattle.c_connection.specs.Calls.{IsTimedOut}
-use Rattle.c_connection.proofs.OpenLemmas.{shows_closed, shows_open}
+use Rattle.c_connection.{specs.Calls.IsTimedOut, proofs.OpenLemmas.{shows_closed, shows_open}}
 use Rattle.c_connection.proofs.moving.write_time_out.Goals as goal
 
 pub returns-in_default : goal.returns-in_default

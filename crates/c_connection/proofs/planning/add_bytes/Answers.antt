@@ -1,6 +1,5 @@
 use Rattle.server_connection.specs.declared.piece.Piece.TheVariants.{Literal}
-use Rattle.c_connection.specs.Plans.{AddsPiece}
-use Rattle.c_connection.proofs.OpenLemmas.{on_open}
+use Rattle.c_connection.{specs.Plans.AddsPiece, proofs.OpenLemmas.on_open}
 use Rattle.c_connection.proofs.planning.add_bytes.Goals as goal
 
 pub returns : goal.returns

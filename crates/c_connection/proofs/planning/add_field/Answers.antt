@@ -1,5 +1,4 @@
-use Rattle.c_connection.specs.Plans.{AddsField}
-use Rattle.c_connection.proofs.OpenLemmas.{on_open}
+use Rattle.c_connection.{specs.Plans.AddsField, proofs.OpenLemmas.on_open}
 use Rattle.c_connection.proofs.planning.add_field.Goals as goal
 
 pub returns : goal.returns

@@ -1,5 +1,4 @@
-use Rattle.c_connection.specs.Plans.{Begins}
-use Rattle.c_connection.proofs.OpenLemmas.{on_open}
+use Rattle.c_connection.{specs.Plans.Begins, proofs.OpenLemmas.on_open}
 use Rattle.c_connection.proofs.planning.begin.Goals as goal
 
 pub returns : goal.returns

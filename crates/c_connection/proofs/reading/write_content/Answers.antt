@@ -1,7 +1,6 @@
 use Rattle.std.proofs.Common.{rules}
 use Rattle.http.specs.Request.{body_of}
-use Rattle.c_connection.specs.Calls.{OnAsked, IsContent}
-use Rattle.c_connection.proofs.OpenLemmas.{shows_asked, shows_closed}
+use Rattle.c_connection.{specs.Calls.{OnAsked, IsContent}, proofs.OpenLemmas.{shows_asked, shows_closed}}
 use Rattle.c_connection.proofs.reading.write_content.Goals as goal
 
 pub returns-in_default : goal.returns-in_default

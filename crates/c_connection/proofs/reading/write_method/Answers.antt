@@ -1,6 +1,5 @@
 use Rattle.std.proofs.Common.{rules}
-use Rattle.c_connection.specs.Calls.{head_asked, OnAsked, IsMethod}
-use Rattle.c_connection.proofs.OpenLemmas.{shows_asked, shows_closed}
+use Rattle.c_connection.{specs.Calls.{head_asked, OnAsked, IsMethod}, proofs.OpenLemmas.{shows_asked, shows_closed}}
 use Rattle.c_connection.proofs.reading.write_method.Goals as goal
 
 pub returns-in_default : goal.returns-in_default

@@ -1,7 +1,6 @@
 use Rattle.std.proofs.Common.{rules}
 use Rattle.http_uri.specs.Uri.{uri_path}
-use Rattle.c_connection.specs.Calls.{head_asked, OnAsked, IsPath}
-use Rattle.c_connection.proofs.OpenLemmas.{shows_asked, shows_closed}
+use Rattle.c_connection.{specs.Calls.{head_asked, OnAsked, IsPath}, proofs.OpenLemmas.{shows_asked, shows_closed}}
 use Rattle.c_connection.proofs.reading.write_path.Goals as goal
 
 pub returns-in_default : goal.returns-in_default

@@ -1,5 +1,4 @@
-use Rattle.c_connection.specs.Calls.{OnAsked, IsQuery}
-use Rattle.c_connection.proofs.OpenLemmas.{shows_closed, shows_open}
+use Rattle.c_connection.{specs.Calls.{OnAsked, IsQuery}, proofs.OpenLemmas.{shows_closed, shows_open}}
 use Rattle.c_connection.proofs.reading.write_query.Goals as goal
 
 pub returns-in_default : goal.returns-in_default

@@ -1,9 +1,7 @@
 use Rattle.std.proofs.Common.{List, ℕ, Result, Ok, Err, inr}
 use Rattle.decide_cors.specs.Policy.{Policy}
 use Rattle.c_parts.specs.declared.status.Failure.{Failure}
-use Rattle.c_decisions.specs.Cors.{Shares, SharesBy}
-use Rattle.c_decisions.specs.Rules.{IsPolicyFor}
-use Rattle.c_decisions.specs.declared.cors.Shared.{Shared}
+use Rattle.c_decisions.{specs.Cors.{Shares, SharesBy}, specs.Rules.IsPolicyFor, specs.declared.cors.Shared.Shared}
 use Rattle.c_decisions.specs.declared.rules.Rules.{Rules}
 use Rattle.c_decisions.proofs.cors.answer_by_rules.Goals as goal
 

@@ -1,9 +1,6 @@
-use Rattle.std.proofs.Common.{◌≡◌, Err, sym, subst}
-use Rattle.std.proofs.lemmas.Result.{err_from_is_err_and}
-use Rattle.headers.specs.Lines.{lines_of}
-use Rattle.headers.specs.Typed.{HasLine}
-use Rattle.c_decisions.specs.Rules.{Finds, ReadEach}
-use Rattle.c_decisions.proofs.RuleLemmas.{AllZip-more, ReadEach-fails}
+use Rattle.std.{proofs.Common.{◌≡◌, Err, sym, subst}, proofs.lemmas.Result.err_from_is_err_and}
+use Rattle.headers.{specs.Lines.lines_of, specs.Typed.HasLine}
+use Rattle.c_decisions.{specs.Rules.{Finds, ReadEach}, proofs.RuleLemmas.{AllZip-more, ReadEach-fails}}
 use Rattle.c_decisions.proofs.rules.read_each.Goals as goal
 
 pub loop-line-preserved : goal.loop-line-preserved

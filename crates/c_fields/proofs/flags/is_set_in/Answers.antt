@@ -1,5 +1,4 @@
-use Rattle.std.proofs.Common.{rules, tests, List, ℕ}
-use Rattle.std.proofs.lemmas.Iterator.Search.{any_from_yields_List}
+use Rattle.std.{proofs.Common.{rules, tests, List, ℕ}, proofs.lemmas.Iterator.Search.any_from_yields_List}
 use Rattle.headers.proofs.WalkRuns.{YieldsList-from_walk}
 use Rattle.headers_syntax.specs.AsciiCase.{same_name}
 use Rattle.c_fields.proofs.flags.is_set_in.Goals as goal

@@ -1,8 +1,6 @@
 use Rattle.std.proofs.Common.{rules, ◌≡◌, ◌∙◌, ◌+◌, ◌^◌, ◌<◌, List, [], ◌∷◌, ◌++◌, ap, append_assoc, arith, length}
-use Rattle.std.proofs.Common.{length-append, subst, sym}
-use Rattle.std.proofs.lemmas.List.{append-nil, nil_from_length}
-use Rattle.http_header.specs.FieldValue.{FieldValue}
-use Rattle.http_header.specs.HeaderMap.{Entries, RefusesAppend, append, get_all}
+use Rattle.std.{proofs.Common.{length-append, subst, sym}, proofs.lemmas.List.{append-nil, nil_from_length}}
+use Rattle.http_header.{specs.FieldValue.FieldValue, specs.HeaderMap.{Entries, RefusesAppend, append, get_all}}
 use Rattle.c_fields.proofs.WrittenLemmas.{append-alone, get_all-alone, has_room}
 use Rattle.c_fields.proofs.written.map_of.Goals as goal
 

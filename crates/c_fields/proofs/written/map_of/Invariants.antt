@@ -1,5 +1,4 @@
-use Rattle.std.proofs.Common.{◌≡◌, ◌++◌, List, length}
-use Rattle.std.specs.Vec.Iter.{into_iter_items}
+use Rattle.std.{proofs.Common.{◌≡◌, ◌++◌, List, length}, specs.Vec.Iter.into_iter_items}
 use Rattle.http_header.specs.FieldValue.{FieldValue}
 use Rattle.c_fields.proofs.WrittenLemmas.{alone}
 use Rattle.c_fields.proofs.written.map_of.Given as goal

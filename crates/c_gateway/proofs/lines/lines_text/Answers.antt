@@ -1,9 +1,6 @@
-use Rattle.std.proofs.Common.{arith}
-use Rattle.std.proofs.lemmas.Grind.{common_steps}
-use Rattle.std.proofs.lemmas.List.Folds.{flat_map-map}
+use Rattle.std.{proofs.Common.arith, proofs.lemmas.Grind.common_steps, proofs.lemmas.List.Folds.flat_map-map}
 use Rattle.headers_section.specs.CanonicalText.{line_text}
-use Rattle.gateway_messages.specs.FieldLines.{Field}
-use Rattle.gateway_messages.specs.declared.field_line.FieldLine.{FieldLine}
+use Rattle.gateway_messages.{specs.FieldLines.Field, specs.declared.field_line.FieldLine.FieldLine}
 use Rattle.c_gateway.proofs.lines.lines_text.Goals as goal
 
 pub returns : goal.returns

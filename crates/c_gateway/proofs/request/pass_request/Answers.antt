@@ -1,8 +1,6 @@
-use Rattle.std.proofs.Common.{◌≡◌, Err, inl, subst, sym}
-use Rattle.std.proofs.lemmas.Result.{err_from_is_err_and}
+use Rattle.std.{proofs.Common.{◌≡◌, Err, inl, subst, sym}, proofs.lemmas.Result.err_from_is_err_and}
 use Rattle.c_parts.specs.declared.status.Failure.TheVariants.{Memory}
-use Rattle.c_gateway.specs.Requests.{PassesRequest}
-use Rattle.c_gateway.proofs.RequestLemmas.{bytes_copied}
+use Rattle.c_gateway.{specs.Requests.PassesRequest, proofs.RequestLemmas.bytes_copied}
 use Rattle.c_gateway.proofs.request.pass_request.Goals as goal
 
 -- the gateway's name was copied

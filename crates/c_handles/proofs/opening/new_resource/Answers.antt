@@ -1,5 +1,4 @@
-use Rattle.std.proofs.Common.{◌≡◌, Err, IfErr, inl, subst, sym}
-use Rattle.std.proofs.lemmas.Result.{err_from_is_err_and}
+use Rattle.std.{proofs.Common.{◌≡◌, Err, IfErr, inl, subst, sym}, proofs.lemmas.Result.err_from_is_err_and}
 use Rattle.c_handles.specs.Resources.{IsResourceHeld}
 use Rattle.c_handles.proofs.opening.new_resource.Goals as goal
 

@@ -1,5 +1,4 @@
-use Rattle.std.proofs.Common.{◌≡◌, Bor, None, Option, Some, ap, option_map, refl}
-use Rattle.std.specs.Option.{option_copied}
+use Rattle.std.{proofs.Common.{◌≡◌, Bor, None, Option, Some, ap, option_map, refl}, specs.Option.option_copied}
 use Rattle.http_header.specs.FieldValue.{FieldValue}
 use Rattle.headers.specs.LineMap.{lines_at}
 use Rattle.c_handles.proofs.resource.answer_of.Goals as goal

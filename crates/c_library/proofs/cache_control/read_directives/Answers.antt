@@ -1,7 +1,5 @@
-use Rattle.std.proofs.Common.{◌≡◌, ◌∙◌, ◌<◌, List, Some, ap, arith, length, rules, subst, sym}
-use Rattle.std.specs.Prelude.{codes}
-use Rattle.headers.specs.CacheControl.{directives_of, is_set}
-use Rattle.headers.specs.Lines.{Line, lines_of}
+use Rattle.std.{proofs.Common.{◌≡◌, ◌∙◌, ◌<◌, List, Some, ap, arith, length, rules, subst, sym}, specs.Prelude.codes}
+use Rattle.headers.{specs.CacheControl.{directives_of, is_set}, specs.Lines.{Line, lines_of}}
 use Rattle.headers_items.specs.Entries.{entries}
 use Rattle.c_parts.specs.FieldText.{field_lines}
 use Rattle.c_fields.proofs.WrittenLemmas.{has_values}

@@ -1,6 +1,5 @@
 use Rattle.std.proofs.Common.{◌≤◌, ap, arith, length}
-use Rattle.c_parts.specs.FieldText.{field_lines}
-use Rattle.c_parts.proofs.DecodeLemmas.{several_lines}
+use Rattle.c_parts.{specs.FieldText.field_lines, proofs.DecodeLemmas.several_lines}
 use Rattle.c_library.proofs.handshake.read_accept.Goals as goal
 
 pub returns : goal.returns

@@ -1,5 +1,4 @@
-use Rattle.std.proofs.Common.{◌≡◌, Err, inl, inr, subst, sym}
-use Rattle.std.proofs.lemmas.Result.{err_from_is_err_and}
+use Rattle.std.{proofs.Common.{◌≡◌, Err, inl, inr, subst, sym}, proofs.lemmas.Result.err_from_is_err_and}
 use Rattle.http_header.specs.FieldValue.{plain_value}
 use Rattle.headers.specs.EntityTag.{StronglyEqual}
 use Rattle.c_library.specs.Tags.{Compares, reads_tag}

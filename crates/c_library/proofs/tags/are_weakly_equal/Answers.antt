@@ -2,11 +2,9 @@ use Rattle.std.proofs.Common.{◌≡◌, ◌∙◌, Err, ap, inl, inr, rules, su
 use Rattle.std.proofs.lemmas.Result.{err_from_is_err_and}
 use Rattle.http_header.specs.FieldValue.{plain_value}
 use Rattle.headers.specs.EntityTag.{WeaklyEqual}
-use Rattle.c_parts.specs.FieldText.{field_lines}
-use Rattle.c_library.specs.Tags.{Compares, quoted_part, reads_tag}
+use Rattle.c_parts.{specs.FieldText.field_lines, proofs.DecodeLemmas.FieldDecodes-fails}
+use Rattle.c_library.{specs.Tags.{Compares, quoted_part, reads_tag}, proofs.TagLemmas.Tells-equal}
 use Rattle.c_decisions.specs.Targets.{reads_etag}
-use Rattle.c_parts.proofs.DecodeLemmas.{FieldDecodes-fails}
-use Rattle.c_library.proofs.TagLemmas.{Tells-equal}
 use Rattle.c_library.proofs.tags.are_weakly_equal.Goals as goal
 
 pub returns-in_err-one : goal.returns-in_err-one

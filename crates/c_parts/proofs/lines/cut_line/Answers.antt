@@ -1,8 +1,6 @@
-use Rattle.std.proofs.Common.{◌∙◌, ap, drop, length, arith}
-use Rattle.std.proofs.lemmas.List.{drop-drop}
+use Rattle.std.{proofs.Common.{◌∙◌, ap, drop, length, arith}, proofs.lemmas.List.drop-drop}
 use Rattle.std.proofs.lemmas.Slice.{between_to_end}
-use Rattle.headers_section.specs.Section.{without_return}
-use Rattle.headers_section.proofs.SectionLemmas.{input_lines-none, input_lines-some}
+use Rattle.headers_section.{specs.Section.without_return, proofs.SectionLemmas.{input_lines-none, input_lines-some}}
 use Rattle.c_parts.proofs.lines.cut_line.Goals as goal
 
 pub returns-in-Some-clause-more : goal.returns-in-Some-clause-more

@@ -1,9 +1,7 @@
-use Rattle.std.proofs.Common.{◌≡◌, Err, inl, refl, subst, sym}
-use Rattle.std.proofs.lemmas.Result.{err_from_is_err_and}
+use Rattle.std.{proofs.Common.{◌≡◌, Err, inl, refl, subst, sym}, proofs.lemmas.Result.err_from_is_err_and}
 use Rattle.headers.specs.Lines.{lines_of}
 use Rattle.c_parts.specs.declared.status.Failure.TheVariants.{Memory}
-use Rattle.c_resource.specs.MethodRules.{AreRulesRead, IsRuleAt, lines_by}
-use Rattle.c_resource.proofs.ListLemmas.{IsEachAt-push, line_at}
+use Rattle.c_resource.{specs.MethodRules.{AreRulesRead, IsRuleAt, lines_by}, proofs.ListLemmas.{IsEachAt-push, line_at}}
 use Rattle.c_resource.proofs.method_rule.rules_by.Goals as goal
 
 pub returns-in_err-push : goal.returns-in_err-push

@@ -1,6 +1,5 @@
 use Rattle.headers.specs.Lines.{lines_of}
-use Rattle.c_resource.specs.Lists.{IsEachAt}
-use Rattle.c_resource.specs.MethodRules.{IsRuleAt, lines_by}
+use Rattle.c_resource.{specs.Lists.IsEachAt, specs.MethodRules.{IsRuleAt, lines_by}}
 use Rattle.c_resource.proofs.method_rule.rules_by.Given as goal
 
 abbrev pub invariant-loop-place : goal.invariant-loop-place

@@ -1,6 +1,5 @@
 use Rattle.std.proofs.lemmas.Option.{slice_get-get_or}
-use Rattle.c_resource.specs.Representations.{IsRepresentationAt, lines_by}
-use Rattle.c_resource.proofs.ListLemmas.{IsEachAt-push}
+use Rattle.c_resource.{specs.Representations.{IsRepresentationAt, lines_by}, proofs.ListLemmas.IsEachAt-push}
 use Rattle.c_resource.proofs.representation.representations_by.Goals as goal
 
 pub loop-place-preserved : goal.loop-place-preserved

@@ -1,5 +1,4 @@
-use Rattle.c_resource.specs.Lists.{IsEachAt}
-use Rattle.c_resource.specs.Representations.{IsRepresentationAt, lines_by}
+use Rattle.c_resource.{specs.Lists.IsEachAt, specs.Representations.{IsRepresentationAt, lines_by}}
 use Rattle.c_resource.proofs.representation.representations_by.Given as goal
 
 abbrev pub invariant-loop-place : goal.invariant-loop-place

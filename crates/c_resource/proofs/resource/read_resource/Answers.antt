@@ -1,5 +1,4 @@
-use Rattle.std.proofs.Common.{◌≡◌, Err, inl, inr, subst, sym}
-use Rattle.std.proofs.lemmas.Result.{err_from_is_err_and}
+use Rattle.std.{proofs.Common.{◌≡◌, Err, inl, inr, subst, sym}, proofs.lemmas.Result.err_from_is_err_and}
 use Rattle.c_resource.specs.Resources.{IsResourceAnswer}
 use Rattle.c_resource.proofs.resource.read_resource.Goals as goal
 

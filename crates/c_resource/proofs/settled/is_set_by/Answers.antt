@@ -1,9 +1,6 @@
-use Rattle.std.proofs.Common.{◌∙◌, rules, sym, tests}
-use Rattle.std.specs.Prelude.{bytes_eq}
-use Rattle.std.proofs.lemmas.Iterator.{YieldsList-from_slice}
-use Rattle.std.proofs.lemmas.Iterator.Search.{any_from_yields_List}
-use Rattle.headers.specs.LineMap.{Field, field_of}
-use Rattle.headers.specs.declared.Encoded.{Encoded}
+use Rattle.std.{proofs.Common.{◌∙◌, rules, sym, tests}, specs.Prelude.bytes_eq}
+use Rattle.std.{proofs.lemmas.Iterator.YieldsList-from_slice, proofs.lemmas.Iterator.Search.any_from_yields_List}
+use Rattle.headers.{specs.LineMap.{Field, field_of}, specs.declared.Encoded.Encoded}
 use Rattle.c_resource.proofs.ListLemmas.{list_any-map}
 use Rattle.c_resource.proofs.settled.is_set_by.Goals as goal
 

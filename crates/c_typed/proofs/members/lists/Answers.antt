@@ -1,10 +1,6 @@
-use Rattle.std.proofs.Common.{◌∙◌, ◌&&◌, ℕ, List, rules, tests}
-use Rattle.std.proofs.lemmas.Iterator.Search.{any_from_yields_List}
-use Rattle.headers.proofs.WalkRuns.{YieldsList-from_walk}
-use Rattle.headers.specs.ItemsState.{is_entry}
-use Rattle.headers.specs.Places.{comma, items}
-use Rattle.c_typed.specs.Members.{is_same}
-use Rattle.c_typed.proofs.MemberLemmas.{list_any-filter}
+use Rattle.std.{proofs.Common.{◌∙◌, ◌&&◌, ℕ, List, rules, tests}, proofs.lemmas.Iterator.Search.any_from_yields_List}
+use Rattle.headers.{proofs.WalkRuns.YieldsList-from_walk, specs.ItemsState.is_entry, specs.Places.{comma, items}}
+use Rattle.c_typed.{specs.Members.is_same, proofs.MemberLemmas.list_any-filter}
 use Rattle.c_typed.proofs.members.lists.Goals as goal
 
 pub returns : goal.returns

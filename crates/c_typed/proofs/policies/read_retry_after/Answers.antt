@@ -1,5 +1,4 @@
-use Rattle.std.proofs.Common.{◌≡◌, Some, sym}
-use Rattle.std.specs.List.{slice_get}
+use Rattle.std.{proofs.Common.{◌≡◌, Some, sym}, specs.List.slice_get}
 use Rattle.c_typed.proofs.RetryLemmas.{retry_shows}
 use Rattle.c_typed.proofs.policies.read_retry_after.Goals as goal
 

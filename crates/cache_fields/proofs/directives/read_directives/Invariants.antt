@@ -1,8 +1,7 @@
 use Rattle.std.proofs.Common.{◌≡◌}
 use Rattle.headers_map.specs.LineMap.{lines_at}
 use Rattle.rfc_fields.specs.Members.{field_left}
-use Rattle.cache_fields.specs.Directives.{directed}
-use Rattle.cache_fields.proofs.DirectiveLemmas.{directed_after}
+use Rattle.cache_fields.{specs.Directives.directed, proofs.DirectiveLemmas.directed_after}
 use Rattle.cache_fields.proofs.directives.read_directives.Given as goal
 
 -- what was directed so far and the members that are left direct what all members do

@@ -1,11 +1,8 @@
-use Rattle.std.proofs.Common.{◌≡◌, ℕ, List, length, Some, None, take, rules}
-use Rattle.std.specs.Prelude.{nat_lt, if◌then◌else◌}
+use Rattle.std.{proofs.Common.{◌≡◌, ℕ, List, length, Some, None, take, rules}, specs.Prelude.{nat_lt, if◌then◌else◌}}
 use Rattle.std.specs.List.{before_first, position_or_len}
 use borrow.Author.Tests.{tests}
-use Rattle.std.proofs.lemmas.Iterator.{YieldsList-from_slice}
-use Rattle.std.proofs.lemmas.Iterator.Search.{position_from_yields_List}
-use Rattle.cache_fields.specs.Fields.{is_comma}
-use Rattle.cache_fields.proofs.FieldLemmas.{before_comma}
+use Rattle.std.{proofs.lemmas.Iterator.YieldsList-from_slice, proofs.lemmas.Iterator.Search.position_from_yields_List}
+use Rattle.cache_fields.{specs.Fields.is_comma, proofs.FieldLemmas.before_comma}
 use Rattle.cache_fields.proofs.fields.age_in.Goals as goal
 
 pub returns : goal.returns

@@ -1,9 +1,7 @@
 use Rattle.std.proofs.Common.{◌<◌, ◌∙◌, ap, sym, subst, option_copied, option_map}
-use Rattle.rfc_structured.specs.Dictionaries.{length_of, members_in}
-use Rattle.rfc_structured.specs.Values.{entry_of}
+use Rattle.rfc_structured.{specs.Dictionaries.{length_of, members_in}, specs.Values.entry_of}
 use Rattle.rfc_structured.proofs.DictionaryLemmas.{entry-smaller}
-use Rattle.cache_fields.specs.Targets.{told_after}
-use Rattle.cache_fields.specs.declared.directives.Directives.{Directives}
+use Rattle.cache_fields.{specs.Targets.told_after, specs.declared.directives.Directives.Directives}
 use Rattle.cache_fields.proofs.TargetLemmas.{line-end, line-malformed, line-next}
 use Rattle.cache_fields.proofs.targets.told_by_line.Goals as goal
 

@@ -1,6 +1,5 @@
 use Rattle.cache_fields.specs.Directives.{directed}
-use Rattle.cache_policy.specs.Policies.{tells}
-use Rattle.cache_policy.proofs.PolicyLemmas.{counted-stale, no_cache_asks, stale_where_allowed}
+use Rattle.cache_policy.{specs.Policies.tells, proofs.PolicyLemmas.{counted-stale, no_cache_asks, stale_where_allowed}}
 use Rattle.cache_policy.proofs.laws.immutable_counts_while_fresh.Goals as goal
 
 pub returns-clause-stale : goal.returns-clause-stale

@@ -1,8 +1,7 @@
 use Rattle.std.specs.Prelude.{Some}
 use Rattle.headers.specs.LineMap.{lines_at}
 use Rattle.cache_policy.specs.Requests.{request_of}
-use Rattle.cache_rules.specs.Selection.{IsSought}
-use Rattle.cache_rules.proofs.IdentifyingLemmas.{AreBelow}
+use Rattle.cache_rules.{specs.Selection.IsSought, proofs.IdentifyingLemmas.AreBelow}
 use Rattle.cache_rules.proofs.identifying.all_sought.Given as goal
 
 -- the places so far

@@ -1,6 +1,5 @@
 use Rattle.cache_policy.specs.Requests.{request_of}
-use Rattle.cache_rules.specs.Selection.{IsCandidate}
-use Rattle.cache_rules.proofs.IdentifyingLemmas.{FoundBelow}
+use Rattle.cache_rules.{specs.Selection.IsCandidate, proofs.IdentifyingLemmas.FoundBelow}
 use Rattle.cache_rules.proofs.identifying.only_candidate.Given as goal
 
 -- what is found of the stored responses so far

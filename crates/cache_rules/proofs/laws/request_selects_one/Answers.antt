@@ -1,5 +1,4 @@
-use Rattle.cache_rules.specs.Selection.{IsCandidate}
-use Rattle.cache_rules.proofs.SelectionLemmas.{selects_one}
+use Rattle.cache_rules.{specs.Selection.IsCandidate, proofs.SelectionLemmas.selects_one}
 use Rattle.cache_rules.proofs.laws.request_selects_one.Goals as goal
 
 pub returns : goal.returns

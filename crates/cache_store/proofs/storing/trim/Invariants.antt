@@ -1,6 +1,5 @@
 use Rattle.std.proofs.Common.{◌≤◌, length}
-use Rattle.cache_store.specs.Contents.{bytes_of}
-use Rattle.cache_store.proofs.StoringLemmas.{IsTrimming}
+use Rattle.cache_store.{specs.Contents.bytes_of, proofs.StoringLemmas.IsTrimming}
 use Rattle.cache_store.proofs.storing.trim.Given as goal
 
 abbrev pub invariant-loop-limits : goal.invariant-loop-limits

@@ -1,14 +1,12 @@
 use Rattle.std.proofs.Common.{◌≡◌, Err, [], ap, length, arith, rules, sym, subst, inr}
-use Rattle.std.proofs.lemmas.List.{nil_from_length}
-use Rattle.std.proofs.lemmas.List.Elements.{All-contains_itself, All-rest}
+use Rattle.std.{proofs.lemmas.List.nil_from_length, proofs.lemmas.List.Elements.{All-contains_itself, All-rest}}
 use Rattle.std.specs.List.{All, Contains}
 use Rattle.headers.specs.LineMap.{lines_at}
-use Rattle.cache_policy.specs.{Policies.policy_of, Requests.request_of}
-use Rattle.cache_store.specs.{Contents.bytes_of, History.Has, Numbers.AreRenumbered, Updates.Becomes}
-use Rattle.cache_store.proofs.GoOnLemmas.{kept-next}
-use Rattle.cache_store.proofs.NumberLemmas.{AreRenumbering, renumbering-end, renumbering-next, renumbering-none}
-use Rattle.cache_store.proofs.UpdateLemmas.{becomes-light, continues-end, continues-next, fewer-next, lighter-next}
-use Rattle.cache_store.proofs.UpdateLemmas.{next_too_small}
+use Rattle.cache_policy.{specs.Policies.policy_of, specs.Requests.request_of}
+use Rattle.cache_store.{specs.Contents.bytes_of, specs.History.Has, specs.Numbers.AreRenumbered, specs.Updates.Becomes}
+use Rattle.cache_store.{proofs.GoOnLemmas.kept-next, proofs.NumberLemmas.{AreRenumbering, renumbering-end}}
+use Rattle.cache_store.{proofs.NumberLemmas.{renumbering-next, renumbering-none}, proofs.UpdateLemmas.becomes-light}
+use Rattle.cache_store.proofs.UpdateLemmas.{continues-end, continues-next, fewer-next, lighter-next, next_too_small}
 use Rattle.cache_rules.proofs.FullLemmas.{passed_full}
 use Rattle.cache_store.proofs.updating.left_of.Goals as goal
 

@@ -1,10 +1,9 @@
-use Rattle.std.proofs.Common.{◌≡◌, ◌⊎◌, ◌≤◌, ◌+◌, length}
-use Rattle.std.specs.{List.All, List.Contains, Vec.Iter.into_iter_items}
+use Rattle.std.{proofs.Common.{◌≡◌, ◌⊎◌, ◌≤◌, ◌+◌, length}, specs.List.{All, Contains}, specs.Vec.Iter.into_iter_items}
 use Rattle.headers.specs.LineMap.{lines_at}
-use Rattle.cache_policy.specs.{Policies.policy_of, Requests.request_of}
+use Rattle.cache_policy.{specs.Policies.policy_of, specs.Requests.request_of}
 use Rattle.cache_rules.specs.declared.stored.StoredResponse.{StoredResponse}
-use Rattle.cache_store.specs.{Contents.bytes_of, History.Has, Updates.Becomes}
-use Rattle.cache_store.proofs.{NumberLemmas.AreRenumbering, UpdateLemmas.Continues}
+use Rattle.cache_store.{specs.Contents.bytes_of, specs.History.Has, specs.Updates.Becomes}
+use Rattle.cache_store.{proofs.NumberLemmas.AreRenumbering, proofs.UpdateLemmas.Continues}
 use Rattle.cache_store.proofs.updating.left_of.Given as goal
 
 abbrev pub invariant-loop-stored : goal.invariant-loop-stored

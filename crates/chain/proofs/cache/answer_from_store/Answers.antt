@@ -1,5 +1,4 @@
-use Rattle.std.proofs.Common.{◌≡◌, ◌∙◌, ◌++◌, sym, List, [], inl, ap, codes}
-use Rattle.std.specs.Prelude.{string_bytes, unwrap_or}
+use Rattle.std.{proofs.Common.{◌≡◌, ◌∙◌, ◌++◌, sym, List, [], inl, ap, codes}, specs.Prelude.{string_bytes, unwrap_or}}
 use Rattle.headers.specs.Lines.{Line, only_line}
 use Rattle.chain.specs.Caches.{key_of}
 use Rattle.decide_resource.specs.Requests.{request_of}

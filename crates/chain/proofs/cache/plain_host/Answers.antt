@@ -1,6 +1,5 @@
 use Rattle.headers.specs.LineMap.{lines_at}
-use Rattle.chain.specs.Serving.{HasBareHost}
-use Rattle.chain.proofs.ServingLemmas.{not_special, without_special}
+use Rattle.chain.{specs.Serving.HasBareHost, proofs.ServingLemmas.{not_special, without_special}}
 use Rattle.chain.proofs.cache.plain_host.Goals as goal
 use Rattle.chain.proofs.cache.plain_host.Goals.{then-not-is_bare_read-via-then-not-is_bare_read}
 use Rattle.chain.proofs.cache.plain_host.Goals.{then-not-is_bare_read-via-else-not-is_bare_read+then-not-is_path}

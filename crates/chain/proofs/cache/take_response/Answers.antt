@@ -1,6 +1,5 @@
 use Rattle.std.proofs.Common.{◌≡◌, ◌∙◌, refl, ℕ, List, subst}
-use Rattle.cache_store.specs.Changes.{IsInserted, IsStoredAs, IsToStore}
-use Rattle.cache_store.specs.Kept.{contents_of, policy_of_store}
+use Rattle.cache_store.{specs.Changes.{IsInserted, IsStoredAs, IsToStore}, specs.Kept.{contents_of, policy_of_store}}
 use Rattle.cache_rules.specs.declared.stored.StoredResponse.{StoredResponse}
 use Rattle.chain.proofs.cache.take_response.Goals as goal
 

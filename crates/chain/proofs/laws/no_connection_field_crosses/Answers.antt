@@ -1,5 +1,4 @@
-use Rattle.chain.specs.Chains.{behind}
-use Rattle.chain.proofs.{ChainLemmas.ends, StoreLemmas.StoreLaws, StoreLemmas.stores_none}
+use Rattle.chain.{specs.Chains.behind, proofs.ChainLemmas.ends, proofs.StoreLemmas.{StoreLaws, stores_none}}
 use Rattle.chain.proofs.laws.no_connection_field_crosses.Goals as goal
 
 pub returns-clause-forwarded : goal.returns-clause-forwarded

@@ -1,7 +1,6 @@
 use Rattle.std.proofs.Common.{subst}
-use Rattle.cache_policy.specs.{Policies.tells, Storing.IsShareable, declared.Kind.Kind}
-use Rattle.chain.specs.Chains.{behind}
-use Rattle.chain.proofs.StoreLemmas.{StoreLaws, come, content_is, from, shareable}
+use Rattle.cache_policy.{specs.Policies.tells, specs.Storing.IsShareable, specs.declared.Kind.Kind}
+use Rattle.chain.{specs.Chains.behind, proofs.StoreLemmas.{StoreLaws, come, content_is, from, shareable}}
 use Rattle.chain.proofs.laws.shared_caches_serve_nothing_private.Goals as goal
 
 pub returns-clause-private : goal.returns-clause-private

@@ -1,9 +1,7 @@
-use Rattle.std.proofs.Common.{rules, ◌∙◌, subst, ◌≡◌, List}
-use Rattle.std.specs.{List.list_all, Prelude.option_map}
+use Rattle.std.{proofs.Common.{rules, ◌∙◌, subst, ◌≡◌, List}, specs.List.list_all, specs.Prelude.option_map}
 use Rattle.http_header.specs.FieldValue.{FieldValue}
 use Rattle.headers.specs.Lines.{lines_of}
-use Rattle.decide_cors.specs.SentOrigins.{is_sent}
-use Rattle.decide_cors.proofs.GrantLemmas.{sent_by}
+use Rattle.decide_cors.{specs.SentOrigins.is_sent, proofs.GrantLemmas.sent_by}
 use Rattle.decide_cors.proofs.sent.are_sent.Goals as goal
 
 pub returns-in-Some : goal.returns-in-Some

@@ -1,5 +1,4 @@
-use Rattle.std.proofs.Common.{false, [], ◌∷◌, ◌++◌, sym, ap, ◌∙◌, codes}
-use Rattle.std.proofs.lemmas.List.{map-append}
+use Rattle.std.{proofs.Common.{false, [], ◌∷◌, ◌++◌, sym, ap, ◌∙◌, codes}, proofs.lemmas.List.map-append}
 use Rattle.headers.specs.LineMap.{field_of, fields_of}
 use Rattle.decide_cors.proofs.vary.push_vary.Goals as goal
 

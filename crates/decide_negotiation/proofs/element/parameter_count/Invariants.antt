@@ -1,7 +1,6 @@
 use Rattle.std.proofs.Common.{◌≡◌, ◌+◌, length}
 use Rattle.rfc_fields.specs.Members.{members_left}
-use Rattle.decide_negotiation.specs.Elements.{own_parameters}
-use Rattle.decide_negotiation.proofs.ParameterLemmas.{own}
+use Rattle.decide_negotiation.{specs.Elements.own_parameters, proofs.ParameterLemmas.own}
 use Rattle.decide_negotiation.proofs.element.parameter_count.Given as goal
 
 abbrev pub invariant-loop-member : goal.invariant-loop-member

@@ -1,7 +1,6 @@
 use Rattle.std.proofs.Common.{◌≡◌}
 use Rattle.rfc_fields.specs.Members.{members_left}
-use Rattle.decide_negotiation.specs.Elements.{parameters_of, weight_in}
-use Rattle.decide_negotiation.proofs.ParameterLemmas.{read}
+use Rattle.decide_negotiation.{specs.Elements.{parameters_of, weight_in}, proofs.ParameterLemmas.read}
 use Rattle.decide_negotiation.proofs.element.weight_in.Given as goal
 
 abbrev pub invariant-loop-member : goal.invariant-loop-member

@@ -1,8 +1,7 @@
-use Rattle.std.proofs.Common.{rules, tests, false}
-use Rattle.std.proofs.{lemmas.Iterator.Consumers.YieldsList-from_first, lemmas.Iterator.Search.any_from_yields_List}
-use Rattle.std.specs.Option.{option_map_or}
-use Rattle.rfc_fields.specs.{Members.field_left, Members.member_of, Scan.Member}
-use Rattle.decide_negotiation.specs.{Elements.bare_element_of, Lookup.is_any}
+use Rattle.std.{proofs.Common.{rules, tests, false}, proofs.lemmas.Iterator.Consumers.YieldsList-from_first}
+use Rattle.std.{proofs.lemmas.Iterator.Search.any_from_yields_List, specs.Option.option_map_or}
+use Rattle.rfc_fields.{specs.Members.{field_left, member_of}, specs.Scan.Member}
+use Rattle.decide_negotiation.{specs.Elements.bare_element_of, specs.Lookup.is_any}
 use Rattle.decide_negotiation.proofs.lookup.accepts_any.Goals as goal
 
 pub returns : goal.returns

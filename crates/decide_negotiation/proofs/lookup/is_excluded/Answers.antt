@@ -1,6 +1,5 @@
-use Rattle.std.proofs.Common.{◌∙◌, Option, ap, false}
-use Rattle.std.specs.Option.{option_map_or}
-use Rattle.decide_negotiation.specs.{Lookup.excludes, declared.preference.Preference.Preference}
+use Rattle.std.{proofs.Common.{◌∙◌, Option, ap, false}, specs.Option.option_map_or}
+use Rattle.decide_negotiation.{specs.Lookup.excludes, specs.declared.preference.Preference.Preference}
 use Rattle.decide_negotiation.proofs.lookup.is_excluded.Goals as goal
 
 pub returns-in-Some : goal.returns-in-Some

@@ -1,6 +1,5 @@
 use Rattle.std.proofs.Common.{subst, sym, List, ◌↔◌, Any}
-use Rattle.decide_preconditions.specs.Parts.{AreCoalesced, Holds, IsJoined}
-use Rattle.decide_preconditions.specs.declared.part.Part.{Part}
+use Rattle.decide_preconditions.{specs.Parts.{AreCoalesced, Holds, IsJoined}, specs.declared.part.Part.Part}
 use Rattle.decide_preconditions.proofs.PartLemmas.{coalesced_from, covers_from}
 use Rattle.decide_preconditions.proofs.part.coalesce.Goals as goal
 

@@ -1,5 +1,4 @@
-use Rattle.std.proofs.Common.{◌≡◌, length}
-use Rattle.std.specs.List.{list_all}
+use Rattle.std.{proofs.Common.{◌≡◌, length}, specs.List.list_all}
 use Rattle.decide_preconditions.specs.RangeSets.{elements, is_range_spec}
 use Rattle.decide_preconditions.proofs.range_set.are_range_specs.Given as goal
 

@@ -1,5 +1,4 @@
-use Rattle.std.proofs.Common.{◌≡◌, length}
-use Rattle.std.specs.List.{list_any}
+use Rattle.std.{proofs.Common.{◌≡◌, length}, specs.List.list_any}
 use Rattle.decide_preconditions.specs.RangeSets.{elements, selects_some}
 use Rattle.decide_preconditions.proofs.range_set.is_satisfiable.Given as goal
 

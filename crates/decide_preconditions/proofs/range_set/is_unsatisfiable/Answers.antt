@@ -1,5 +1,4 @@
-use Rattle.decide_preconditions.specs.RangeSets.{elements}
-use Rattle.decide_preconditions.proofs.RangeSetLemmas.{asked_or_not}
+use Rattle.decide_preconditions.{specs.RangeSets.elements, proofs.RangeSetLemmas.asked_or_not}
 use Rattle.decide_preconditions.proofs.range_set.is_unsatisfiable.Goals as goal
 
 pub returns : goal.returns

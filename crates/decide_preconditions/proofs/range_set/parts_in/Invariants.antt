@@ -1,5 +1,4 @@
-use Rattle.std.proofs.Common.{◌≡◌, ◌++◌, length}
-use Rattle.std.specs.List.{filter_map}
+use Rattle.std.{proofs.Common.{◌≡◌, ◌++◌, length}, specs.List.filter_map}
 use Rattle.decide_preconditions.specs.RangeSets.{elements, part_in}
 use Rattle.decide_preconditions.proofs.range_set.parts_in.Given as goal
 

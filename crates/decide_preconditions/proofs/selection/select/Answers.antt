@@ -1,7 +1,6 @@
 use Rattle.std.proofs.Common.{inr, rules}
 use Rattle.headers.specs.LineMap.{lines_at}
-use Rattle.decide_preconditions.specs.Selection.{AsksForSome}
-use Rattle.decide_preconditions.proofs.SelectionLemmas.{asks_for}
+use Rattle.decide_preconditions.{specs.Selection.AsksForSome, proofs.SelectionLemmas.asks_for}
 use Rattle.decide_preconditions.proofs.selection.select.Goals as goal
 
 pub returns-then-is_unsatisfiable-clause-selects : goal.returns-then-is_unsatisfiable-clause-selects

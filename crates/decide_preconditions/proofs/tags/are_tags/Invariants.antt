@@ -1,5 +1,4 @@
-use Rattle.std.proofs.Common.{◌≡◌, length}
-use Rattle.std.specs.List.{list_all}
+use Rattle.std.{proofs.Common.{◌≡◌, length}, specs.List.list_all}
 use Rattle.headers.specs.Lines.{lines_of}
 use Rattle.rfc_fields.specs.Members.{field_left}
 use Rattle.decide_preconditions.specs.Tags.{are_tags, is_tag_member}

@@ -1,5 +1,4 @@
-use Rattle.std.proofs.Common.{◌≡◌, length, option_copied}
-use Rattle.std.specs.List.{list_any}
+use Rattle.std.{proofs.Common.{◌≡◌, length, option_copied}, specs.List.list_any}
 use Rattle.headers.specs.Lines.{lines_of}
 use Rattle.rfc_fields.specs.Members.{field_left}
 use Rattle.decide_preconditions.specs.Tags.{is_equal_member, lists}

@@ -1,11 +1,7 @@
-use Rattle.std.proofs.Common.{◌≡◌, ℕ, List, [], ◌∷◌, codes, rules, refl, ap, ◌∙◌}
-use Rattle.std.specs.Prelude.{IfOk, Result, Ok, Err}
-use Rattle.headers.specs.LineMap.{field_of}
-use Rattle.headers.specs.Lines.{Line, lines_of}
-use Rattle.headers.specs.ListItem.{method_of}
-use Rattle.headers.specs.Merge.{merge}
-use Rattle.headers.specs.Places.{comma}
-use Rattle.headers.specs.declared.Encoded.{Encoded}
+use Rattle.std.{proofs.Common.{◌≡◌, ℕ, List, [], ◌∷◌, codes, rules, refl, ap, ◌∙◌}, specs.Prelude.{IfOk, Result, Ok}}
+use Rattle.std.specs.Prelude.{Err}
+use Rattle.headers.{specs.LineMap.field_of, specs.Lines.{Line, lines_of}, specs.ListItem.method_of, specs.Merge.merge}
+use Rattle.headers.{specs.Places.comma, specs.declared.Encoded.Encoded}
 use Rattle.decide_cors.proofs.WrittenLemmas.{listed_values_by}
 use Rattle.decide_resource.specs.Applies.{methods}
 use Rattle.decide_resource.proofs.allow.allow_field.Goals as goal

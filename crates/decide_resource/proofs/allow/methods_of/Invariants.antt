@@ -1,5 +1,4 @@
-use Rattle.std.proofs.Common.{◌≡◌, take}
-use Rattle.std.specs.Prelude.{flat_map}
+use Rattle.std.{proofs.Common.{◌≡◌, take}, specs.Prelude.flat_map}
 use Rattle.decide_resource.specs.Applies.{methods_of}
 use Rattle.decide_resource.proofs.allow.methods_of.Given as goal
 

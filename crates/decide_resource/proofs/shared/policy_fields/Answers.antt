@@ -1,8 +1,6 @@
 use Rattle.std.proofs.Common.{List, codes, refl, ap, ◌∙◌}
-use Rattle.headers.specs.LineMap.{lines_at}
-use Rattle.headers.specs.Lines.{Line}
-use Rattle.decide_cors.specs.Fields.{fields_sent}
-use Rattle.decide_cors.specs.Kinds.{is_preflight}
+use Rattle.headers.{specs.LineMap.lines_at, specs.Lines.Line}
+use Rattle.decide_cors.{specs.Fields.fields_sent, specs.Kinds.is_preflight}
 use Rattle.decide_resource.proofs.shared.policy_fields.Goals as goal
 
 pub returns : goal.returns

@@ -1,6 +1,5 @@
 use Rattle.std.proofs.Common.{◌≡◌, codes, take}
-use Rattle.headers.specs.LineMap.{lines_at}
-use Rattle.headers.specs.Lines.{lines_of}
+use Rattle.headers.{specs.LineMap.lines_at, specs.Lines.lines_of}
 use Rattle.decide_resource.proofs.shared.varying.Given as goal
 
 abbrev pub invariant-loop-line : goal.invariant-loop-line

@@ -1,6 +1,4 @@
-use Rattle.std.proofs.Common.{◌≡◌, ◌++◌, codes}
-use Rattle.std.specs.BTreeMap.{keys}
-use Rattle.std.specs.String.{string_bytes}
+use Rattle.std.{proofs.Common.{◌≡◌, ◌++◌, codes}, specs.BTreeMap.keys, specs.String.string_bytes}
 use Rattle.example_notes.specs.Notes.{further_of, items_of}
 use Rattle.example_notes.proofs.text.list_text.Given as goal
 

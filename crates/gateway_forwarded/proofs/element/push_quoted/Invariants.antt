@@ -1,5 +1,4 @@
-use Rattle.std.proofs.Common.{◌≡◌, ◌∷◌, [], ◌++◌, drop}
-use Rattle.std.specs.List.{flat_map}
+use Rattle.std.{proofs.Common.{◌≡◌, ◌∷◌, [], ◌++◌, drop}, specs.List.flat_map}
 use Rattle.rfc_fields.specs.Grammar.{quote}
 use Rattle.gateway_forwarded.specs.Elements.{escaped}
 use Rattle.gateway_forwarded.proofs.element.push_quoted.Given as goal

@@ -1,8 +1,5 @@
-use Rattle.std.proofs.Common.{◌++◌, codes, refl}
-use Rattle.std.specs.Net.Addr.{ipv6_segments}
-use Rattle.std.specs.Net.Text.{ipv6_text}
-use Rattle.http_header.specs.Token.{is_value_byte}
-use Rattle.http_header.proofs.TokenLemmas.{AllPass-from_test}
+use Rattle.std.{proofs.Common.{◌++◌, codes, refl}, specs.Net.Addr.ipv6_segments, specs.Net.Text.ipv6_text}
+use Rattle.http_header.{specs.Token.is_value_byte, proofs.TokenLemmas.AllPass-from_test}
 use Rattle.gateway_forwarded.proofs.NodeLemmas.{join_valid, on_ok}
 use Rattle.gateway_forwarded.proofs.node.push_bracketed.Goals as goal
 

@@ -1,5 +1,4 @@
-use Rattle.std.proofs.Common.{rules}
-use Rattle.std.specs.Net.Addr.{IsIpv4Addr, ipv4_octets}
+use Rattle.std.{proofs.Common.rules, specs.Net.Addr.{IsIpv4Addr, ipv4_octets}}
 use Rattle.gateway_forwarded.proofs.NodeLemmas.{ipv4_valid, on_ok}
 use Rattle.gateway_forwarded.proofs.node.push_ipv4.Goals as goal
 

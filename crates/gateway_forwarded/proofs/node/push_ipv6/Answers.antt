@@ -1,5 +1,4 @@
-use Rattle.std.proofs.Common.{rules}
-use Rattle.std.specs.Net.Addr.{IsIpv6Addr, ipv6_segments}
+use Rattle.std.{proofs.Common.rules, specs.Net.Addr.{IsIpv6Addr, ipv6_segments}}
 use Rattle.gateway_forwarded.proofs.NodeLemmas.{ipv6_valid, on_ok}
 use Rattle.gateway_forwarded.proofs.node.push_ipv6.Goals as goal
 

@@ -1,5 +1,4 @@
-use Rattle.std.proofs.Common.{◌≡◌, None, codes, true, length}
-use Rattle.std.specs.{List.last_or, Option.option_map}
+use Rattle.std.{proofs.Common.{◌≡◌, None, codes, true, length}, specs.List.last_or, specs.Option.option_map}
 use Rattle.headers.specs.LineMap.{lines_at}
 use Rattle.rfc_fields.specs.Members.{field_left, field_members, member_of}
 use Rattle.gateway_messages.proofs.framing.ends_chunked.Given as goal

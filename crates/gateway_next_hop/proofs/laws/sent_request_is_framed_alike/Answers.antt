@@ -1,11 +1,9 @@
 use Rattle.std.proofs.Common.{◌≡◌, true, List, refl, sym, ◌∙◌, ap}
 use Rattle.headers.specs.LineMap.{LineMap}
-use Rattle.gateway_messages.specs.FieldLines.{Field, fields_of}
-use Rattle.gateway_messages.specs.Recipients.{accepted_by, framing_by}
+use Rattle.gateway_messages.{specs.FieldLines.{Field, fields_of}, specs.Recipients.{accepted_by, framing_by}}
 use Rattle.gateway_messages.specs.declared.expectation.Expectation.{Expectation}
 use Rattle.gateway_messages.specs.declared.expectation.Expectation.TheVariants.{Absent, Forwarded, Answered}
-use Rattle.gateway_next_hop.specs.Replaced.{frame_nothing}
-use Rattle.gateway_next_hop.specs.Sent.{Hop, hop_fields}
+use Rattle.gateway_next_hop.{specs.Replaced.frame_nothing, specs.Sent.{Hop, hop_fields}}
 use Rattle.gateway_next_hop.proofs.ReplacedLemmas.{replaced_framing}
 use Rattle.gateway_next_hop.proofs.laws.sent_request_is_framed_alike.Goals as goal
 

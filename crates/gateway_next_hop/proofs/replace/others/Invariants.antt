@@ -1,5 +1,4 @@
-use Rattle.std.proofs.Common.{◌≡◌, ◌++◌, filter, not}
-use Rattle.std.specs.Vec.Iter.{into_iter_items}
+use Rattle.std.{proofs.Common.{◌≡◌, ◌++◌, filter, not}, specs.Vec.Iter.into_iter_items}
 use Rattle.headers.specs.LineMap.{fields_of as encodings_of}
 use Rattle.gateway_messages.specs.FieldLines.{Field, fields_of}
 use Rattle.gateway_next_hop.specs.Replaced.{has_field}

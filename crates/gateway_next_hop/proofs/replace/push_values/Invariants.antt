@@ -1,5 +1,4 @@
-use Rattle.std.proofs.Common.{◌≡◌, ◌++◌}
-use Rattle.std.specs.Vec.Iter.{into_iter_items}
+use Rattle.std.{proofs.Common.{◌≡◌, ◌++◌}, specs.Vec.Iter.into_iter_items}
 use Rattle.headers.specs.Lines.{lines_of}
 use Rattle.gateway_messages.specs.FieldLines.{fields_of}
 use Rattle.gateway_next_hop.specs.Replaced.{lines_with_name}

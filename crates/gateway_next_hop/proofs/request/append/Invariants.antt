@@ -1,5 +1,4 @@
-use Rattle.std.proofs.Common.{◌≡◌, ◌++◌}
-use Rattle.std.specs.Vec.Iter.{into_iter_items}
+use Rattle.std.{proofs.Common.{◌≡◌, ◌++◌}, specs.Vec.Iter.into_iter_items}
 use Rattle.headers.specs.LineMap.{fields_of as encodings_of}
 use Rattle.gateway_next_hop.proofs.request.append.Given as goal
 

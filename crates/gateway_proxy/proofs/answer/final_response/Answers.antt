@@ -1,13 +1,8 @@
-use Rattle.std.proofs.Common.{◌≡◌, refl, subst, sym}
-use Rattle.std.proofs.lemmas.Result.{err_from_is_err_and}
-use Rattle.http1.specs.declared.client.Client.{Client}
-use Rattle.http1.specs.declared.server.Server.{Server}
-use Rattle.gateway_relay.specs.declared.failure.Failure.TheVariants.{Writer}
-use Rattle.gateway_relay.proofs.HeadLemmas.{fails_as}
-use Rattle.gateway_proxy.specs.Cuts.{CutsInterim, CutsResponse, in_interim}
-use Rattle.gateway_proxy.specs.Exchanges.{Interims, IsFound, next, none}
-use Rattle.gateway_proxy.specs.declared.answer.Found.{Found}
-use Rattle.gateway_proxy.proofs.AnswerLemmas.{as_client}
+use Rattle.std.{proofs.Common.{◌≡◌, refl, subst, sym}, proofs.lemmas.Result.err_from_is_err_and}
+use Rattle.http1.{specs.declared.client.Client.Client, specs.declared.server.Server.Server}
+use Rattle.gateway_relay.{specs.declared.failure.Failure.TheVariants.Writer, proofs.HeadLemmas.fails_as}
+use Rattle.gateway_proxy.{specs.Cuts.{CutsInterim, CutsResponse, in_interim}, specs.Exchanges.{Interims, IsFound, next}}
+use Rattle.gateway_proxy.{specs.Exchanges.none, specs.declared.answer.Found.Found, proofs.AnswerLemmas.as_client}
 use Rattle.gateway_proxy.proofs.answer.final_response.Goals as goal
 
 pub loop-count-init : goal.loop-count-init

@@ -1,17 +1,10 @@
-use Rattle.std.proofs.Common.{◌≡◌, ◌∙◌, inr, nat_lt, subst, sym, true}
-use Rattle.std.proofs.lemmas.Result.{err_from_is_err_and}
-use Rattle.http1.specs.Head.{response_text}
-use Rattle.http1.specs.Server.{informational_refusal}
-use Rattle.http1.specs.declared.client.Client.{Client}
+use Rattle.std.{proofs.Common.{◌≡◌, ◌∙◌, inr, nat_lt, subst, sym, true}, proofs.lemmas.Result.err_from_is_err_and}
+use Rattle.http1.{specs.Head.response_text, specs.Server.informational_refusal, specs.declared.client.Client.Client}
 use Rattle.gateway_messages.specs.FieldLines.{fields_of}
-use Rattle.gateway_relay.specs.Failures.{FailsToWrite}
-use Rattle.gateway_relay.specs.Heads.{ReadsResponseHead}
-use Rattle.gateway_relay.specs.declared.failure.Failure.{Failure}
-use Rattle.gateway_relay.specs.declared.failure.Failure.TheVariants.{Writer}
+use Rattle.gateway_relay.{specs.Failures.FailsToWrite, specs.Heads.ReadsResponseHead}
+use Rattle.gateway_relay.{specs.declared.failure.Failure.Failure, specs.declared.failure.Failure.TheVariants.Writer}
 use Rattle.gateway_relay.proofs.HeadLemmas.{fails_as}
-use Rattle.gateway_proxy.specs.Cuts.{CutsInterim}
-use Rattle.gateway_proxy.specs.Faults.{IsUnusable}
-use Rattle.gateway_proxy.specs.declared.fault.Fault.{Fault}
+use Rattle.gateway_proxy.{specs.Cuts.CutsInterim, specs.Faults.IsUnusable, specs.declared.fault.Fault.Fault}
 use Rattle.gateway_proxy.proofs.AnswerLemmas.{forwarded_as, interim_keeps, interim_unsent}
 use Rattle.gateway_proxy.proofs.answer.next_response.Goals as goal
 

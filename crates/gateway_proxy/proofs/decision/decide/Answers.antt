@@ -1,6 +1,5 @@
 use Rattle.std.proofs.Common.{◌∙◌, List, ap, bytes_eq, codes, ℕ}
-use Rattle.gateway_proxy.specs.Targets.{target_of}
-use Rattle.gateway_proxy.proofs.DecisionLemmas.{takes_memory}
+use Rattle.gateway_proxy.{specs.Targets.target_of, proofs.DecisionLemmas.takes_memory}
 use Rattle.gateway_proxy.proofs.decision.decide.Goals as goal
 
 pub returns-in_err-sent-clause-memory : goal.returns-in_err-sent-clause-memory

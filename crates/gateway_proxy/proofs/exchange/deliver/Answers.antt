@@ -1,5 +1,4 @@
-use Rattle.std.proofs.Common.{◌∙◌, ap, false, rules, sym, true}
-use Rattle.std.proofs.lemmas.Result.{err_from_is_err_and}
+use Rattle.std.{proofs.Common.{◌∙◌, ap, false, rules, sym, true}, proofs.lemmas.Result.err_from_is_err_and}
 use Rattle.http1.specs.Encoder.{encoder_for}
 use Rattle.http1.specs.Server as Serving
 use Rattle.gateway_relay.proofs.HeadLemmas.{fails_as}

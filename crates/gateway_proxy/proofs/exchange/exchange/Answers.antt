@@ -1,11 +1,9 @@
-use Rattle.std.proofs.Common.{refl}
-use Rattle.std.proofs.lemmas.Result.{err_from_is_err_and}
+use Rattle.std.{proofs.Common.refl, proofs.lemmas.Result.err_from_is_err_and}
 use Rattle.http1.specs.Decoder.{decoder_for}
 use Rattle.gateway_relay.proofs.HeadLemmas.{fails_as}
-use Rattle.gateway_proxy.specs.Cuts.{IsCut, continued, refused, undecided}
-use Rattle.gateway_proxy.specs.Exchanges.{in_part, unanswered, wires}
-use Rattle.gateway_proxy.proofs.ExchangeLemmas.{accepted, breaks, cuts, cuts_answer, passed_in_part, passed_on, refused_with}
-use Rattle.gateway_proxy.proofs.ExchangeLemmas.{turns}
+use Rattle.gateway_proxy.{specs.Cuts.{IsCut, continued, refused, undecided}, specs.Exchanges.{in_part, unanswered}}
+use Rattle.gateway_proxy.{specs.Exchanges.wires, proofs.ExchangeLemmas.{accepted, breaks, cuts, cuts_answer}}
+use Rattle.gateway_proxy.proofs.ExchangeLemmas.{passed_in_part, passed_on, refused_with, turns}
 use Rattle.gateway_proxy.proofs.exchange.exchange.Goals as goal
 
 pub returns : goal.returns

@@ -1,7 +1,6 @@
 use Rattle.std.proofs.Common.{subst}
-use Rattle.gateway_proxy.specs.Exchanges.{FindsReply}
-use Rattle.gateway_proxy.proofs.AnswerLemmas.{final_reads}
-use Rattle.gateway_proxy.proofs.ExchangeLemmas.{cuts_final, cuts_own, responds}
+use Rattle.gateway_proxy.{specs.Exchanges.FindsReply, proofs.AnswerLemmas.final_reads, proofs.ExchangeLemmas.cuts_final}
+use Rattle.gateway_proxy.proofs.ExchangeLemmas.{cuts_own, responds}
 use Rattle.gateway_proxy.proofs.exchange.respond.Goals as goal
 
 pub returns-in-Whole-clause-responded : goal.returns-in-Whole-clause-responded

@@ -1,6 +1,5 @@
 use Rattle.std.proofs.Common.{ap, arith}
-use Rattle.gateway_proxy.specs.Faults.{response_status}
-use Rattle.gateway_proxy.proofs.FaultLemmas.{response_500, response_502, response_504}
+use Rattle.gateway_proxy.{specs.Faults.response_status, proofs.FaultLemmas.{response_500, response_502, response_504}}
 use Rattle.gateway_proxy.proofs.laws.own_status_tells_the_fault.Goals as goal
 
 pub returns : goal.returns

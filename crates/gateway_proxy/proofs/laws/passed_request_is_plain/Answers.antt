@@ -1,8 +1,7 @@
 use Rattle.std.proofs.KnownBytes.{Appends-trans}
 use Rattle.gateway_messages.specs.FieldLines.{fields_of}
 use Rattle.gateway_relay.proofs.RelayLemmas.{relayed_request}
-use Rattle.gateway_proxy.specs.Passing.{request_size}
-use Rattle.gateway_proxy.proofs.PassLemmas.{sent_whole}
+use Rattle.gateway_proxy.{specs.Passing.request_size, proofs.PassLemmas.sent_whole}
 use Rattle.gateway_proxy.proofs.laws.passed_request_is_plain.Goals as goal
 
 pub returns : goal.returns

@@ -1,6 +1,5 @@
 use Rattle.gateway_messages.specs.FieldLines.{fields_of}
-use Rattle.gateway_proxy.specs.Passing.{response_size}
-use Rattle.gateway_proxy.specs.Responses.{keeps_origin, written_fields}
+use Rattle.gateway_proxy.{specs.Passing.response_size, specs.Responses.{keeps_origin, written_fields}}
 use Rattle.gateway_proxy.proofs.PlanLemmas.{given_close, told_to_close}
 use Rattle.gateway_proxy.proofs.laws.passed_response_ends_with_the_origin.Goals as goal
 

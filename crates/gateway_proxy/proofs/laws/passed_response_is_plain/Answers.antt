@@ -1,8 +1,6 @@
 use Rattle.std.proofs.KnownBytes.{Appends-trans}
 use Rattle.gateway_relay.proofs.RelayLemmas.{relayed_response}
-use Rattle.gateway_proxy.specs.Passing.{response_size}
-use Rattle.gateway_proxy.specs.Responses.{written_fields}
-use Rattle.gateway_proxy.proofs.PassLemmas.{sent_whole}
+use Rattle.gateway_proxy.{specs.Passing.response_size, specs.Responses.written_fields, proofs.PassLemmas.sent_whole}
 use Rattle.gateway_proxy.proofs.laws.passed_response_is_plain.Goals as goal
 
 pub returns : goal.returns

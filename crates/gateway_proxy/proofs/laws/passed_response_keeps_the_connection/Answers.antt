@@ -2,8 +2,7 @@ use Rattle.gateway_messages.specs.FieldLines.{fields_of}
 use Rattle.http1.specs.Conn.{is_until_close}
 use Rattle.http1.specs.Server as Serving
 use Rattle.std.proofs.Common.{◌&&◌, not}
-use Rattle.gateway_proxy.specs.Passing.{response_size}
-use Rattle.gateway_proxy.specs.Responses.{keeps_origin, says_close}
+use Rattle.gateway_proxy.{specs.Passing.response_size, specs.Responses.{keeps_origin, says_close}}
 use Rattle.gateway_proxy.proofs.PlanLemmas.{five_told, is_stated, kept_exactly, stated}
 use Rattle.gateway_proxy.proofs.laws.passed_response_keeps_the_connection.Goals as goal
 

@@ -1,5 +1,4 @@
-use Rattle.gateway_proxy.specs.Passing.{response_size}
-use Rattle.gateway_proxy.specs.Responses.{written_fields}
+use Rattle.gateway_proxy.{specs.Passing.response_size, specs.Responses.written_fields}
 use Rattle.gateway_proxy.proofs.PlanLemmas.{plan_says_close}
 use Rattle.gateway_proxy.proofs.laws.passed_response_says_close.Goals as goal
 

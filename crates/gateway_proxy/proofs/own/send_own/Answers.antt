@@ -1,5 +1,4 @@
-use Rattle.std.proofs.Common.{◌∙◌, ◌++◌, ◌∷◌, [], List, ℕ, ap, codes}
-use Rattle.std.proofs.lemmas.Result.{err_from_is_err_and}
+use Rattle.std.{proofs.Common.{◌∙◌, ◌++◌, ◌∷◌, [], List, ℕ, ap, codes}, proofs.lemmas.Result.err_from_is_err_and}
 use Rattle.http1.specs.Head.{header_parts, response_text}
 use Rattle.gateway_proxy.proofs.PassLemmas.{own_refused, own_sent}
 use Rattle.gateway_proxy.proofs.own.send_own.Goals as goal

@@ -1,7 +1,6 @@
 use Rattle.std.proofs.Common.{◌≡◌, ◌∙◌, ap}
 use Rattle.http1.specs.Head.{pairs}
-use Rattle.gateway_proxy.specs.Responses.{written_fields}
-use Rattle.gateway_proxy.proofs.PassLemmas.{begun_response}
+use Rattle.gateway_proxy.{specs.Responses.written_fields, proofs.PassLemmas.begun_response}
 use Rattle.gateway_proxy.proofs.pass.begin_response.Goals as goal
 
 pub returns-clause-begins : goal.returns-clause-begins

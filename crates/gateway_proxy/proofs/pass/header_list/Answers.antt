@@ -1,5 +1,4 @@
-use Rattle.std.proofs.Common.{[], ◌∷◌, ◌++◌, take, sym, ap, ◌∙◌}
-use Rattle.std.proofs.lemmas.List.{map_push, map_more}
+use Rattle.std.{proofs.Common.{[], ◌∷◌, ◌++◌, take, sym, ap, ◌∙◌}, proofs.lemmas.List.{map_push, map_more}}
 use Rattle.http1.specs.Head.{header_parts, pairs}
 use Rattle.gateway_messages.specs.FieldLines.{fields_of}
 use Rattle.gateway_proxy.proofs.pass.header_list.Goals as goal

@@ -1,12 +1,10 @@
-use Rattle.std.proofs.Common.{◌≡◌, ◌∙◌, ap, refl}
-use Rattle.std.proofs.lemmas.Result.{err_from_is_err_and}
+use Rattle.std.{proofs.Common.{◌≡◌, ◌∙◌, ap, refl}, proofs.lemmas.Result.err_from_is_err_and}
 use Rattle.http1.specs.Head.{pairs}
 use Rattle.headers.specs.LineMap.{lines_at}
 use Rattle.gateway_messages.specs.FieldLines.{fields_of}
-use Rattle.gateway_relay.specs.Content.{after_pieces}
-use Rattle.gateway_relay.proofs.HeadLemmas.{fails_as}
-use Rattle.gateway_proxy.specs.Passing.{FailsToPass, at_content, at_end, at_trailers}
-use Rattle.gateway_proxy.proofs.PassLemmas.{content_fails, content_passes, passes_content}
+use Rattle.gateway_relay.{specs.Content.after_pieces, proofs.HeadLemmas.fails_as}
+use Rattle.gateway_proxy.{specs.Passing.{FailsToPass, at_content, at_end, at_trailers}, proofs.PassLemmas.content_fails}
+use Rattle.gateway_proxy.proofs.PassLemmas.{content_passes, passes_content}
 use Rattle.gateway_proxy.proofs.pass.pass_content.Goals as goal
 
 pub returns-in_err-trailers-clause-fails : goal.returns-in_err-trailers-clause-fails

@@ -1,8 +1,7 @@
 use Rattle.std.proofs.Common.{[], List, ℕ, arith, inl, inr, refl, subst, sym}
 use Rattle.std.proofs.lemmas.Result.{err_from_is_err_and}
 use Rattle.gateway_relay.proofs.HeadLemmas.{fails_as}
-use Rattle.gateway_proxy.specs.Cuts.{IsCutFrom}
-use Rattle.gateway_proxy.specs.Exchanges.{Exchanges, IsTurn, next, none, wires}
+use Rattle.gateway_proxy.{specs.Cuts.IsCutFrom, specs.Exchanges.{Exchanges, IsTurn, next, none, wires}}
 use Rattle.gateway_proxy.proofs.serve.serve_gateway.Goals as goal
 
 pub loop-count-init : goal.loop-count-init

@@ -1,5 +1,4 @@
-use Rattle.std.proofs.Common.{◌∙◌, ◌++◌, List, ℕ, ap}
-use Rattle.std.proofs.lemmas.Result.{err_from_is_err_and}
+use Rattle.std.{proofs.Common.{◌∙◌, ◌++◌, List, ℕ, ap}, proofs.lemmas.Result.err_from_is_err_and}
 use Rattle.http1.specs.Head.{pairs, response_text}
 use Rattle.gateway_relay.proofs.RelayLemmas.{writes_refused, writes_sent}
 use Rattle.gateway_relay.proofs.answer.send_interim.Goals as goal

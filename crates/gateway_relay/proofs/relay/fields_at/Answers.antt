@@ -1,7 +1,6 @@
-use Rattle.std.proofs.Common.{◌∙◌, List, ℕ, ap, take}
-use Rattle.std.proofs.lemmas.Result.{err_from_is_err_and}
+use Rattle.std.{proofs.Common.{◌∙◌, List, ℕ, ap, take}, proofs.lemmas.Result.err_from_is_err_and}
 use Rattle.http1_typed.specs.Parts.{map_at}
-use Rattle.gateway_relay.proofs.{FieldLemmas.map_at-take, FieldLemmas.map_fails, HeadLemmas.fails_as}
+use Rattle.gateway_relay.{proofs.FieldLemmas.{map_at-take, map_fails}, proofs.HeadLemmas.fails_as}
 use Rattle.gateway_relay.proofs.relay.fields_at.Goals as goal
 
 pub returns-clause-fields : goal.returns-clause-fields

@@ -1,13 +1,12 @@
-use Rattle.std.proofs.Common.{◌∙◌, ◌++◌, Err, List, Ok, ℕ, ap, append_assoc, refl, sym}
-use Rattle.std.proofs.{KnownBytes.Keeps-refl, lemmas.Result.err_from_is_err_and}
+use Rattle.std.{proofs.Common.{◌∙◌, ◌++◌, Err, List, Ok, ℕ, ap, append_assoc, refl, sym}, proofs.KnownBytes.Keeps-refl}
+use Rattle.std.proofs.lemmas.Result.{err_from_is_err_and}
 use Rattle.bytes.specs.Filled.{Filled}
 use Rattle.http1.specs.ServerTrace.{headers_at}
-use Rattle.gateway_relay.specs.Content.{map_of}
-use Rattle.gateway_relay.proofs.RelayLemmas.{above, counts_all, counts_begin, counts_piece, counts_read, some_more}
-use Rattle.gateway_relay.proofs.RelayLemmas.{content_fails, end_found, found, nothing_more, on_ok, passing_as}
-use Rattle.gateway_relay.proofs.RelayLemmas.{passing_begins, passing_piece, passing_received, passing_sent}
-use Rattle.gateway_relay.proofs.RelayLemmas.{passing_waits, piece_fails, receive_fails, relays_closed, relays_ended}
-use Rattle.gateway_relay.proofs.RelayLemmas.{relays_failed, relays_unsent, trailers_fail}
+use Rattle.gateway_relay.{specs.Content.map_of, proofs.RelayLemmas.{above, counts_all, counts_begin, counts_piece}}
+use Rattle.gateway_relay.proofs.RelayLemmas.{counts_read, some_more, content_fails, end_found, found, nothing_more}
+use Rattle.gateway_relay.proofs.RelayLemmas.{on_ok, passing_as, passing_begins, passing_piece, passing_received}
+use Rattle.gateway_relay.proofs.RelayLemmas.{passing_sent, passing_waits, piece_fails, receive_fails, relays_closed}
+use Rattle.gateway_relay.proofs.RelayLemmas.{relays_ended, relays_failed, relays_unsent, trailers_fail}
 use Rattle.gateway_relay.proofs.relay.relay_content.Goals as goal
 
 pub loop-turn-init : goal.loop-turn-init

@@ -1,8 +1,6 @@
-use Rattle.std.proofs.Common.{◌∙◌, List, ℕ, drop, subst, sym}
-use Rattle.std.proofs.lemmas.Result.{err_from_is_err_and}
-use Rattle.http1.specs.{Fields.Header, Message.AcceptsRequest, ServerTrace.headers_at}
-use Rattle.gateway_relay.specs.Failures.{IsMapFailure}
-use Rattle.gateway_relay.proofs.HeadLemmas.{request_has_no_map, takes_request}
+use Rattle.std.{proofs.Common.{◌∙◌, List, ℕ, drop, subst, sym}, proofs.lemmas.Result.err_from_is_err_and}
+use Rattle.http1.{specs.Fields.Header, specs.Message.AcceptsRequest, specs.ServerTrace.headers_at}
+use Rattle.gateway_relay.{specs.Failures.IsMapFailure, proofs.HeadLemmas.{request_has_no_map, takes_request}}
 use Rattle.gateway_relay.proofs.request.read_request.Goals as goal
 
 pub returns-in_err-request-in-Head-clause-err : goal.returns-in_err-request-in-Head-clause-err

@@ -1,5 +1,4 @@
-use Rattle.std.proofs.Common.{◌≡◌, ◌++◌, ◌-◌, ◌^◌, List, ℕ, length}
-use Rattle.std.specs.Io.KnownBytes.{Consumes}
+use Rattle.std.{proofs.Common.{◌≡◌, ◌++◌, ◌-◌, ◌^◌, List, ℕ, length}, specs.Io.KnownBytes.Consumes}
 use Rattle.http1.specs.Server.{new_server}
 use Rattle.gateway_relay.proofs.request.read_request.Given as goal
 

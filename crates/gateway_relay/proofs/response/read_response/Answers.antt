@@ -1,8 +1,6 @@
-use Rattle.std.proofs.Common.{◌∙◌, ◌≤◌, List, ℕ, ap, drop, subst, sym}
-use Rattle.std.proofs.lemmas.Result.{err_from_is_err_and}
-use Rattle.http1.specs.{Fields.Header, Message.AcceptsResponse, ServerTrace.headers_at}
-use Rattle.gateway_relay.specs.Failures.{IsMapFailure}
-use Rattle.gateway_relay.proofs.HeadLemmas.{head_taken, response_has_no_map, takes_head}
+use Rattle.std.{proofs.Common.{◌∙◌, ◌≤◌, List, ℕ, ap, drop, subst, sym}, proofs.lemmas.Result.err_from_is_err_and}
+use Rattle.http1.{specs.Fields.Header, specs.Message.AcceptsResponse, specs.ServerTrace.headers_at}
+use Rattle.gateway_relay.{specs.Failures.IsMapFailure, proofs.HeadLemmas.{head_taken, response_has_no_map, takes_head}}
 use Rattle.gateway_relay.proofs.response.read_response.Goals as goal
 
 pub returns-in_err-response-in-Head-clause-err : goal.returns-in_err-response-in-Head-clause-err

@@ -1,5 +1,4 @@
-use Rattle.std.proofs.Common.{◌≡◌, ◌++◌, ◌-◌, ◌^◌, List, false, ℕ, length}
-use Rattle.std.specs.Io.KnownBytes.{Consumes}
+use Rattle.std.{proofs.Common.{◌≡◌, ◌++◌, ◌-◌, ◌^◌, List, false, ℕ, length}, specs.Io.KnownBytes.Consumes}
 use Rattle.http1.specs.Conn.{awaits_head}
 use Rattle.http1.specs.declared.conn.Reading.TheVariants as Reads
 use Rattle.gateway_relay.proofs.response.read_response.Given as goal

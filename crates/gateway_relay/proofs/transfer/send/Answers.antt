@@ -1,5 +1,4 @@
-use Rattle.std.proofs.Common.{◌+◌, [], append-nil, drop, refl, sym, take}
-use Rattle.std.proofs.lemmas.List.{take-append-drop}
+use Rattle.std.{proofs.Common.{◌+◌, [], append-nil, drop, refl, sym, take}, proofs.lemmas.List.take-append-drop}
 use Rattle.gateway_relay.proofs.RelayLemmas.{Appends-kept, appends_all, appends_more, within_rest}
 use Rattle.gateway_relay.proofs.transfer.send.Goals as goal
 

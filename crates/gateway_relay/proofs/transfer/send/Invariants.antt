@@ -1,5 +1,4 @@
-use Rattle.std.proofs.Common.{length, take, ◌-◌, ◌≤◌}
-use Rattle.std.specs.Io.KnownBytes.{Appends}
+use Rattle.std.{proofs.Common.{length, take, ◌-◌, ◌≤◌}, specs.Io.KnownBytes.Appends}
 use Rattle.gateway_relay.proofs.transfer.send.Given as goal
 
 abbrev pub invariant-loop-at : goal.invariant-loop-at

@@ -1,6 +1,4 @@
-use Rattle.std.proofs.Common.{◌≡◌, None, Some}
-use Rattle.std.specs.Prelude.{if◌then◌else◌}
-use Rattle.std.specs.List.{list_any}
+use Rattle.std.{proofs.Common.{◌≡◌, None, Some}, specs.Prelude.if◌then◌else◌, specs.List.list_any}
 use Rattle.headers_items.proofs.AnswerLemmas.{entries_survive}
 use Rattle.headers_caching.specs.CacheControl.{Directives, directives, is_bad}
 use Rattle.headers_caching.proofs.cache_control.cache_control_survives_cuts.Goals as goal

@@ -1,5 +1,4 @@
-use Rattle.std.proofs.Common.{rules, ◌≡◌, codes, ap, ◌∙◌}
-use Rattle.std.specs.List.{after_last}
+use Rattle.std.{proofs.Common.{rules, ◌≡◌, codes, ap, ◌∙◌}, specs.List.after_last}
 use Rattle.headers_syntax.specs.Text.{trim}
 use Rattle.headers_connection.specs.Chunked.{is_comma}
 use Rattle.headers_connection.proofs.transfer_encoding.ends_in_chunked.Goals as goal

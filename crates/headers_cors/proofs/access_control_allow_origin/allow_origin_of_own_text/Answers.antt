@@ -1,7 +1,5 @@
 use Rattle.std.proofs.Common.{◌≡◌, List, ℕ, Some, None, refl, subst}
-use Rattle.headers_hosts.specs.Origin.{IsOriginLine}
-use Rattle.headers_hosts.specs.OriginLaws.{origin_back}
-use Rattle.headers_hosts.specs.declared.origin.Origin.{Origin}
+use Rattle.headers_hosts.{specs.Origin.IsOriginLine, specs.OriginLaws.origin_back, specs.declared.origin.Origin.Origin}
 use Rattle.headers_cors.specs.AccessControlAllowOrigin.{IsKindLine, kind_text, kind_origin, allowed_text}
 use Rattle.headers_cors.specs.declared.access_control_allow_origin.OriginOrAny.{OriginOrAny}
 use Rattle.headers_cors.specs.declared.access_control_allow_origin.OriginOrAny.TheVariants.{One, Any}

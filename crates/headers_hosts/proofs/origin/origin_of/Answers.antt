@@ -1,5 +1,4 @@
-use Rattle.std.proofs.Common.{refl, ◌∙◌}
-use Rattle.std.specs.Prelude.{codes}
+use Rattle.std.{proofs.Common.{refl, ◌∙◌}, specs.Prelude.codes}
 use Rattle.headers_hosts.proofs.OriginLemmas.{origin_path, origin_query, is_word, none_is_none}
 use Rattle.headers_hosts.proofs.origin.origin_of.Goals as goal
 use Rattle.headers_hosts.proofs.origin.origin_of.Goals.{then-ne-via-then-ne, then-ne-via-else-ne+then-is_some}

@@ -1,5 +1,4 @@
-use Rattle.std.proofs.Common.{List, ℕ, ◌∙◌, subst}
-use Rattle.std.specs.Prelude.{codes}
+use Rattle.std.{proofs.Common.{List, ℕ, ◌∙◌, subst}, specs.Prelude.codes}
 use Rattle.http_uri.specs.Uri.{Spells, SpellsNone}
 use Rattle.headers_hosts.proofs.OriginLemmas.{no_origin, no_uri, is_no_word}
 use Rattle.headers_hosts.proofs.origin.origin_of_line.Goals as goal

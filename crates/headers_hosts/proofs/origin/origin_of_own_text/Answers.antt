@@ -1,6 +1,5 @@
 use Rattle.std.proofs.Common.{IsTrue, refl}
-use Rattle.headers_hosts.specs.Origin.{IsKindLine, kind_text, kind_is_null, origin_text}
-use Rattle.headers_hosts.specs.OriginLaws.{origin_back}
+use Rattle.headers_hosts.{specs.Origin.{IsKindLine, kind_text, kind_is_null, origin_text}, specs.OriginLaws.origin_back}
 use Rattle.headers_hosts.specs.declared.origin.OriginOrNull.{OriginOrNull}
 use Rattle.headers_hosts.specs.declared.origin.OriginOrNull.TheVariants.{Tuple, Null}
 use Rattle.headers_hosts.proofs.origin.origin_of_own_text.Goals as goal

@@ -1,5 +1,4 @@
-use Rattle.std.proofs.Common.{◌≡◌, List, ℕ, ◌++◌, sym, ◌∙◌, append_assoc}
-use Rattle.std.specs.Prelude.{codes, decimal}
+use Rattle.std.{proofs.Common.{◌≡◌, List, ℕ, ◌++◌, sym, ◌∙◌, append_assoc}, specs.Prelude.{codes, decimal}}
 use Rattle.headers_hosts.proofs.origin.parts_string.Goals as goal
 
 regroup : (a b c d e : List ℕ) → (((a ++ b) ++ c) ++ d) ++ e ≡ a ++ (b ++ (c ++ (d ++ e)))

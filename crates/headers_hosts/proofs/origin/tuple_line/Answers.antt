@@ -1,5 +1,4 @@
-use Rattle.std.proofs.Common.{sym, subst, ◌∙◌, append_assoc}
-use Rattle.std.specs.Prelude.{codes}
+use Rattle.std.{proofs.Common.{sym, subst, ◌∙◌, append_assoc}, specs.Prelude.codes}
 use Rattle.http_header.specs.FieldValue.{IsFieldValue}
 use Rattle.http_uri.specs.Grammar.{IsScheme, IsAuthority}
 use Rattle.headers_hosts.proofs.OriginLemmas.{IsFieldValue-tuple}

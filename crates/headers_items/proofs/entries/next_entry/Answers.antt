@@ -1,6 +1,5 @@
 use Rattle.std.proofs.Common.{◌≡◌, false, not, sym, ◌∙◌, ap}
-use Rattle.headers_items.specs.ItemsState.{is_entry}
-use Rattle.headers_items.proofs.PassingLemmas.{PassesUnwanted-none, PassesUnwanted-more}
+use Rattle.headers_items.{specs.ItemsState.is_entry, proofs.PassingLemmas.{PassesUnwanted-none, PassesUnwanted-more}}
 use Rattle.headers_items.proofs.entries.next_entry.Goals as goal
 
 pub loop-item-init : goal.loop-item-init

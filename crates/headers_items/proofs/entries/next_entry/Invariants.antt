@@ -1,6 +1,5 @@
 use Rattle.std.proofs.Common.{length}
-use Rattle.headers_items.specs.ItemsState.{items_left, is_entry}
-use Rattle.headers_items.proofs.PassingLemmas.{PassesUnwanted}
+use Rattle.headers_items.{specs.ItemsState.{items_left, is_entry}, proofs.PassingLemmas.PassesUnwanted}
 use Rattle.headers_items.proofs.entries.next_entry.Given as goal
 
 abbrev pub invariant-loop-item : goal.invariant-loop-item

@@ -1,11 +1,9 @@
-use Rattle.std.proofs.Common.{◌≡◌, ◌∷◌, ◌++◌, refl, ◌∙◌, ap}
-use Rattle.std.proofs.lemmas.Result.{IfOk-from_err}
+use Rattle.std.{proofs.Common.{◌≡◌, ◌∷◌, ◌++◌, refl, ◌∙◌, ap}, proofs.lemmas.Result.IfOk-from_err}
 use Rattle.http_header.specs.FieldValue.{FieldValue}
-use Rattle.headers_items.specs.Merge.{merge}
-use Rattle.headers_items.proofs.CutLemmas.{IsMerged-from}
-use Rattle.headers_syntax.proofs.OfLinesLemmas.{OfLines-stop, OfLines-ended, OfLines-stopped}
-use Rattle.headers_syntax.proofs.OfLinesLemmas.{OfLinesSoFar-start, OfLinesSoFar-more}
-use Rattle.headers_items.proofs.MergeLemmas.{appended, merged_more, IsFieldValue-more}
+use Rattle.headers_items.{specs.Merge.merge, proofs.CutLemmas.IsMerged-from, proofs.MergeLemmas.{appended, merged_more}}
+use Rattle.headers_items.proofs.MergeLemmas.{IsFieldValue-more}
+use Rattle.headers_syntax.proofs.OfLinesLemmas.{OfLines-stop, OfLines-ended, OfLines-stopped, OfLinesSoFar-start}
+use Rattle.headers_syntax.proofs.OfLinesLemmas.{OfLinesSoFar-more}
 use Rattle.headers_items.proofs.flat_csv.joined.Goals as goal
 
 pub loop-line-init : goal.loop-line-init

@@ -1,8 +1,5 @@
-use Rattle.std.proofs.Common.{ℕ, List, sym, ◌∙◌, ap}
-use Rattle.std.specs.Prelude.{option_map}
-use Rattle.std.specs.List.{slice_range}
-use Rattle.headers_items.specs.Pairs.{pair_shown}
-use Rattle.headers_items.proofs.PairLemmas.{pair_of-none, pair_of-some}
+use Rattle.std.{proofs.Common.{ℕ, List, sym, ◌∙◌, ap}, specs.Prelude.option_map, specs.List.slice_range}
+use Rattle.headers_items.{specs.Pairs.pair_shown, proofs.PairLemmas.{pair_of-none, pair_of-some}}
 use Rattle.headers_items.proofs.pairs.halves.Goals as goal
 
 pub returns : goal.returns

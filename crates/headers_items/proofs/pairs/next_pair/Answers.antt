@@ -1,7 +1,5 @@
-use Rattle.std.proofs.Common.{◌≡◌, None, is_some, sym, ◌∙◌, ap}
-use Rattle.std.specs.List.{cons_option}
-use Rattle.headers_items.specs.Pairs.{pair_of, has_pair, pairs, pairs_left}
-use Rattle.headers_items.proofs.PassingLemmas.{PassesUnwanted-more}
+use Rattle.std.{proofs.Common.{◌≡◌, None, is_some, sym, ◌∙◌, ap}, specs.List.cons_option}
+use Rattle.headers_items.{specs.Pairs.{pair_of, has_pair, pairs, pairs_left}, proofs.PassingLemmas.PassesUnwanted-more}
 use Rattle.headers_items.proofs.pairs.next_pair.Goals as goal
 
 pub loop-item-preserved : goal.loop-item-preserved

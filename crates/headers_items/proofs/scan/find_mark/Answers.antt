@@ -1,6 +1,5 @@
 use Rattle.std.proofs.Common.{Some, None, sym, subst}
-use Rattle.headers_items.specs.ScanState.{FindsMark}
-use Rattle.headers_items.proofs.JumpLemmas.{ahead}
+use Rattle.headers_items.{specs.ScanState.FindsMark, proofs.JumpLemmas.ahead}
 use Rattle.headers_items.proofs.scan.find_mark.Goals as goal
 
 pub returns : goal.returns

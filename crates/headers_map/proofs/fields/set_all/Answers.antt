@@ -1,7 +1,6 @@
 use Rattle.std.proofs.Common.{◌≡◌, ℕ, List, [], ◌∷◌, ◌++◌, ◌+◌, length, sym, ◌∙◌, ap, arith}
 use Rattle.std.proofs.lemmas.List.{append-nil, append_assoc, length_push, nil_from_length}
-use Rattle.headers_map.specs.LineMap.{lines_at, run, settings}
-use Rattle.headers_map.specs.declared.encoded.Encoded.{Encoded}
+use Rattle.headers_map.{specs.LineMap.{lines_at, run, settings}, specs.declared.encoded.Encoded.Encoded}
 use Rattle.headers_map.proofs.SetLemmas.{run-set_all, run-setting, IsOfOther-setting, SetsPart-from_split}
 use Rattle.headers_map.proofs.fields.set_all.Goals as goal
 

@@ -1,9 +1,6 @@
-use Rattle.std.proofs.Common.{◌≡◌, ℕ, List, ◌++◌, length}
-use Rattle.std.specs.Vec.Iter.{into_iter_items}
-use Rattle.std.specs.List.{All}
+use Rattle.std.{proofs.Common.{◌≡◌, ℕ, List, ◌++◌, length}, specs.Vec.Iter.into_iter_items, specs.List.All}
 use Rattle.http_header.specs.HeaderMap.{get_all}
-use Rattle.headers_map.specs.LineMap.{lines_at, run, settings, IsFieldOfOther}
-use Rattle.headers_map.specs.declared.encoded.Encoded.{Encoded}
+use Rattle.headers_map.{specs.LineMap.{lines_at, run, settings, IsFieldOfOther}, specs.declared.encoded.Encoded.Encoded}
 use Rattle.headers_map.proofs.fields.set_all.Given as goal
 
 abbrev pub invariant-loop-field : goal.invariant-loop-field

@@ -1,13 +1,11 @@
 use Rattle.std.proofs.Common.{rules, ◌≡◌, List, [], ◌∷◌, ◌++◌, length, sym, ◌∙◌, ap, inr, arith, length-append}
-use Rattle.std.proofs.Common.{append_assoc}
-use Rattle.std.proofs.lemmas.List.{append-nil, nil_from_length}
-use Rattle.http_header.specs.FieldValue.{FieldValue}
-use Rattle.http_header.specs.HeaderMap.{Entries, get_all}
+use Rattle.std.{proofs.Common.append_assoc, proofs.lemmas.List.{append-nil, nil_from_length}}
+use Rattle.http_header.{specs.FieldValue.FieldValue, specs.HeaderMap.{Entries, get_all}}
 use Rattle.http_header.proofs.HeaderMapLemmas.{get_all-insert_same, get_all-insert_other, get_all-append_same}
 use Rattle.http_header.proofs.HeaderMapLemmas.{get_all-append_other}
 use Rattle.headers_syntax.specs.Lines.{lines_of}
-use Rattle.headers_map.proofs.InsertLemmas.{ContainsKey-from_values, put-from_parts}
-use Rattle.headers_map.proofs.InsertLemmas.{IsProperBeginning-from_left, OnErr-from, lines_some}
+use Rattle.headers_map.proofs.InsertLemmas.{ContainsKey-from_values, put-from_parts, IsProperBeginning-from_left}
+use Rattle.headers_map.proofs.InsertLemmas.{OnErr-from, lines_some}
 use Rattle.headers_map.proofs.insert.put_lines.Goals as goal
 
 pub returns-in_err-insert-clause-replaces : goal.returns-in_err-insert-clause-replaces

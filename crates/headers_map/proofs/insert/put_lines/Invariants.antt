@@ -1,5 +1,4 @@
-use Rattle.std.proofs.Common.{◌≡◌, ◌≢◌, ℕ, ◌<◌, List, ◌++◌, length}
-use Rattle.std.specs.Vec.Iter.{into_iter_items}
+use Rattle.std.{proofs.Common.{◌≡◌, ◌≢◌, ℕ, ◌<◌, List, ◌++◌, length}, specs.Vec.Iter.into_iter_items}
 use Rattle.http_header.specs.HeaderMap.{get_all}
 use Rattle.headers_map.proofs.insert.put_lines.Given as goal
 

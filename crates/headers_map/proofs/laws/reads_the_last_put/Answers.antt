@@ -1,5 +1,4 @@
-use Rattle.headers_map.proofs.StepLemmas.{run-last}
-use Rattle.headers_map.proofs.LastReadLemmas.{last_read, last_canonical}
+use Rattle.headers_map.{proofs.StepLemmas.run-last, proofs.LastReadLemmas.{last_read, last_canonical}}
 use Rattle.headers_map.proofs.laws.reads_the_last_put.Goals as goal
 
 pub returns-clause-lines : goal.returns-clause-lines

@@ -1,8 +1,6 @@
 use Rattle.std.proofs.Common.{◌≡◌, ℕ, List, [], ◌∷◌, ◌++◌, ◌+◌, length, sym, ◌∙◌, ap, subst, arith}
-use Rattle.std.proofs.lemmas.List.{append-nil, append_assoc, length_push, nil_from_length}
-use Rattle.std.specs.List.{All}
-use Rattle.headers_map.specs.LineMap.{lines_at, run, IsOfOther}
-use Rattle.headers_map.specs.declared.steps.Step.{Step}
+use Rattle.std.{proofs.lemmas.List.{append-nil, append_assoc, length_push, nil_from_length}, specs.List.All}
+use Rattle.headers_map.{specs.LineMap.{lines_at, run, IsOfOther}, specs.declared.steps.Step.Step}
 use Rattle.headers_map.proofs.StepLemmas.{run-step, run-last, AppliesPart-from_split, IsOfOther-step}
 use Rattle.headers_map.proofs.steps.apply.Goals as goal
 

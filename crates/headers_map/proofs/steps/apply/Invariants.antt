@@ -1,9 +1,6 @@
-use Rattle.std.proofs.Common.{◌≡◌, ℕ, List, ◌++◌, length}
-use Rattle.std.specs.Vec.Iter.{into_iter_items}
-use Rattle.std.specs.List.{All}
+use Rattle.std.{proofs.Common.{◌≡◌, ℕ, List, ◌++◌, length}, specs.Vec.Iter.into_iter_items, specs.List.All}
 use Rattle.http_header.specs.HeaderMap.{get_all}
-use Rattle.headers_map.specs.LineMap.{lines_at, run, IsOfOther}
-use Rattle.headers_map.specs.declared.steps.Step.{Step}
+use Rattle.headers_map.{specs.LineMap.{lines_at, run, IsOfOther}, specs.declared.steps.Step.Step}
 use Rattle.headers_map.proofs.steps.apply.Given as goal
 
 abbrev pub invariant-loop-step : goal.invariant-loop-step

@@ -1,8 +1,6 @@
 use Rattle.std.proofs.Common.{sym, ◌∙◌, ap}
-use Rattle.headers_map.specs.LineMap.{lines_at, after_step}
-use Rattle.headers_map.specs.declared.steps.Step.{Step}
-use Rattle.headers_map.proofs.InsertLemmas.{IsRefusedStep-from_parts}
-use Rattle.headers_map.proofs.StepLemmas.{remove-from_parts}
+use Rattle.headers_map.{specs.LineMap.{lines_at, after_step}, specs.declared.steps.Step.Step}
+use Rattle.headers_map.{proofs.InsertLemmas.IsRefusedStep-from_parts, proofs.StepLemmas.remove-from_parts}
 use Rattle.headers_map.proofs.steps.apply_step.Goals as goal
 
 pub returns-in-Put-clause-err : goal.returns-in-Put-clause-err

@@ -1,6 +1,5 @@
 use Rattle.std.proofs.Common.{ap, ◌∙◌}
-use Rattle.http_header.specs.FieldValue.{FieldValue}
-use Rattle.http_header.specs.HeaderMap.{Entries, get_all}
+use Rattle.http_header.{specs.FieldValue.FieldValue, specs.HeaderMap.{Entries, get_all}}
 use Rattle.http_header.proofs.HeaderMapLemmas.{get_all-remove_other}
 use Rattle.headers_map.proofs.steps.remove_lines.Goals as goal
 

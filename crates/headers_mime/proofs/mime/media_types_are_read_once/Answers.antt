@@ -1,6 +1,5 @@
 use Rattle.std.proofs.Common.{ap}
-use Rattle.headers_mime.specs.MediaType.{media_text}
-use Rattle.headers_mime.proofs.ReadingLemmas.{one_reading}
+use Rattle.headers_mime.{specs.MediaType.media_text, proofs.ReadingLemmas.one_reading}
 use Rattle.headers_mime.proofs.CanonicalLemmas.{canonical-media, canonical_parts-twice}
 use Rattle.headers_mime.proofs.mime.media_types_are_read_once.Goals as goal
 

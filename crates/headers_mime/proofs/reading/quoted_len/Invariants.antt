@@ -1,5 +1,4 @@
-use Rattle.std.proofs.Common.{◌≡◌, ◌+◌, false, drop}
-use Rattle.std.specs.Prelude.{option_map}
+use Rattle.std.{proofs.Common.{◌≡◌, ◌+◌, false, drop}, specs.Prelude.option_map}
 use Rattle.headers_mime.specs.MediaTypeReading.{quoted_len}
 use Rattle.headers_mime.proofs.reading.quoted_len.Given as goal
 

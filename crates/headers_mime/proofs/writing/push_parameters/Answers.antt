@@ -1,5 +1,4 @@
-use Rattle.std.proofs.Common.{◌≡◌, ◌<◌, ◌++◌, ℕ, List, length, sym, ◌∙◌, ap, arith}
-use Rattle.std.specs.Prelude.{option_map}
+use Rattle.std.{proofs.Common.{◌≡◌, ◌<◌, ◌++◌, ℕ, List, length, sym, ◌∙◌, ap, arith}, specs.Prelude.option_map}
 use Rattle.std.proofs.lemmas.Bool.Decides.{nat_tests}
 use Rattle.headers_mime.specs.MediaTypeReading.{canonical_rest, optional_canonical}
 use Rattle.headers_mime.proofs.WritingLemmas.{segment-shrinks, canonical_rest-none, canonical_rest-some}

@@ -1,5 +1,4 @@
-use Rattle.std.proofs.Common.{◌≡◌, ◌++◌, List, ℕ, length}
-use Rattle.std.specs.Prelude.{option_map}
+use Rattle.std.{proofs.Common.{◌≡◌, ◌++◌, List, ℕ, length}, specs.Prelude.option_map}
 use Rattle.headers_mime.specs.MediaTypeReading.{canonical_rest}
 use Rattle.headers_mime.proofs.writing.push_parameters.Given as goal
 

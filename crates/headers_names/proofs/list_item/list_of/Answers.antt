@@ -1,5 +1,4 @@
-use Rattle.std.proofs.Common.{◌∷◌, ◌++◌, [], List, ℕ, refl, sym, ◌∙◌, ap, subst}
-use Rattle.std.proofs.lemmas.List.{map_push}
+use Rattle.std.{proofs.Common.{◌∷◌, ◌++◌, [], List, ℕ, refl, sym, ◌∙◌, ap, subst}, proofs.lemmas.List.map_push}
 use Rattle.std.specs.Iterator.{Drains}
 use Rattle.headers_syntax.specs.Lines.{lines_of}
 use Rattle.headers_items.proofs.CutAtLemmas.{lines_of_push}

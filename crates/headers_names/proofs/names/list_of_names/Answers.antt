@@ -1,5 +1,4 @@
-use Rattle.headers_names.specs.ListItem.{name_of}
-use Rattle.headers_names.proofs.RoundTripLemmas.{Lists-bytes}
+use Rattle.headers_names.{specs.ListItem.name_of, proofs.RoundTripLemmas.Lists-bytes}
 use Rattle.headers_names.proofs.names.list_of_names.Goals as goal
 
 pub returns : goal.returns

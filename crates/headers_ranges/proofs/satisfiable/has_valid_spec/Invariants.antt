@@ -1,5 +1,4 @@
-use Rattle.std.proofs.Common.{◌≡◌, true, length}
-use Rattle.std.specs.List.{filter_map, list_any}
+use Rattle.std.{proofs.Common.{◌≡◌, true, length}, specs.List.{filter_map, list_any}}
 use Rattle.headers_ranges.specs.ByteRanges.{is_valid_spec, pieces_left, plain_rest, spec_of}
 use Rattle.headers_ranges.proofs.satisfiable.has_valid_spec.Given as goal
 

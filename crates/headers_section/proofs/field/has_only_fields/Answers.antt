@@ -1,7 +1,6 @@
 use Rattle.std.proofs.Common.{◌≡◌, ◌++◌, [], ◌∷◌, List, ℕ, take, drop, subst}
-use Rattle.headers_section.specs.Section.{section}
-use Rattle.headers_section.proofs.ReadLemmas.{IsRead-more, AreFields-from_read, HasNoField-from_line}
-use Rattle.headers_section.proofs.ReadLemmas.{IfNone-at_none, IfSome-at_some}
+use Rattle.headers_section.{specs.Section.section, proofs.ReadLemmas.{IsRead-more, AreFields-from_read}}
+use Rattle.headers_section.proofs.ReadLemmas.{HasNoField-from_line, IfNone-at_none, IfSome-at_some}
 use Rattle.headers_section.proofs.field.has_only_fields.Goals as goal
 
 pub returns-then-is_none : goal.returns-then-is_none

@@ -1,5 +1,4 @@
-use Rattle.std.proofs.Common.{◌∙◌, ◌∷◌, List, ℕ, ap, refl, sym, length, take, arith}
-use Rattle.std.specs.List.{take_while}
+use Rattle.std.{proofs.Common.{◌∙◌, ◌∷◌, List, ℕ, ap, refl, sym, length, take, arith}, specs.List.take_while}
 use Rattle.std.proofs.lemmas.List.{take_all, drop_all}
 use Rattle.headers_section.specs.Section.{without_return, is_filled, input_lines}
 use Rattle.headers_section.proofs.SectionLemmas.{input_lines-none, input_lines-some, section-last}

@@ -1,7 +1,6 @@
-use Rattle.std.proofs.Common.{◌≡◌, ◌∙◌, Err, List, ℕ, ◌+◌, ap, sym, subst, refl}
-use Rattle.std.specs.List.{slice_range}
-use Rattle.http_header.specs.declared.name.HeaderNameError.{HeaderNameError}
-use Rattle.http_header.specs.FieldValue.{IsFieldValue, plain_value}
+use Rattle.std.{proofs.Common.{◌≡◌, ◌∙◌, Err, List, ℕ, ◌+◌, ap, sym, subst, refl}, specs.List.slice_range}
+use Rattle.http_header.{specs.declared.name.HeaderNameError.HeaderNameError, specs.FieldValue.IsFieldValue}
+use Rattle.http_header.specs.FieldValue.{plain_value}
 use Rattle.headers.specs.Text.{trim}
 use Rattle.headers_section.proofs.FieldLemmas.{HasFirstColon, IsNoField-without_colon, IsNoField-without_name}
 use Rattle.headers_section.proofs.FieldLemmas.{IsNoField-without_value, IsField-from_parts}

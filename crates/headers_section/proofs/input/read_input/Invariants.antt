@@ -1,5 +1,4 @@
-use Rattle.std.proofs.Common.{◌+◌, ◌-◌, ◌<◌, length}
-use Rattle.std.specs.Io.KnownBytes.{Consumes}
+use Rattle.std.{proofs.Common.{◌+◌, ◌-◌, ◌<◌, length}, specs.Io.KnownBytes.Consumes}
 use Rattle.headers_section.specs.Section.{input_limit}
 use Rattle.headers_section.proofs.input.read_input.Given as goal
 

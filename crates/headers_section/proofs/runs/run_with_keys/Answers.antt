@@ -1,8 +1,7 @@
-use Rattle.std.proofs.Common.{◌≡◌, List, ℕ, Err, sym, ◌∙◌, subst}
-use Rattle.std.proofs.lemmas.Result.{err_from_is_err_and}
-use Rattle.headers_section.specs.{Answer.IsRun, Section.HasTooManyFields, CanonicalText.IsCanonicalText}
-use Rattle.headers_section.specs.{declared.status.RunError.TheVariants.Io}
-use Rattle.headers_section.proofs.{RunLemmas.wrote_text, RunLemmas.began_text, runs.run_with_keys.Goals.In-Some}
+use Rattle.std.{proofs.Common.{◌≡◌, List, ℕ, Err, sym, ◌∙◌, subst}, proofs.lemmas.Result.err_from_is_err_and}
+use Rattle.headers_section.{specs.Answer.IsRun, specs.Section.HasTooManyFields, specs.CanonicalText.IsCanonicalText}
+use Rattle.headers_section.{specs.declared.status.RunError.TheVariants.Io, proofs.RunLemmas.{wrote_text, began_text}}
+use Rattle.headers_section.proofs.runs.run_with_keys.Goals.{In-Some}
 use Rattle.headers_section.proofs.runs.run_with_keys.Goals as goal
 
 -- the text that was made is that of the input

@@ -1,6 +1,5 @@
-use Rattle.headers_section.specs.{Section.Holds, CanonicalText.ListsNames}
-use Rattle.headers_section.proofs.TextLemmas.{filled-from_names, IsCanonicalText-from_blocks}
-use Rattle.headers_section.proofs.text.canonical_text.Goals.{In-Some}
+use Rattle.headers_section.{specs.Section.Holds, specs.CanonicalText.ListsNames, proofs.TextLemmas.filled-from_names}
+use Rattle.headers_section.{proofs.TextLemmas.IsCanonicalText-from_blocks, proofs.text.canonical_text.Goals.In-Some}
 use Rattle.headers_section.proofs.text.canonical_text.Goals as goal
 
 -- the fields were read

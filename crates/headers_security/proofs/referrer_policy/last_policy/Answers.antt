@@ -1,11 +1,9 @@
 use Rattle.std.proofs.Common.{◌≡◌, ◌∙◌, ℕ, List, [], ◌∷◌, map, Option, Some, None, refl, ◌==◌, lit<, rules}
-use Rattle.std.specs.Option.{option_or}
-use Rattle.std.specs.List.{filter_map, cons_option, fold, last_or, slice_split}
+use Rattle.std.{specs.Option.option_or, specs.List.{filter_map, cons_option, fold, last_or, slice_split}}
 use Rattle.std.proofs.lemmas.Iterator.Consumers.{fold_from_yields_List}
 use Rattle.std.proofs.lemmas.Iterator.Splits.{YieldsList-from_str_split}
 use Rattle.headers_syntax.specs.Text.{trim}
-use Rattle.headers_security.specs.ReferrerPolicy.{policy_named}
-use Rattle.headers_security.specs.declared.referrer_policy.Policy.{Policy}
+use Rattle.headers_security.{specs.ReferrerPolicy.policy_named, specs.declared.referrer_policy.Policy.Policy}
 use Rattle.headers_security.proofs.referrer_policy.last_policy.Goals as goal
 
 last_more : (r o : Option Policy) (all : List Policy) → last_or (option_or r o) all ≡ last_or o (cons_option r all)

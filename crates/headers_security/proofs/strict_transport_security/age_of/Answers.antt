@@ -1,7 +1,5 @@
-use Rattle.std.proofs.Common.{◌≡◌, ◌∙◌, refl, lit<, length, arith, None}
-use Rattle.std.specs.List.{position_or_len}
-use Rattle.std.proofs.lemmas.List.Folds.{list_any_none}
-use Rattle.std.proofs.lemmas.List.Sums.{fails_before_first}
+use Rattle.std.{proofs.Common.{◌≡◌, ◌∙◌, refl, lit<, length, arith, None}, specs.List.position_or_len}
+use Rattle.std.{proofs.lemmas.List.Folds.list_any_none, proofs.lemmas.List.Sums.fails_before_first}
 use Rattle.headers_items.specs.Pairs.{is_equals}
 use Rattle.headers_security.specs.SecurityParts.{age_of}
 use Rattle.headers_security.proofs.strict_transport_security.age_of.Goals as goal

@@ -1,9 +1,8 @@
 use Rattle.std.proofs.Common.{rules, subst, sym}
-use Rattle.http_header.specs.FieldValue.{IsFieldValue}
-use Rattle.http_header.proofs.TokenLemmas.{IsFieldValue-from_visible}
+use Rattle.http_header.{specs.FieldValue.IsFieldValue, proofs.TokenLemmas.IsFieldValue-from_visible}
 use Rattle.headers_syntax.proofs.TextLemmas.{visible-from_is_text}
-use Rattle.headers_security.specs.StrictTransportSecurity.{print_security}
-use Rattle.headers_security.specs.StrictTransportSecurityLaws.{value, printed_text}
+use Rattle.headers_security.{specs.StrictTransportSecurity.print_security, specs.StrictTransportSecurityLaws.value}
+use Rattle.headers_security.specs.StrictTransportSecurityLaws.{printed_text}
 use Rattle.headers_security.proofs.strict_transport_security.print_security.Goals as goal
 
 pub returns-clause-text : goal.returns-clause-text

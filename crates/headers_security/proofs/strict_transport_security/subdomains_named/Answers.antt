@@ -1,11 +1,8 @@
-use Rattle.std.proofs.Common.{◌∙◌, ℕ, List, Bor, lit<, rules}
-use Rattle.std.proofs.lemmas.Iterator.{YieldsList-from_map_by}
+use Rattle.std.{proofs.Common.{◌∙◌, ℕ, List, Bor, lit<, rules}, proofs.lemmas.Iterator.YieldsList-from_map_by}
 use Rattle.std.proofs.lemmas.Iterator.Consumers.{YieldsList-at, YieldsList-from_filter, count_from_yields_List}
-use Rattle.std.proofs.lemmas.Iterator.Splits.{YieldsList-from_str_split}
-use Rattle.std.proofs.lemmas.List.Sums.{length-filter}
+use Rattle.std.{proofs.lemmas.Iterator.Splits.YieldsList-from_str_split, proofs.lemmas.List.Sums.length-filter}
 use Rattle.headers_syntax.specs.Text.{trim}
-use Rattle.headers_security.specs.StrictTransportSecurity.{names_subdomains}
-use Rattle.headers_security.specs.SecurityParts.{pieces}
+use Rattle.headers_security.{specs.StrictTransportSecurity.names_subdomains, specs.SecurityParts.pieces}
 use Rattle.headers_security.proofs.strict_transport_security.subdomains_named.Goals as goal
 
 pub returns : goal.returns

@@ -1,7 +1,6 @@
 use Rattle.std.proofs.Common.{◌≡◌, ℕ, Some, subst}
 use Rattle.httpdate.specs.Valid.{IsValid}
-use Rattle.headers_syntax.specs.Date.{date, fixdate}
-use Rattle.headers_syntax.proofs.DateLemmas.{date-fixdate}
+use Rattle.headers_syntax.{specs.Date.{date, fixdate}, proofs.DateLemmas.date-fixdate}
 use Rattle.headers_syntax.proofs.date.date_reads_back.Goals as goal
 
 pub returns : goal.returns

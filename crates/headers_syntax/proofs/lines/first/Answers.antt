@@ -1,6 +1,5 @@
 use Rattle.std.proofs.Common.{◌≡◌, option_map, refl}
-use Rattle.headers_syntax.specs.Lines.{first_line}
-use Rattle.headers_syntax.proofs.OfLinesLemmas.{OfLines-next}
+use Rattle.headers_syntax.{specs.Lines.first_line, proofs.OfLinesLemmas.OfLines-next}
 use Rattle.headers_syntax.proofs.lines.first.Goals as goal
 
 pub returns-clause-value : goal.returns-clause-value

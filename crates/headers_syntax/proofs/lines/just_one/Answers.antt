@@ -1,5 +1,4 @@
-use Rattle.std.proofs.Common.{ap, sym, refl}
-use Rattle.std.specs.Prelude.{option_map}
+use Rattle.std.{proofs.Common.{ap, sym, refl}, specs.Prelude.option_map}
 use Rattle.headers_syntax.proofs.OfLinesLemmas.{OfLines-stop, OfLines-none, OfLines-some}
 use Rattle.headers_syntax.proofs.lines.just_one.Goals as goal
 

@@ -1,6 +1,5 @@
 use Rattle.std.proofs.Common.{sym, ◌∙◌, ap}
-use Rattle.headers_syntax.specs.Number.{after_plus}
-use Rattle.headers_syntax.proofs.NumberLemmas.{number-parse, number-digits}
+use Rattle.headers_syntax.{specs.Number.after_plus, proofs.NumberLemmas.{number-parse, number-digits}}
 use Rattle.headers_syntax.proofs.number.parse_number.Goals as goal
 
 pub returns-then-digits-le-SHORT : goal.returns-then-digits-le-SHORT

@@ -1,7 +1,5 @@
 use Rattle.std.proofs.Common.{◌≡◌, ℕ, ◌+◌, ◌-◌, ◌≤◌, ◌<◌, ◌==◌, not, List, length, drop, get_or, ap, ◌∙◌, arith, IsTrue}
-use Rattle.std.specs.List.{after_last}
-use Rattle.std.proofs.lemmas.Bool.{false_from_ne_true}
-use Rattle.std.proofs.lemmas.List.{take_rest}
+use Rattle.std.{specs.List.after_last, proofs.lemmas.Bool.false_from_ne_true, proofs.lemmas.List.take_rest}
 use Rattle.std.proofs.lemmas.List.Sums.{suffix_len_is}
 use Rattle.headers_syntax.proofs.text.after_last.Goals as goal
 

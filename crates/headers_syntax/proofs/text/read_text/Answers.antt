@@ -1,7 +1,6 @@
 use Rattle.std.proofs.Common.{◌≡◌, true, false, refl}
 use Rattle.http_header.specs.FieldValue.{IsVisibleAscii}
-use Rattle.headers_syntax.specs.Text.{is_text}
-use Rattle.headers_syntax.proofs.TextLemmas.{is_text-from_visible, no_text}
+use Rattle.headers_syntax.{specs.Text.is_text, proofs.TextLemmas.{is_text-from_visible, no_text}}
 use Rattle.headers_syntax.proofs.text.read_text.Goals as goal
 
 pub returns-in-Ok-clause-value : goal.returns-in-Ok-clause-value

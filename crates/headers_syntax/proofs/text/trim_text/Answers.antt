@@ -1,6 +1,5 @@
 use Rattle.std.proofs.Common.{[], ◌∷◌}
-use Rattle.headers_syntax.specs.Text.{is_blank}
-use Rattle.headers_syntax.proofs.StripLemmas.{strip_set, blank_ascii, is_blank_set}
+use Rattle.headers_syntax.{specs.Text.is_blank, proofs.StripLemmas.{strip_set, blank_ascii, is_blank_set}}
 use Rattle.headers_syntax.proofs.text.trim_text.Goals as goal
 
 pub returns : goal.returns

@@ -1,6 +1,5 @@
 use Rattle.std.proofs.Common.{[], ◌∷◌}
-use Rattle.headers_syntax.specs.Text.{is_quote}
-use Rattle.headers_syntax.proofs.StripLemmas.{strip_set, quote_ascii, is_quote_set}
+use Rattle.headers_syntax.{specs.Text.is_quote, proofs.StripLemmas.{strip_set, quote_ascii, is_quote_set}}
 use Rattle.headers_syntax.proofs.text.unquoted.Goals as goal
 
 pub returns : goal.returns

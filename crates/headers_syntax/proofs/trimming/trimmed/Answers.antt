@@ -1,6 +1,4 @@
-use Rattle.std.proofs.Common.{◌∙◌, arith}
-use Rattle.std.specs.List.{slice_range}
-use Rattle.std.proofs.lemmas.Grind.{common_steps}
+use Rattle.std.{proofs.Common.{◌∙◌, arith}, specs.List.slice_range, proofs.lemmas.Grind.common_steps}
 use Rattle.headers_syntax.proofs.TrimLemmas.{slice_slice, trim_from_lengths}
 use Rattle.headers_syntax.proofs.trimming.trimmed.Goals as goal
 

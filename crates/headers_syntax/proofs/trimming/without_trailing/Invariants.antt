@@ -1,5 +1,4 @@
-use Rattle.std.proofs.Common.{◌≡◌, ◌+◌, ◌≤◌, take, length}
-use Rattle.std.specs.List.{suffix_len}
+use Rattle.std.{proofs.Common.{◌≡◌, ◌+◌, ◌≤◌, take, length}, specs.List.suffix_len}
 use Rattle.headers_syntax.specs.Text.{is_blank}
 use Rattle.headers_syntax.proofs.trimming.without_trailing.Given as goal
 

@@ -1,5 +1,4 @@
-use Rattle.interference.proofs.Twins.{Two}
-use Rattle.interference.proofs.TwinSteps.{interferes-not}
+use Rattle.interference.{proofs.Twins.Two, proofs.TwinSteps.interferes-not}
 use Rattle.interference.proofs.laws.clients_learn_nothing_of_secrets.Goals as goal
 
 pub returns : goal.returns

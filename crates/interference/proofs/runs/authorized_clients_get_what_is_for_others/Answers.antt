@@ -1,6 +1,5 @@
 use Rattle.std.proofs.Common.{[], inl, refl, arith}
-use Rattle.interference.specs.Runs.{bob, by_credentials, carl, dated, greetings}
-use Rattle.interference.proofs.Anothers.{anothers}
+use Rattle.interference.{specs.Runs.{bob, by_credentials, carl, dated, greetings}, proofs.Anothers.anothers}
 use Rattle.interference.proofs.runs.authorized_clients_get_what_is_for_others.Goals as goal
 
 pub returns-clause-anothers : goal.returns-clause-anothers

@@ -1,6 +1,5 @@
 use Rattle.std.proofs.Common.{[], inl, refl, arith}
-use Rattle.interference.specs.Runs.{ann, bob, by_cookies, dated, turns}
-use Rattle.interference.proofs.Anothers.{anothers}
+use Rattle.interference.{specs.Runs.{ann, bob, by_cookies, dated, turns}, proofs.Anothers.anothers}
 use Rattle.interference.proofs.runs.freshening_others_mixes_up_pages.Goals as goal
 
 pub returns-clause-anothers : goal.returns-clause-anothers

@@ -1,6 +1,5 @@
 use Rattle.std.proofs.Common.{[], inl, refl, arith}
-use Rattle.interference.specs.Runs.{ann, bob, by_credentials, dated, members}
-use Rattle.interference.proofs.Anothers.{anothers}
+use Rattle.interference.{specs.Runs.{ann, bob, by_credentials, dated, members}, proofs.Anothers.anothers}
 use Rattle.interference.proofs.runs.ignoring_authorization_mixes_up_pages.Goals as goal
 
 pub returns-clause-anothers : goal.returns-clause-anothers

@@ -1,6 +1,5 @@
 use Rattle.std.proofs.Common.{[], inl, refl, arith}
-use Rattle.interference.specs.Runs.{ann, bob, by_cookies, dated, private_pages}
-use Rattle.interference.proofs.Anothers.{anothers}
+use Rattle.interference.{specs.Runs.{ann, bob, by_cookies, dated, private_pages}, proofs.Anothers.anothers}
 use Rattle.interference.proofs.runs.one_slot_mixes_up_private_pages.Goals as goal
 
 pub returns-clause-anothers : goal.returns-clause-anothers

@@ -1,6 +1,5 @@
 use Rattle.std.proofs.Common.{[], inl, refl, arith}
-use Rattle.interference.specs.Runs.{ann, bob, by_cookies, dated, pages}
-use Rattle.interference.proofs.Anothers.{anothers}
+use Rattle.interference.{specs.Runs.{ann, bob, by_cookies, dated, pages}, proofs.Anothers.anothers}
 use Rattle.interference.proofs.runs.places_mix_up_pages.Goals as goal
 
 pub returns-clause-by_place : goal.returns-clause-by_place

@@ -1,6 +1,5 @@
 use Rattle.std.proofs.Common.{◌∷◌, [], inl, refl, arith}
-use Rattle.interference.specs.Runs.{ann, bob, by_cookies, dated, shrinks}
-use Rattle.interference.proofs.Anothers.{anothers}
+use Rattle.interference.{specs.Runs.{ann, bob, by_cookies, dated, shrinks}, proofs.Anothers.anothers}
 use Rattle.interference.proofs.runs.with_one_tag_a_page_becomes_one_for_all.Goals as goal
 
 pub returns-clause-anothers : goal.returns-clause-anothers

@@ -1,6 +1,5 @@
 use Rattle.std.proofs.Common.{[], inl, refl, arith}
-use Rattle.interference.specs.Runs.{ann, bob, by_cookies, dated, one_tag}
-use Rattle.interference.proofs.Anothers.{anothers}
+use Rattle.interference.{specs.Runs.{ann, bob, by_cookies, dated, one_tag}, proofs.Anothers.anothers}
 use Rattle.interference.proofs.runs.with_one_tag_pages_are_anothers.Goals as goal
 
 pub returns-clause-anothers : goal.returns-clause-anothers

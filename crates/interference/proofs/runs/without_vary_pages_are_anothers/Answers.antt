@@ -1,6 +1,5 @@
 use Rattle.std.proofs.Common.{[], inl, refl, arith}
-use Rattle.interference.specs.Runs.{ann, bob, by_cookies, dated, forgets_vary}
-use Rattle.interference.proofs.Anothers.{anothers}
+use Rattle.interference.{specs.Runs.{ann, bob, by_cookies, dated, forgets_vary}, proofs.Anothers.anothers}
 use Rattle.interference.proofs.runs.without_vary_pages_are_anothers.Goals as goal
 
 pub returns-clause-anothers : goal.returns-clause-anothers

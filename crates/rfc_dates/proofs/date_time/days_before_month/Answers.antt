@@ -1,5 +1,4 @@
-use Rattle.std.proofs.Common.{◌-◌, arith}
-use Rattle.std.proofs.lemmas.Bool.Decides.{nat_tests}
+use Rattle.std.{proofs.Common.{◌-◌, arith}, proofs.lemmas.Bool.Decides.nat_tests}
 use Rattle.httpdate.proofs.CalendarLemmas.{days_of_months_closed}
 use Rattle.rfc_dates.proofs.date_time.days_before_month.Goals as goal
 

@@ -1,6 +1,5 @@
 use Rattle.std.proofs.Common.{◌≡◌, ◌-◌, ◌≤◌}
-use Rattle.httpdate.specs.Text.{day_name}
-use Rattle.httpdate.specs.Reader.{read_name}
+use Rattle.httpdate.{specs.Text.day_name, specs.Reader.read_name}
 use Rattle.rfc_dates.proofs.parser.read_day_name.Given as goal
 
 abbrev pub invariant-loop-weekday : goal.invariant-loop-weekday

@@ -1,7 +1,6 @@
 use Rattle.std.proofs.Common.{◌≡◌, ◌-◌, sym, ap, ◌∙◌, arith}
-use Rattle.httpdate.specs.Text.{month_name}
-use Rattle.httpdate.specs.Reader.{read_name, read_tag}
-use Rattle.httpdate.proofs.ReaderLemmas.{read_name_here, read_name_below}
+use Rattle.httpdate.{specs.Text.month_name, specs.Reader.{read_name, read_tag}, proofs.ReaderLemmas.read_name_here}
+use Rattle.httpdate.proofs.ReaderLemmas.{read_name_below}
 use Rattle.rfc_dates.proofs.parser.read_month_name.Goals as goal
 
 pub returns-in-Some-clause-value : goal.returns-in-Some-clause-value

@@ -1,6 +1,5 @@
 use Rattle.std.proofs.Common.{◌≡◌, ◌-◌, ◌≤◌}
-use Rattle.httpdate.specs.Text.{month_name}
-use Rattle.httpdate.specs.Reader.{read_name}
+use Rattle.httpdate.{specs.Text.month_name, specs.Reader.read_name}
 use Rattle.rfc_dates.proofs.parser.read_month_name.Given as goal
 
 abbrev pub invariant-loop-month : goal.invariant-loop-month

@@ -1,7 +1,5 @@
-use Rattle.std.proofs.Common.{◌≡◌, Some, arith, rules}
-use Rattle.std.proofs.lemmas.Grind.{common_steps}
-use Rattle.rfc_dates.specs.Date.{timestamp}
-use Rattle.rfc_dates.proofs.DateLemmas.{denotes-timestamp}
+use Rattle.std.{proofs.Common.{◌≡◌, Some, arith, rules}, proofs.lemmas.Grind.common_steps}
+use Rattle.rfc_dates.{specs.Date.timestamp, proofs.DateLemmas.denotes-timestamp}
 use Rattle.rfc_dates.proofs.timestamp.read_date.Goals as goal
 
 pub returns-in_err-date-clause-shown : goal.returns-in_err-date-clause-shown

@@ -1,7 +1,6 @@
-use Rattle.std.proofs.Common.{sym, ◌∙◌, ◌+◌, subst, arith}
-use Rattle.std.proofs.lemmas.List.{take_rest}
-use Rattle.rfc_fields.specs.Comments.{HasComment}
-use Rattle.rfc_fields.proofs.CommentLemmas.{behind-end, closed_comment, never-next, no_comment, within-next}
+use Rattle.std.{proofs.Common.{sym, ◌∙◌, ◌+◌, subst, arith}, proofs.lemmas.List.take_rest}
+use Rattle.rfc_fields.{specs.Comments.HasComment, proofs.CommentLemmas.{behind-end, closed_comment, never-next}}
+use Rattle.rfc_fields.proofs.CommentLemmas.{no_comment, within-next}
 use Rattle.rfc_fields.proofs.comments.skip_comment.Goals as goal
 
 pub returns-in-Closed : goal.returns-in-Closed

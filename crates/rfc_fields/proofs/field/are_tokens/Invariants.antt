@@ -1,6 +1,5 @@
-use Rattle.std.proofs.Common.{◌≡◌, length}
-use Rattle.std.specs.List.{list_all}
-use Rattle.rfc_fields.specs.{Members.field_left, Directives.is_token_member}
+use Rattle.std.{proofs.Common.{◌≡◌, length}, specs.List.list_all}
+use Rattle.rfc_fields.{specs.Members.field_left, specs.Directives.is_token_member}
 use Rattle.rfc_fields.proofs.field.are_tokens.Given as goal
 
 abbrev pub invariant-loop-member : goal.invariant-loop-member

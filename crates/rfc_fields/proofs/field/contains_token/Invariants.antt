@@ -1,6 +1,5 @@
-use Rattle.std.proofs.Common.{◌≡◌, length}
-use Rattle.std.specs.List.{list_any}
-use Rattle.rfc_fields.specs.{Members.field_left, Directives.is_same_token}
+use Rattle.std.{proofs.Common.{◌≡◌, length}, specs.List.list_any}
+use Rattle.rfc_fields.{specs.Members.field_left, specs.Directives.is_same_token}
 use Rattle.rfc_fields.proofs.field.contains_token.Given as goal
 
 abbrev pub invariant-loop-member : goal.invariant-loop-member

@@ -1,6 +1,5 @@
 use Rattle.std.proofs.Common.{length, option_map}
-use Rattle.rfc_fields.specs.{Members.field_left, Directives.directive_parts}
-use Rattle.rfc_fields.proofs.FieldLemmas.{SoFar}
+use Rattle.rfc_fields.{specs.Members.field_left, specs.Directives.directive_parts, proofs.FieldLemmas.SoFar}
 use Rattle.rfc_fields.proofs.field.find_directive.Given as goal
 
 abbrev pub invariant-loop-member : goal.invariant-loop-member

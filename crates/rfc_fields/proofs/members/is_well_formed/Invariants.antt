@@ -1,5 +1,4 @@
-use Rattle.std.proofs.Common.{◌≡◌, length}
-use Rattle.std.specs.List.{list_all}
+use Rattle.std.{proofs.Common.{◌≡◌, length}, specs.List.list_all}
 use Rattle.rfc_fields.specs.Members.{is_whole, members_left}
 use Rattle.rfc_fields.proofs.members.is_well_formed.Given as goal
 

@@ -1,6 +1,5 @@
 use Rattle.std.proofs.Common.{◌≡◌, ◌≤◌, length, IfSome}
-use Rattle.rfc_fields.specs.Values.{octets_left}
-use Rattle.rfc_fields.proofs.NumberLemmas.{number_from}
+use Rattle.rfc_fields.{specs.Values.octets_left, proofs.NumberLemmas.number_from}
 use Rattle.rfc_fields.proofs.numbers.number_within.Given as goal
 
 abbrev pub invariant-loop-octet : goal.invariant-loop-octet

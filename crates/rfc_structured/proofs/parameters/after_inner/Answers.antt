@@ -1,7 +1,6 @@
 use Rattle.std.proofs.Common.{sym, ◌∙◌}
-use Rattle.rfc_structured.specs.Items.{inner_step}
-use Rattle.rfc_structured.proofs.ItemLemmas.{inner_lists-take}
-use Rattle.rfc_structured.proofs.RepeatLemmas.{all-ends, all-fails, all-goes}
+use Rattle.rfc_structured.{specs.Items.inner_step, proofs.ItemLemmas.inner_lists-take, proofs.RepeatLemmas.all-ends}
+use Rattle.rfc_structured.proofs.RepeatLemmas.{all-fails, all-goes}
 use Rattle.rfc_structured.proofs.parameters.after_inner.Goals as goal
 
 pub returns-in-Ends : goal.returns-in-Ends

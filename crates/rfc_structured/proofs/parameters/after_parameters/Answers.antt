@@ -1,7 +1,6 @@
 use Rattle.std.proofs.Common.{sym, ◌∙◌}
-use Rattle.rfc_structured.specs.Items.{parameter_step}
-use Rattle.rfc_structured.proofs.ItemLemmas.{parameters-take}
-use Rattle.rfc_structured.proofs.RepeatLemmas.{all-ends, all-fails, all-goes}
+use Rattle.rfc_structured.{specs.Items.parameter_step, proofs.ItemLemmas.parameters-take, proofs.RepeatLemmas.all-ends}
+use Rattle.rfc_structured.proofs.RepeatLemmas.{all-fails, all-goes}
 use Rattle.rfc_structured.proofs.parameters.after_parameters.Goals as goal
 
 pub returns-in-Ends : goal.returns-in-Ends

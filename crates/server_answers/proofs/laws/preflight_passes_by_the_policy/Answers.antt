@@ -1,5 +1,4 @@
-use Rattle.server_answers.specs.Stores.{has_at}
-use Rattle.server_answers.proofs.PreflightLemmas.{preflight_answered}
+use Rattle.server_answers.{specs.Stores.has_at, proofs.PreflightLemmas.preflight_answered}
 use Rattle.server_answers.proofs.laws.preflight_passes_by_the_policy.Goals as goal
 
 pub returns : goal.returns

@@ -1,5 +1,4 @@
-use Rattle.server_answers.specs.Stores.{has_at}
-use Rattle.server_answers.proofs.PreflightLemmas.{response_shared}
+use Rattle.server_answers.{specs.Stores.has_at, proofs.PreflightLemmas.response_shared}
 use Rattle.server_answers.proofs.laws.response_is_shared_by_the_policy.Goals as goal
 
 pub returns : goal.returns

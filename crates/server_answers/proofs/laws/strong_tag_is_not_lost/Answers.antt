@@ -1,5 +1,4 @@
-use Rattle.std.proofs.Common.{refl}
-use Rattle.std.specs.Prelude.{codes}
+use Rattle.std.{proofs.Common.refl, specs.Prelude.codes}
 use Rattle.server_answers.proofs.TagLemmas.{by_match}
 use Rattle.server_answers.proofs.laws.strong_tag_is_not_lost.Goals as goal
 

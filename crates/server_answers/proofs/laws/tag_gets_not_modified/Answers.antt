@@ -1,5 +1,4 @@
-use Rattle.std.proofs.Common.{refl, sym, ◌∙◌}
-use Rattle.std.specs.Prelude.{codes}
+use Rattle.std.{proofs.Common.{refl, sym, ◌∙◌}, specs.Prelude.codes}
 use Rattle.server_answers.proofs.TagLemmas.{by_none_match, differ}
 use Rattle.server_answers.proofs.laws.tag_gets_not_modified.Goals as goal
 

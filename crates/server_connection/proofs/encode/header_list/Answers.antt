@@ -1,5 +1,4 @@
-use Rattle.std.proofs.Common.{[], ◌∷◌, ◌++◌, take, sym, ap, ◌∙◌}
-use Rattle.std.proofs.lemmas.List.{map_push, map_more}
+use Rattle.std.{proofs.Common.{[], ◌∷◌, ◌++◌, take, sym, ap, ◌∙◌}, proofs.lemmas.List.{map_push, map_more}}
 use Rattle.http1.specs.Head.{header_parts, pairs}
 use Rattle.http_server.specs.Response.{fields}
 use Rattle.server_connection.proofs.encode.header_list.Goals as goal

@@ -1,14 +1,10 @@
 use Rattle.std.proofs.Common.{◌≡◌, ◌≢◌, ℕ, ◌^◌, ◌<◌, List, ◌++◌, Result, Ok, Err, OnOk, ap, subst, ◌∙◌}
-use Rattle.http1.specs.declared.error.WriteError.{WriteError}
-use Rattle.http1.specs.declared.server.Server.{Server}
-use Rattle.http1.specs.Head.{pairs}
-use Rattle.http1.specs.Output.{GivesOrRefuses}
-use Rattle.http1.specs.Server.{response_refusal}
+use Rattle.http1.{specs.declared.error.WriteError.WriteError, specs.declared.server.Server.Server, specs.Head.pairs}
+use Rattle.http1.{specs.Output.GivesOrRefuses, specs.Server.response_refusal}
 use Rattle.http1_typed.specs.Parts.{reason_of}
-use Rattle.http_server.specs.Response.{fields}
-use Rattle.http_server.proofs.AnswerLemmas.{not_refused}
-use Rattle.server_connection.specs.declared.plan.Plan.{Plan}
-use Rattle.server_connection.specs.Encoding.{WritesHead, content_len, head_text, after_head, plan_fields, plan_size}
+use Rattle.http_server.{specs.Response.fields, proofs.AnswerLemmas.not_refused}
+use Rattle.server_connection.{specs.declared.plan.Plan.Plan, specs.Encoding.{WritesHead, content_len, head_text}}
+use Rattle.server_connection.specs.Encoding.{after_head, plan_fields, plan_size}
 use Rattle.server_connection.proofs.encode.write_head.Goals as goal
 
 module _ (plan : Plan) (old new : Server) (before after : List ℕ) (spare len : ℕ) (late : plan.status ≢ 101)

@@ -1,5 +1,4 @@
-use Rattle.std.proofs.Common.{sym, subst, inr}
-use Rattle.std.proofs.lemmas.List.{take-append-le}
+use Rattle.std.{proofs.Common.{sym, subst, inr}, proofs.lemmas.List.take-append-le}
 use Rattle.server_connection.proofs.TurnLemmas.{step_sends}
 use Rattle.server_connection.proofs.serve.fill.Goals as goal
 

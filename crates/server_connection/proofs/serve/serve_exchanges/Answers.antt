@@ -1,7 +1,6 @@
-use Rattle.std.proofs.Common.{[], ap, is_ok, subst, sym}
-use Rattle.std.proofs.lemmas.Result.{err_from_is_err_and}
-use Rattle.server_connection.specs.Connection.{Exchanged}
-use Rattle.server_connection.proofs.TurnLemmas.{Appends-none, Consumes-none, cut_short, runs_on, stays_known}
+use Rattle.std.{proofs.Common.{[], ap, is_ok, subst, sym}, proofs.lemmas.Result.err_from_is_err_and}
+use Rattle.server_connection.{specs.Connection.Exchanged, proofs.TurnLemmas.{Appends-none, Consumes-none, cut_short}}
+use Rattle.server_connection.proofs.TurnLemmas.{runs_on, stays_known}
 use Rattle.server_connection.proofs.serve.serve_exchanges.Goals as goal
 
 pub returns-in_err-buffer : goal.returns-in_err-buffer

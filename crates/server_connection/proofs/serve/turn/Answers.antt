@@ -1,7 +1,6 @@
 use Rattle.std.proofs.Common.{[], subst}
-use Rattle.server_connection.specs.Connection.{IsSaid}
-use Rattle.server_connection.proofs.TurnLemmas.{Appends-none, Consumes-none, moves_drop, moves_in, moves_steps, moves_then}
-use Rattle.server_connection.proofs.TurnLemmas.{stays_known, turns_by, turns_read}
+use Rattle.server_connection.{specs.Connection.IsSaid, proofs.TurnLemmas.{Appends-none, Consumes-none, moves_drop}}
+use Rattle.server_connection.proofs.TurnLemmas.{moves_in, moves_steps, moves_then, stays_known, turns_by, turns_read}
 use Rattle.server_connection.proofs.serve.turn.Goals as goal
 
 pub returns-in-Request : goal.returns-in-Request

@@ -1,8 +1,5 @@
-use Rattle.std.proofs.Common.{◌++◌, ap, map, ◌∙◌}
-use Rattle.std.specs.Prelude.{codes, flat_map, string_bytes}
-use Rattle.server_files.specs.Listings.{item, shown}
-use Rattle.server_files.specs.Pages.{page_with}
-use Rattle.server_files.proofs.ListingLemmas.{page_made}
+use Rattle.std.{proofs.Common.{◌++◌, ap, map, ◌∙◌}, specs.Prelude.{codes, flat_map, string_bytes}}
+use Rattle.server_files.{specs.Listings.{item, shown}, specs.Pages.page_with, proofs.ListingLemmas.page_made}
 use Rattle.server_files.proofs.listing.listing_page.Goals as goal
 
 pub returns : goal.returns

@@ -1,7 +1,5 @@
-use Rattle.std.proofs.Common.{◌++◌, List, ℕ, ap, ◌∙◌}
-use Rattle.std.specs.Prelude.{codes}
-use Rattle.server_files.specs.Listings.{link, shown}
-use Rattle.server_files.proofs.ListingLemmas.{pushed}
+use Rattle.std.{proofs.Common.{◌++◌, List, ℕ, ap, ◌∙◌}, specs.Prelude.codes}
+use Rattle.server_files.{specs.Listings.{link, shown}, proofs.ListingLemmas.pushed}
 use Rattle.server_files.proofs.listing.push_item.Goals as goal
 
 pub returns : goal.returns

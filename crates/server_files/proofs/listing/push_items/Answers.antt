@@ -1,6 +1,5 @@
 use Rattle.std.proofs.Common.{◌++◌, List, ℕ, ap, ◌∙◌}
-use Rattle.server_files.specs.Listings.{item}
-use Rattle.server_files.proofs.ListingLemmas.{items_more}
+use Rattle.server_files.{specs.Listings.item, proofs.ListingLemmas.items_more}
 use Rattle.server_files.proofs.listing.push_items.Goals as goal
 
 pub loop-name-preserved : goal.loop-name-preserved

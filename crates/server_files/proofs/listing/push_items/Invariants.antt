@@ -1,5 +1,4 @@
-use Rattle.std.proofs.Common.{◌≡◌, ◌++◌, map, take}
-use Rattle.std.specs.Prelude.{flat_map, string_bytes}
+use Rattle.std.{proofs.Common.{◌≡◌, ◌++◌, map, take}, specs.Prelude.{flat_map, string_bytes}}
 use Rattle.server_files.specs.Listings.{item}
 use Rattle.server_files.proofs.listing.push_items.Given as goal
 

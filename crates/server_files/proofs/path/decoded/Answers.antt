@@ -1,6 +1,4 @@
-use Rattle.std.proofs.Common.{ap, subst, sym, ◌∙◌}
-use Rattle.std.proofs.lemmas.Str.{IsUtf8-string_bytes}
-use Rattle.std.specs.Prelude.{IsUtf8}
+use Rattle.std.{proofs.Common.{ap, subst, sym, ◌∙◌}, proofs.lemmas.Str.IsUtf8-string_bytes, specs.Prelude.IsUtf8}
 use Rattle.server_files.proofs.path.decoded.Goals as goal
 
 pub returns-in-Ok : goal.returns-in-Ok

@@ -1,5 +1,4 @@
-use Rattle.std.proofs.Common.{◌≡◌, ◌++◌, List, ℕ, ap, sym, ◌∙◌}
-use Rattle.std.specs.Prelude.{codes}
+use Rattle.std.{proofs.Common.{◌≡◌, ◌++◌, List, ℕ, ap, sym, ◌∙◌}, specs.Prelude.codes}
 use Rattle.server_files.proofs.PathLemmas.{folder_from}
 use Rattle.server_files.proofs.path.folder_of.Goals as goal
 

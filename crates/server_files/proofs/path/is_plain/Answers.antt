@@ -1,9 +1,7 @@
 use Rattle.std.proofs.Common.{◌≡◌, ◌&&◌, ◌==◌, Bool, List, ℕ, true, false, ap, rules, sym, tests, ◌∙◌}
 use Rattle.std.proofs.lemmas.Iterator.Search.{all_from_yields_List}
-use Rattle.std.proofs.lemmas.Iterator.Splits.{YieldsList-from_slice_split}
-use Rattle.std.specs.List.{list_all, slice_split}
-use Rattle.server_files.specs.Path.{are_names, is_first_name, is_name}
-use Rattle.server_files.proofs.PathLemmas.{first_yielded}
+use Rattle.std.{proofs.lemmas.Iterator.Splits.YieldsList-from_slice_split, specs.List.{list_all, slice_split}}
+use Rattle.server_files.{specs.Path.{are_names, is_first_name, is_name}, proofs.PathLemmas.first_yielded}
 use Rattle.server_files.proofs.path.is_plain.Goals as goal
 
 pub returns-then-is_first_name : goal.returns-then-is_first_name

@@ -1,5 +1,4 @@
-use Rattle.server_laws.specs.Served.{gives, plans}
-use Rattle.server_laws.proofs.OkLemmas.{put_out}
+use Rattle.server_laws.{specs.Served.{gives, plans}, proofs.OkLemmas.put_out}
 use Rattle.server_laws.proofs.laws.ok_is_put_out_literally.Goals as goal
 
 pub returns : goal.returns

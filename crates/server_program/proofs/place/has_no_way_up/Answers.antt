@@ -1,6 +1,5 @@
-use Rattle.std.proofs.Common.{rules, tests}
-use Rattle.std.proofs.lemmas.Iterator.{cases_from_all}
-use Rattle.std.specs.Path.{path_buf_bytes, path_components}
+use Rattle.std.{proofs.Common.{rules, tests}, proofs.lemmas.Iterator.cases_from_all, specs.Path.path_buf_bytes}
+use Rattle.std.specs.Path.{path_components}
 use Rattle.server_program.proofs.PlaceLemmas.{IsDown, IsUp, YieldsList-from_components, none_is_up}
 use Rattle.server_program.proofs.place.has_no_way_up.Goals as goal
 

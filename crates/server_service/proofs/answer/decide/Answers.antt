@@ -1,5 +1,4 @@
-use Rattle.std.proofs.Common.{inl, inr}
-use Rattle.std.proofs.lemmas.Result.{IfOk-weaker}
+use Rattle.std.{proofs.Common.{inl, inr}, proofs.lemmas.Result.IfOk-weaker}
 use Rattle.decide_resource.specs.Requests.{head_of as as_head, request_of}
 use Rattle.server_service.proofs.AnswerLemmas.{FitsIn-from_answer}
 use Rattle.server_service.proofs.answer.decide.Goals as goal

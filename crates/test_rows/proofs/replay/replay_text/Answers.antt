@@ -1,11 +1,7 @@
 use Rattle.std.proofs.Common.{◌≡◌, ℕ, ◌+◌, ◌≤◌, cond, length, filter, map, sym, subst, ◌∙◌, ap, arith, IfOk}
-use Rattle.std.proofs.lemmas.List.{take_all, length-map}
-use Rattle.std.proofs.lemmas.Iterator.Consumers.{map_from_collect}
-use Rattle.std.proofs.lemmas.Iterator.Splits.{YieldsList-from_lines}
-use Rattle.std.specs.Str.Lines.{lines}
-use Rattle.std.specs.Vec.{vec_items}
-use Rattle.test_rows.specs.Row.{is_row_line}
-use Rattle.test_rows.proofs.RowCounts.{length-filter-map_more}
+use Rattle.std.{proofs.lemmas.List.{take_all, length-map}, proofs.lemmas.Iterator.Consumers.map_from_collect}
+use Rattle.std.{proofs.lemmas.Iterator.Splits.YieldsList-from_lines, specs.Str.Lines.lines, specs.Vec.vec_items}
+use Rattle.test_rows.{specs.Row.is_row_line, proofs.RowCounts.length-filter-map_more}
 use Rattle.test_rows.proofs.replay.replay_text.Goals as goal
 use Rattle.test_rows.proofs.replay.replay_text.Goals.{then-is_row+in_ok-replay_line, else-is_row}
 

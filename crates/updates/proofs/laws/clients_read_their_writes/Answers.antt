@@ -1,6 +1,4 @@
-use Rattle.updates.specs.Events.{run}
-use Rattle.updates.specs.Worlds.{start}
-use Rattle.updates.proofs.OwnWrites.{reads-own, run-ordered, start-ordered}
+use Rattle.updates.{specs.Events.run, specs.Worlds.start, proofs.OwnWrites.{reads-own, run-ordered, start-ordered}}
 use Rattle.updates.proofs.laws.clients_read_their_writes.Goals as goal
 
 pub returns : goal.returns

@@ -1,7 +1,5 @@
-use Rattle.updates.specs.Events.{run}
-use Rattle.updates.specs.Worlds.{World, start}
-use Rattle.updates.proofs.Steps.{Holds, holds}
-use Rattle.updates.proofs.Updates.{leads, swaps}
+use Rattle.updates.{specs.Events.run, specs.Worlds.{World, start}, proofs.Steps.{Holds, holds}, proofs.Updates.leads}
+use Rattle.updates.proofs.Updates.{swaps}
 use Rattle.updates.proofs.laws.guarded_updates_are_linearizable.Goals as goal
 
 pub returns : goal.returns

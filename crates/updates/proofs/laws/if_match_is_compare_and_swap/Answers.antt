@@ -1,9 +1,5 @@
-use Rattle.updates.specs.Events.{run}
-use Rattle.updates.specs.Worlds.{start}
-use Rattle.updates.specs.Worlds.Message.{Going}
-use Rattle.updates.specs.Worlds.Request.{Puts}
-use Rattle.updates.proofs.Steps.{holds}
-use Rattle.updates.proofs.Updates.{swaps, swaps-content}
+use Rattle.updates.{specs.Events.run, specs.Worlds.start, specs.Worlds.Message.Going, specs.Worlds.Request.Puts}
+use Rattle.updates.{proofs.Steps.holds, proofs.Updates.{swaps, swaps-content}}
 use Rattle.updates.proofs.laws.if_match_is_compare_and_swap.Goals as goal
 
 pub returns-clause-version : goal.returns-clause-version

@@ -1,9 +1,6 @@
 use Rattle.std.proofs.Common.{sym, ◌∙◌}
-use Rattle.updates.specs.Events.{run}
-use Rattle.updates.specs.Worlds.{World, start}
-use Rattle.updates.proofs.Lists.{Has-slice_get}
-use Rattle.updates.proofs.Steps.{Holds, holds}
-use Rattle.updates.proofs.Updates.{once, swaps}
+use Rattle.updates.{specs.Events.run, specs.Worlds.{World, start}, proofs.Lists.Has-slice_get, proofs.Steps.Holds}
+use Rattle.updates.{proofs.Steps.holds, proofs.Updates.{once, swaps}}
 use Rattle.updates.proofs.laws.no_update_is_lost.Goals as goal
 
 pub returns : goal.returns

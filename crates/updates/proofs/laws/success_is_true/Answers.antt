@@ -1,7 +1,5 @@
 use Rattle.std.proofs.Common.{inl, refl}
-use Rattle.updates.specs.Worlds.{Received}
-use Rattle.updates.specs.Worlds.Request.{Puts}
-use Rattle.updates.specs.Worlds.Response.{Status204}
+use Rattle.updates.{specs.Worlds.Received, specs.Worlds.Request.Puts, specs.Worlds.Response.Status204}
 use Rattle.updates.proofs.Steps.{holds}
 use Rattle.updates.proofs.laws.success_is_true.Goals as goal
 

@@ -1,7 +1,5 @@
 use Rattle.std.proofs.Common.{ℕ, refl, arith, codes}
-use Rattle.updates.specs.Events.{condition_on}
-use Rattle.updates.specs.Events.Guard.{ByTag}
-use Rattle.updates.specs.Worlds.{Condition, Put, Version}
+use Rattle.updates.{specs.Events.condition_on, specs.Events.Guard.ByTag, specs.Worlds.{Condition, Put, Version}}
 use Rattle.updates.specs.Runs.{ann, digested}
 use Rattle.updates.proofs.runs.digests_let_a_put_act_twice.Goals as goal
 

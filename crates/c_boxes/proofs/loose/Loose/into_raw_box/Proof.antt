@@ -1,6 +1,5 @@
 -- `into_raw_box` moves the pointer, and what the handle owned goes with it. Assumes `Logic`.
-use Rattle.std.proofs.Common.{◌≡◌, List, [], ◌∷◌, ◌++◌, refl}
-use Rattle.std.specs.Prelude.{◌≢◌, Option, Some, None}
+use Rattle.std.{proofs.Common.{◌≡◌, List, [], ◌∷◌, ◌++◌, refl}, specs.Prelude.{◌≢◌, Option, Some, None}}
 use mir.Syntax.{Fn, a_type}
 use mir.Raw.{raw as bare}
 use mir.Val.{Val, vptr}
@@ -32,8 +31,7 @@ use Rattle.std_heap.proofs.Global.TheLaws as heap
 use Rattle.c_boxes.specs.Ownership.{global, handle_owns}
 use Rattle.c_boxes.specs.contracts.raw_box.RawBox as raw_box
 use Rattle.c_boxes.specs.contracts.loose.Loose as loose
-use Rattle.c_boxes.proofs.HandleValues.{al, some_of, both, loose_good, loose_in, lone_val, lone_told}
-use Rattle.c_boxes.proofs.HandleValues.{lone_typed}
+use Rattle.c_boxes.proofs.HandleValues.{al, some_of, both, loose_good, loose_in, lone_val, lone_told, lone_typed}
 use Rattle.c_boxes.specs.contracts.loose.Loose.into_raw_box.{ended, clauses}
 use Rattle.c_boxes.specs.contracts.loose.Loose.into_raw_box.Key.{name as #self}
 use Rattle.c_boxes.proofs.loose.Loose.into_raw_box.Statement.{statement}

@@ -1,10 +1,7 @@
 use Rattle.std.proofs.Common.{rules, ℕ, List, subst}
 use Rattle.headers.specs.LineMap.{lines_at}
-use Rattle.cache_store.specs.Contents.{responses_at}
-use Rattle.cache_store.specs.Kept.{contents_of, policy_of_store}
-use Rattle.cache_store.specs.Lookups.{IsAnswer}
-use Rattle.c_handles.specs.Cache.Reading.{asked_by}
-use Rattle.c_handles.proofs.cache.LookupLemmas.{answer-has-fields}
+use Rattle.cache_store.{specs.Contents.responses_at, specs.Kept.{contents_of, policy_of_store}, specs.Lookups.IsAnswer}
+use Rattle.c_handles.{specs.Cache.Reading.asked_by, proofs.cache.LookupLemmas.answer-has-fields}
 use Rattle.c_handles.proofs.cache.lookup.lookup_in.Goals as goal
 
 pub returns : goal.returns

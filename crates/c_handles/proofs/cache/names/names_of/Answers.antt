@@ -1,11 +1,8 @@
-use Rattle.std.proofs.Common.{◌≡◌, ℕ, List, Err, sym, subst}
-use Rattle.std.proofs.lemmas.Result.{err_from_is_err_and}
-use Rattle.http_header.specs.FieldName.{IsFieldName}
-use Rattle.http_header.specs.Token.{lowercase}
+use Rattle.std.{proofs.Common.{◌≡◌, ℕ, List, Err, sym, subst}, proofs.lemmas.Result.err_from_is_err_and}
+use Rattle.http_header.{specs.FieldName.IsFieldName, specs.Token.lowercase}
 use Rattle.headers.specs.Lines.{lines_of}
 use Rattle.c_parts.specs.FieldText.{IsNameOf}
-use Rattle.c_handles.specs.Cache.Names.{IsNamesOf}
-use Rattle.c_handles.proofs.cache.NameLemmas.{names-fails, names-more}
+use Rattle.c_handles.{specs.Cache.Names.IsNamesOf, proofs.cache.NameLemmas.{names-fails, names-more}}
 use Rattle.c_handles.proofs.cache.names.names_of.Goals as goal
 
 pub loop-line-preserved : goal.loop-line-preserved

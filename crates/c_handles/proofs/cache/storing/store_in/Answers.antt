@@ -1,7 +1,6 @@
 use Rattle.std.proofs.Common.{◌⊎◌, rules, inr, ℕ, List, subst}
 use Rattle.cache_rules.specs.declared.storing.Reception.{Reception}
-use Rattle.cache_store.specs.Changes.{FitsAlone, IsInserted, IsToStore}
-use Rattle.cache_store.specs.Contents.{size_of}
+use Rattle.cache_store.{specs.Changes.{FitsAlone, IsInserted, IsToStore}, specs.Contents.size_of}
 use Rattle.cache_store.specs.Kept.{contents_of, policy_of_store}
 use Rattle.c_handles.proofs.cache.storing.store_in.Goals as goal
 

@@ -1,12 +1,9 @@
 use Rattle.std.proofs.Common.{rules, inl, inr, ℕ, List, ap, subst, Err, ◌∙◌}
 use Rattle.headers.specs.LineMap.{lines_at}
-use Rattle.cache_store.specs.Changes.{IsRefreshed}
-use Rattle.cache_store.specs.Contents.{responses_at}
-use Rattle.cache_store.specs.Kept.{contents_of, policy_of_store}
-use Rattle.cache_store.specs.Updates.{IsOneTooSmallFor}
+use Rattle.cache_store.{specs.Changes.IsRefreshed, specs.Contents.responses_at, specs.Kept.contents_of}
+use Rattle.cache_store.{specs.Kept.policy_of_store, specs.Updates.IsOneTooSmallFor}
 use Rattle.cache_rules.specs.Freshening.{renewing_fields}
-use Rattle.c_handles.specs.Cache.Reading.{asked_by}
-use Rattle.c_handles.specs.Cache.Validations.{IsOnceOf}
+use Rattle.c_handles.{specs.Cache.Reading.asked_by, specs.Cache.Validations.IsOnceOf}
 use Rattle.c_handles.proofs.cache.validating.freshen_in.Goals as goal
 
 pub returns-in-Ok : goal.returns-in-Ok

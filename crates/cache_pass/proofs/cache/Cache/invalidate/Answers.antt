@@ -1,8 +1,7 @@
 use Rattle.std.proofs.Common.{List, [], ◌∷◌, map, refl, inl, inr, subst}
 use Rattle.url.specs.Parts.{Parts, serialize}
 use Rattle.cache_store.specs.History.Call.{Removed}
-use Rattle.cache_pass.specs.Effects.{DoAll, kept_of, removals, settings_of}
-use Rattle.cache_pass.proofs.CallLemmas.{do-one, removes-with}
+use Rattle.cache_pass.{specs.Effects.{DoAll, kept_of, removals, settings_of}, proofs.CallLemmas.{do-one, removes-with}}
 use Rattle.cache_pass.proofs.cache.Cache.invalidate.Goals as goal
 
 pub returns-in-Ok-clause-does : goal.returns-in-Ok-clause-does

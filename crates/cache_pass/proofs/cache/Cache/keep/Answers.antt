@@ -1,6 +1,5 @@
 use Rattle.std.proofs.Common.{Ok, refl, ap}
-use Rattle.cache_pass.specs.Effects.{kept_of, settings_of}
-use Rattle.cache_pass.proofs.KeepLemmas.{keeps, keeps-none}
+use Rattle.cache_pass.{specs.Effects.{kept_of, settings_of}, proofs.KeepLemmas.{keeps, keeps-none}}
 use Rattle.cache_pass.proofs.cache.Cache.keep.Goals as goal
 
 pub returns-in-Ok-clause-kept : goal.returns-in-Ok-clause-kept

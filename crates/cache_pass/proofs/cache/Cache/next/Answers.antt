@@ -1,10 +1,8 @@
 use Rattle.std.proofs.Common.{[], ◌∷◌, refl, inl, inr}
 use Rattle.headers.specs.LineMap.{lines_at}
 use Rattle.cache_policy.specs.Requests.{request_of}
-use Rattle.cache_store.specs.History.{Call}
-use Rattle.cache_store.specs.History.Call.{Looked, Validated}
-use Rattle.cache_pass.specs.Effects.{kept_of, settings_of}
-use Rattle.cache_pass.proofs.CallLemmas.{do-one}
+use Rattle.cache_store.{specs.History.Call, specs.History.Call.{Looked, Validated}}
+use Rattle.cache_pass.{specs.Effects.{kept_of, settings_of}, proofs.CallLemmas.do-one}
 use Rattle.cache_pass.proofs.cache.Cache.next.Goals as goal
 
 pub returns-then-is_validation-clause-next : goal.returns-then-is_validation-clause-next

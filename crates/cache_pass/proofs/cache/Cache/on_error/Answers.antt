@@ -1,8 +1,7 @@
-use Rattle.std.proofs.Common.{Result, Ok, Err, OnErr, sym, ◌∙◌}
-use Rattle.std.proofs.lemmas.Result.{IfOk-weaker}
+use Rattle.std.{proofs.Common.{Result, Ok, Err, OnErr, sym, ◌∙◌}, proofs.lemmas.Result.IfOk-weaker}
 use Rattle.cache_policy.specs.Requests.{request_of}
-use Rattle.cache_pass.specs.Effects.{settings_of, stored_at}
-use Rattle.cache_pass.proofs.ReplyLemmas.{error-fields, error-none, error-reply}
+use Rattle.cache_pass.{specs.Effects.{settings_of, stored_at}, proofs.ReplyLemmas.{error-fields, error-none}}
+use Rattle.cache_pass.proofs.ReplyLemmas.{error-reply}
 use Rattle.cache_pass.proofs.cache.Cache.on_error.Goals as goal
 
 pub returns-in-Some-clause-answer : goal.returns-in-Some-clause-answer

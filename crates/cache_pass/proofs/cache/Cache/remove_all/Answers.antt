@@ -1,8 +1,7 @@
 use Rattle.std.proofs.Common.{◌≡◌, ◌∷◌, ◌++◌, ◌+◌, [], List, ℕ, map, take, sym, ap, subst, ◌∙◌}
 use Rattle.std.proofs.lemmas.List.{map-append, take_more, take_all}
 use Rattle.url.specs.Parts.{Parts, serialize}
-use Rattle.cache_store.specs.History.{History}
-use Rattle.cache_store.specs.History.Call.{Removed}
+use Rattle.cache_store.{specs.History.History, specs.History.Call.Removed}
 use Rattle.cache_pass.specs.Effects.{DoAll, Does, Settings, kept_of, removals, settings_of}
 use Rattle.cache_pass.proofs.CallLemmas.{removals-append}
 use Rattle.cache_pass.proofs.cache.Cache.remove_all.Goals as goal

@@ -1,7 +1,6 @@
 use Rattle.headers.specs.LineMap.{lines_at}
 use Rattle.cache_policy.specs.Requests.{request_of}
-use Rattle.cache_pass.specs.Effects.{kept_of, settings_of}
-use Rattle.cache_pass.proofs.ReplyLemmas.{shows-after}
+use Rattle.cache_pass.{specs.Effects.{kept_of, settings_of}, proofs.ReplyLemmas.shows-after}
 use Rattle.cache_pass.proofs.cache.Cache.revalidated.Goals as goal
 
 pub returns-in-Ok-Some-clause-next : goal.returns-in-Ok-Some-clause-next

@@ -1,7 +1,6 @@
 use Rattle.std.proofs.Common.{◌∙◌, ap, refl}
-use Rattle.cache_policy.specs.Decisions.{counted}
+use Rattle.cache_policy.{specs.Decisions.counted, proofs.DecisionLemmas.Answers-at}
 use Rattle.cache_fields.specs.declared.directives.Directives.{Directives}
-use Rattle.cache_policy.proofs.DecisionLemmas.{Answers-at}
 use Rattle.cache_policy.proofs.policy.Policy.decide_by_directives.Goals as goal
 
 pub returns : goal.returns

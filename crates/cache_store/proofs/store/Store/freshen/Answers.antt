@@ -1,15 +1,14 @@
 use Rattle.std.proofs.Common.{length, ap, arith, Err, inl, ◌+◌, ◌∙◌}
 use Rattle.headers.specs.LineMap.{lines_at}
-use Rattle.cache_policy.specs.{Policies.policy_of, Requests.request_of}
-use Rattle.cache_rules.proofs.FullLemmas.{passed_full}
-use Rattle.cache_rules.specs.declared.stored.StoredResponse.{StoredResponse}
-use Rattle.cache_store.specs.{Contents.size_of, Kept.contents_of, Kept.policy_of_store}
-use Rattle.cache_store.proofs.{EntryLemmas.IsAbsent-without, HistoryLemmas.Has-remove}
-use Rattle.cache_store.proofs.GoOnLemmas.{goes-again, goes-left, goes-without}
-use Rattle.cache_store.proofs.NumberLemmas.{fewer-removed, numbered-again, numbered-left}
-use Rattle.cache_store.proofs.UpdateLemmas.{room_again, room_without, size-freshened}
-use Rattle.cache_store.proofs.RefreshLemmas.{let_go, none_refreshed, not_unchanged, one_too_small, other_too_small}
-use Rattle.cache_store.proofs.RefreshLemmas.{one_less, restored, within, within_taken}
+use Rattle.cache_policy.{specs.Policies.policy_of, specs.Requests.request_of}
+use Rattle.cache_rules.{proofs.FullLemmas.passed_full, specs.declared.stored.StoredResponse.StoredResponse}
+use Rattle.cache_store.{specs.Contents.size_of, specs.Kept.{contents_of, policy_of_store}}
+use Rattle.cache_store.{proofs.EntryLemmas.IsAbsent-without, proofs.HistoryLemmas.Has-remove}
+use Rattle.cache_store.{proofs.GoOnLemmas.{goes-again, goes-left, goes-without}, proofs.NumberLemmas.fewer-removed}
+use Rattle.cache_store.{proofs.NumberLemmas.{numbered-again, numbered-left}, proofs.UpdateLemmas.room_again}
+use Rattle.cache_store.{proofs.UpdateLemmas.{room_without, size-freshened}, proofs.RefreshLemmas.let_go}
+use Rattle.cache_store.proofs.RefreshLemmas.{none_refreshed, not_unchanged, one_too_small, other_too_small, one_less}
+use Rattle.cache_store.proofs.RefreshLemmas.{restored, within, within_taken}
 use Rattle.cache_store.specs.declared.freshening.Refreshed.TheVariants as answer
 use Rattle.cache_store.proofs.store.Store.freshen.Goals as goal
 

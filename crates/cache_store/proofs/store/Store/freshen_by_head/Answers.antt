@@ -1,8 +1,7 @@
 use Rattle.std.proofs.Common.{ap, length, inl, arith, ◌∙◌}
 use Rattle.headers_map.proofs.InsertLemmas.{OnErr-from}
-use Rattle.cache_store.specs.Kept.{contents_of}
-use Rattle.cache_store.proofs.{EntryLemmas.IsAbsent-without, NumberLemmas.numbered-left, RefreshLemmas.head_refreshed}
-use Rattle.cache_store.proofs.GoOnLemmas.{goes-left, goes-without}
+use Rattle.cache_store.{specs.Kept.contents_of, proofs.EntryLemmas.IsAbsent-without, proofs.NumberLemmas.numbered-left}
+use Rattle.cache_store.{proofs.RefreshLemmas.head_refreshed, proofs.GoOnLemmas.{goes-left, goes-without}}
 use Rattle.cache_store.proofs.store.Store.freshen_by_head.Goals as goal
 
 pub put_in-requires-clause-absent : goal.put_in-requires-clause-absent

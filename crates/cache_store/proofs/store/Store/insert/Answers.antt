@@ -1,7 +1,6 @@
-use Rattle.std.proofs.Common.{◌≡◌, ◌+◌, length, ap, arith, ◌∙◌}
-use Rattle.std.proofs.lemmas.Result.{on_ok_weaker}
-use Rattle.cache_store.specs.{Contents.bytes_of, Contents.size_of, Kept.contents_of}
-use Rattle.cache_store.proofs.{NumberLemmas.numbered-inserted, StoringLemmas.absent_rest, StoringLemmas.inserted}
+use Rattle.std.{proofs.Common.{◌≡◌, ◌+◌, length, ap, arith, ◌∙◌}, proofs.lemmas.Result.on_ok_weaker}
+use Rattle.cache_store.{specs.Contents.{bytes_of, size_of}, specs.Kept.contents_of}
+use Rattle.cache_store.{proofs.NumberLemmas.numbered-inserted, proofs.StoringLemmas.{absent_rest, inserted}}
 use Rattle.cache_store.proofs.store.Store.insert.Goals as goal
 
 pub put_with-requires-clause-absent : goal.put_with-requires-clause-absent

@@ -1,6 +1,5 @@
 use Rattle.std.proofs.Common.{◌≡◌, length}
-use Rattle.cache_store.specs.Kept.{contents_of, policy_of_store}
-use Rattle.cache_store.proofs.EntryLemmas.{IsFrontWithout}
+use Rattle.cache_store.{specs.Kept.{contents_of, policy_of_store}, proofs.EntryLemmas.IsFrontWithout}
 use Rattle.cache_store.proofs.store.Store.make_room.Given as goal
 
 abbrev pub invariant-loop-self : goal.invariant-loop-self

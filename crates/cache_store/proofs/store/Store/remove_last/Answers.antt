@@ -1,7 +1,6 @@
 use Rattle.std.proofs.Common.{sym, ap, arith, ◌∙◌}
-use Rattle.cache_store.specs.Contents.{bytes_of}
-use Rattle.cache_store.proofs.EntryLemmas.{bytes-last, count-last, none-last, shown-last, times-last}
-use Rattle.cache_store.proofs.NumberLemmas.{numbered-fewer}
+use Rattle.cache_store.{specs.Contents.bytes_of, proofs.EntryLemmas.{bytes-last, count-last, none-last, shown-last}}
+use Rattle.cache_store.{proofs.EntryLemmas.times-last, proofs.NumberLemmas.numbered-fewer}
 use Rattle.cache_store.proofs.store.Store.remove_last.Goals as goal
 
 pub overflow_sub-self : goal.overflow_sub-self

@@ -1,7 +1,6 @@
 use Rattle.std.proofs.Common.{ap, arith, sym, ◌∙◌}
 use Rattle.cache_store.proofs.EntryLemmas.{bytes-used, count-used, shown-used, times-used}
-use Rattle.cache_store.proofs.NumberLemmas.{numbered-fewer}
-use Rattle.cache_store.specs.Contents.{shown}
+use Rattle.cache_store.{proofs.NumberLemmas.numbered-fewer, specs.Contents.shown}
 use Rattle.cache_store.proofs.store.Store.touch.Goals as goal
 
 pub invariant_of-self : goal.invariant_of-self

@@ -1,5 +1,4 @@
-use Rattle.std.proofs.Common.{◌≡◌, true, Err, ap, subst, sym, rules}
-use Rattle.std.specs.Prelude.{string_bytes}
+use Rattle.std.{proofs.Common.{◌≡◌, true, Err, ap, subst, sym, rules}, specs.Prelude.string_bytes}
 use Rattle.http_header.specs.FieldValue.{IsFieldValue}
 use Rattle.decide_preconditions.specs.Boundaries.{is_boundary, multipart_type}
 use Rattle.decide_preconditions.proofs.BoundaryLemmas.{IsFieldValue-multipart_type}

@@ -1,5 +1,4 @@
-use Rattle.gateway_forwarded.specs.Nodes.{name_text, port_text}
-use Rattle.gateway_forwarded.proofs.NodeLemmas.{join_valid}
+use Rattle.gateway_forwarded.{specs.Nodes.{name_text, port_text}, proofs.NodeLemmas.join_valid}
 use Rattle.gateway_forwarded.proofs.node.Node.text.Goals as goal
 
 pub returns-clause-valid : goal.returns-clause-valid

@@ -1,7 +1,6 @@
 use Rattle.std.proofs.Common.{Err, ap, subst, sym, rules, ◌≡◌}
 use Rattle.http_header.specs.FieldValue.{IsFieldValue}
-use Rattle.gateway_messages.specs.Via.{via_line}
-use Rattle.gateway_messages.proofs.ViaLemmas.{IsFieldValue-via_line}
+use Rattle.gateway_messages.{specs.Via.via_line, proofs.ViaLemmas.IsFieldValue-via_line}
 use Rattle.gateway_messages.proofs.via.Pseudonym.line.Goals as goal
 
 pub unreachable-requires : goal.unreachable-requires

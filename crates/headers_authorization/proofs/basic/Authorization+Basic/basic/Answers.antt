@@ -1,12 +1,8 @@
 use Rattle.std.proofs.Common.{◌≡◌, ℕ, List, ◌∷◌, [], ◌++◌, ◌↔◌, sym, ◌∙◌, ap, subst, arith, length}
-use Rattle.std.specs.Prelude.{IsUtf8}
-use Rattle.std.specs.String.{string_bytes}
-use Rattle.std.specs.List.{Contains}
-use Rattle.std.proofs.lemmas.List.{append_assoc}
+use Rattle.std.{specs.Prelude.IsUtf8, specs.String.string_bytes, specs.List.Contains, proofs.lemmas.List.append_assoc}
 use Rattle.std.proofs.lemmas.Str.{IsUtf8-string_bytes}
 use Rattle.headers_authorization.specs.Basic.{colon, UserPass, user_pass, basic_scheme, ReadsBasic, basic_writes}
-use Rattle.headers_authorization.specs.Scheme.{IsReadBack}
-use Rattle.headers_authorization.proofs.BasicLemmas.{IsBytes-user_pass, IsReadBack-user_pass}
+use Rattle.headers_authorization.{specs.Scheme.IsReadBack, proofs.BasicLemmas.{IsBytes-user_pass, IsReadBack-user_pass}}
 use Rattle.headers_authorization.proofs.basic.Authorization+Basic.basic.Goals as goal
 
 pub returns-clause-back : goal.returns-clause-back

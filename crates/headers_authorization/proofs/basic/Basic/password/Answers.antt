@@ -1,5 +1,4 @@
-use Rattle.std.proofs.Common.{arith}
-use Rattle.std.proofs.lemmas.Str.{IsCharBoundary-after_ascii, IsUtf8-string_bytes}
+use Rattle.std.{proofs.Common.arith, proofs.lemmas.Str.{IsCharBoundary-after_ascii, IsUtf8-string_bytes}}
 use Rattle.headers_authorization.proofs.basic.Basic.password.Goals as goal
 
 pub range_from-requires : goal.range_from-requires

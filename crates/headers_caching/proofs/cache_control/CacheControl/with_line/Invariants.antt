@@ -1,5 +1,4 @@
-use Rattle.headers_items.specs.Entries.{line_entries}
-use Rattle.headers_items.specs.ItemsState.{entries_left}
+use Rattle.headers_items.{specs.Entries.line_entries, specs.ItemsState.entries_left}
 use Rattle.headers_caching.proofs.LineLemmas.{ReadSoFar}
 use Rattle.headers_caching.proofs.cache_control.CacheControl.with_line.Given as goal
 

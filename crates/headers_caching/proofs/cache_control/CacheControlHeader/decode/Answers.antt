@@ -1,11 +1,10 @@
-use Rattle.std.proofs.Common.{◌≡◌, ℕ, true, false, List, ◌++◌, refl, sym, ◌∙◌, ap, subst}
-use Rattle.std.specs.List.{list_any}
+use Rattle.std.{proofs.Common.{◌≡◌, ℕ, true, false, List, ◌++◌, refl, sym, ◌∙◌, ap, subst}, specs.List.list_any}
 use Rattle.std.proofs.lemmas.Result.{err_from_is_err_and}
 use Rattle.http_header.specs.FieldValue.{FieldValue}
 use Rattle.headers_items.specs.Entries.{entries, line_entries}
 use Rattle.headers_syntax.proofs.OfLinesLemmas.{OfLinesSoFar-more, OfLines-stopped}
-use Rattle.headers_caching.specs.CacheControl.{Direct, directives, is_bad}
-use Rattle.headers_caching.proofs.LineLemmas.{line_more, directs_nothing}
+use Rattle.headers_caching.{specs.CacheControl.{Direct, directives, is_bad}, proofs.LineLemmas.line_more}
+use Rattle.headers_caching.proofs.LineLemmas.{directs_nothing}
 use Rattle.headers_caching.proofs.cache_control.CacheControlHeader.decode.Goals as goal
 
 pub loop-line-preserved : goal.loop-line-preserved

@@ -1,5 +1,4 @@
-use Rattle.headers_items.proofs.AnswerLemmas.{survives_commas}
-use Rattle.headers_items.specs.ItemsState.{ItemsState, items_left}
+use Rattle.headers_items.{proofs.AnswerLemmas.survives_commas, specs.ItemsState.{ItemsState, items_left}}
 use Rattle.std.proofs.Common.{◌≡◌}
 use Rattle.headers_caching.proofs.vary.Vary.iter_strs.Goals as goal
 

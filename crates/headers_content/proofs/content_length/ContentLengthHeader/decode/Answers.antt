@@ -1,6 +1,5 @@
 use Rattle.std.proofs.Common.{◌≡◌, None, Some, sym, ◌∙◌}
-use Rattle.headers_syntax.specs.Number.{number}
-use Rattle.headers_syntax.proofs.OfLinesLemmas.{OfLines-stopped, OfLinesSoFar-more}
+use Rattle.headers_syntax.{specs.Number.number, proofs.OfLinesLemmas.{OfLines-stopped, OfLinesSoFar-more}}
 use Rattle.headers_content.proofs.ContentLengthLemmas.{NumberSoFar, no_number, other_number, first_number, same_number}
 use Rattle.headers_content.proofs.content_length.ContentLengthHeader.decode.Goals as goal
 use Rattle.headers_content.proofs.content_length.ContentLengthHeader.decode.Goals.{in-None}

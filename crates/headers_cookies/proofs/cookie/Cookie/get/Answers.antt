@@ -1,9 +1,6 @@
 use Rattle.std.proofs.Common.{◌≡◌, ℕ, List, Option}
-use Rattle.headers_items.proofs.AnswerLemmas.{survives_semicolons}
-use Rattle.headers_items.specs.Answers.{SurvivesCuts}
-use Rattle.headers_items.specs.Merge.{merge}
-use Rattle.headers_items.specs.Pairs.{pairs, first_value}
-use Rattle.headers_items.specs.Places.{semicolon, items}
+use Rattle.headers_items.{proofs.AnswerLemmas.survives_semicolons, specs.Answers.SurvivesCuts, specs.Merge.merge}
+use Rattle.headers_items.{specs.Pairs.{pairs, first_value}, specs.Places.{semicolon, items}}
 use Rattle.headers_cookies.proofs.cookie.Cookie.get.Goals as goal
 
 value_survives : (name : List ℕ) → SurvivesCuts semicolon

@@ -1,6 +1,5 @@
-use Rattle.headers_items.proofs.AnswerLemmas.{survives_semicolons}
-use Rattle.headers_items.specs.ItemsState.{ItemsState}
-use Rattle.headers_items.specs.Pairs.{pairs, pairs_left}
+use Rattle.headers_items.{proofs.AnswerLemmas.survives_semicolons, specs.ItemsState.ItemsState, specs.Pairs.pairs}
+use Rattle.headers_items.specs.Pairs.{pairs_left}
 use Rattle.std.proofs.Common.{◌≡◌}
 use Rattle.headers_cookies.proofs.cookie.Cookie.iter.Goals as goal
 

@@ -1,6 +1,5 @@
 use Rattle.std.proofs.Common.{◌≡◌, arith, inl, length}
-use Rattle.headers_items.proofs.AnswerLemmas.{survives_semicolons}
-use Rattle.headers_items.specs.Pairs.{pairs}
+use Rattle.headers_items.{proofs.AnswerLemmas.survives_semicolons, specs.Pairs.pairs}
 use Rattle.headers_cookies.proofs.cookie.Cookie.len.Goals as goal
 
 pub count-requires-clause-fits : goal.count-requires-clause-fits

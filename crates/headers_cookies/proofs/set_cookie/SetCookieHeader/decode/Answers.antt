@@ -1,9 +1,8 @@
-use Rattle.std.proofs.Common.{◌≡◌, List, [], ◌∷◌, ◌++◌, ◌∙◌, ap}
-use Rattle.std.proofs.lemmas.Result.{err_from_is_err_and}
+use Rattle.std.{proofs.Common.{◌≡◌, List, [], ◌∷◌, ◌++◌, ◌∙◌, ap}, proofs.lemmas.Result.err_from_is_err_and}
 use Rattle.http_header.specs.FieldValue.{FieldValue}
-use Rattle.headers_syntax.specs.Lines.{Line, lines_of}
+use Rattle.headers_syntax.{specs.Lines.{Line, lines_of}, proofs.OfLinesLemmas.{OfLines-stop, OfLines-stopped}}
+use Rattle.headers_syntax.proofs.OfLinesLemmas.{OfLinesSoFar-more}
 use Rattle.headers_items.proofs.CutAtLemmas.{lines_of_push}
-use Rattle.headers_syntax.proofs.OfLinesLemmas.{OfLines-stop, OfLines-stopped, OfLinesSoFar-more}
 use Rattle.headers_cookies.proofs.set_cookie.SetCookieHeader.decode.Goals as goal
 
 pub returns-in_err-lines-clause-value : goal.returns-in_err-lines-clause-value

@@ -1,6 +1,5 @@
 use Rattle.std.proofs.Common.{◌≡◌}
-use Rattle.headers_syntax.specs.Lines.{lines_of}
-use Rattle.headers_syntax.proofs.OfLinesLemmas.{OfLinesSoFar}
+use Rattle.headers_syntax.{specs.Lines.lines_of, proofs.OfLinesLemmas.OfLinesSoFar}
 use Rattle.headers_cookies.proofs.set_cookie.SetCookieHeader.decode.Given as goal
 
 abbrev pub invariant-loop-line : goal.invariant-loop-line

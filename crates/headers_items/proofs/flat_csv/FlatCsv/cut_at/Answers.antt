@@ -1,9 +1,7 @@
 use Rattle.std.proofs.Common.{◌∙◌, ap, refl, arith, get_or}
-use Rattle.headers_items.specs.Places.{items, pieces}
-use Rattle.headers_syntax.specs.Lines.{lines_of}
-use Rattle.headers_items.specs.Merge.{merge}
-use Rattle.headers_items.proofs.CutLemmas.{items_cut_at}
+use Rattle.headers_items.{specs.Places.{items, pieces}, specs.Merge.merge, proofs.CutLemmas.items_cut_at}
 use Rattle.headers_items.proofs.CutAtLemmas.{lines_of_push, pieces_more, pieces_last, AreCuts-more}
+use Rattle.headers_syntax.specs.Lines.{lines_of}
 use Rattle.headers_items.proofs.flat_csv.FlatCsv.cut_at.Goals as goal
 
 pub loop-place-preserved : goal.loop-place-preserved

@@ -1,5 +1,4 @@
-use Rattle.std.proofs.Common.{◌∷◌, [], sym, ◌∙◌, ap}
-use Rattle.std.proofs.lemmas.Result.{IfOk-from_err}
+use Rattle.std.{proofs.Common.{◌∷◌, [], sym, ◌∙◌, ap}, proofs.lemmas.Result.IfOk-from_err}
 use Rattle.http_header.specs.FieldValue.{FieldValue}
 use Rattle.headers_items.proofs.CutLemmas.{IsMerged-from}
 use Rattle.headers_syntax.proofs.OfLinesLemmas.{OfLines-none, OfLines-some, OfLines-weaker}

@@ -1,5 +1,4 @@
-use Rattle.std.proofs.Common.{arith}
-use Rattle.std.proofs.lemmas.Grind.{common_steps}
+use Rattle.std.{proofs.Common.arith, proofs.lemmas.Grind.common_steps}
 use Rattle.headers_items.proofs.MergeLemmas.{MergesLines-mapped}
 use Rattle.headers_items.proofs.flat_csv.FlatCsv.from_names.Goals as goal
 

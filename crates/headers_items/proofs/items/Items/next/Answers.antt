@@ -1,13 +1,8 @@
-use Rattle.std.proofs.Common.{◌≡◌, ◌+◌, length, sym, ◌∙◌, ap}
-use Rattle.std.specs.List.{slice_range}
-use Rattle.headers_syntax.specs.Text.{trim, is_text}
-use Rattle.headers_items.specs.ItemsState.{ItemsState}
-use Rattle.std.proofs.Common.{Some, arith}
+use Rattle.std.{proofs.Common.{◌≡◌, ◌+◌, length, sym, ◌∙◌, ap, Some, arith}, specs.List.slice_range}
 use Rattle.std.proofs.lemmas.Grind.{common_steps}
-use Rattle.headers_items.specs.ItemsState.{ScansPiece}
-use Rattle.headers_syntax.proofs.TextLemmas.{is_text-slice}
-use Rattle.headers_items.proofs.WalkLemmas.{state_bound, walk_bound, walk_more, walk_last, IsNextCut-same, NoCut-same}
-use Rattle.headers_items.proofs.WalkLemmas.{le_same, piece_trimmed}
+use Rattle.headers_syntax.{specs.Text.{trim, is_text}, proofs.TextLemmas.is_text-slice}
+use Rattle.headers_items.{specs.ItemsState.{ItemsState, ScansPiece}, proofs.WalkLemmas.{state_bound, walk_bound}}
+use Rattle.headers_items.proofs.WalkLemmas.{walk_more, walk_last, IsNextCut-same, NoCut-same, le_same, piece_trimmed}
 use Rattle.headers_items.proofs.items.Items.next.Goals.{in-Some, in-None}
 use Rattle.headers_items.proofs.items.Items.next.Goals as goal
 

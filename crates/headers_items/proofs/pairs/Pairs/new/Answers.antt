@@ -1,7 +1,5 @@
 use Rattle.std.proofs.Common.{arith}
-use Rattle.headers_items.specs.ItemsState.{items_left}
-use Rattle.headers_items.proofs.PairLemmas.{length-pairs}
-use Rattle.headers_items.proofs.WalkRuns.{walk_runs}
+use Rattle.headers_items.{specs.ItemsState.items_left, proofs.PairLemmas.length-pairs, proofs.WalkRuns.walk_runs}
 use Rattle.headers_items.proofs.pairs.Pairs.new.Goals as goal
 
 pub returns-clause-count : goal.returns-clause-count

@@ -1,8 +1,5 @@
-use Rattle.std.proofs.Common.{ℕ, ap}
-use Rattle.headers_items.proofs.PlacesLemmas.{hits_zero}
-use Rattle.headers_items.specs.ScanState.{ScanState}
-use Rattle.std.proofs.Common.{◌+◌, false, ◌≡◌, arith}
-use Rattle.headers_items.specs.Places.{hits}
+use Rattle.std.proofs.Common.{ℕ, ap, ◌+◌, false, ◌≡◌, arith}
+use Rattle.headers_items.{proofs.PlacesLemmas.hits_zero, specs.ScanState.ScanState, specs.Places.hits}
 use Rattle.headers_items.proofs.scan.Scan.new.Goals as goal
 
 pub returns : goal.returns

@@ -1,8 +1,5 @@
-use Rattle.std.proofs.Common.{not, sym, ◌∙◌, ap, arith, refl}
-use Rattle.std.proofs.lemmas.Bool.{false≢true}
-use Rattle.headers_items.specs.Places.{is_even}
-use Rattle.headers_items.specs.ScanState.{ScanState}
-use Rattle.headers_items.proofs.PlacesLemmas.{quotes_upto, hits_upto}
+use Rattle.std.{proofs.Common.{not, sym, ◌∙◌, ap, arith, refl}, proofs.lemmas.Bool.false≢true}
+use Rattle.headers_items.{specs.Places.is_even, specs.ScanState.ScanState, proofs.PlacesLemmas.{quotes_upto, hits_upto}}
 use Rattle.headers_items.proofs.MarkLemmas.{mark_hits, mark_turns, mark_keeps, search_more, search_last}
 use Rattle.headers_items.proofs.scan.Scan.next_mark.Goals as goal
 

@@ -1,7 +1,6 @@
 use Rattle.std.proofs.Common.{ap}
 use Rattle.headers_syntax.specs.Text.{is_text}
-use Rattle.headers_mime.specs.MimeText.{text_bytes}
-use Rattle.headers_mime.proofs.MimeLemmas.{kept-canonical, kept-text, some_of_text}
+use Rattle.headers_mime.{specs.MimeText.text_bytes, proofs.MimeLemmas.{kept-canonical, kept-text, some_of_text}}
 use Rattle.headers_mime.proofs.mime.Mime.as_str.Goals as goal
 
 pub unwrap-requires : goal.unwrap-requires

@@ -1,8 +1,7 @@
 use Rattle.std.proofs.Common.{vec_items, Global, List, ℕ, Err, ◌∙◌, subst}
-use Rattle.headers_mime.specs.MediaType.{IsMediaType}
-use Rattle.headers_mime.specs.MimeText.{ReadsMime}
-use Rattle.headers_mime.proofs.CanonicalLemmas.{canonical-from_canonical_of}
-use Rattle.headers_mime.proofs.MimeLemmas.{known-reads, reading-from_canonical_of, refused_reading}
+use Rattle.headers_mime.{specs.MediaType.IsMediaType, specs.MimeText.ReadsMime}
+use Rattle.headers_mime.{proofs.CanonicalLemmas.canonical-from_canonical_of, proofs.MimeLemmas.known-reads}
+use Rattle.headers_mime.proofs.MimeLemmas.{reading-from_canonical_of, refused_reading}
 use Rattle.headers_mime.proofs.mime.Mime.parse.Goals as goal
 
 pub from_canonical-requires : goal.from_canonical-requires

@@ -1,6 +1,5 @@
 use Rattle.std.proofs.Common.{ap}
-use Rattle.headers_mime.specs.MimeText.{text_bytes}
-use Rattle.headers_mime.proofs.MimeLemmas.{kept-text}
+use Rattle.headers_mime.{specs.MimeText.text_bytes, proofs.MimeLemmas.kept-text}
 use Rattle.headers_mime.proofs.mime.Mime.to_value.Goals as goal
 
 pub from_static-requires : goal.from_static-requires

@@ -1,5 +1,4 @@
-use Rattle.std.proofs.Common.{◌≡◌, ◌↔◌, List, All, Any, ap, ◌∙◌, subst, sym}
-use Rattle.std.specs.List.{filter_map}
+use Rattle.std.{proofs.Common.{◌≡◌, ◌↔◌, List, All, Any, ap, ◌∙◌, subst, sym}, specs.List.filter_map}
 use Rattle.headers_ranges.specs.ByteRanges.{ByteRange, gives, pieces, spec_of, specs, LiesIn, Covers, IsWithin}
 use Rattle.headers_ranges.proofs.RangeLemmas.{gives_covered, covered, within}
 use Rattle.headers_ranges.proofs.range.Range.satisfiable_ranges.Goals as goal

@@ -1,6 +1,5 @@
 use Rattle.std.proofs.Common.{None, ◌∙◌, ap}
-use Rattle.headers_ranges.specs.ByteRanges.{is_range_line}
-use Rattle.headers_ranges.specs.PrintedLaws.{printed_range, fits_none}
+use Rattle.headers_ranges.{specs.ByteRanges.is_range_line, specs.PrintedLaws.{printed_range, fits_none}}
 use Rattle.headers_ranges.proofs.range.Range.starting_at.Goals as goal
 
 pub from_text-requires : goal.from_text-requires

@@ -1,10 +1,7 @@
-use Rattle.std.proofs.Common.{◌≡◌, None, ◌∙◌, ap}
-use Rattle.std.specs.List.{last_or, filter_map}
+use Rattle.std.{proofs.Common.{◌≡◌, None, ◌∙◌, ap}, specs.List.{last_or, filter_map}}
 use Rattle.http_header.specs.FieldValue.{FieldValue}
-use Rattle.headers_syntax.proofs.OfLinesLemmas.{OfLinesSoFar-more}
-use Rattle.headers_syntax.specs.Parts.{parts}
+use Rattle.headers_syntax.{proofs.OfLinesLemmas.OfLinesSoFar-more, specs.Parts.parts, proofs.PartsLemmas.last_more}
 use Rattle.headers_security.specs.ReferrerPolicy.{policies, policy_named}
-use Rattle.headers_syntax.proofs.PartsLemmas.{last_more}
 use Rattle.headers_security.proofs.referrer_policy.ReferrerPolicyHeader.decode.Goals as goal
 
 pub loop-line-preserved : goal.loop-line-preserved

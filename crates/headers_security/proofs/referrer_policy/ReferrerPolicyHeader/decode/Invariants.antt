@@ -1,5 +1,4 @@
-use Rattle.std.proofs.Common.{◌≡◌, None}
-use Rattle.std.specs.List.{last_or}
+use Rattle.std.{proofs.Common.{◌≡◌, None}, specs.List.last_or}
 use Rattle.headers_syntax.proofs.OfLinesLemmas.{OfLinesSoFar}
 use Rattle.headers_security.specs.ReferrerPolicy.{policies}
 use Rattle.headers_security.proofs.referrer_policy.ReferrerPolicyHeader.decode.Given as goal

@@ -1,7 +1,6 @@
 use Rattle.std.proofs.Common.{ℕ, Some, refl, ◌∙◌, sym, ap}
 use Rattle.httpdate.specs.Date.{parse_secs}
-use Rattle.headers_syntax.specs.Text.{trim}
-use Rattle.headers_syntax.proofs.DateLemmas.{date-text, date-no_text}
+use Rattle.headers_syntax.{specs.Text.trim, proofs.DateLemmas.{date-text, date-no_text}}
 use Rattle.headers_syntax.proofs.date.Date1.from_val.Goals as goal
 
 pub returns-in_default : goal.returns-in_default

@@ -1,9 +1,7 @@
 use Rattle.std.proofs.Common.{◌≡◌, ℕ, Some, sym, ◌∙◌, ap, subst}
-use Rattle.http_header.specs.FieldValue.{plain_value, IsFieldValue}
-use Rattle.http_header.proofs.TokenLemmas.{IsFieldValue-from_visible}
+use Rattle.http_header.{specs.FieldValue.{plain_value, IsFieldValue}, proofs.TokenLemmas.IsFieldValue-from_visible}
 use Rattle.httpdate.specs.Valid.{IsValid}
-use Rattle.headers_syntax.specs.Date.{date, fixdate}
-use Rattle.headers_syntax.proofs.DateLemmas.{fixdate-is, fixdate_visible, date-fixdate}
+use Rattle.headers_syntax.{specs.Date.{date, fixdate}, proofs.DateLemmas.{fixdate-is, fixdate_visible, date-fixdate}}
 use Rattle.headers_syntax.proofs.date.Date1.to_value.Goals as goal
 
 pub from_known_valid-requires : goal.from_known_valid-requires

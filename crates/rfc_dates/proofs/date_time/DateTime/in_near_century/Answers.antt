@@ -1,6 +1,5 @@
 use Rattle.std.proofs.Common.{◌≡◌, ◌+◌, ◌-◌, sym, ap, ◌∙◌, arith}
-use Rattle.rfc_dates.specs.Reader.{in_near_century}
-use Rattle.rfc_dates.proofs.YearLemmas.{near_here, near_later, near_none}
+use Rattle.rfc_dates.{specs.Reader.in_near_century, proofs.YearLemmas.{near_here, near_later, near_none}}
 use Rattle.rfc_dates.proofs.date_time.DateTime.in_near_century.Goals as goal
 
 pub returns-then-is_near-clause-value : goal.returns-then-is_near-clause-value

@@ -1,7 +1,5 @@
-use Rattle.std.proofs.Common.{Option, ℕ, ap, sym, subst, ◌∙◌}
-use Rattle.std.specs.Iterator.{YieldsFirst}
-use Rattle.rfc_fields.specs.Values.{octets_left}
-use Rattle.rfc_fields.proofs.ValueLemmas.{octets_some, octets_empty}
+use Rattle.std.{proofs.Common.{Option, ℕ, ap, sym, subst, ◌∙◌}, specs.Iterator.YieldsFirst}
+use Rattle.rfc_fields.{specs.Values.octets_left, proofs.ValueLemmas.{octets_some, octets_empty}}
 use Rattle.rfc_fields.proofs.values.Octets.next.Goals as goal
 
 pub returns : goal.returns

@@ -1,6 +1,5 @@
 use Rattle.std.proofs.Common.{sym, ◌∙◌, subst, false}
-use Rattle.server_connection.specs.Connection.{IsClosing}
-use Rattle.server_connection.proofs.TurnLemmas.{done_or_cut, empty, exchanged, is_cut}
+use Rattle.server_connection.{specs.Connection.IsClosing, proofs.TurnLemmas.{done_or_cut, empty, exchanged, is_cut}}
 use Rattle.server_connection.proofs.connection.Connection.is_done.Goals as goal
 
 pub returns-in-Closing : goal.returns-in-Closing

@@ -1,7 +1,6 @@
 use Rattle.std.proofs.Common.{refl}
-use Rattle.server_connection.specs.Connection.IsReached.{begun}
-use Rattle.server_connection.specs.Machine.{new_past}
-use Rattle.server_connection.proofs.TurnLemmas.{laid_first, waited}
+use Rattle.server_connection.{specs.Connection.IsReached.begun, specs.Machine.new_past, proofs.TurnLemmas.laid_first}
+use Rattle.server_connection.proofs.TurnLemmas.{waited}
 use Rattle.server_connection.proofs.connection.Connection.new.Goals as goal
 
 pub returns-clause-begins : goal.returns-clause-begins

@@ -1,7 +1,6 @@
 use Rattle.std.proofs.Common.{subst}
-use Rattle.server_connection.specs.Connection.{IsSaid}
-use Rattle.server_connection.specs.Machine.{with_calls}
-use Rattle.server_connection.proofs.TurnLemmas.{leads_then, moves_steps, reached, step_none}
+use Rattle.server_connection.{specs.Connection.IsSaid, specs.Machine.with_calls, proofs.TurnLemmas.leads_then}
+use Rattle.server_connection.proofs.TurnLemmas.{moves_steps, reached, step_none}
 use Rattle.server_connection.proofs.connection.Connection.next.Goals as goal
 
 pub loop-init : goal.loop-init

@@ -1,8 +1,6 @@
 use Rattle.std.proofs.Common.{◌≡◌, ◌∷◌, refl, sym, ap, ◌∙◌, subst, inl, inr}
-use Rattle.server_connection.specs.declared.piece.Extent.{Extent}
-use Rattle.server_connection.specs.declared.piece.Piece.TheVariants.{Range}
-use Rattle.server_connection.proofs.PieceLemmas.{sends_range_at}
-use Rattle.server_connection.proofs.PopLemmas.{cuts_on, puts_on}
+use Rattle.server_connection.{specs.declared.piece.Extent.Extent, specs.declared.piece.Piece.TheVariants.Range}
+use Rattle.server_connection.{proofs.PieceLemmas.sends_range_at, proofs.PopLemmas.{cuts_on, puts_on}}
 use Rattle.server_connection.proofs.TurnLemmas.{if_some}
 use Rattle.server_connection.proofs.machine.Machine.fill.Goals as goal
 

@@ -1,6 +1,5 @@
 use Rattle.std.proofs.Common.{◌≡◌, ℕ, ◌==◌, List, [], length, take, sym, ap, ◌∙◌, subst, arith}
-use Rattle.server_connection.specs.Machine.{Moves}
-use Rattle.server_connection.proofs.TurnLemmas.{empty, moves_out, offers_bytes}
+use Rattle.server_connection.{specs.Machine.Moves, proofs.TurnLemmas.{empty, moves_out, offers_bytes}}
 use Rattle.server_connection.proofs.machine.Machine.hand_out.Goals as goal
 
 pub returns-then-is_empty : goal.returns-then-is_empty

@@ -1,10 +1,8 @@
 use Rattle.std.proofs.Common.{refl, sym, subst, ap, ◌∙◌, inl, inr}
-use Rattle.http_server.specs.Machine.{HasRequest, Holds, IsStarved}
-use Rattle.http_server.proofs.MachineLemmas.{with_server, after_event, left_starved, unreadable}
-use Rattle.server_connection.specs.declared.machine.Machine.{Machine}
-use Rattle.server_connection.specs.Machine.{Past, core}
-use Rattle.server_connection.proofs.TurnLemmas.{has_no_head, opens_at, refused_on, step_asks, step_by}
-use Rattle.server_connection.proofs.TurnLemmas.{step_opens}
+use Rattle.http_server.{specs.Machine.{HasRequest, Holds, IsStarved}, proofs.MachineLemmas.{with_server, after_event}}
+use Rattle.http_server.proofs.MachineLemmas.{left_starved, unreadable}
+use Rattle.server_connection.{specs.declared.machine.Machine.Machine, specs.Machine.{Past, core}}
+use Rattle.server_connection.proofs.TurnLemmas.{has_no_head, opens_at, refused_on, step_asks, step_by, step_opens}
 use Rattle.server_connection.proofs.machine.Machine.read.Goals as goal
 
 pub returns-then-missing-gt0-clause-stays : goal.returns-then-missing-gt0-clause-stays

@@ -1,9 +1,7 @@
 use Rattle.std.proofs.Common.{◌≡◌, ◌≤◌, ◌++◌, length, refl, ap, arith, length-append, inr}
-use Rattle.server_connection.specs.Machine.{core}
-use Rattle.httparse.specs.Spans.{span_bytes}
-use Rattle.httparse.proofs.RunLemmas.{length-slice_range}
+use Rattle.server_connection.{specs.Machine.core, proofs.TurnLemmas.refused_on}
+use Rattle.httparse.{specs.Spans.span_bytes, proofs.RunLemmas.length-slice_range}
 use Rattle.http_server.proofs.MachineLemmas.{holds, running_at, moved, busy, long_by_data}
-use Rattle.server_connection.proofs.TurnLemmas.{refused_on}
 use Rattle.server_connection.proofs.machine.Machine.take.Goals as goal
 
 pub returns-then-piece-saturating_sub-clause-puts : goal.returns-then-piece-saturating_sub-clause-puts

@@ -1,7 +1,5 @@
-use Rattle.std.proofs.Common.{ℕ, List, ◌++◌, length, refl, sym, ap, ◌∙◌, subst, arith}
-use Rattle.http_server.specs.Exchange.{ExpectsContinue}
-use Rattle.http_server.proofs.StreamLemmas.{all_called, same_rest}
-use Rattle.std.proofs.lemmas.Bool.{cond-true}
+use Rattle.std.{proofs.Common.{ℕ, List, ◌++◌, length, refl, sym, ap, ◌∙◌, subst, arith}, proofs.lemmas.Bool.cond-true}
+use Rattle.http_server.{specs.Exchange.ExpectsContinue, proofs.StreamLemmas.{all_called, same_rest}}
 use Rattle.http_server.proofs.MachineLemmas.{holds, truncated}
 use Rattle.server_connection.proofs.machine.Machine.wait.Goals.{else-not-self-2-via-then-not-self-2+else-is_empty}
 use Rattle.server_connection.proofs.machine.Machine.wait.Goals.{else-not-self-2-via-else-not-self-2}

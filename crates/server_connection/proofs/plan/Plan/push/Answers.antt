@@ -1,6 +1,5 @@
 use Rattle.std.proofs.Common.{◌+◌, sym, ap, ◌∙◌}
-use Rattle.server_connection.specs.Pieces.{total_len}
-use Rattle.server_connection.proofs.PieceLemmas.{total_len-push}
+use Rattle.server_connection.{specs.Pieces.total_len, proofs.PieceLemmas.total_len-push}
 use Rattle.server_connection.proofs.plan.Plan.push.Goals as goal
 
 pub invariant_of-self-2 : goal.invariant_of-self-2

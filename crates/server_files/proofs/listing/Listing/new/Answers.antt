@@ -1,8 +1,6 @@
-use Rattle.std.proofs.Common.{◌≡◌, List, ℕ, ap, map, subst, sym, true, ◌∙◌}
-use Rattle.std.proofs.lemmas.List.Sorted.{All-permutation}
+use Rattle.std.{proofs.Common.{◌≡◌, List, ℕ, ap, map, subst, sym, true, ◌∙◌}, proofs.lemmas.List.Sorted.All-permutation}
 use Rattle.std.specs.Prelude.{All, string_bytes}
-use Rattle.server_files.specs.Listings.{is_listable, listing_page}
-use Rattle.server_files.proofs.ListingLemmas.{all_listable}
+use Rattle.server_files.{specs.Listings.{is_listable, listing_page}, proofs.ListingLemmas.all_listable}
 use Rattle.server_files.proofs.listing.Listing.new.Goals as goal
 
 pub invariant_of-result-clause-is_sorted : goal.invariant_of-result-clause-is_sorted

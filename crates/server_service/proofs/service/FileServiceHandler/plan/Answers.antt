@@ -4,14 +4,10 @@ use Rattle.http_header.specs.FieldValue.{FieldValue}
 use Rattle.http1.specs.Fields.{Header}
 use Rattle.headers.specs.LineMap.{fields_of as encoded_fields}
 use Rattle.headers.specs.Lines.{Line}
-use Rattle.decide_resource.specs.Requests.{request_of}
-use Rattle.decide_resource.specs.declared.resource.Resource.{Resource}
-use Rattle.server_service.specs.Answer.{Carries, Decides, IsAnswerAt, IsDescribed, clock, closing_fields}
-use Rattle.server_service.specs.Answer.{first_fields, sniff_field, source_sent, status_for}
-use Rattle.server_service.specs.Asked.{IsAsked}
-use Rattle.server_service.specs.Response.{fields_of}
-use Rattle.server_service.specs.declared.file.File.{File}
-use Rattle.server_service.specs.declared.settings.Site.{Site}
+use Rattle.decide_resource.{specs.Requests.request_of, specs.declared.resource.Resource.Resource}
+use Rattle.server_service.specs.Answer.{Carries, Decides, IsAnswerAt, IsDescribed, clock, closing_fields, first_fields}
+use Rattle.server_service.{specs.Answer.{sniff_field, source_sent, status_for}, specs.Asked.IsAsked}
+use Rattle.server_service.{specs.Response.fields_of, specs.declared.file.File.File, specs.declared.settings.Site.Site}
 use Rattle.server_service.proofs.AnswerLemmas.{Carries-at, bytes_copied}
 use Rattle.server_service.proofs.service.FileServiceHandler.plan.Goals as goal
 

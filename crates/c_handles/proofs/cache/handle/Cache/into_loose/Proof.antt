@@ -18,8 +18,7 @@ use denote.Steps.{nothing}
 use denote.Triple.Entry.{alive}
 use denote.Triple.Walked.{Stays, stay_dropped, walk_of}
 use Rattle.core.proofs.alloc.Calls.{Goes-blank}
-use Rattle.std.proofs.raw_atomic.Walks.{proved_at, leaves}
-use Rattle.std.specs.Prelude.{is_some}
+use Rattle.std.{proofs.raw_atomic.Walks.{proved_at, leaves}, specs.Prelude.is_some}
 use Rattle.std_alloc.proofs.Pairs.{pair_of, pair_val, pair_Typed}
 use denote.Struct.Tuple.{Tuple}
 use Rattle.c_boxes.proofs.HandleValues.{flagged_val, flagged_told, flagged_typed, lone_val, lone_own}
