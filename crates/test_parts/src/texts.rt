@@ -74,7 +74,7 @@ fn text(arguments: &mut Arguments<'_>) -> Result<HeaderValueString, Failure> {
     Ok(HeaderValueString::from_str(arguments.alloc(), text.as_str())?)
 }
 
-// How a refusal is printed: of invalid input, or for want of memory.
+// How a refusal is printed: of invalid input, or if an allocation fails.
 fn refusal(arguments: &mut Arguments<'_>, answer: &mut Answer) -> Result<(), Failure> {
     let refused: Refused<Error> = match arguments.word() {
         Ok("memory") => Refused::Memory(AllocError),
