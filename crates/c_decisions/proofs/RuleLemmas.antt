@@ -82,12 +82,3 @@ module _ {V : Type 0} (reads : Line → V → Type 0) where
     Allows-fails Memory some = subst HasLine (sym same) some
     Allows-fails Absent none = none
     Allows-fails TooLarge none = none
-
--- what reading a method says of the line
-pub reads_method-found : (line : Line) (result : Result (List ℕ) Failure) → IsMethodOf line result
-    → FindsOfLine (reads_method line) result
-reads_method-found line (Ok method) is = is
-reads_method-found line (Err Refused) none = λ method read. none read.0
-reads_method-found line (Err Memory) is = tt
-reads_method-found line (Err Absent) is = is
-reads_method-found line (Err TooLarge) is = is

@@ -4,8 +4,3 @@ use Rattle.http_header.{specs.FieldValue.FieldValue, specs.HeaderMap.Entries}
 use Rattle.headers.specs.LineMap.{lines_at}
 use Rattle.cache_policy.specs.Validating.{validation_fields}
 use Rattle.c_decisions.specs.FieldLines.{fields_text}
-
--- a response without a field has no validator
-pub validates_nothing : (received : ℕ) (map : Entries FieldValue) → map ≡ []
-    → fields_text (validation_fields received (lines_at map)) ≡ []
-validates_nothing received map none = rw none refl

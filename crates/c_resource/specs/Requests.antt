@@ -1,8 +1,7 @@
 -- A request, by what a caller hands in.
-use Rattle.std.specs.Prelude.{◌≡◌, ℕ, ◌==◌, Bool, ◌||◌, ◌&&◌, not, nat_le, List, Option, Some, None, Result, Ok, Err}
-use Rattle.std.{specs.Prelude.{bytes_eq, codes, drop, if◌then◌else◌, length, take}, specs.List.prefix_len}
-use Rattle.http_header.{specs.FieldValue.FieldValue, specs.Token.lowercase}
-use Rattle.gateway_messages.specs.declared.protocol.Protocol.{Protocol}
+use Rattle.std.specs.Prelude.{◌≡◌, ℕ, ◌==◌, ◌||◌, List, Option, Some, None, Result, Ok, Err, drop, if◌then◌else◌, take}
+use Rattle.http_header.specs.FieldValue.{FieldValue}
+use Rattle.gateway_messages.{specs.Targets.{authority_len, scheme_len}, specs.declared.protocol.Protocol.Protocol}
 use Rattle.gateway_messages.specs.declared.protocol.Protocol.TheVariants.{Http10, Http11}
 use Rattle.decide_resource.specs.declared.request.RequestContent.{RequestContent}
 use Rattle.decide_resource.specs.declared.request.RequestContent.TheVariants.{Absent, Sized, Unsized}
@@ -29,23 +28,9 @@ content_of parts =
 
 -- ---- the authority of a target (RFC 9112, section 3.2.2)
 
--- the target begins with the mark of this length, in any case
-abbrev pub begins_with : ℕ → List ℕ → List ℕ → Bool
-begins_with len mark target = nat_le len (length target) && bytes_eq (lowercase (take len target)) mark
-
--- how many bytes are the scheme of an absolute-form, and the mark behind it
-abbrev pub scheme_len : List ℕ → ℕ
-scheme_len target =
-    if begins_with 7 (codes "http://") target then 7
-    else (if begins_with 8 (codes "https://") target then 8 else 0)
-
--- the byte belongs to the authority: a slash, a question mark or a number sign ends it
-abbrev pub is_authority_byte : ℕ → Bool
-is_authority_byte byte = not ((byte == 47) || ((byte == 63) || (byte == 35)))
-
 -- the bytes from the front that belong to it
 abbrev pub front_authority : List ℕ → List ℕ
-front_authority text = take (prefix_len is_authority_byte text) text
+front_authority text = take (authority_len text) text
 
 -- the authority of a target in absolute-form; any other target has none
 abbrev pub authority_of : List ℕ → Option (List ℕ)

@@ -1,12 +1,11 @@
 //! A request, as C hands it in.
-ghost use Rattle.std.{specs.Prelude.{◌≡◌, ◌≤◌, codes, length, option_map}, specs.List.prefix_len};
-ghost use Rattle.c_resource.specs.Requests.{IsAuthorityAnswer, IsProtocolAnswer, authority_of, begins_with, content_of};
-ghost use Rattle.c_resource.specs.Requests.{is_authority_byte, scheme_len};
+ghost use Rattle.std.specs.Prelude.{◌≡◌, option_map};
+ghost use Rattle.c_resource.specs.Requests.{IsAuthorityAnswer, IsProtocolAnswer, authority_of, content_of};
 
 use crate::values::read_filled;
 use c_parts::Failure;
 use decide_resource::RequestContent;
-use gateway_messages::Protocol;
+use gateway_messages::{Protocol, authority_len, scheme_len};
 use headers::HeaderValue;
 use std::alloc::Global;
 
@@ -48,41 +47,6 @@ pub fn content_of(parts: &RequestParts) -> RequestContent
     } else {
         RequestContent::Unsized
     }
-}
-
-fn is_http(target: &[u8]) -> bool
-    ensures { result ≡ begins_with 7 (codes "http://") target.now }
-{
-    target.len() >= 7 && target[..7].eq_ignore_ascii_case(b"http://")
-}
-
-fn is_https(target: &[u8]) -> bool
-    ensures { result ≡ begins_with 8 (codes "https://") target.now }
-{
-    target.len() >= 8 && target[..8].eq_ignore_ascii_case(b"https://")
-}
-
-// How many bytes of the target are the scheme and the mark behind it.
-fn scheme_len(target: &[u8]) -> usize
-    ensures value { result ≡ scheme_len target.now }
-    ensures within { result ≤ length target.now }
-{
-    if is_http(target) {
-        7
-    } else if is_https(target) {
-        8
-    } else {
-        0
-    }
-}
-
-fn authority_len(text: &[u8]) -> usize
-    ensures value { result ≡ prefix_len is_authority_byte text.now }
-    ensures within { result ≤ length text.now }
-{
-    text.iter()
-        .take_while(|byte| !matches!(**byte, b'/' | b'?' | b'#'))
-        .count()
 }
 
 // The authority of a target in absolute-form.

@@ -10,6 +10,7 @@ use Rattle.rfc_fields.specs.Scan.{push}
 use Rattle.gateway_messages.specs.declared.protocol.Protocol.{Protocol}
 use Rattle.decide_cors.{specs.Cache.{Serves, nominates}, specs.Fields.{covers_origin, grant_fields, granted, vary_sent}}
 use Rattle.decide_cors.{specs.Kinds.is_preflight, specs.Policy.Policy, proofs.SameLemmas.{never_pre, same_by}}
+use Rattle.decide_cors.proofs.VaryLemmas.{nominates-behind, origin_tells}
 use Rattle.decide_resource.specs.Answers.{AreSame, GivesIf, IsAnswer, IsShared, at_place, content_of, is_admitted}
 use Rattle.decide_resource.{specs.Answers.{response_fields, target_of, varying}, specs.Applies.{applies, is_current}}
 use Rattle.decide_resource.specs.Applies.{is_present, is_read, is_unacceptable, rule_for, is_unsupported_part}
@@ -35,28 +36,12 @@ use Rattle.decide_preconditions.{specs.Responses.IsAnswered, specs.declared.resp
 
 -- ---- what Vary names
 
-or_true : (b : Bool) → (b || true) ≡ true
-or_true true = refl
-or_true false = refl
-
--- what some lines nominate, all do
-behind : (lines others : List Line) (name : Line) → nominates others name ≡ true
-    → nominates (lines ++ others) name ≡ true
-behind lines others name e =
-    rw (flat_map-append (members true) lines others)
-    (list_any-append (is_same_token name) (field_members true lines) (field_members true others)
-    ∙ ap (λ (b : Bool). nominates lines name || b) e ∙ or_true (nominates lines name))
-
 before_others : (lines others : List Line) (name : Line) → nominates lines name ≡ true
     → nominates (lines ++ others) name ≡ true
 before_others lines others name e =
     rw (flat_map-append (members true) lines others)
     (list_any-append (is_same_token name) (field_members true lines) (field_members true others)
     ∙ ap (λ (b : Bool). b || nominates others name) e)
-
-origin_named : nominates (codes "origin" ∷ []) (codes "origin") ≡ true
-unfolding pieces push
-origin_named = refl
 
 abbrev of_flags : Bool → Bool → Bool → List Line
 of_flags a b c =
@@ -217,7 +202,7 @@ module _ (present : ℕ) (resource : Resource) (request : Request) (answer : Ans
             (λ (o : Option (List Line)). if is_some o then ls ++ codes "origin" ∷ [] else first (codes "vary")) e in
             let names : nominates final (codes "origin") ≡ true =
             subst (λ (lines : List Line). nominates lines (codes "origin") ≡ true) (sym f)
-            (behind ls (codes "origin" ∷ []) (codes "origin") origin_named) in
+            (nominates-behind ls (codes "origin" ∷ []) (codes "origin") origin_tells) in
             ap (granted policy) (v.same (codes "origin") names)
 
 -- ---- what depends on the other fields alone

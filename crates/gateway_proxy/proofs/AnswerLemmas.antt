@@ -76,17 +76,6 @@ as_client P now client same reading writing connect known =
     (ap (λ (x : Client). awaits_head x.writing) same ∙ writing)
     (ap (λ (x : Client). is_connect x.method) same ∙ connect))
 
--- a response that the client doesn't know is interim
-pub unknown_is_interim : (client : Protocol) (status : ℕ) → is_known_to client status ≡ false
-    → nat_lt status 200 ≡ true
-unknown_is_interim Http10 status unknown = by_bits (nat_le 100 status) (nat_lt status 200) unknown
-  where
-    by_bits : (a b : Bool) → not (a && b) ≡ false → b ≡ true
-    by_bits true true is = refl
-    by_bits true false is = absurd (cc)
-    by_bits false b is = absurd (cc)
-unknown_is_interim Http11 status unknown = absurd (cc)
-
 -- ---- what is forwarded
 
 -- a response of these versions, as `gateway_messages` sees it

@@ -106,12 +106,6 @@ module _ (client new : Client) (request : Request) (outgoing : Outgoing) (old he
       (fields_of outgoing.fields.items)) refl w.0 w.1 next
   begun_request (Err e) w next = tt
 
--- a write that fails
-pub writes_fails : {T : Type 0} (refusal : Option WriteError) (text : List ℕ) (old held : Option (List ℕ))
-    (r : Result T Failure) → Writes refusal text old held r → IfErr r (FailsToWrite refusal text old held)
-writes_fails refusal text old held (Ok v) w = tt
-writes_fails refusal text old held (Err failure) w = w
-
 -- ---- the gateway's own responses
 
 all_true : (above below value : Bool) → above ≡ true → below ≡ true → value ≡ true

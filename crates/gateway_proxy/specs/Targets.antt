@@ -1,8 +1,7 @@
 -- The target of a request (RFC 9112, section 3.2).
 use Rattle.std.specs.Prelude.{ℕ, ◌==◌, Bool, false, ◌||◌, ◌&&◌, not, nat_le, List, [], ◌∷◌, Option, Some, None}
-use Rattle.std.specs.Prelude.{bytes_eq, codes, drop, if◌then◌else◌, length, option_map, take}
-use Rattle.std.specs.List.{list_all, prefix_len}
-use Rattle.http_header.specs.Token.{lowercase}
+use Rattle.std.{specs.Prelude.{bytes_eq, codes, drop, if◌then◌else◌, length, option_map, take}, specs.List.list_all}
+use Rattle.gateway_messages.specs.Targets.{authority_len, scheme_len}
 use Rattle.gateway_proxy.specs.declared.target.Target.{Target}
 
 -- the authority of a target in absolute-form, and what follows it
@@ -20,23 +19,6 @@ target_parts target = option_map parts_of target
 -- section 4.3)
 abbrev pub is_target_byte : ℕ → Bool
 is_target_byte byte = nat_le 33 byte && (nat_le byte 126 && not (byte == 35))
-
--- the target begins with the mark of this length, in any case
-abbrev pub begins_with : ℕ → List ℕ → List ℕ → Bool
-begins_with len mark target = nat_le len (length target) && bytes_eq (lowercase (take len target)) mark
-
--- how many bytes are the scheme of an absolute-form, and the mark behind it
-abbrev pub scheme_len : List ℕ → ℕ
-scheme_len target =
-    if begins_with 7 (codes "http://") target then 7
-    else (if begins_with 8 (codes "https://") target then 8 else 0)
-
--- the byte belongs to the authority: a slash or a question mark ends it
-abbrev pub is_authority_byte : ℕ → Bool
-is_authority_byte byte = not ((byte == 47) || (byte == 63))
-
-abbrev pub authority_len : List ℕ → ℕ
-authority_len text = prefix_len is_authority_byte text
 
 abbrev pub absolute_parts : List ℕ → Parts
 absolute_parts text =

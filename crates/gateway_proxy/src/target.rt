@@ -1,9 +1,9 @@
 //! The target of a request (RFC 9112, section 3.2).
-ghost use Rattle.std.{specs.Prelude.{◌≡◌, ◌≤◌, IfOk, codes, length}, specs.List.list_all};
-ghost use Rattle.gateway_proxy.specs.Targets.{authority_len, begins_with, is_target_byte, origin_form, scheme_len};
-ghost use Rattle.gateway_proxy.specs.Targets.{target_of, target_parts};
+ghost use Rattle.std.{specs.Prelude.{◌≡◌, IfOk}, specs.List.list_all};
+ghost use Rattle.gateway_proxy.specs.Targets.{is_target_byte, origin_form, target_of, target_parts};
 
 use bytes::{Bytes, BytesMut};
+use gateway_messages::{authority_len, scheme_len};
 use std::alloc::{AllocError, Global};
 
 /// The parts of a target.
@@ -25,41 +25,6 @@ fn are_target_bytes(target: &[u8]) -> bool
     ensures { result ≡ list_all is_target_byte target.now }
 {
     target.iter().all(|byte| is_target_byte(*byte))
-}
-
-fn is_http(target: &[u8]) -> bool
-    ensures { result ≡ begins_with 7 (codes "http://") target.now }
-{
-    target.len() >= 7 && target[..7].eq_ignore_ascii_case(b"http://")
-}
-
-fn is_https(target: &[u8]) -> bool
-    ensures { result ≡ begins_with 8 (codes "https://") target.now }
-{
-    target.len() >= 8 && target[..8].eq_ignore_ascii_case(b"https://")
-}
-
-// How many bytes of the target are the scheme and the mark behind it.
-fn scheme_len(target: &[u8]) -> usize
-    ensures value { result ≡ scheme_len target.now }
-    ensures within { result ≤ length target.now }
-{
-    if is_http(target) {
-        7
-    } else if is_https(target) {
-        8
-    } else {
-        0
-    }
-}
-
-fn authority_len(text: &[u8]) -> usize
-    ensures value { result ≡ authority_len text.now }
-    ensures within { result ≤ length text.now }
-{
-    text.iter()
-        .take_while(|byte| !matches!(**byte, b'/' | b'?'))
-        .count()
 }
 
 /// The parts of a target in origin-form, absolute-form or asterisk-form. `None` if it is in no such form,

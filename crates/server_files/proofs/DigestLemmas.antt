@@ -7,7 +7,7 @@ use Rattle.std.{specs.List.{AllPass, list_all}, specs.Prelude.{All, slice_index}
 use Rattle.hex.{specs.Hex.{encode_lower, encode_with, lower_digits}, proofs.HexLemmas.length-encode_with}
 use Rattle.http_header.{specs.FieldValue.IsFieldValue, specs.Token.is_value_byte, proofs.TokenLemmas.AllPass-from_test}
 use Rattle.headers.{specs.EntityTag.{IsSomeTag, is_tag_byte}, specs.Text.quote}
-use Rattle.decide_preconditions.specs.Boundaries.{is_boundary, is_boundary_byte}
+use Rattle.decide_preconditions.{specs.Boundaries.{is_boundary, is_boundary_byte}, proofs.BoundaryLemmas.value_byte}
 use Rattle.sha2.{specs.Sha256.{digest_bytes, sha256}, proofs.Facts256.length-sha256}
 use Rattle.server_files.specs.Tags.{content_digest, strong_tag}
 
@@ -58,9 +58,6 @@ digest_is_boundary content =
 
 tag_byte : (b : ℕ) → is_boundary_byte b ≡ true → IsTrue (is_tag_byte b)
 tag_byte b e = grind (arith, nat_tests)
-
-value_byte : (b : ℕ) → is_boundary_byte b ≡ true → IsTrue (is_value_byte b)
-value_byte b e = grind (arith, nat_tests)
 
 module _ (digits : List ℕ) (e : is_boundary digits ≡ true) where
   all_digits : AllPass is_boundary_byte digits

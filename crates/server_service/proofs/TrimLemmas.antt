@@ -152,24 +152,6 @@ line_valid name value named valid =
     (list_all-from_AllPass is_token_byte name bytes))
     (list_all-from_AllPass is_value_byte value valid)
 
-pub line_kept : (name value : List ℕ) → is_kept name ≡ true → trimmed_line (name, value) ≡ (name, value)
-line_kept name value kept = cond-true (is_kept name) (name, value) (name, trim value) kept
-
-pub line_trimmed : (name value made : List ℕ) → is_kept name ≡ false → made ≡ trim value
-    → trimmed_line (name, value) ≡ (name, made)
-line_trimmed name value made other is =
-    cond-false (is_kept name) (name, value) (name, trim value) other ∙ ap (λ (text : List ℕ). (name, text)) (sym is)
-
-pub trimmed-push : (lines : List Header) (line : Header)
-    → trimmed_lines (lines ++ line ∷ []) ≡ trimmed_lines lines ++ trimmed_line line ∷ []
-trimmed-push lines line = map_push trimmed_line lines line
-
-pub valid-push : (lines : List Header) (line : Header) → list_all is_line lines ≡ true → is_line line ≡ true
-    → list_all is_line (lines ++ line ∷ []) ≡ true
-valid-push lines line all one =
-    list_all-append is_line lines (line ∷ [])
-    ∙ and_from (list_all is_line lines) (list_all is_line (line ∷ [])) all (and_from (is_line line) true one refl)
-
 -- whatever its name is
 line_same : (kept : Bool) (line : Header) → trim line.1 ≡ line.1
     → (if kept then line else (line.0, trim line.1)) ≡ line
