@@ -71,8 +71,8 @@ module _ (old : Pass) (before : Cache) (new : Pass) (after : Cache) (calls : His
   by-ended : (content : List ℕ) (reception : _) (now : ℕ) (number : Option ℕ)
       → (h : HasEnded old before content reception now new after number) → Done h.calls
   by-ended content reception now number h = elim h.closed [
-    | inl (complete, (came, received, inl (outdated, none, same, unnamed))) ↦ subst Done (sym none) same
-    | inl (complete, (came, received, inr (current, storing))) ↦
+    | inl (complete, (came, received, inl (past, none, same, unnamed))) ↦ subst Done (sym none) same
+    | inl (complete, (came, received, inr (timely, storing))) ↦
         subst Done (sym storing.all) (storing.described, storing.describes, storing.stores)
     | inr (same, none, unnamed) ↦ subst Done (sym none) same
   ]

@@ -162,9 +162,9 @@ module _ (pass : ℕ) (old : Pass) (before : Cache) (new : Pass) (after : Cache)
   ended-guarded : (content : List ℕ) (reception : Reception) (now : ℕ) (number : Option ℕ)
       → (h : HasEnded old before content reception now new after number) → Guarded h.calls
   ended-guarded content reception now number h = elim h.closed [
-    | inl (complete, (came, received, inl (outdated, none, same, unnamed))) ↦ subst Guarded (sym none) tt
-    | inl (complete, (came, received, inr (fine, storing))) ↦
-        let current = own-current h.asked (ap clock_of h.passing) fine in
+    | inl (complete, (came, received, inl (past, none, same, unnamed))) ↦ subst Guarded (sym none) tt
+    | inl (complete, (came, received, inr (timely, storing))) ↦
+        let current = own-current h.asked (ap clock_of h.passing) (λ outdated. timely (inl outdated)) in
         subst Guarded (sym storing.all)
         (elim storing.describing [
           | inl (is, one) ↦ subst (λ (made : History). Guarded (Arrived (key_of old) came Complete ∷ made)) (sym one)

@@ -1,14 +1,22 @@
 -- What is stored of a response that passed on.
-use Rattle.std.proofs.Common.{◌≡◌, ℕ, ◌∷◌, Option, Some, None, List, refl, subst, inr}
+use Rattle.std.proofs.Common.{◌≡◌, ◌⊎◌, ℕ, Bool, true, false, ◌∷◌, Option, Some, None, List, refl, subst, inl, inr}
+use Rattle.std.specs.Bool.{MatchBool}
 use Rattle.cache_rules.specs.declared.storing.Reception.TheVariants.{Complete}
 use Rattle.cache_rules.specs.declared.stored.StoredResponse.{StoredResponse}
 use Rattle.cache_store.{specs.Changes.{IsInserted, IsStoredAs, IsToStore}, specs.History.{History, Step}}
 use Rattle.cache_store.specs.History.Call.{Arrived}
-use Rattle.cache_pass.{specs.Effects.{DoAll, Kept, Settings}, specs.Keeping.{AreDescribing, IsKept, IsNumbered}}
-use Rattle.cache_pass.specs.Removals.{IsOutdated}
+use Rattle.cache_pass.{specs.Effects.{DoAll, Kept, Settings}, specs.Keeping.{AreDescribing, IsKept, IsNumbered, IsPast}}
+
+pub past-or-late : (Past Late : Type 0) (late : Bool) → ¬ Past → MatchBool late Late (¬ Late)
+    → MatchBool late (Past ⊎ Late) (¬ (Past ⊎ Late))
+past-or-late Past Late true current is = inr is
+past-or-late Past Late false current isnt = λ either. elim either [
+  | inl past ↦ current past
+  | inr late ↦ isnt late
+]
 
 module _ (settings later : Settings) (same : later ≡ settings) (key : List ℕ) (came : StoredResponse) (clock : ℕ)
-    (old described new : Kept) (fine : ¬ (IsOutdated old.removals key clock)) (before : History)
+    (old described new : Kept) (fine : ¬ (IsPast key came clock old)) (before : History)
     (describing : AreDescribing settings key came before) (describes : DoAll settings before old described)
     (step : Step later.policy later.limits (Arrived key came Complete) described.contents new.contents)
     (unnoted : new.removals ≡ described.removals) where

@@ -9,7 +9,7 @@ use Rattle.cache_policy.specs.declared.decision.Decision.TheVariants as decision
 use Rattle.cache_rules.{specs.Conditions.IsStoredAnswer, specs.Selection.IsCandidate}
 use Rattle.cache_rules.specs.declared.conditions.StoredAnswer.{StoredAnswer}
 use Rattle.cache_rules.{specs.declared.stored.StoredResponse.StoredResponse, specs.Freshening.IsFreshened}
-use Rattle.cache_rules.specs.declared.freshening.Exchange.{Exchange}
+use Rattle.cache_rules.{specs.declared.freshening.Exchange.Exchange, specs.declared.storing.Reception.Reception}
 use Rattle.cache_store.{specs.Changes.IsLetGo, specs.Contents.{Contents, responses_at, without}, specs.History.History}
 use Rattle.cache_store.{specs.History.IsJustified, specs.Kept.contents_of, specs.Numbers.numbered}
 use Rattle.cache_store.proofs.HistoryLemmas.{Has-slice_get, HasUnder-responses_at, run-justified}
@@ -18,14 +18,14 @@ use Rattle.cache_pass.{specs.Answers.IsShownAfter, specs.Effects.{Settings, kept
 use Rattle.cache_pass.{specs.Origin.IsNext, specs.Passes.{asked_of, key_of, request_of_pass}, specs.Replies.IsFirst}
 use Rattle.cache_pass.{specs.Replies.{IsReplyTo, IsShown, IsShownOnError}, specs.Right.{IsGood, IsGoodOnError}}
 use Rattle.cache_pass.specs.Right.{IsOfStored, IsRight, IsRightOnError, IsRightReply, IsRightValidated}
-use Rattle.cache_pass.{specs.Steps.{HasBegun, HasCome, HasFailed}, specs.Worlds.{Acts, Deed, IsStep, Reaches, World}}
-use Rattle.cache_pass.{specs.Worlds.calls_of, specs.Worlds.Deed.{Begins, Comes, Fails, Ends}}
+use Rattle.cache_pass.{specs.Steps.{HasBegun, HasCome, HasEnded, HasFailed}, specs.Worlds.{Acts, Deed, IsStep, Reaches}}
+use Rattle.cache_pass.{specs.Worlds.{World, calls_of}, specs.Worlds.Deed.{Begins, Comes, Fails, Ends}}
 use Rattle.cache_pass.{specs.declared.cache.Cache.Cache, specs.declared.pass.Asked.Asked, specs.declared.pass.Pass.Pass}
 use Rattle.cache_pass.specs.declared.replying.First.{First}
 use Rattle.cache_pass.specs.declared.replying.First.TheVariants as first
 use Rattle.cache_pass.{specs.declared.replying.Reply.Reply, specs.declared.revalidating.Next.Next}
 use Rattle.cache_pass.specs.declared.revalidating.Next.TheVariants as next
-use Rattle.cache_pass.proofs.CallLemmas.{HasRun, acts-run, reached}
+use Rattle.cache_pass.proofs.CallLemmas.{HasRun, acts-run, none-some, reached}
 
 module _ (settings : Settings) (world : World) (ran : HasRun settings world) (pass : Pass) (now : ℕ) (reply : Reply)
   where
@@ -220,11 +220,35 @@ module _ (settings : Settings) (before world : World) (pass : Pass) (new : Pass)
       (subst (λ (s : Settings). IsNext s (key_of pass) (request_of_pass pass) h.asked status (lines_at response) now
       (kept_of before.cache) (kept_of world.cache) h.calls given) are h.answer)
 
+  ended-right : (content : List ℕ) (reception : Reception) (now : ℕ) (number : Option ℕ)
+      → HasEnded pass before.cache content reception now new world.cache number
+      → Right (Ends content reception now number)
+  ended-right content reception now None h = tt
+  ended-right content reception now (Some number) h = elim h.closed [
+    | inl (complete, (came, received, inl (past, none, same, unnamed))) ↦ absurd (none-some (sym unnamed))
+    | inl (complete, (came, received, inr (timely, storing))) ↦
+        let named = storing.named in
+        record {
+          asked = h.asked;
+          status = h.status;
+          response = h.response;
+          passing = h.passing;
+          came = came;
+          received = received;
+          stored = named.0;
+          stored_as = named.2;
+          named = subst (λ (n : ℕ). numbered n (stored_at (key_of pass) world.cache) ≡ Some named.0) named.3
+              (last-named world.cache (key_of pass) named.4.kept named.0 named.4.rest named.4.put);
+          latest = λ late. timely (inr late);
+        }
+    | inr (same, none, unnamed) ↦ absurd (none-some (sym unnamed))
+  ]
+
   step-right : (calls : History) (deed : Deed) → IsStep deed pass before.cache new world.cache calls → Right deed
   step-right calls (Begins now given) (h, same) = begun-right now given h
   step-right calls (Comes status response now given) (h, same) = come-right status response now given h
   step-right calls (Fails now found) (h, same) = failed-right now found h
-  step-right calls (Ends content reception now number) (h, same) = tt
+  step-right calls (Ends content reception now number) (h, same) = ended-right content reception now number h
 
 pub answers-right : (settings : Settings) (deeds : List (ℕ × Deed)) (before : World) → Reaches settings deeds before
     → (pass : ℕ) (deed : Deed) (world : World) → Acts pass deed before world

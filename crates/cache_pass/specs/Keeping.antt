@@ -1,11 +1,13 @@
 -- What is stored of a response that passed on (RFC 9111, sections 3, 4.3.5 and 4.4).
-use Rattle.std.specs.Prelude.{◌≡◌, ◌≢◌, ◌⊎◌, ⊤, ℕ, List, [], ◌∷◌, Option, Some, None, codes}
+use Rattle.std.specs.Prelude.{◌≡◌, ◌≢◌, ◌⊎◌, ◌<◌, ⊤, ℕ, List, [], ◌∷◌, Option, Some, None, codes}
 use Rattle.headers.{specs.LineMap.LineMap, specs.Typed.HasLine}
 use Rattle.cache_policy.{specs.Policies.Policy, specs.Requests.Request, specs.declared.Kind.TheVariants.Shared}
-use Rattle.cache_rules.{specs.Stored.{fields_of_stored, request_of_stored}, specs.Storing.IsStored}
+use Rattle.cache_rules.{specs.Selection.{IsAt, IsCandidate, IsSomewhere}, specs.Storing.IsStored}
+use Rattle.cache_rules.specs.Stored.{fields_of_stored, made_at, request_of_stored}
 use Rattle.cache_rules.specs.declared.storing.Reception.TheVariants.{Complete}
 use Rattle.cache_rules.specs.declared.stored.StoredResponse.{StoredResponse}
-use Rattle.cache_store.{specs.Changes.{IsInserted, IsStoredAs, IsToStore}, specs.History.History}
+use Rattle.cache_store.{specs.Changes.{IsInserted, IsStoredAs, IsToStore}, specs.Contents.responses_at}
+use Rattle.cache_store.specs.History.{History}
 use Rattle.cache_store.{specs.History.Call.{Arrived, Described}, specs.Parts.Combining.exchange_of}
 use Rattle.cache_pass.{specs.Effects.{DoAll, Does, Kept, Settings}, specs.Removals.IsOutdated}
 
@@ -17,9 +19,25 @@ pub record IsWanted (policy : Policy) (request : Request) (status : ℕ) (respon
   pub no_range : status ≢ 416
   pub cookie : policy.kind ≡ Shared → ¬ (HasLine (response (codes "set-cookie")))
 
+-- The stored response could answer the same request, and is more recent: by Date, and if both are of one second, by the
+-- time of the request.
+pub record IsNewer (came stored : StoredResponse) : Type 0 where
+  pub matches : IsCandidate (request_of_stored came) stored
+  pub later : (made_at came < made_at stored)
+      ⊎ ((made_at came ≡ made_at stored) × (came.requested < stored.requested))
+
+-- A newer one is stored. A cache uses the most recent of those that match (sections 4 and 4.1), so this one would answer
+-- nothing that its request is answered by.
+abbrev pub IsLate : List StoredResponse → StoredResponse → Type 0
+IsLate responses came = IsSomewhere (IsAt (IsNewer came) responses)
+
 -- it is a 200 to HEAD
 abbrev pub IsDescription : StoredResponse → Type 0
 IsDescription came = (came.method ≡ codes "HEAD") × (came.status ≡ 200)
+
+-- the target was removed since the clock showed this, or what is stored for the request is newer
+abbrev pub IsPast : List ℕ → StoredResponse → ℕ → Kept → Type 0
+IsPast key came clock old = IsOutdated old.removals key clock ⊎ IsLate (responses_at key old.contents) came
 
 module _ (settings : Settings) (key : List ℕ) (came : StoredResponse) where
   -- a 200 to HEAD updates the stored responses to GET (section 4.3.5), and another response none
@@ -46,8 +64,8 @@ module _ (settings : Settings) (key : List ℕ) (came : StoredResponse) where
     pub named : IsNumbered described new number
     pub all : calls ≡ Arrived key came Complete ∷ before
 
-  -- If the target was removed since the clock showed this, nothing happens; else the response is stored, if it may be.
+  -- If it comes too late, nothing happens; else it is stored, if it may be.
   abbrev pub IsKept : ℕ → Kept → Kept → History → Option ℕ → Type 0
   IsKept clock old new calls number =
-      (IsOutdated old.removals key clock × (calls ≡ []) × (new ≡ old) × (number ≡ None))
-      ⊎ ((¬ (IsOutdated old.removals key clock)) × IsStoring calls old new number)
+      (IsPast key came clock old × (calls ≡ []) × (new ≡ old) × (number ≡ None))
+      ⊎ ((¬ (IsPast key came clock old)) × IsStoring calls old new number)

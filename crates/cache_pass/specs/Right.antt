@@ -1,5 +1,6 @@
 -- What may be sent to a client (RFC 9111, section 4; RFC 5861).
-use Rattle.std.specs.Prelude.{◌≡◌, ◌⊎◌, ⊤, ℕ, Some, None, true}
+use Rattle.std.specs.Prelude.{◌≡◌, ◌⊎◌, ⊤, ℕ, List, Some, None, true}
+use Rattle.http_header.{specs.FieldValue.FieldValue, specs.HeaderMap.Entries}
 use Rattle.headers.specs.LineMap.{LineMap, lines_at}
 use Rattle.cache_policy.{specs.Decisions.{IsGoodEnough, MayServeOnError}, specs.Policies.{MayStoreUnder, asks, tells}}
 use Rattle.cache_policy.specs.Requests.{Request}
@@ -7,10 +8,13 @@ use Rattle.cache_rules.{specs.Conditions.IsStoredAnswer, specs.Errors.IsFailure,
 use Rattle.cache_rules.{specs.Selection.IsCandidate, specs.Stored.{fields_of_stored, request_of_stored}}
 use Rattle.cache_rules.specs.declared.freshening.Exchange.{Exchange}
 use Rattle.cache_rules.specs.declared.stored.StoredResponse.{StoredResponse}
-use Rattle.cache_store.{specs.History.IsJustified, specs.Lookups.{IsFreshFor, freshness_of}, specs.Numbers.numbered}
-use Rattle.cache_pass.{specs.Effects.{Settings, stored_at}, specs.Passes.{asked_of, key_of, request_of_pass}}
-use Rattle.cache_pass.{specs.Replies.IsReplyTo, specs.Worlds.{Deed, World, calls_of}, specs.Worlds.Deed.{Begins, Comes}}
-use Rattle.cache_pass.{specs.Worlds.Deed.{Fails, Ends}, specs.declared.pass.Asked.Asked, specs.declared.pass.Pass.Pass}
+use Rattle.cache_store.{specs.Changes.IsStoredAs, specs.History.IsJustified, specs.Numbers.numbered}
+use Rattle.cache_store.specs.Lookups.{IsFreshFor, freshness_of}
+use Rattle.cache_pass.{specs.Effects.{Settings, stored_at}, specs.Keeping.IsLate, specs.Passes.{IsReceived, asked_of}}
+use Rattle.cache_pass.{specs.Passes.{key_of, request_of_pass}, specs.Replies.IsReplyTo, specs.Worlds.{Deed, World}}
+use Rattle.cache_pass.{specs.Worlds.calls_of, specs.Worlds.Deed.{Begins, Comes, Fails, Ends}}
+use Rattle.cache_pass.{specs.declared.cache.Cache.Cache, specs.declared.pass.Asked.Asked, specs.declared.pass.Pass.Pass}
+use Rattle.cache_pass.specs.declared.pass.Phase.TheVariants.{Passing}
 use Rattle.cache_pass.specs.declared.replying.First.TheVariants as first
 use Rattle.cache_pass.specs.declared.replying.Reply.{Reply}
 use Rattle.cache_pass.specs.declared.revalidating.Next.TheVariants as next
@@ -64,6 +68,20 @@ module _ (settings : Settings) (world : World) (pass : Pass) (now : ℕ) where
       (stored : StoredResponse) × IsOfStored reply stored
       × IsValidatedNow update (record { requested = asked.requested; received = now }) stored
 
+-- The response with the number is the one that passed on, as it came to this pass and as it is stored. None of those that
+-- were stored and match its request is newer.
+pub record IsLatest (pass : Pass) (before after : Cache) (content : List ℕ) (now number : ℕ) : Type 0 where
+  pub asked : Asked
+  pub status : ℕ
+  pub response : Entries FieldValue
+  pub passing : pass.phase ≡ Passing asked status response
+  pub came : StoredResponse
+  pub received : IsReceived pass asked.requested status response content now came
+  pub stored : StoredResponse
+  pub stored_as : IsStoredAs came stored
+  pub named : numbered number (stored_at (key_of pass) after) ≡ Some stored
+  pub latest : ¬ (IsLate (stored_at (key_of pass) before) came)
+
 -- What a step answers is right for the pass. Where it names no response, the client gets what the origin answers to
 -- this pass, or that there is no answer.
 abbrev pub IsRight : Settings → World → World → Pass → Deed → Type 0
@@ -89,4 +107,6 @@ IsRight settings before world pass (Comes status response now next.Ask) = ⊤
 IsRight settings before world pass (Comes status response now (next.PassOn kept)) = ⊤
 IsRight settings before world pass (Fails now (Some reply)) = IsRightOnError settings world pass now reply
 IsRight settings before world pass (Fails now None) = ⊤
-IsRight settings before world pass (Ends content reception now number) = ⊤
+IsRight settings before world pass (Ends content reception now (Some number)) =
+    IsLatest pass before.cache world.cache content now number
+IsRight settings before world pass (Ends content reception now None) = ⊤

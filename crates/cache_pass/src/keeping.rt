@@ -3,17 +3,52 @@ ghost use Rattle.std.{specs.Prelude.◌≡◌, specs.Bool.MatchBool};
 ghost use Rattle.headers.specs.LineMap.{lines_at};
 ghost use Rattle.cache_policy.specs.Requests.{request_of};
 ghost use Rattle.cache_store.specs.History.{History};
+ghost use Rattle.cache_rules.specs.Stored.{made_at};
 ghost use Rattle.cache_pass.{specs.Effects.{DoAll, kept_of, settings_of}, specs.Keeping.{AreDescribing, IsKept}};
-ghost use Rattle.cache_pass.specs.Keeping.{IsWanted};
+ghost use Rattle.cache_pass.specs.Keeping.{IsLate, IsNewer, IsPast, IsWanted};
 
 use crate::cache::Cache;
-use cache_policy::{Kind, RequestHead};
+use cache_policy::{Kind, RequestHead, date, matches};
 use cache_rules::{Exchange, Reception, StoredResponse, is_stored};
 use headers::HeaderMap;
 use http::{Method, StatusCode};
-use http_header::SET_COOKIE;
+use http_header::{DATE, SET_COOKIE};
+use rfc_dates::Timestamp;
 use rfc_fields::has_line;
 use std::alloc::Global;
+
+// When a response was made: its Date, or when it came if it has none that is valid.
+fn made_at(response: &StoredResponse) -> Timestamp
+    ensures { result ≡ made_at response.now }
+{
+    match date(&response.response, DATE, response.received) {
+        Some(made) => made,
+        None => Timestamp::from_unix_seconds(response.received),
+    }
+}
+
+// Whether a stored response could answer the request of another one, and is more recent.
+fn is_newer(stored: &StoredResponse, came: &StoredResponse) -> bool
+    ensures { MatchBool result (IsNewer came.now stored.now) (¬ (IsNewer came.now stored.now)) }
+{
+    if !matches(&stored.head(), &came.head(), &stored.response) {
+        return false;
+    }
+    let (made, other) = (made_at(stored), made_at(came));
+    other < made || (other == made && came.requested < stored.requested)
+}
+
+// Whether one of these stored responses is newer than that which came.
+fn is_late(stored: &[StoredResponse], came: &StoredResponse) -> bool
+    ensures { MatchBool result (IsLate stored.now came.now) (¬ (IsLate stored.now came.now)) }
+{
+    for one in stored {
+        if is_newer(one, came) {
+            return true;
+        }
+    }
+    false
+}
 
 impl Cache {
     // Whether a response is to be stored once all of it has come. An answer to the conditions or the range of
@@ -56,7 +91,16 @@ impl Cache {
         }
     }
 
-    // Stores a complete response that was asked when the clock showed this, unless its target was removed since.
+    // Whether a response that was asked when the clock showed this comes too late to be stored.
+    fn is_past(&self, key: &str, came: &StoredResponse, clock: u64) -> bool
+        ensures { MatchBool result (IsPast key.now came.now clock (kept_of self.now))
+            (¬ (IsPast key.now came.now clock (kept_of self.now))) }
+    {
+        self.removals.is_outdated(key, clock) || is_late(self.store.responses(key), came)
+    }
+
+    // Stores a complete response that was asked when the clock showed this, unless its target was removed
+    // since, or a newer response is stored for its request.
     pub(crate) fn keep(
         &mut self,
         alloc: Global,
@@ -68,7 +112,7 @@ impl Cache {
             × IsKept (settings_of self.old) key.now came clock (kept_of self.old) (kept_of self.new) calls result }
         ensures settings { settings_of self.new ≡ settings_of self.old }
     {
-        if self.removals.is_outdated(key, clock) {
+        if self.is_past(key, &came, clock) {
             return None;
         }
         self.describe(alloc, key, &came);

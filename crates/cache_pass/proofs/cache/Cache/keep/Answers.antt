@@ -7,7 +7,7 @@ returns-in-Ok-clause-kept c =
     let does = c.describe.ensures.does in
     keeps (settings_of c.args.self.now) (settings_of c.describe.new.self) c.describe.ensures.settings c.args.key.now
     c.args.came c.args.clock (kept_of c.args.self.now) (kept_of c.describe.new.self)
-    (kept_of (record c.describe.new.self { store = c.store.new.self })) c.if-is_outdated.ensures does.0 does.1 does.2
+    (kept_of (record c.describe.new.self { store = c.store.new.self })) c.if-is_past.ensures does.0 does.1 does.2
     c.in-Ok.ensures.step refl c.in-Ok.number (λ number same. c.in-Ok.ensures.stored number (ap (λ o. Ok o) same))
 
 pub returns-in-Err-clause-kept : goal.returns-in-Err-clause-kept
@@ -15,5 +15,5 @@ returns-in-Err-clause-kept c =
     let does = c.describe.ensures.does in
     keeps-none (settings_of c.args.self.now) (settings_of c.describe.new.self) c.describe.ensures.settings
     c.args.key.now c.args.came c.args.clock (kept_of c.args.self.now) (kept_of c.describe.new.self)
-    (kept_of (record c.describe.new.self { store = c.store.new.self })) c.if-is_outdated.ensures does.0 does.1 does.2
+    (kept_of (record c.describe.new.self { store = c.store.new.self })) c.if-is_past.ensures does.0 does.1 does.2
     c.in-Err.ensures.step refl
