@@ -4,3 +4,4 @@ pub mod KeepLemmas
 pub mod ReplyLemmas
 pub mod RightLemmas
 pub mod TraceLemmas
+pub mod UnstoredLemmas

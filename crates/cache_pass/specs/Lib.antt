@@ -7,4 +7,5 @@ pub mod Removals
 pub mod Replies
 pub mod Right
 pub mod Steps
+pub mod Unstored
 pub mod Worlds

@@ -8,7 +8,7 @@ ghost use Rattle.cache_pass.{specs.Effects.{Settings, kept_of, settings_of}, spe
 ghost use Rattle.cache_pass.{specs.Passes.request_of_pass, specs.Right.IsRight, specs.Steps.HasCome};
 ghost use Rattle.cache_pass.{specs.declared.cache.Cache.Cache, specs.declared.pass.Pass.Pass};
 ghost use Rattle.cache_pass.{specs.declared.pass.Phase.TheVariants.Ended, specs.declared.revalidating.Next.Next};
-ghost use Rattle.cache_pass.specs.Worlds.{Acts, AreCurrent, Deed, Reaches, World};
+ghost use Rattle.cache_pass.{specs.Unstored.AreAlike, specs.Worlds.{Acts, AreCurrent, Deed, Reaches, World}};
 
 /// Theorem: whatever steps of whatever passes come before, in any order, what a step answers is right for its
 /// pass. A stored response that it names is stored under the target of this pass, by calls that justify that;
@@ -41,4 +41,14 @@ pub fn what_is_not_stored_leaves_nothing()
         → ¬ (IsWanted (settings_of before).policy (request_of_pass old) status (lines_at response))
         → IsSafe old.method → ¬ (IsFailure status) → ¬ (status ≡ 304)
         → (kept_of after ≡ kept_of before) × (new.phase ≡ Ended) }
+{}
+
+/// Theorem: if in a run of any passes other responses come in place of some that aren't to be stored, and aren't
+/// to be stored either, all steps may be answered as they were, by the same numbers, and the same is stored. So
+/// what a client gets that isn't stored tells no other client anything. The requests are safe, none of these
+/// responses is a 304, and if one says that the origin failed, so does the one in its place.
+pub fn what_is_not_stored_changes_no_other_answer()
+    ensures { (settings : Settings) (ones others : List (ℕ × Deed)) (world : World) → Reaches settings ones world
+        → AreAlike settings (λ pass. request_of_pass (world.passes pass)) ones others
+        → Reaches settings others world }
 {}

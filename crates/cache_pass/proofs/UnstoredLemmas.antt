@@ -1,0 +1,167 @@
+-- Runs that differ only in what the origin answered, where that isn't to be stored.
+use Rattle.std.proofs.Common.{◌≡◌, ◌⊎◌, ◌↔◌, ℕ, List, [], ◌∷◌, true, false, refl, sym, ap, subst, inl, inr, ◌∙◌}
+use Rattle.http_header.{specs.FieldValue.FieldValue, specs.HeaderMap.Entries}
+use Rattle.headers.specs.LineMap.{lines_at}
+use Rattle.cache_policy.specs.Requests.{Request}
+use Rattle.cache_rules.specs.Errors.{IsFailure}
+use Rattle.cache_store.specs.History.{History}
+use Rattle.cache_pass.{specs.Effects.{Kept, Settings, kept_of, settings_of}, specs.Origin.{IsFailing, IsNext, IsPassedOn}}
+use Rattle.cache_pass.{specs.Passes.{IsSameRequest, key_of, phase_after, request_of_pass}, specs.Steps.HasCome}
+use Rattle.cache_pass.{specs.Unstored.{AreAlike, AreUnstored, IsUnstored}, specs.Worlds.{Acts, Deed, IsStep, Reaches}}
+use Rattle.cache_pass.{specs.Worlds.World, specs.Worlds.Deed.{Begins, Comes, Fails, Ends}}
+use Rattle.cache_pass.{specs.declared.cache.Cache.Cache, specs.declared.pass.Asked.Asked, specs.declared.pass.Pass.Pass}
+use Rattle.cache_pass.specs.declared.revalidating.Next.{Next}
+use Rattle.cache_pass.specs.declared.revalidating.Next.TheVariants as next
+use Rattle.cache_pass.proofs.CallLemmas.{reached}
+
+-- ---- a response in place of another one
+
+module _ (settings : Settings) (key : List ℕ) (request : Request) (now : ℕ) (status other_status : ℕ)
+    (response other : Entries FieldValue) (isnt : IsUnstored settings request status (lines_at response))
+    (other_isnt : IsUnstored settings request other_status (lines_at other))
+    (failures : IsFailure status ↔ IsFailure other_status) where
+  passed-too : (given : Next) → IsPassedOn settings key request status (lines_at response) given
+      → IsPassedOn settings key request other_status (lines_at other) given
+  passed-too (next.Reply reply) none = absurd none
+  passed-too (next.Once fresh answer) none = absurd none
+  passed-too next.Ask none = absurd none
+  passed-too (next.PassOn true) wanted = absurd (isnt.unwanted wanted)
+  passed-too (next.PassOn false) unwanted = other_isnt.unwanted
+
+  failing-too : (after : Kept) (given : Next) → IsFailing settings key request status (lines_at response) now after given
+      → IsFailing settings key request other_status (lines_at other) now after given
+  failing-too after (next.Reply reply) is = is
+  failing-too after (next.Once fresh answer) none = absurd none
+  failing-too after next.Ask none = absurd none
+  failing-too after (next.PassOn kept) is = passed-too (next.PassOn kept) is
+
+  next-too : (asked : Asked) (before after : Kept) (calls : History) (given : Next)
+      → IsNext settings key request asked status (lines_at response) now before after calls given
+      → IsNext settings key request asked other_status (lines_at other) now before after calls given
+  next-too asked before after calls given is = elim is [
+    | inl (validates, outdated, none, asks) ↦ absurd (isnt.unvalidated validates.1)
+    | inr (inl (validates, current, one, updated)) ↦ absurd (isnt.unvalidated validates.1)
+    | inr (inr (inl (another, failed, one, shown))) ↦ inr (inr (inl (
+      (λ validates. other_isnt.unvalidated validates.1),
+      failures.0 failed,
+      one,
+      failing-too after given shown,
+    )))
+    | inr (inr (inr (another, unfailed, inl (unsafe, removed), passed))) ↦ absurd (unsafe.0 isnt.safe)
+    | inr (inr (inr (another, unfailed, inr (valid, none), passed))) ↦ inr (inr (inr (
+      (λ validates. other_isnt.unvalidated validates.1),
+      (λ failed. unfailed (failures.1 failed)),
+      inr ((λ unsafe. unsafe.0 isnt.safe), none),
+      passed-too given passed,
+    )))
+  ]
+
+  -- how far the pass is then
+  passed-phase : (asked : Asked) (clock : ℕ) (given : Next)
+      → IsPassedOn settings key request status (lines_at response) given
+      → phase_after given asked status response now clock ≡ phase_after given asked other_status other now clock
+  passed-phase asked clock (next.Reply reply) none = absurd none
+  passed-phase asked clock (next.Once fresh answer) none = absurd none
+  passed-phase asked clock next.Ask none = absurd none
+  passed-phase asked clock (next.PassOn true) wanted = absurd (isnt.unwanted wanted)
+  passed-phase asked clock (next.PassOn false) unwanted = refl
+
+  failing-phase : (asked : Asked) (clock : ℕ) (after : Kept) (given : Next)
+      → IsFailing settings key request status (lines_at response) now after given
+      → phase_after given asked status response now clock ≡ phase_after given asked other_status other now clock
+  failing-phase asked clock after (next.Reply reply) is = refl
+  failing-phase asked clock after (next.Once fresh answer) none = absurd none
+  failing-phase asked clock after next.Ask none = absurd none
+  failing-phase asked clock after (next.PassOn kept) is = passed-phase asked clock (next.PassOn kept) is
+
+  next-phase : (asked : Asked) (clock : ℕ) (before after : Kept) (calls : History) (given : Next)
+      → IsNext settings key request asked status (lines_at response) now before after calls given
+      → phase_after given asked status response now clock ≡ phase_after given asked other_status other now clock
+  next-phase asked clock before after calls given is = elim is [
+    | inl (validates, outdated, none, asks) ↦ absurd (isnt.unvalidated validates.1)
+    | inr (inl (validates, current, one, updated)) ↦ absurd (isnt.unvalidated validates.1)
+    | inr (inr (inl (another, failed, one, shown))) ↦ failing-phase asked clock after given shown
+    | inr (inr (inr (another, unfailed, removed, passed))) ↦ passed-phase asked clock given passed
+  ]
+
+-- ---- a step
+
+abbrev request_by : List ℕ → Entries FieldValue → Request
+request_by method fields = record { method = method; fields = lines_at fields }
+
+module _ (pass : Pass) (before : Cache) (new : Pass) (after : Cache) (calls : History) where
+  step-same : (deed : Deed) → IsStep deed pass before new after calls → IsSameRequest pass new
+  step-same (Begins now first) (h, same) = h.same
+  step-same (Comes status response now given) (h, same) = h.same
+  step-same (Fails now found) (h, same) = h.same
+  step-same (Ends content reception now number) (h, same) = h.same
+
+  step-request : (deed : Deed) → IsStep deed pass before new after calls → request_of_pass pass ≡ request_of_pass new
+  step-request deed is =
+      let same = step-same deed is in
+      ap (λ (m : List ℕ). request_by m pass.request) (sym same.method)
+      ∙ ap (request_by new.method) (sym same.request)
+
+  step-too : (one other : Deed) → AreUnstored (settings_of before) (request_of_pass pass) one other
+      → IsStep one pass before new after calls → IsStep other pass before new after calls
+  step-too one other are is =
+      let come = subst (λ (d : Deed). IsStep d pass before new after calls) are.comes is in
+      let h = come.0 in
+      subst (λ (d : Deed). IsStep d pass before new after calls) (sym are.other_comes) (
+        record {
+          asked = h.asked;
+          asking = h.asking;
+          calls = h.calls;
+          answer = next-too (settings_of before) (key_of pass) (request_of_pass pass) are.now are.status
+              are.other_status are.response are.other_response are.unstored are.other_unstored are.failures h.asked
+              (kept_of before) (kept_of after) h.calls are.next h.answer;
+          does = h.does;
+          settings = h.settings;
+          same = h.same;
+          phase = h.phase ∙ next-phase (settings_of before) (key_of pass) (request_of_pass pass) are.now are.status
+              are.other_status are.response are.other_response are.unstored are.other_unstored are.failures h.asked
+              after.removals.clock (kept_of before) (kept_of after) h.calls are.next h.answer;
+        },
+        come.1,
+      )
+
+-- ---- a run
+
+module _ (settings : Settings) (requests : ℕ → Request) where
+  -- the passes are for these requests
+  abbrev AreFor : World → Type 0
+  AreFor world = (pass : ℕ) → request_of_pass (world.passes pass) ≡ requests pass
+
+  were-for : (pass : ℕ) (deed : Deed) (old new : World) → Acts pass deed old new → AreFor new → AreFor old
+  were-for pass deed old new acts are other = elim (acts.others other) [
+    | inl same ↦ subst (λ (p : ℕ). request_of_pass (old.passes p) ≡ requests p) (sym same)
+        (step-request (old.passes pass) old.cache (new.passes pass) new.cache acts.calls deed acts.step ∙ are pass)
+    | inr same ↦ ap request_of_pass (sym same) ∙ are other
+  ]
+
+  acts-too : (pass : ℕ) (one other : Deed) (old new : World) → settings_of old.cache ≡ settings → AreFor old
+      → AreUnstored settings (requests pass) one other → Acts pass one old new → Acts pass other old new
+  acts-too pass one other old new set are alike acts = record {
+    calls = acts.calls;
+    step = step-too (old.passes pass) old.cache (new.passes pass) new.cache acts.calls one other
+        (subst (λ (s : Settings). AreUnstored s (request_of_pass (old.passes pass)) one other) (sym set)
+        (subst (λ (r : Request). AreUnstored settings r one other) (sym (are pass)) alike)) acts.step;
+    others = acts.others;
+    log = acts.log;
+  }
+
+  pub alike : (ones others : List (ℕ × Deed)) (world : World) → Reaches settings ones world → AreFor world
+      → AreAlike settings requests ones others → Reaches settings others world
+  alike [] [] world is are same = is
+  alike [] (other ∷ others) world is are none = absurd none
+  alike (one ∷ ones) [] world is are none = absurd none
+  alike (one ∷ ones) (other ∷ others) world (before, were, acts) are (step, rest) =
+      let earlier = were-for one.0 one.1 before world acts are in (
+        before,
+        alike ones others before were earlier rest,
+        elim step [
+          | inl same ↦ subst (λ (s : ℕ × Deed). Acts s.0 s.1 before world) same acts
+          | inr (name, differ) ↦ subst (λ (p : ℕ). Acts p other.1 before world) name
+              (acts-too one.0 one.1 other.1 before world (reached settings ones before were).0 earlier differ acts)
+        ],
+      )
