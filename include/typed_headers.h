@@ -424,6 +424,8 @@ enum typed_headers_resource_state {
     TYPED_HEADERS_STATE_ABSENT = 1,
     /* It has none, and none is expected again (RFC 9110, section 15.5.11). */
     TYPED_HEADERS_STATE_GONE = 2,
+    /* It is the server in general, `*` (section 9.3.7): OPTIONS gets the methods, and any other method 404. Since 2.0. */
+    TYPED_HEADERS_STATE_SERVER = 3,
     /* It is under another URI: for good (301, or 308, which keeps the method), or for now (307). */
     TYPED_HEADERS_STATE_MOVED_PERMANENTLY = 301,
     TYPED_HEADERS_STATE_TEMPORARY_REDIRECT = 307,
@@ -522,11 +524,11 @@ enum typed_headers_resource_reason {
     TYPED_HEADERS_INVALID_HOST = 1,
     /* 421: the host isn't one of the resource's. */
     TYPED_HEADERS_MISDIRECTED = 2,
-    /* 501: the method isn't known. */
+    /* 501: the server doesn't implement the method. Those of RFC 9110, PATCH and `methods` count as implemented. */
     TYPED_HEADERS_UNKNOWN_METHOD = 3,
-    /* 405: the resource doesn't have the method. */
+    /* 405: the server implements the method, and the resource doesn't have it. */
     TYPED_HEADERS_METHOD_NOT_ALLOWED = 4,
-    /* 204: the method is OPTIONS, also as a preflight. */
+    /* 204: the method is OPTIONS. A missing resource that no method makes gets 404. */
     TYPED_HEADERS_OPTIONS = 5,
     /* 417: Expect has a member other than `100-continue`. */
     TYPED_HEADERS_UNMET_EXPECTATION = 6,
@@ -550,7 +552,11 @@ enum typed_headers_resource_reason {
     TYPED_HEADERS_PRECONDITION_REQUIRED = 15,
     /* 400: PUT with Content-Range, and no parts are taken (RFC 9110, section 14.5). It comes after 417, and before the
        state of the resource. */
-    TYPED_HEADERS_PARTIAL_CONTENT = 16
+    TYPED_HEADERS_PARTIAL_CONTENT = 16,
+    /* 204: a preflight, where the rules for other origins count. It comes after 421. */
+    TYPED_HEADERS_ANSWERED_PREFLIGHT = 17,
+    /* 401, 403, 429 or 503: the server denies the request. It comes after a preflight. */
+    TYPED_HEADERS_DENIED = 18
 };
 
 /* What an answer sends. A response to HEAD never has content. */

@@ -1559,7 +1559,7 @@ static size_t read_sends(const struct row *answer, size_t i, uint64_t *number, s
 /* Calls that are refused: a text, a number or a list that none of these is. */
 static void check_refused_resource(const struct row *row, const struct resource_call *given) {
     struct resource_call call = *given;
-    call.resource.state = 3;
+    call.resource.state = 4;
     check(row, call_resource, &call, TYPED_HEADERS_REFUSED, NO_NUMBER, NO_TEXT);
     call = *given;
     call.request.version = 9;
@@ -1588,7 +1588,8 @@ static void check_resource(const struct row *row) {
     static const char *const reasons[] = {"InvalidHost", "Misdirected", "UnknownMethod", "MethodNotAllowed", "Options",
                                           "UnmetExpectation", "Moved", "Gone", "NotFound", "LengthRequired",
                                           "ContentTooLarge", "UnsupportedMediaType", "UnsupportedCoding",
-                                          "NotAcceptable", "PreconditionRequired", "PartialContent"};
+                                          "NotAcceptable", "PreconditionRequired", "PartialContent", "Preflight",
+                                          "Denied"};
     static const char *const names[] = {
         "allow", "location", "accept", "accept-patch", "accept-post", "accept-encoding", "content-encoding",
         "content-language", "etag", "last-modified", "accept-ranges", "content-range", "content-length", "content-type",
@@ -1600,8 +1601,8 @@ static void check_resource(const struct row *row) {
         i++;
     }
     put_resource(&call, &RESOURCES[i]);
-    static const char *const states[] = {"absent", "gone"};
-    call.resource.state = (uint16_t)place_of(&row->words[1], states, 2);
+    static const char *const states[] = {"absent", "gone", "server"};
+    call.resource.state = (uint16_t)place_of(&row->words[1], states, 3);
     i = 2;
     if (row->words[1].bytes[0] == '3') {
         call.resource.state = (uint16_t)read_number(row, 1);
@@ -1621,7 +1622,7 @@ static void check_resource(const struct row *row) {
 
     const struct row *answer = answer_words(row);
     const bool performs = is_word(&answer->words[1], "(none)");
-    uint64_t number = (performs ? 0 : read_number(answer, 1)) * 32 + place_of(&answer->words[0], reasons, 16);
+    uint64_t number = (performs ? 0 : read_number(answer, 1)) * 32 + place_of(&answer->words[0], reasons, 18);
     i = read_sends(answer, 2, &number, &count);
     for (size_t name = 0; name < sizeof names / sizeof *names; name++) {
         char form[64];

@@ -320,7 +320,7 @@ RESOURCES = {
         **NEGOTIATED,
     },
 }
-STATES = {"current": 0, "absent": 1, "gone": 2}
+STATES = {"current": 0, "absent": 1, "gone": 2, "server": 3}
 
 
 def resource_answer(words, wanted):

@@ -126,14 +126,14 @@ def options(program, folder):
 def pages(program, folder):
     """A site's own pages: status and fields are those of the built-in page, whose place it takes."""
     with tempfile.TemporaryDirectory() as room:
-        own = {"404": b"<p>not here: \xc3\xbc</p>\n", "405": b"", "301": b"<p>moved</p>\n", "500": b"x"}
+        own = {"404": b"<p>not here: \xc3\xbc</p>\n", "501": b"", "301": b"<p>moved</p>\n", "500": b"x"}
         for name, content in own.items():
             with open(f"{room}/{name}.html", "wb") as file:
                 file.write(content)
         plain = Server(program, folder, "--no-dates")
         own = Server(program, folder, "--no-dates", "--pages", room)
-        for words, name in ((("GET", "/missing"), "404"), (("GET", "/%"), "404"), (("DELETE", "/hello.txt"), "405"),
-                            (("GET", "/sub"), "301"), (("FOO", "/hello.txt"), None), (("OPTIONS", "/hello.txt"), None),
+        for words, name in ((("GET", "/missing"), "404"), (("GET", "/%"), "404"), (("DELETE", "/hello.txt"), "501"),
+                            (("GET", "/sub"), "301"), (("FOO", "/hello.txt"), "501"), (("OPTIONS", "/hello.txt"), None),
                             (("GET", "/hello.txt"), None), (("GET", "/hello.txt", 'If-Match: "x"'), None),
                             (("GET", "/hello.txt", "Range: bytes=13-"), None), (("HEAD", "/missing"), "404")):
             status, fields, content = plain.answer(*words)

@@ -101,6 +101,21 @@ class Answers(unittest.TestCase):
             self.assertEqual(answer.status, wanted)
             self.assertEqual(answer.fields, (("location", "/new"),) if wanted == 308 else ())
 
+    def test_options(self) -> None:
+        for method in (["GET"], [Method("PUT", creates=True)]):
+            answer = Resource(method, state=State.ABSENT).answer("OPTIONS", HOST)
+            self.assertEqual(answer.status, 404 if method == ["GET"] else 204)
+        server = Resource(["GET", "POST"], state=State.SERVER)
+        self.assertEqual(server.answer("OPTIONS", HOST).fields, (("allow", "GET, HEAD, POST, OPTIONS"),))
+        self.assertEqual(server.answer("GET", HOST).status, 404)
+
+    def test_preflights(self) -> None:
+        asks = {**HOST, "Origin": "https://a.example", "Access-Control-Request-Method": "PUT"}
+        for state in (State.CURRENT, State.ABSENT, State.GONE):
+            answer = Resource(["GET"], state=state, cors=CorsPolicy("*")).answer("OPTIONS", asks)
+            self.assertEqual((answer.status, answer.reason), (204, Reason.PREFLIGHT))
+            self.assertNotIn("allow", dict(answer.fields))
+
     def test_what_is_no_resource(self) -> None:
         cases: List[Tuple[Dict[str, Any], str]] = [
             ({"methods": ["GE T"]}, "is no token"),
@@ -116,7 +131,7 @@ class Answers(unittest.TestCase):
             with self.subTest(said), self.assertRaisesRegex(HeaderError, said):
                 Resource(**named)
         with self.assertRaises(ValueError):
-            Resource(["GET"], state=3)  # type: ignore[arg-type]
+            Resource(["GET"], state=4)  # type: ignore[arg-type]
 
     def test_what_is_no_request(self) -> None:
         with self.assertRaises(InvalidSection):

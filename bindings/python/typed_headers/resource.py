@@ -26,6 +26,8 @@ class State(IntEnum):
     ABSENT = 1
     #: It has none, and none is expected again.
     GONE = 2
+    #: It is the server in general, `*` (RFC 9110, section 9.3.7): OPTIONS gets the methods, and any other method 404.
+    SERVER = 3
     #: It has a new URI. A client may change POST to GET.
     MOVED_PERMANENTLY = 301
     #: It is under another URI for now. The method stays.
@@ -43,11 +45,11 @@ class Reason(IntEnum):
     INVALID_HOST = 1
     #: 421: the host isn't one of the resource's.
     MISDIRECTED = 2
-    #: 501: the method isn't known.
+    #: 501: the server doesn't implement the method. Those of RFC 9110, PATCH and `methods` count as implemented.
     UNKNOWN_METHOD = 3
-    #: 405: the resource doesn't have the method.
+    #: 405: the server implements the method, and the resource doesn't have it.
     METHOD_NOT_ALLOWED = 4
-    #: 204: the method is OPTIONS, also as a preflight.
+    #: 204: the method is OPTIONS. A missing resource that no method makes gets 404.
     OPTIONS = 5
     #: 417: Expect has a member other than `100-continue`.
     UNMET_EXPECTATION = 6
@@ -71,6 +73,10 @@ class Reason(IntEnum):
     PRECONDITION_REQUIRED = 15
     #: 400: PUT with Content-Range, and no parts are taken. It comes after 417.
     PARTIAL_CONTENT = 16
+    #: 204: a preflight, where `cors` counts. It comes after 421.
+    PREFLIGHT = 17
+    #: 401, 403, 429 or 503: the server denies the request. It comes after a preflight.
+    DENIED = 18
 
 
 class Sends(IntEnum):

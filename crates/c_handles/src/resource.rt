@@ -31,6 +31,7 @@ fn answer_of(
         authority: host,
         content: content_of(parts),
         fields,
+        denied: None,
     };
     let answer = answer_request(alloc, resource, &request, parts.present)?;
     Ok(show_answer(alloc, &answer)?)

@@ -1,5 +1,5 @@
 -- The whole answer of a resource, by what a caller hands in.
-use Rattle.std.specs.Prelude.{◌≡◌, ◌⊎◌, ℕ, List, map, option_map, Option, Result, Ok, Err}
+use Rattle.std.specs.Prelude.{◌≡◌, ◌⊎◌, ℕ, List, map, option_map, Option, None, Result, Ok, Err}
 use Rattle.http_header.{specs.FieldValue.FieldValue, specs.HeaderMap.Entries, specs.Token.IsToken}
 use Rattle.headers.specs.LineMap.{fields_of, lines_at}
 use Rattle.headers_section.specs.Section.{Holds}
@@ -35,6 +35,7 @@ module _ (parts : RequestParts) (method target section : List ℕ) where
     pub fields : Entries FieldValue
     pub holds : Holds section fields
     pub fields_are : request.fields ≡ lines_at fields
+    pub admitted : request.denied ≡ None
 
   -- the answer of a resource to the request that was handed in
   pub record IsAnsweredBy (resource : Resource) (shown : Answered) : Type 0 where

@@ -7,10 +7,10 @@ use Rattle.decide_resource.specs.declared.representation.Negotiation.{Negotiatio
 use Rattle.decide_resource.specs.declared.resource.Redirect.{Redirect}
 use Rattle.decide_resource.specs.declared.resource.Redirect.TheVariants.{MovedPermanently, Temporary, Permanent}
 use Rattle.decide_resource.{specs.declared.resource.Resource.Resource, specs.declared.resource.State.State}
-use Rattle.decide_resource.specs.declared.resource.State.TheVariants.{Current, Absent, Gone, Moved}
+use Rattle.decide_resource.specs.declared.resource.State.TheVariants.{Current, Absent, Gone, Moved, Server}
 use Rattle.c_decisions.{specs.Contents.IsBoundaryOf, specs.Numbers.known, specs.Rules.IsPolicyAnswer}
 use Rattle.c_decisions.{specs.Texts.IsValuesOf, specs.declared.rules.Rules.Rules}
-use Rattle.c_parts.{specs.declared.status.Failure.Failure, specs.declared.status.Failure.TheVariants.Refused}
+use Rattle.c_parts.{specs.declared.status.Failure.Failure, specs.declared.status.Failure.TheVariants.{Memory, Refused}}
 use Rattle.c_resource.{specs.MethodRules.IsRulesAnswer, specs.Representations.IsRepresentationsAnswer}
 use Rattle.c_resource.specs.Values.{IsFilledValue}
 use Rattle.c_resource.specs.declared.representation.RepresentationParts.{RepresentationParts}
@@ -35,14 +35,28 @@ abbrev pub FailsAtRedirect : Option Redirect → List ℕ → Failure → Type 0
 FailsAtRedirect None location failure = failure ≡ Refused
 FailsAtRedirect (Some redirect) location failure = IsFilledValue location (Err failure)
 
--- the state of a number: that there is a current representation, or none, that it is gone for good, or a redirect
+-- the state of a number: that there is a current representation, or none, that it is gone for good, that the target is
+-- the server in general, or a redirect
 abbrev pub IsStateAnswer : ℕ → List ℕ → Result State Failure → Type 0
 IsStateAnswer number location (Ok Current) = number ≡ 0
 IsStateAnswer number location (Ok Absent) = number ≡ 1
 IsStateAnswer number location (Ok Gone) = number ≡ 2
+IsStateAnswer number location (Ok Server) = number ≡ 3
 IsStateAnswer number location (Ok (Moved redirect value)) =
     (redirect_of number ≡ Some redirect) × IsFilledValue location (Ok value)
-IsStateAnswer number location (Err failure) = (2 < number) × FailsAtRedirect (redirect_of number) location failure
+IsStateAnswer number location (Err failure) = (3 < number) × FailsAtRedirect (redirect_of number) location failure
+
+-- ---- the methods of the server
+
+-- those of RFC 9110, section 9.3, and PATCH (RFC 5789), beside GET and HEAD
+abbrev pub usual_methods : List (List ℕ)
+usual_methods =
+    codes "POST" ∷ codes "PUT" ∷ codes "DELETE" ∷ codes "CONNECT" ∷ codes "OPTIONS" ∷ codes "TRACE"
+    ∷ codes "PATCH" ∷ []
+
+abbrev pub AreUsual : Result (Vec (List ℕ)) Failure → Type 0
+AreUsual (Ok methods) = methods.items ≡ usual_methods
+AreUsual (Err failure) = failure ≡ Memory
 
 -- ---- the rest
 
@@ -73,6 +87,7 @@ module _ (given : ResourceParts) (numbers : List RepresentationParts) (shared : 
   pub record IsResource (resource : Resource) : Type 0 where
     pub state : IsStateAnswer given.state given.location.now (Ok resource.state)
     pub boundary : IsBoundaryOf (boundary_text given.boundary.now) (Ok resource.boundary)
+    pub implemented : AreUsual (Ok resource.implemented)
     pub hosts : AreHostsRead given.hosts.now (Ok resource.hosts)
     pub rules : IsRulesAnswer given (Ok resource.rules)
     pub representations : IsRepresentationsAnswer given numbers (Ok resource.representations)

@@ -28,6 +28,8 @@ reason_number reason.UnsupportedCoding = 13
 reason_number reason.NotAcceptable = 14
 reason_number reason.PreconditionRequired = 15
 reason_number reason.PartialContent = 16
+reason_number reason.Preflight = 17
+reason_number reason.Denied = 18
 
 -- what is sent of a representation: nothing, all, or parts
 abbrev pub plan_number : Plan → ℕ

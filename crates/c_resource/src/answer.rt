@@ -63,6 +63,7 @@ fn answer_by(
         authority: authority.as_ref(),
         content: content_of(parts),
         fields: &fields,
+        denied: None,
     };
     let answer = answer_request(alloc, resource, &request, parts.present)?;
     Ok(show_answer(alloc, &answer)?)

@@ -1,7 +1,7 @@
 //! A resource, as C hands it in.
 ghost use Rattle.std.specs.Prelude.{◌≡◌};
 ghost use Rattle.c_decisions.specs.Contents.{IsBoundaryOf};
-ghost use Rattle.c_resource.specs.Resources.{AreHostsRead, IsCorsAnswer, IsResourceAnswer};
+ghost use Rattle.c_resource.specs.Resources.{AreHostsRead, AreUsual, IsCorsAnswer, IsResourceAnswer};
 ghost use Rattle.c_resource.specs.Resources.{IsStateAnswer, boundary_text, negotiation_of, redirect_of};
 
 use crate::method_rule::read_rules;
@@ -13,6 +13,7 @@ use decide_cors::CorsPolicy;
 use decide_preconditions::Boundary;
 use decide_resource::{Negotiation, Redirect, Resource, State};
 use headers::HeaderValue;
+use http::Method;
 use std::alloc::Global;
 
 /// What stands between several parts, if nothing is said of it.
@@ -52,8 +53,8 @@ pub struct ResourceParts<'a> {
     pub boundary: &'a [u8],
     /// The greatest length of content that is taken, if `has_limit`.
     pub limit: u64,
-    /// 0 if it has a current representation, 1 if it has none, 2 if it is gone for good; 301, 307 or
-    /// 308 if it is under another URI.
+    /// 0 if it has a current representation, 1 if it has none, 2 if it is gone for good, 3 if it is the
+    /// server in general; 301, 307 or 308 if it is under another URI.
     pub state: u16,
     /// Whether a representation is chosen by its media type.
     pub by_media_type: bool,
@@ -98,6 +99,7 @@ fn read_state(alloc: Global, number: u16, location: &[u8]) -> Result<State, Fail
         0 => Ok(State::Current),
         1 => Ok(State::Absent),
         2 => Ok(State::Gone),
+        3 => Ok(State::Server),
         _ => match redirect_of(number) {
             Some(redirect) => Ok(State::Moved(redirect, read_filled(alloc, location)?)),
             None => Err(Failure::Refused),
@@ -143,7 +145,22 @@ fn read_cors(
     }
 }
 
-/// The resource that is said.
+// The methods of RFC 9110, section 9.3, and PATCH (RFC 5789), beside GET and HEAD.
+fn usual_methods(alloc: Global) -> Result<Vec<Method>, Failure>
+    ensures { AreUsual result }
+{
+    let mut methods = Vec::new(alloc);
+    methods.push(Method::POST)?;
+    methods.push(Method::PUT)?;
+    methods.push(Method::DELETE)?;
+    methods.push(Method::CONNECT)?;
+    methods.push(Method::OPTIONS)?;
+    methods.push(Method::TRACE)?;
+    methods.push(Method::PATCH)?;
+    Ok(methods)
+}
+
+/// The resource that is said. Its server implements the methods of RFC 9110, and PATCH.
 pub fn read_resource(
     alloc: Global,
     parts: &ResourceParts<'_>,
@@ -154,12 +171,14 @@ pub fn read_resource(
 {
     let state = read_state(alloc, parts.state, parts.location)?;
     let boundary = read_boundary(alloc, parts.boundary)?;
+    let implemented = usual_methods(alloc)?;
     let hosts = read_hosts(alloc, parts.hosts)?;
     let methods = read_rules(alloc, parts)?;
     let representations = read_representations(alloc, parts, numbers)?;
     let cors = read_cors(alloc, parts.has_cors, rules)?;
     Ok(Resource {
         hosts,
+        implemented,
         rules: methods,
         state,
         representations,

@@ -48,6 +48,8 @@ fn reason_number(reason: Reason) -> u8
         Reason::NotAcceptable => 14,
         Reason::PreconditionRequired => 15,
         Reason::PartialContent => 16,
+        Reason::Preflight => 17,
+        Reason::Denied => 18,
     }
 }
 

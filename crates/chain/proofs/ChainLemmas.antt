@@ -283,10 +283,10 @@ HeadIsAsGet =
 
 module _ (request : Request) where
   with_asks : (r s : Request) → r.protocol ≡ s.protocol → r.method ≡ s.method → r.authority ≡ s.authority
-      → r.content ≡ s.content
+      → r.content ≡ s.content → r.denied ≡ s.denied
       → ((name : List ℕ) → bytes_eq (codes "range") name ≡ false → r.fields name ≡ s.fields name)
       → r.fields (codes "range") ≡ s.fields (codes "range") → AreAlike r s
-  with_asks r s protocol method authority content others range =
+  with_asks r s protocol method authority content denied others range =
       record {
         protocol = protocol;
         method = method;
@@ -294,6 +294,7 @@ module _ (request : Request) where
         host = others (codes "host") refl;
         expect = others (codes "expect") refl;
         content = content;
+        denied = denied;
         content_type = others (codes "content-type") refl;
         content_encoding = others (codes "content-encoding") refl;
         content_range = λ put. others (codes "content-range") refl;
@@ -309,16 +310,16 @@ module _ (request : Request) where
       }
 
   as_head : request.method ≡ codes "HEAD" → AreAlike (head_of request) request
-  as_head is_head = with_asks (head_of request) request refl (sym is_head) refl refl (λ name e. refl) refl
+  as_head is_head = with_asks (head_of request) request refl (sym is_head) refl refl refl (λ name e. refl) refl
 
   as_get : (method : List ℕ) → method ≡ codes "GET" → request.fields (codes "range") ≡ []
       → AreAlike (with_method method request) (get_of request)
   as_get method is_get none =
-      with_asks (with_method method request) (get_of request) refl is_get refl refl
+      with_asks (with_method method request) (get_of request) refl is_get refl refl refl
       (λ name e. sym (ap (λ (b : Bool). if b then [] else request.fields name) e)) none
 
   as_it_is : (method : List ℕ) → method ≡ request.method → AreAlike (with_method method request) request
-  as_it_is method same = with_asks (with_method method request) request refl same refl refl (λ name e. refl) refl
+  as_it_is method same = with_asks (with_method method request) request refl same refl refl refl (λ name e. refl) refl
 
   choose_it : ChooseAlike request.fields request.fields
   choose_it =

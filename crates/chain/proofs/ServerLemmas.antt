@@ -14,14 +14,17 @@ use Rattle.decide_preconditions.specs.{declared.resource.Resource.Resource as Ta
 use Rattle.decide_preconditions.specs.{declared.response.Response.Response}
 use Rattle.decide_resource.specs.Answers.{AreSent, GivesIf, IsAnswer, IsShared, at_place, content_of, is_admitted}
 use Rattle.decide_resource.specs.Answers.{response_fields, target_of}
-use Rattle.decide_resource.specs.Fields.{accept_encoding_fields, describes, location_fields, metadata_fields}
-use Rattle.decide_resource.specs.Fields.{reason_fields, types_fields, vary_fields, vary_lines}
+use Rattle.decide_resource.specs.Fields.{accept_encoding_fields, denied_fields, describes, location_fields}
+use Rattle.decide_resource.specs.Fields.{metadata_fields, reason_fields, types_fields, vary_fields, vary_lines}
 use Rattle.decide_resource.specs.{Requests.Request, declared.answer.Answer.Answer, declared.answer.Sends.Sends}
 use Rattle.decide_resource.specs.{declared.reason.Reason.Reason, declared.representation.Representation.Representation}
 use Rattle.decide_resource.specs.{declared.resource.MethodRule.MethodRule, declared.resource.Resource.Resource}
 use Rattle.decide_resource.specs.{declared.resource.State.State}
-use Rattle.decide_resource.specs.declared.reason.Reason.TheVariants.{InvalidHost, Misdirected, UnknownMethod}
-use Rattle.decide_resource.specs.declared.reason.Reason.TheVariants.{MethodNotAllowed, Options, UnmetExpectation}
+use Rattle.decide_resource.specs.declared.reason.Reason.TheVariants.{InvalidHost, Misdirected, Preflight, Denied}
+use Rattle.decide_resource.specs.declared.reason.Reason.TheVariants.{UnknownMethod, MethodNotAllowed, Options}
+use Rattle.decide_resource.specs.declared.reason.Reason.TheVariants.{UnmetExpectation}
+use Rattle.decide_resource.specs.declared.denied.Denied.{Denied as Denial}
+use Rattle.decide_resource.specs.declared.denied.Denied.TheVariants as denied
 use Rattle.decide_resource.specs.declared.reason.Reason.TheVariants.{PartialContent, Moved, Gone, NotFound}
 use Rattle.decide_resource.specs.declared.reason.Reason.TheVariants.{LengthRequired, ContentTooLarge}
 use Rattle.decide_resource.specs.declared.reason.Reason.TheVariants.{UnsupportedMediaType, UnsupportedCoding}
@@ -69,6 +72,7 @@ located (state.Moved redirect location) = refl
 located state.Current = refl
 located state.Absent = refl
 located state.Gone = refl
+located state.Server = refl
 
 accepting : (b : Bool) (r : Option MethodRule)
     → are_other (types_fields (codes "accept") r ++ (if b then types_fields (codes "accept-patch") r else [])) ≡ true
@@ -88,6 +92,15 @@ offering None (Some q) = refl
 offering (Some p) None = refl
 offering (Some p) (Some q) = refl
 
+denying : (why : Option Denial) → are_other (denied_fields why) ≡ true
+denying None = refl
+denying (Some (denied.Unauthenticated challenge)) = refl
+denying (Some denied.Forbidden) = refl
+denying (Some (denied.TooManyRequests None)) = refl
+denying (Some (denied.TooManyRequests (Some seconds))) = refl
+denying (Some (denied.Unavailable None)) = refl
+denying (Some (denied.Unavailable (Some seconds))) = refl
+
 explained : (resource : Resource) (request : Request) (reason : Reason)
     → are_other (reason_fields resource request reason) ≡ true
 explained resource request MethodNotAllowed = refl
@@ -97,6 +110,8 @@ explained resource request UnsupportedMediaType = accepting _ _
 explained resource request UnsupportedCoding = accepting_coding _
 explained resource request InvalidHost = refl
 explained resource request Misdirected = refl
+explained resource request Preflight = refl
+explained resource request Denied = denying request.denied
 explained resource request UnknownMethod = refl
 explained resource request UnmetExpectation = refl
 explained resource request PartialContent = refl

@@ -147,6 +147,7 @@ with_method method request =
       authority = request.authority;
       content = request.content;
       fields = request.fields;
+      denied = request.denied;
     }
 
 no_put : (method : List ℕ) → method ≡ codes "PUT" → IsGetOrHead method → ⊥
@@ -165,6 +166,7 @@ plain_alike target r s h k host =
       host = host;
       expect = h.without 3 [] (omega arith) ∙ sym (k.without 3 [] (omega arith));
       content = h.read.content ∙ sym k.read.content;
+      denied = h.read.admitted ∙ sym k.read.admitted;
       content_type = h.without 1 [] (omega arith) ∙ sym (k.without 1 [] (omega arith));
       content_encoding = h.without 2 [] (omega arith) ∙ sym (k.without 2 [] (omega arith));
       content_range = λ put. absurd (no_put r.method put h.read.method);

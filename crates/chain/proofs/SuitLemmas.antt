@@ -120,6 +120,7 @@ module _ (varying : List Line) (r s : Request) (alike : AreAlike r s)
         authority = s.authority;
         content = s.content;
         fields = between varying r.fields s.fields;
+        denied = s.denied;
       }
 
   says : (name : Line) → lowercase name ≡ name → nominates varying name ≡ true
@@ -135,9 +136,9 @@ module _ (varying : List Line) (r s : Request) (alike : AreAlike r s)
 
   -- what is alike but for fields whose lines aren't those of `middle`
   alike_to : (p : Request) → p.protocol ≡ s.protocol → p.method ≡ s.method → p.authority ≡ s.authority
-      → p.content ≡ s.content
+      → p.content ≡ s.content → p.denied ≡ s.denied
       → ((name : Line) → r.fields name ≡ s.fields name → p.fields name ≡ middle.fields name) → AreAlike p middle
-  alike_to p protocol method authority content by =
+  alike_to p protocol method authority content denied by =
       record {
         protocol = protocol;
         method = method;
@@ -145,6 +146,7 @@ module _ (varying : List Line) (r s : Request) (alike : AreAlike r s)
         host = by (codes "host") alike.host;
         expect = by (codes "expect") alike.expect;
         content = content;
+        denied = denied;
         content_type = by (codes "content-type") alike.content_type;
         content_encoding = by (codes "content-encoding") alike.content_encoding;
         content_range = λ put. by (codes "content-range") (alike.content_range (alike.method ∙ sym method ∙ put));
@@ -161,11 +163,11 @@ module _ (varying : List Line) (r s : Request) (alike : AreAlike r s)
 
   first : AreAlike r middle
   first =
-      alike_to r alike.protocol alike.method alike.authority alike.content
+      alike_to r alike.protocol alike.method alike.authority alike.content alike.denied
       (λ name e. either (nominates varying name) (r.fields name) (s.fields name) e)
 
   second : AreAlike s middle
-  second = alike_to s refl refl refl refl (λ name e. other _ _ _ e)
+  second = alike_to s refl refl refl refl refl (λ name e. other _ _ _ e)
 
   select : SelectTheSame s.fields middle.fields
   select =

@@ -80,6 +80,7 @@ module _ (gateway : Gateway) (request next : Request) (sent : ForwardedRequest)
         host = sym (passed.fields (codes "host") ∙ forwarded.fields.host);
         expect = same_lines (codes "expect") refl refl refl refl;
         content = passed.content;
+        denied = passed.denied;
         content_type = same_lines (codes "content-type") refl refl refl refl;
         content_encoding = same_lines (codes "content-encoding") refl refl refl refl;
         content_range = λ put. same_lines (codes "content-range") refl refl refl refl;
@@ -136,6 +137,7 @@ module _ (gateway : Gateway) (request : Request) (modern : request.protocol ≡ 
         host = sym (ap (λ (o : Option Line). replaced o (request.fields (codes "host"))) origin);
         expect = crosses (codes "expect") refl refl refl;
         content = refl;
+        denied = refl;
         content_type = crosses (codes "content-type") refl refl refl;
         content_encoding = crosses (codes "content-encoding") refl refl refl;
         content_range = λ put. crosses (codes "content-range") refl refl refl;

@@ -46,12 +46,13 @@ special_names =
 abbrev pub is_bare : Line → Bool
 is_bare host = is_text host && list_all (λ b. not (b == 47)) host
 
--- a GET or a HEAD in HTTP/1.1 without content, whose target isn't in absolute-form
+-- a GET or a HEAD in HTTP/1.1 without content, whose target isn't in absolute-form, which the server doesn't deny
 pub record IsBareRead (request : Request) : Type 0 where
   pub method : IsGetOrHead request.method
   pub protocol : request.protocol ≡ Http11
   pub authority : request.authority ≡ None
   pub content : request.content ≡ Absent
+  pub admitted : request.denied ≡ None
 
 -- A request that a cache may answer from its store: a bare read of a path at one host, without the special fields.
 pub record IsPlain (target : List ℕ) (request : Request) : Type 0 where

@@ -18,12 +18,14 @@ received request =
       fields = request.fields;
     }
 
--- The next server gets what was forwarded: in HTTP/1.1, for the host that its fields name, and with the same content.
+-- The next server gets what was forwarded: in HTTP/1.1, for the host that its fields name, and with the same content. It
+-- denies it, or doesn't, as if the client had sent it.
 pub record IsPassedOn (request : Request) (sent : ForwardedRequest) (next : Request) : Type 0 where
   pub protocol : next.protocol ≡ Http11
   pub method : request.method ≡ next.method
   pub authority : next.authority ≡ None
   pub content : request.content ≡ next.content
+  pub denied : request.denied ≡ next.denied
   pub fields : (name : List ℕ) → next.fields name ≡ lines_under (fields_of sent.fields.items) name
 
 -- each gateway of the list forwards the request, the first one that of the client; the last request is what the
@@ -51,4 +53,5 @@ sent_directly gateway request =
       authority = None;
       content = request.content;
       fields = end_to_end_lines gateway request;
+      denied = request.denied;
     }

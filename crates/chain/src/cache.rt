@@ -100,6 +100,7 @@ fn is_bare_read(request: &RequestHead<'_>) -> bool
         && request.protocol == Protocol::Http11
         && request.authority.is_none()
         && request.content == RequestContent::Absent
+        && request.denied.is_none()
 }
 
 // Whether a host is text without a slash.

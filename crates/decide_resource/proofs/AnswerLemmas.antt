@@ -139,7 +139,7 @@ module _ (present : ℕ) (resource : Resource) (request : Request) (st su : Opti
   gives_same true reason h k = goes_same h k
   gives_same false reason h k = stops_same reason h k
 
-shared_same : (policy : Option Policy) (request : Request) (lines : List Line) (fs gs : List Field)
+pub shared_same : (policy : Option Policy) (request : Request) (lines : List Line) (fs gs : List Field)
     → IsShared policy request lines fs → IsShared policy request lines gs → fs ≡ gs
 shared_same None request lines fs gs h k = h ∙ sym k
 shared_same (Some policy) request lines fs gs h k =

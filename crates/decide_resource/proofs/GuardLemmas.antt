@@ -17,9 +17,10 @@ use Rattle.decide_resource.{specs.Reasons.stage, specs.Representations.score, sp
 use Rattle.decide_resource.{specs.declared.answer.Answer.Answer, specs.declared.answer.Sends.Sends}
 use Rattle.decide_resource.specs.declared.answer.Sends.TheVariants as sends
 use Rattle.decide_resource.{specs.declared.reason.Reason.Reason, specs.declared.reason.Reason.TheVariants.InvalidHost}
-use Rattle.decide_resource.specs.declared.reason.Reason.TheVariants.{Misdirected, UnknownMethod, MethodNotAllowed}
-use Rattle.decide_resource.specs.declared.reason.Reason.TheVariants.{Options, UnmetExpectation, PartialContent, Moved}
-use Rattle.decide_resource.specs.declared.reason.Reason.TheVariants.{Gone, NotFound, LengthRequired, ContentTooLarge}
+use Rattle.decide_resource.specs.declared.reason.Reason.TheVariants.{Misdirected, Preflight, Denied, UnknownMethod}
+use Rattle.decide_resource.specs.declared.reason.Reason.TheVariants.{MethodNotAllowed, UnmetExpectation, PartialContent}
+use Rattle.decide_resource.specs.declared.reason.Reason.TheVariants.{Moved, Gone, NotFound, Options, LengthRequired}
+use Rattle.decide_resource.specs.declared.reason.Reason.TheVariants.{ContentTooLarge}
 use Rattle.decide_resource.specs.declared.reason.Reason.TheVariants.{UnsupportedMediaType, UnsupportedCoding}
 use Rattle.decide_resource.specs.declared.reason.Reason.TheVariants.{NotAcceptable, PreconditionRequired, Admitted}
 use Rattle.decide_resource.{specs.declared.resource.Resource.Resource, proofs.OneReasonLemmas.one_reason}
@@ -139,8 +140,8 @@ module _ (present : ℕ) (resource : Resource) (request : Request) where
   has_guard : (reason : Reason) → needs_condition (rule resource request) ≡ true → is_read request.method ≡ false
       → is_admitted reason ≡ true → IsFirst (applies resource request) reason → is_guarded request.fields ≡ true
   has_guard reason needs read admits first =
-      let last : 11 < stage reason =
-      subst (λ (r : Reason). 11 < stage r) (sym (only_admitted reason admits)) (lit< tt) in
+      let last : 14 < stage reason =
+      subst (λ (r : Reason). 14 < stage r) (sym (only_admitted reason admits)) (lit< tt) in
       guarded_by (is_read request.method) (needs_condition (rule resource request)) (is_guarded request.fields) read
       needs (first.none_before PreconditionRequired last)
 
@@ -166,6 +167,8 @@ module _ (resource : Resource) (request : Request) where
   unfolding rule_for is_unacceptable takes_type score
   same_without InvalidHost other = refl
   same_without Misdirected other = refl
+  same_without Preflight other = refl
+  same_without Denied other = refl
   same_without UnknownMethod other = refl
   same_without MethodNotAllowed other = refl
   same_without Options other = refl
@@ -182,9 +185,11 @@ module _ (resource : Resource) (request : Request) where
   same_without PreconditionRequired other = absurd (other refl)
   same_without Admitted other = refl
 
-  early : (reason : Reason) → reason ≢ Admitted → reason ≢ PreconditionRequired → stage reason < 11
+  early : (reason : Reason) → reason ≢ Admitted → reason ≢ PreconditionRequired → stage reason < 14
   early InvalidHost a p = lit< tt
   early Misdirected a p = lit< tt
+  early Preflight a p = lit< tt
+  early Denied a p = lit< tt
   early UnknownMethod a p = lit< tt
   early MethodNotAllowed a p = lit< tt
   early Options a p = lit< tt
@@ -210,8 +215,8 @@ module _ (resource : Resource) (request : Request) where
             sym
             (same_without other (λ same.
             let low : stage other < stage reason = before in
-            let high : stage reason < 11 = early reason a p in
-            let level : stage other ≡ 11 = ap stage same in
+            let high : stage reason < 14 = early reason a p in
+            let level : stage other ≡ 14 = ap stage same in
             omega (arith, low, high, level)))
             ∙ first.none_before other before;
       }

@@ -3,30 +3,48 @@ use Rattle.std.{proofs.Common.{◌≡◌, ℕ, Bool, true, false, List, Option, 
 use Rattle.http_header.specs.FieldValue.{FieldValue}
 use Rattle.headers.{specs.LineMap.Field, specs.Lines.Line}
 use Rattle.decide_cors.{specs.Kinds.IsKindOf, specs.Policy.Policy, specs.declared.kind.CorsKind.CorsKind}
-use Rattle.decide_cors.specs.declared.kind.CorsKind.TheVariants.{Preflight, Plain, NoOrigin}
+use Rattle.decide_cors.specs.declared.kind.CorsKind.TheVariants as kinds
 use Rattle.decide_preconditions.{specs.Contents.{divisible_len, limits_of}, specs.Responses.IsAnswered}
 use Rattle.decide_preconditions.specs.declared.content.Content.{Content}
 use Rattle.decide_preconditions.specs.declared.resource.Resource.{Resource as Target}
 use Rattle.decide_preconditions.{specs.declared.response.Response.Response, proofs.HeadLemmas.head_as_get}
 use Rattle.decide_resource.specs.Answers.{GivesIf, IsAnswer, IsSelected, IsShared, at_place, content_of, is_admitted}
-use Rattle.decide_resource.{specs.Answers.{response_fields, target_of}, specs.Applies.{applies, is_unacceptable}}
-use Rattle.decide_resource.{specs.Applies.{rule_for, takes_type}, specs.Fields.{reason_fields, vary_lines}}
+use Rattle.decide_resource.{specs.Answers.{response_fields, target_of}, specs.Applies.{applies, is_missing}}
+use Rattle.decide_resource.specs.Applies.{is_unacceptable, rule_for, takes_type}
+use Rattle.decide_resource.specs.Fields.{reason_fields, vary_lines}
 use Rattle.decide_resource.{specs.Representations.score, specs.Requests.{Request, get_of, head_of}}
 use Rattle.decide_resource.{specs.declared.answer.Answer.Answer, specs.declared.answer.Sends.Sends}
 use Rattle.decide_resource.{specs.declared.reason.Reason.Reason, specs.declared.reason.Reason.TheVariants.InvalidHost}
-use Rattle.decide_resource.specs.declared.reason.Reason.TheVariants.{Misdirected, UnknownMethod, MethodNotAllowed}
-use Rattle.decide_resource.specs.declared.reason.Reason.TheVariants.{Options, UnmetExpectation, PartialContent, Moved}
-use Rattle.decide_resource.specs.declared.reason.Reason.TheVariants.{Gone, NotFound, LengthRequired, ContentTooLarge}
+use Rattle.decide_resource.specs.declared.reason.Reason.TheVariants.{Misdirected, Preflight, Denied, UnknownMethod}
+use Rattle.decide_resource.specs.declared.reason.Reason.TheVariants.{MethodNotAllowed, UnmetExpectation, PartialContent}
+use Rattle.decide_resource.specs.declared.reason.Reason.TheVariants.{Moved, Gone, NotFound, Options, LengthRequired}
+use Rattle.decide_resource.specs.declared.reason.Reason.TheVariants.{ContentTooLarge}
 use Rattle.decide_resource.specs.declared.reason.Reason.TheVariants.{UnsupportedMediaType, UnsupportedCoding}
 use Rattle.decide_resource.specs.declared.reason.Reason.TheVariants.{NotAcceptable, PreconditionRequired, Admitted}
 use Rattle.decide_resource.specs.declared.representation.Representation.{Representation}
-use Rattle.decide_resource.{specs.declared.resource.Resource.Resource, proofs.PickLemmas.{first_alike, picks_alike}}
+use Rattle.decide_resource.{specs.declared.resource.Resource.Resource, specs.declared.resource.State.State}
+use Rattle.decide_resource.specs.declared.resource.State.TheVariants as states
+use Rattle.decide_resource.proofs.PickLemmas.{first_alike, picks_alike}
 
 module _ (resource : Resource) (request : Request) where
+  abbrev missing_by : State → List ℕ → Bool
+  missing_by state method =
+      is_missing state resource.rules.items (rule_for resource.rules.items method) method
+
+  missing_alike : (state : State) → missing_by state (codes "GET") ≡ missing_by state (codes "HEAD")
+  unfolding rule_for
+  missing_alike states.Current = refl
+  missing_alike states.Absent = refl
+  missing_alike states.Gone = refl
+  missing_alike (states.Moved redirect location) = refl
+  missing_alike states.Server = refl
+
   apply_alike : (reason : Reason) → applies resource (get_of request) reason ≡ applies resource (head_of request) reason
   unfolding rule_for is_unacceptable takes_type score
   apply_alike InvalidHost = refl
   apply_alike Misdirected = refl
+  apply_alike Preflight = refl
+  apply_alike Denied = refl
   apply_alike UnknownMethod = refl
   apply_alike MethodNotAllowed = refl
   apply_alike Options = refl
@@ -34,7 +52,7 @@ module _ (resource : Resource) (request : Request) where
   apply_alike PartialContent = refl
   apply_alike Moved = refl
   apply_alike Gone = refl
-  apply_alike NotFound = refl
+  apply_alike NotFound = missing_alike resource.state
   apply_alike LengthRequired = refl
   apply_alike ContentTooLarge = refl
   apply_alike UnsupportedMediaType = refl
@@ -48,6 +66,8 @@ module _ (resource : Resource) (request : Request) where
   unfolding rule_for
   reason_alike InvalidHost = refl
   reason_alike Misdirected = refl
+  reason_alike Preflight = refl
+  reason_alike Denied = refl
   reason_alike UnknownMethod = refl
   reason_alike MethodNotAllowed = refl
   reason_alike Options = refl
@@ -130,9 +150,9 @@ module _ (resource : Resource) (request : Request) where
 
   kind_alike : (kind : CorsKind) → IsKindOf (codes "GET") (get_of request).fields kind
       → IsKindOf (codes "HEAD") (head_of request).fields kind
-  kind_alike Preflight h = let options = h.1.0 in absurd (cc options)
-  kind_alike Plain h = (h.0, λ asks. let options = asks.0 in absurd (cc options))
-  kind_alike NoOrigin h = h
+  kind_alike kinds.Preflight h = let options = h.1.0 in absurd (cc options)
+  kind_alike kinds.Plain h = (h.0, λ asks. let options = asks.0 in absurd (cc options))
+  kind_alike kinds.NoOrigin h = h
 
   shared_alike : (policy : Option Policy) (lines : List Line) (fields : List Field)
       → IsShared policy (get_of request) lines fields → IsShared policy (head_of request) lines fields

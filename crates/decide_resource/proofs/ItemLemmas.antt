@@ -9,9 +9,10 @@ use Rattle.decide_resource.{specs.Applies.is_unacceptable, specs.Fields.reason_f
 use Rattle.decide_resource.{specs.Representations.{are_unacceptable, score}, specs.Requests.Request}
 use Rattle.decide_resource.{specs.declared.answer.Answer.Answer, specs.declared.answer.Sends.Sends}
 use Rattle.decide_resource.{specs.declared.reason.Reason.Reason, specs.declared.reason.Reason.TheVariants.InvalidHost}
-use Rattle.decide_resource.specs.declared.reason.Reason.TheVariants.{Misdirected, UnknownMethod, MethodNotAllowed}
-use Rattle.decide_resource.specs.declared.reason.Reason.TheVariants.{Options, UnmetExpectation, PartialContent, Moved}
-use Rattle.decide_resource.specs.declared.reason.Reason.TheVariants.{Gone, NotFound, LengthRequired, ContentTooLarge}
+use Rattle.decide_resource.specs.declared.reason.Reason.TheVariants.{Misdirected, Preflight, Denied, UnknownMethod}
+use Rattle.decide_resource.specs.declared.reason.Reason.TheVariants.{MethodNotAllowed, UnmetExpectation, PartialContent}
+use Rattle.decide_resource.specs.declared.reason.Reason.TheVariants.{Moved, Gone, NotFound, Options, LengthRequired}
+use Rattle.decide_resource.specs.declared.reason.Reason.TheVariants.{ContentTooLarge}
 use Rattle.decide_resource.specs.declared.reason.Reason.TheVariants.{UnsupportedMediaType, UnsupportedCoding}
 use Rattle.decide_resource.specs.declared.reason.Reason.TheVariants.{NotAcceptable, PreconditionRequired, Admitted}
 use Rattle.decide_resource.specs.declared.representation.Representation.{Representation}
@@ -36,6 +37,8 @@ module _ (now : ℕ) (resource : Resource) (v w : Vec Representation) (e : v.ite
   same_test NotAcceptable = unacceptable
   same_test InvalidHost = refl
   same_test Misdirected = refl
+  same_test Preflight = refl
+  same_test Denied = refl
   same_test UnknownMethod = refl
   same_test MethodNotAllowed = refl
   same_test Options = refl
@@ -55,6 +58,8 @@ module _ (now : ℕ) (resource : Resource) (v w : Vec Representation) (e : v.ite
   same_fields NotAcceptable = refl
   same_fields InvalidHost = refl
   same_fields Misdirected = refl
+  same_fields Preflight = refl
+  same_fields Denied = refl
   same_fields UnknownMethod = refl
   same_fields MethodNotAllowed = refl
   same_fields Options = refl

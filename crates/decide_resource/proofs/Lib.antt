@@ -1,6 +1,7 @@
 mod AllowLemmas
 pub mod AnswerLemmas
 mod ConditionLemmas
+mod DeniedLemmas
 mod GuardLemmas
 mod HeadLemmas
 pub mod ItemLemmas

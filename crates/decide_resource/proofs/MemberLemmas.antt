@@ -66,6 +66,7 @@ module _ (request : Request) (accept language coding : List Line)
         authority = request.authority;
         content = request.content;
         fields = s;
+        denied = request.denied;
       }
 
   score_same : (n : Negotiation) (x : Representation) → score n r x ≡ score n s x
@@ -205,6 +206,7 @@ module _ (present : ℕ) (resource : Resource) (a : Answer) where
         host = alike.host;
         expect = alike.expect;
         content = alike.content;
+        denied = alike.denied;
         content_type = alike.content_type;
         content_encoding = alike.content_encoding;
         content_range = alike.content_range;

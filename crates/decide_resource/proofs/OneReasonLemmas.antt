@@ -2,23 +2,24 @@
 use Rattle.std.proofs.Common.{◌≡◌, ℕ, ◌<◌, Bool, true, false, List, [], ◌∷◌, Option, Some, None, refl, sym, subst, inl}
 use Rattle.std.{proofs.Common.inr, specs.Prelude.{◌&&◌, ◌||◌, ◌==◌, not, find, if◌then◌else◌}}
 use Rattle.std.proofs.lemmas.Bool.{cases_order}
-use Rattle.decide_resource.specs.Applies.{applies, exceeds, has_moved, is_absent, is_gone, is_unsized}
+use Rattle.decide_resource.specs.Applies.{applies, exceeds, has_moved, is_gone, is_missing, is_unsized}
 use Rattle.decide_resource.{specs.Reasons.{IsFirst, in_order, or_admitted, stage}, specs.Requests.Request}
 use Rattle.decide_resource.{specs.declared.reason.Reason.Reason, specs.declared.reason.Reason.TheVariants.InvalidHost}
-use Rattle.decide_resource.specs.declared.reason.Reason.TheVariants.{Misdirected, UnknownMethod, MethodNotAllowed}
-use Rattle.decide_resource.specs.declared.reason.Reason.TheVariants.{Options, UnmetExpectation, PartialContent, Moved}
-use Rattle.decide_resource.specs.declared.reason.Reason.TheVariants.{Gone, NotFound, LengthRequired, ContentTooLarge}
+use Rattle.decide_resource.specs.declared.reason.Reason.TheVariants.{Misdirected, Preflight, Denied, UnknownMethod}
+use Rattle.decide_resource.specs.declared.reason.Reason.TheVariants.{MethodNotAllowed, UnmetExpectation, PartialContent}
+use Rattle.decide_resource.specs.declared.reason.Reason.TheVariants.{Moved, Gone, NotFound, Options, LengthRequired}
+use Rattle.decide_resource.specs.declared.reason.Reason.TheVariants.{ContentTooLarge}
 use Rattle.decide_resource.specs.declared.reason.Reason.TheVariants.{UnsupportedMediaType, UnsupportedCoding}
 use Rattle.decide_resource.specs.declared.reason.Reason.TheVariants.{NotAcceptable, PreconditionRequired, Admitted}
 use Rattle.decide_resource.specs.declared.request.RequestContent.{RequestContent}
 use Rattle.decide_resource.specs.declared.request.RequestContent.TheVariants as sent
-use Rattle.decide_resource.{specs.declared.resource.Resource.Resource, specs.declared.resource.State.State}
+use Rattle.decide_resource.{specs.declared.resource.MethodRule.MethodRule, specs.declared.resource.Resource.Resource}
+use Rattle.decide_resource.specs.declared.resource.State.{State}
 use Rattle.decide_resource.specs.declared.resource.State.TheVariants as state
 use Rattle.decide_resource.proofs.ReasonLemmas.{Among, first_in_order}
 
 -- the reasons of one stage exclude each other
 pub record AreExclusive (p : Reason → Bool) : Type 0 where
-  pub methods : p MethodNotAllowed ≡ true → p Options ≡ true → ⊥
   pub moved_gone : p Moved ≡ true → p Gone ≡ true → ⊥
   pub moved_missing : p Moved ≡ true → p NotFound ≡ true → ⊥
   pub gone_missing : p Gone ≡ true → p NotFound ≡ true → ⊥
@@ -29,23 +30,28 @@ abbrev of_stage : ℕ → List Reason
 of_stage n =
     if n == 0 then InvalidHost ∷ []
     else (if n == 1 then Misdirected ∷ []
-    else (if n == 2 then UnknownMethod ∷ []
-    else (if n == 3 then MethodNotAllowed ∷ Options ∷ []
-    else (if n == 4 then UnmetExpectation ∷ []
-    else (if n == 5 then PartialContent ∷ []
-    else (if n == 6 then Moved ∷ Gone ∷ NotFound ∷ []
-    else (if n == 7 then LengthRequired ∷ ContentTooLarge ∷ []
-    else (if n == 8 then UnsupportedMediaType ∷ []
-    else (if n == 9 then UnsupportedCoding ∷ []
-    else (if n == 10 then NotAcceptable ∷ []
-    else (if n == 11 then PreconditionRequired ∷ [] else Admitted ∷ [])))))))))))
+    else (if n == 2 then Preflight ∷ []
+    else (if n == 3 then Denied ∷ []
+    else (if n == 4 then UnknownMethod ∷ []
+    else (if n == 5 then MethodNotAllowed ∷ []
+    else (if n == 6 then UnmetExpectation ∷ []
+    else (if n == 7 then PartialContent ∷ []
+    else (if n == 8 then Moved ∷ Gone ∷ NotFound ∷ []
+    else (if n == 9 then Options ∷ []
+    else (if n == 10 then LengthRequired ∷ ContentTooLarge ∷ []
+    else (if n == 11 then UnsupportedMediaType ∷ []
+    else (if n == 12 then UnsupportedCoding ∷ []
+    else (if n == 13 then NotAcceptable ∷ []
+    else (if n == 14 then PreconditionRequired ∷ [] else Admitted ∷ []))))))))))))))
 
 own : (r : Reason) → Among r (of_stage (stage r))
 own InvalidHost = inl refl
 own Misdirected = inl refl
+own Preflight = inl refl
+own Denied = inl refl
 own UnknownMethod = inl refl
 own MethodNotAllowed = inl refl
-own Options = inr (inl refl)
+own Options = inl refl
 own UnmetExpectation = inl refl
 own PartialContent = inl refl
 own Moved = inl refl
@@ -80,10 +86,11 @@ module _ (p : Reason → Bool) (exclusive : AreExclusive p) where
   alike : (r s : Reason) → p r ≡ true → p s ≡ true → Among s (of_stage (stage r)) → r ≡ s
   alike InvalidHost s h k among = only InvalidHost s among
   alike Misdirected s h k among = only Misdirected s among
+  alike Preflight s h k among = only Preflight s among
+  alike Denied s h k among = only Denied s among
   alike UnknownMethod s h k among = only UnknownMethod s among
-  alike MethodNotAllowed s h k among = of_two MethodNotAllowed s Options exclusive.methods h k among
-  alike Options s h k (inl same) = absurd (exclusive.methods (holds s MethodNotAllowed same k) h)
-  alike Options s h k (inr rest) = only Options s rest
+  alike MethodNotAllowed s h k among = only MethodNotAllowed s among
+  alike Options s h k among = only Options s among
   alike UnmetExpectation s h k among = only UnmetExpectation s among
   alike PartialContent s h k among = only PartialContent s among
   alike Moved s h k (inl same) = sym same
@@ -121,27 +128,28 @@ module _ (p : Reason → Bool) (exclusive : AreExclusive p) where
             ]
       ]
 
-methods_apart : (b c : Bool) → not (b || c) ≡ true → b ≡ true → ⊥
-methods_apart true c h k = cc h
-methods_apart false c h k = cc k
-
 moved_or_gone : (state : State) → has_moved state ≡ true → is_gone state ≡ true → ⊥
 moved_or_gone state.Current h k = cc h
 moved_or_gone state.Absent h k = cc h
 moved_or_gone state.Gone h k = cc h
 moved_or_gone (state.Moved redirect location) h k = cc k
+moved_or_gone state.Server h k = cc h
 
-moved_or_missing : (state : State) (b : Bool) → has_moved state ≡ true → (is_absent state && b) ≡ true → ⊥
-moved_or_missing state.Current b h k = cc h
-moved_or_missing state.Absent b h k = cc h
-moved_or_missing state.Gone b h k = cc h
-moved_or_missing (state.Moved redirect location) b h k = cc k
+moved_or_missing : (state : State) (rules : List MethodRule) (rule : Option MethodRule) (method : List ℕ)
+    → has_moved state ≡ true → is_missing state rules rule method ≡ true → ⊥
+moved_or_missing state.Current rules rule method h k = cc h
+moved_or_missing state.Absent rules rule method h k = cc h
+moved_or_missing state.Gone rules rule method h k = cc h
+moved_or_missing (state.Moved redirect location) rules rule method h k = cc k
+moved_or_missing state.Server rules rule method h k = cc h
 
-gone_or_missing : (state : State) (b : Bool) → is_gone state ≡ true → (is_absent state && b) ≡ true → ⊥
-gone_or_missing state.Current b h k = cc h
-gone_or_missing state.Absent b h k = cc h
-gone_or_missing state.Gone b h k = cc k
-gone_or_missing (state.Moved redirect location) b h k = cc h
+gone_or_missing : (state : State) (rules : List MethodRule) (rule : Option MethodRule) (method : List ℕ)
+    → is_gone state ≡ true → is_missing state rules rule method ≡ true → ⊥
+gone_or_missing state.Current rules rule method h k = cc h
+gone_or_missing state.Absent rules rule method h k = cc h
+gone_or_missing state.Gone rules rule method h k = cc k
+gone_or_missing (state.Moved redirect location) rules rule method h k = cc h
+gone_or_missing state.Server rules rule method h k = cc h
 
 unsized_or_long : (b : Bool) (limit : Option ℕ) (content : RequestContent) → (b && is_unsized content) ≡ true
     → exceeds limit content ≡ true → ⊥
@@ -154,10 +162,9 @@ unsized_or_long false (Some limit) (sent.Sized len) h k = cc h
 pub exclusive : (resource : Resource) (request : Request) → AreExclusive (applies resource request)
 exclusive resource request =
     record {
-      methods = methods_apart _ _;
       moved_gone = moved_or_gone resource.state;
-      moved_missing = moved_or_missing resource.state _;
-      gone_missing = gone_or_missing resource.state _;
+      moved_missing = moved_or_missing resource.state _ _ _;
+      gone_missing = gone_or_missing resource.state _ _ _;
       lengths = unsized_or_long resource.needs_length resource.limit request.content;
     }
 

@@ -1,5 +1,6 @@
 -- An answer depends on the fields that decisions read, and on no other.
-use Rattle.std.{proofs.Common.{◌≡◌, ◌↔◌, ℕ, List, Option, Some, None, sym, ◌∙◌, ap, subst}, specs.Prelude.codes}
+use Rattle.std.proofs.Common.{◌≡◌, ◌↔◌, ℕ, List, Option, Some, None, sym, ◌∙◌, ap, subst, bytes_eq}
+use Rattle.std.specs.Prelude.{◌&&◌, codes}
 use Rattle.headers.{specs.LineMap.{Field, LineMap}, specs.Lines.Line, specs.Typed.HasLine}
 use Rattle.decide_cors.specs.Answer.{IsAnswer as IsPolicyAnswer, allows}
 use Rattle.decide_cors.{specs.Fields.{fields_sent, granted}, specs.Kinds.{IsKindOf, is_preflight}, specs.Policy.Policy}
@@ -7,7 +8,8 @@ use Rattle.decide_cors.{specs.declared.kind.CorsKind.CorsKind, specs.declared.ki
 use Rattle.decide_cors.specs.declared.kind.CorsKind.TheVariants.{Plain, NoOrigin}
 use Rattle.decide_cors.specs.declared.policy.CorsAnswer.{CorsAnswer}
 use Rattle.decide_resource.{specs.Answers.{IsAnswer, IsShared, is_admitted, varying}, specs.Fields.vary_lines}
-use Rattle.decide_resource.{specs.Requests.Request, specs.Vary.{AreAlike, ChooseAlike}}
+use Rattle.decide_resource.{specs.Applies.{is_preflight_request, is_present}, specs.Requests.Request}
+use Rattle.decide_resource.specs.Vary.{AreAlike, ChooseAlike}
 use Rattle.decide_resource.{specs.declared.answer.Answer.Answer, specs.declared.resource.Resource.Resource}
 use Rattle.decide_resource.{proofs.SamePlanLemmas.back, proofs.SelectionLemmas.SelectAlike}
 use Rattle.decide_resource.proofs.VaryLemmas.{gives_alike, same_first}
@@ -43,9 +45,21 @@ shared_alike (Some policy) r s lines fields method same h =
       h.2,
     )
 
+-- both are preflights, or neither is
+asks_alike : (m n : List ℕ) (r s : LineMap) → m ≡ n → ChooseAlike r s
+    → is_preflight_request m r ≡ is_preflight_request n s
+asks_alike m n r s method same =
+    let asked = codes "access-control-request-method" in
+    ap (λ (x : List ℕ). is_preflight_request x r) method
+    ∙ ap (λ (ls : List Line). bytes_eq n (codes "OPTIONS") && (is_present ls && is_present (r asked))) same.origin
+    ∙ ap (λ (ls : List Line). bytes_eq n (codes "OPTIONS") && (is_present (s (codes "origin")) && is_present ls))
+    same.requested_method
+
 transferred : (present : ℕ) (resource : Resource) (r s : Request) (a : Answer) → AreAlike r s
     → ChooseAlike r.fields s.fields → IsAnswer present resource r a → IsAnswer present resource s a
 transferred present resource r s a alike same h =
+    let leave : is_preflight_request r.method r.fields ≡ is_preflight_request s.method s.fields =
+    asks_alike r.method s.method r.fields s.fields alike.method same in
     let select : SelectAlike resource.negotiation r.fields s.fields =
     record {
       media_type = λ e. same.accept;
@@ -53,11 +67,11 @@ transferred present resource r s a alike same h =
       coding = λ e. same.accept_encoding;
     } in
     record {
-      first = same_first resource r s alike a.reason (λ e. select) h.first;
+      first = same_first resource r s alike leave a.reason (λ e. select) h.first;
       own = h.own;
       gives =
-          gives_alike resource r s alike present (is_admitted a.reason) a.reason a.status a.sends h.own (λ e. select)
-          h.gives;
+          gives_alike resource r s alike leave present (is_admitted a.reason) a.reason a.status a.sends h.own
+          (λ e. select) h.gives;
       shared = h.shared;
       is_shared =
           shared_alike resource.cors r s (vary_lines resource a.reason) h.shared alike.method same h.is_shared;
@@ -73,6 +87,7 @@ alike_back r s h =
       host = sym h.host;
       expect = sym h.expect;
       content = sym h.content;
+      denied = sym h.denied;
       content_type = sym h.content_type;
       content_encoding = sym h.content_encoding;
       content_range = λ put. sym (h.content_range (h.method ∙ put));

@@ -1,7 +1,8 @@
 -- Allow, ETag and Last-Modified of an answer.
 use Rattle.std.proofs.Common.{◌≡◌, ◌≢◌, ◌↔◌, ◌⊎◌, ℕ, Bool, true, false, List, [], ◌∷◌, ◌++◌, Option, Some, None, refl}
-use Rattle.std.{proofs.Common.{sym, ◌∙◌, ap, subst, inl, inr, lit≤, arith}, specs.Prelude.{◌||◌, Contains, codes}}
-use Rattle.std.{specs.Prelude.{if◌then◌else◌, is_some, not}, proofs.lemmas.Bool.cases_order}
+use Rattle.std.{proofs.Common.{sym, ◌∙◌, ap, subst, inl, inr, lit<, lit≤, arith, bytes_eq}, specs.Prelude.{◌&&◌, ◌||◌}}
+use Rattle.std.specs.Prelude.{Contains, codes, if◌then◌else◌, is_some, not}
+use Rattle.std.proofs.lemmas.Bool.{and_parts, cases_order}
 use Rattle.http_header.specs.FieldValue.{FieldValue}
 use Rattle.headers.{specs.Date.fixdate, specs.LineMap.{Field, LineMap, fields_of, set, set_all}, specs.Lines.Line}
 use Rattle.headers.{specs.Merge.merge, specs.Places.comma}
@@ -17,13 +18,14 @@ use Rattle.decide_preconditions.specs.declared.resource.Resource.{Resource as Ta
 use Rattle.decide_preconditions.specs.declared.response.Response.{Response}
 use Rattle.decide_resource.specs.Answers.{GivesIf, IsAnswer, IsShared, Stops, at_place, content_of, is_admitted}
 use Rattle.decide_resource.specs.Answers.{is_sent, response_fields, sent_for, target_of, with_metadata}
-use Rattle.decide_resource.{specs.Applies.{applies, methods, rule_for}, specs.Fields.{allow_field, offered_fields}}
+use Rattle.decide_resource.specs.Applies.{applies, is_implemented, is_preflight_request, is_present, methods, rule_for}
+use Rattle.decide_resource.specs.Fields.{allow_field, offered_fields}
 use Rattle.decide_resource.{specs.Fields.{types_fields, vary_fields, vary_lines}, specs.Reasons.{Before, IsFirst}}
 use Rattle.decide_resource.{specs.Reasons.stage, specs.Requests.{Request, unconditional}}
 use Rattle.decide_resource.{specs.declared.answer.Answer.Answer, specs.declared.answer.Sends.Sends}
 use Rattle.decide_resource.specs.declared.answer.Sends.TheVariants as sends
 use Rattle.decide_resource.specs.declared.reason.Reason.{Reason}
-use Rattle.decide_resource.specs.declared.reason.Reason.TheVariants.{MethodNotAllowed, NotAcceptable, Options}
+use Rattle.decide_resource.specs.declared.reason.Reason.TheVariants.{MethodNotAllowed, NotAcceptable, Options, Preflight}
 use Rattle.decide_resource.specs.declared.reason.Reason.TheVariants.{UnknownMethod, UnmetExpectation}
 use Rattle.decide_resource.specs.declared.representation.Representation.{Representation}
 use Rattle.decide_resource.{specs.declared.resource.MethodRule.MethodRule, specs.declared.resource.Resource.Resource}
@@ -123,15 +125,43 @@ module _ (present : ℕ) (resource : Resource) (request : Request) (answer : Ans
 
   -- ---- a preflight
 
-  pub preflight_told : answer.reason ≡ Options → (policy : Policy) → resource.cors ≡ Some policy → (rules : CorsRules)
-      (sent : Sent) → IsLawful rules → IsPolicyOf rules policy → IsPreflightFor sent request.method request.fields
-      → (answer.status ≡ Some 204)
-      × (PreflightPasses 204 (set_all before (fields_of answer.fields.items)) sent ↔ AllowsRequest rules sent)
-  preflight_told same policy has rules sent lawful made asks = (
-    (stops_by Options same refl).has_status,
-    preflight_of_answer present resource request answer policy has a before rules sent 204 lawful made asks
-        (lit≤ tt, lit≤ tt),
-  )
+  -- where there is a policy, the reason applies
+  asks_leave : (policy : Policy) → resource.cors ≡ Some policy → (sent : Sent)
+      → IsPreflightFor sent request.method request.fields → applies resource request Preflight ≡ true
+  asks_leave policy has sent asks =
+      ap (λ (cors : Option Policy). is_some cors && is_preflight_request request.method request.fields) has
+      ∙ ap (λ (m : List ℕ). is_preflight_request m request.fields) asks.options
+      ∙ ap
+      (λ (lines : List Line). is_present lines
+      && is_present (request.fields (codes "access-control-request-method")))
+      asks.origin
+      ∙ ap is_present asks.asked
+
+  only_preflight : (reason : Reason) → stage reason ≡ 2 → reason ≡ Preflight
+  only_preflight Preflight e = refl
+  only_preflight reason e = absurd (omega (arith, e))
+
+  pub preflight_told : (policy : Policy) → resource.cors ≡ Some policy → (rules : CorsRules) (sent : Sent)
+      → IsLawful rules → IsPolicyOf rules policy → IsPreflightFor sent request.method request.fields
+      → Before answer.reason Preflight
+      ⊎ ((answer.status ≡ Some 204)
+      × (PreflightPasses 204 (set_all before (fields_of answer.fields.items)) sent ↔ AllowsRequest rules sent))
+  preflight_told policy has rules sent lawful made asks =
+      elim (cases_order (stage answer.reason) 2) [
+        | inl level ↦
+            inr (
+              (stops_by Preflight (only_preflight answer.reason level) refl).has_status,
+              preflight_of_answer present resource request answer policy has a before rules sent 204 lawful made asks
+                  (lit≤ tt, lit≤ tt),
+            )
+        | inr apart ↦
+            elim apart [
+              | inl low ↦ inl low
+              | inr high ↦
+                  let none : applies resource request Preflight ≡ false = a.first.none_before Preflight high in
+                  absurd (cc (none, asks_leave policy has sent asks))
+            ]
+      ]
 
 -- ---- methods that are listed
 
@@ -161,9 +191,9 @@ listed_is_had present resource request answer a listed =
 
 pub unlisted_is_refused : (present : ℕ) (resource : Resource) (request : Request) (answer : Answer)
     → IsAnswer present resource request answer → ¬ (Contains (methods resource.rules.items) request.method)
-    → Before answer.reason UnmetExpectation × (answer.reason ≢ Options)
+    → Before answer.reason UnmetExpectation × (answer.reason ≢ Preflight)
 unlisted_is_refused present resource request answer a unlisted = (
-  elim (cases_order (stage answer.reason) 3) [
+  elim (cases_order (stage answer.reason) 5) [
     | inl level ↦ omega (arith, level)
     | inr apart ↦
         elim apart [
@@ -172,10 +202,11 @@ unlisted_is_refused present resource request answer a unlisted = (
         ]
   ],
   λ same.
-      let options = listed_applies resource request answer Options a.first same in
+      let leave = and_parts _ _ (listed_applies resource request answer Preflight a.first same) in
+      let options = and_parts (bytes_eq request.method (codes "OPTIONS")) _ leave.1 in
       unlisted
       ((allow_lists resource.rules.items request.method).1
-      (ap (λ (b : Bool). b || is_some (rule_for resource.rules.items request.method)) options)),
+      (ap (λ (b : Bool). b || is_some (rule_for resource.rules.items request.method)) options.0)),
 )
   where
     refused : applies resource request MethodNotAllowed ≡ true
@@ -184,6 +215,31 @@ unlisted_is_refused present resource request answer a unlisted = (
         by : (b : Bool) → applies resource request MethodNotAllowed ≡ b → b ≡ true
         by true e = refl
         by false e = absurd (unlisted ((allow_is_exact resource.rules.items request.method).1 e))
+
+-- ---- methods that the server implements
+
+first_of_two : (b c : Bool) → not (b || c) ≡ false → not c ≡ true → b ≡ true
+first_of_two true c e f = refl
+first_of_two false c e f = absurd (cc (e, f))
+
+neither : (b c : Bool) → not (b || c) ≡ true → b ≡ false
+neither true c e = absurd (cc e)
+neither false c e = refl
+
+pub implemented_not_allowed : (present : ℕ) (resource : Resource) (request : Request) (answer : Answer)
+    → IsAnswer present resource request answer → answer.reason ≡ MethodNotAllowed
+    → is_implemented resource.implemented.items request.method ≡ true
+implemented_not_allowed present resource request answer a same =
+    let before : Before UnknownMethod answer.reason =
+    subst (λ (r : Reason). Before UnknownMethod r) (sym same) (lit< tt) in
+    first_of_two _ _ (a.first.none_before UnknownMethod before)
+    (listed_applies resource request answer MethodNotAllowed a.first same)
+
+pub unknown_not_implemented : (present : ℕ) (resource : Resource) (request : Request) (answer : Answer)
+    → IsAnswer present resource request answer → answer.reason ≡ UnknownMethod
+    → is_implemented resource.implemented.items request.method ≡ false
+unknown_not_implemented present resource request answer a same =
+    neither _ _ (listed_applies resource request answer UnknownMethod a.first same)
 
 -- ---- ETag and Last-Modified
 

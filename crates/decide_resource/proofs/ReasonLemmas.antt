@@ -3,9 +3,10 @@ use Rattle.std.proofs.Common.{◌≡◌, ◌⊎◌, ◌<◌, ◌≤◌, Bool, tr
 use Rattle.std.{proofs.Common.{ap, subst, inl, inr, arith, lit≤}, specs.Prelude.find}
 use Rattle.decide_resource.specs.Reasons.{Before, IsFirst, in_order, or_admitted, stage}
 use Rattle.decide_resource.{specs.declared.reason.Reason.Reason, specs.declared.reason.Reason.TheVariants.InvalidHost}
-use Rattle.decide_resource.specs.declared.reason.Reason.TheVariants.{Misdirected, UnknownMethod, MethodNotAllowed}
-use Rattle.decide_resource.specs.declared.reason.Reason.TheVariants.{Options, UnmetExpectation, PartialContent, Moved}
-use Rattle.decide_resource.specs.declared.reason.Reason.TheVariants.{Gone, NotFound, LengthRequired, ContentTooLarge}
+use Rattle.decide_resource.specs.declared.reason.Reason.TheVariants.{Misdirected, Preflight, Denied, UnknownMethod}
+use Rattle.decide_resource.specs.declared.reason.Reason.TheVariants.{MethodNotAllowed, UnmetExpectation, PartialContent}
+use Rattle.decide_resource.specs.declared.reason.Reason.TheVariants.{Moved, Gone, NotFound, Options, LengthRequired}
+use Rattle.decide_resource.specs.declared.reason.Reason.TheVariants.{ContentTooLarge}
 use Rattle.decide_resource.specs.declared.reason.Reason.TheVariants.{UnsupportedMediaType, UnsupportedCoding}
 use Rattle.decide_resource.specs.declared.reason.Reason.TheVariants.{NotAcceptable, PreconditionRequired, Admitted}
 
@@ -99,7 +100,10 @@ ordered = (
               lit≤ tt,
               (
                 lit≤ tt,
-                (lit≤ tt, (lit≤ tt, (lit≤ tt, (lit≤ tt, (lit≤ tt, (lit≤ tt, (lit≤ tt, tt))))))),
+                (
+                  lit≤ tt,
+                  (lit≤ tt, (lit≤ tt, (lit≤ tt, (lit≤ tt, (lit≤ tt, (lit≤ tt, (lit≤ tt, (lit≤ tt, tt)))))))),
+                ),
               ),
             ),
           ),
@@ -112,27 +116,35 @@ ordered = (
 each : (s : Reason) → (s ≡ Admitted) ⊎ Among s in_order
 each InvalidHost = inr (inl refl)
 each Misdirected = inr (inr (inl refl))
-each UnknownMethod = inr (inr (inr (inl refl)))
-each MethodNotAllowed = inr (inr (inr (inr (inl refl))))
-each Options = inr (inr (inr (inr (inr (inl refl)))))
-each UnmetExpectation = inr (inr (inr (inr (inr (inr (inl refl))))))
-each PartialContent = inr (inr (inr (inr (inr (inr (inr (inl refl)))))))
-each Moved = inr (inr (inr (inr (inr (inr (inr (inr (inl refl))))))))
-each Gone = inr (inr (inr (inr (inr (inr (inr (inr (inr (inl refl)))))))))
-each NotFound = inr (inr (inr (inr (inr (inr (inr (inr (inr (inr (inl refl))))))))))
-each LengthRequired = inr (inr (inr (inr (inr (inr (inr (inr (inr (inr (inr (inl refl)))))))))))
-each ContentTooLarge = inr (inr (inr (inr (inr (inr (inr (inr (inr (inr (inr (inr (inl refl))))))))))))
-each UnsupportedMediaType = inr (inr (inr (inr (inr (inr (inr (inr (inr (inr (inr (inr (inr (inl refl)))))))))))))
-each UnsupportedCoding = inr (inr (inr (inr (inr (inr (inr (inr (inr (inr (inr (inr (inr (inr (inl refl))))))))))))))
-each NotAcceptable = inr (inr (inr (inr (inr (inr (inr (inr (inr (inr (inr (inr (inr (inr (inr (inl refl)))))))))))))))
-each PreconditionRequired =
+each Preflight = inr (inr (inr (inl refl)))
+each Denied = inr (inr (inr (inr (inl refl))))
+each UnknownMethod = inr (inr (inr (inr (inr (inl refl)))))
+each MethodNotAllowed = inr (inr (inr (inr (inr (inr (inl refl))))))
+each UnmetExpectation = inr (inr (inr (inr (inr (inr (inr (inl refl)))))))
+each PartialContent = inr (inr (inr (inr (inr (inr (inr (inr (inl refl))))))))
+each Moved = inr (inr (inr (inr (inr (inr (inr (inr (inr (inl refl)))))))))
+each Gone = inr (inr (inr (inr (inr (inr (inr (inr (inr (inr (inl refl))))))))))
+each NotFound = inr (inr (inr (inr (inr (inr (inr (inr (inr (inr (inr (inl refl)))))))))))
+each Options = inr (inr (inr (inr (inr (inr (inr (inr (inr (inr (inr (inr (inl refl))))))))))))
+each LengthRequired = inr (inr (inr (inr (inr (inr (inr (inr (inr (inr (inr (inr (inr (inl refl)))))))))))))
+each ContentTooLarge =
+    inr (inr (inr (inr (inr (inr (inr (inr (inr (inr (inr (inr (inr (inr (inl refl))))))))))))))
+each UnsupportedMediaType =
+    inr (inr (inr (inr (inr (inr (inr (inr (inr (inr (inr (inr (inr (inr (inr (inl refl)))))))))))))))
+each UnsupportedCoding =
     inr (inr (inr (inr (inr (inr (inr (inr (inr (inr (inr (inr (inr (inr (inr (inr (inl refl))))))))))))))))
+each NotAcceptable =
+    inr (inr (inr (inr (inr (inr (inr (inr (inr (inr (inr (inr (inr (inr (inr (inr (inr (inl refl)))))))))))))))))
+each PreconditionRequired =
+    inr (inr (inr (inr (inr (inr (inr (inr (inr (inr (inr (inr (inr (inr (inr (inr (inr (inr (inl refl))))))))))))))))))
 each Admitted = inl refl
 
 -- none comes after that nothing stands in the way
-last : (r : Reason) → stage r ≤ 12
+last : (r : Reason) → stage r ≤ 15
 last InvalidHost = lit≤ tt
 last Misdirected = lit≤ tt
+last Preflight = lit≤ tt
+last Denied = lit≤ tt
 last UnknownMethod = lit≤ tt
 last MethodNotAllowed = lit≤ tt
 last Options = lit≤ tt
@@ -157,7 +169,7 @@ first_in_order p admits None e =
       is = admits;
       none_before = λ s before.
           elim (each s) [
-            | inl own ↦ let level : stage s ≡ 12 = ap stage own in absurd (omega (arith, level, before))
+            | inl own ↦ let level : stage s ≡ 15 = ap stage own in absurd (omega (arith, level, before))
             | inr among ↦ found_none p in_order (sym e) s among
           ];
     }
@@ -168,8 +180,8 @@ first_in_order p admits (Some r) e =
       none_before = λ s before.
           elim (each s) [
             | inl own ↦
-                let level : stage s ≡ 12 = ap stage own in
-                let most : stage r ≤ 12 = last r in
+                let level : stage s ≡ 15 = ap stage own in
+                let most : stage r ≤ 15 = last r in
                 absurd (omega (arith, level, most, before))
             | inr among ↦ first.none_before s among before
           ];

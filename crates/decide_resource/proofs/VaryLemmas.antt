@@ -13,14 +13,17 @@ use Rattle.decide_cors.{specs.Kinds.is_preflight, specs.Policy.Policy, proofs.Sa
 use Rattle.decide_cors.proofs.VaryLemmas.{nominates-behind, origin_tells}
 use Rattle.decide_resource.specs.Answers.{AreSame, GivesIf, IsAnswer, IsShared, at_place, content_of, is_admitted}
 use Rattle.decide_resource.{specs.Answers.{response_fields, target_of, varying}, specs.Applies.{applies, is_current}}
-use Rattle.decide_resource.specs.Applies.{is_present, is_read, is_unacceptable, rule_for, is_unsupported_part}
-use Rattle.decide_resource.{specs.Applies.{takes_parts, takes_type}, specs.Fields.{depends_on_selection, describes}}
-use Rattle.decide_resource.specs.Fields.{line_if, metadata_fields, reason_fields, selecting, vary_fields, vary_lines}
+use Rattle.decide_resource.specs.Applies.{is_preflight_request, is_present, is_read, is_unacceptable, rule_for}
+use Rattle.decide_resource.specs.Applies.{is_unsupported_part, takes_parts, takes_type}
+use Rattle.decide_resource.specs.Fields.{depends_on_selection, describes, line_if, metadata_fields, reason_fields}
+use Rattle.decide_resource.specs.Fields.{selecting, status_of, vary_fields, vary_lines}
 use Rattle.decide_resource.{specs.Reasons.{IsFirst, stage}, specs.Representations.{are_unacceptable, score}}
 use Rattle.decide_resource.{specs.Requests.Request, specs.Vary.AreAlike, specs.declared.answer.Answer.Answer}
 use Rattle.decide_resource.{specs.declared.answer.Sends.Sends, specs.declared.reason.Reason.Reason}
-use Rattle.decide_resource.specs.declared.reason.Reason.TheVariants.{InvalidHost, Misdirected, UnknownMethod}
-use Rattle.decide_resource.specs.declared.reason.Reason.TheVariants.{MethodNotAllowed, Options, UnmetExpectation}
+use Rattle.decide_resource.specs.declared.reason.Reason.TheVariants.{InvalidHost, Misdirected, Preflight, Denied}
+use Rattle.decide_resource.specs.declared.reason.Reason.TheVariants.{UnknownMethod, MethodNotAllowed, UnmetExpectation}
+use Rattle.decide_resource.specs.declared.reason.Reason.TheVariants.{Options}
+use Rattle.decide_resource.specs.declared.denied.Denied.{Denied as Denial}
 use Rattle.decide_resource.specs.declared.reason.Reason.TheVariants.{PartialContent, Moved, Gone, NotFound}
 use Rattle.decide_resource.specs.declared.reason.Reason.TheVariants.{LengthRequired, ContentTooLarge}
 use Rattle.decide_resource.specs.declared.reason.Reason.TheVariants.{UnsupportedMediaType, UnsupportedCoding}
@@ -217,20 +220,21 @@ fields_with host expect type coding match none_match name =
     else (if bytes_eq (codes "if-none-match") name then none_match else [])))))
 
 -- a request of what the reasons read, but for 406 and for a part that PUT doesn't take
-built : Protocol → List ℕ → Option Line → RequestContent → List Line → List Line → List Line → List Line → List Line
-    → List Line → Request
-built protocol method authority content host expect type coding match none_match =
+built : Protocol → List ℕ → Option Line → RequestContent → Option Denial → List Line → List Line → List Line
+    → List Line → List Line → List Line → Request
+built protocol method authority content denied host expect type coding match none_match =
     record {
       protocol = protocol;
       method = method;
       authority = authority;
       content = content;
       fields = fields_with host expect type coding match none_match;
+      denied = denied;
     }
 
 abbrev read_of : Request → Request
 read_of q =
-    built q.protocol q.method q.authority q.content (q.fields (codes "host")) (q.fields (codes "expect"))
+    built q.protocol q.method q.authority q.content q.denied (q.fields (codes "host")) (q.fields (codes "expect"))
     (q.fields (codes "content-type")) (q.fields (codes "content-encoding")) (q.fields (codes "if-match"))
     (q.fields (codes "if-none-match"))
 
@@ -241,6 +245,7 @@ same_read r s h =
       h.method,
       h.authority,
       h.content,
+      h.denied,
       h.host,
       h.expect,
       h.content_type,
@@ -249,9 +254,11 @@ same_read r s h =
       h.asks.if_none_match,
     )
 
-early : (reason : Reason) → depends_on_selection reason ≡ false → stage reason < 10
+early : (reason : Reason) → depends_on_selection reason ≡ false → stage reason < 13
 early InvalidHost e = lit< tt
 early Misdirected e = lit< tt
+early Preflight e = lit< tt
+early Denied e = lit< tt
 early UnknownMethod e = lit< tt
 early MethodNotAllowed e = lit< tt
 early Options e = lit< tt
@@ -272,10 +279,20 @@ admitted_depends : (reason : Reason) → is_admitted reason ≡ true → depends
 admitted_depends Admitted e = refl
 admitted_depends reason e = absurd (cc e)
 
-other_than : (reason : Reason) → stage reason < 10 → reason ≢ NotAcceptable
-other_than reason low e = let level : stage reason ≡ 10 = ap stage e in omega (arith, low, level)
+other_than : (reason : Reason) → stage reason < 13 → reason ≢ NotAcceptable
+other_than reason low e = let level : stage reason ≡ 13 = ap stage e in omega (arith, low, level)
 
-module _ (resource : Resource) (r s : Request) (alike : AreAlike r s) where
+no_preflight : (m : List ℕ) (fields : LineMap) → m ≢ codes "OPTIONS" → is_preflight_request m fields ≡ false
+no_preflight m fields other = by (bytes_eq m (codes "OPTIONS")) refl
+  where
+    by : (b : Bool) → bytes_eq m (codes "OPTIONS") ≡ b
+        → (b && (is_present (fields (codes "origin")) && is_present (fields (codes "access-control-request-method"))))
+        ≡ false
+    by true e = absurd (other ((bytes_eq-Decides m (codes "OPTIONS")).0 e))
+    by false e = refl
+
+module _ (resource : Resource) (r s : Request) (alike : AreAlike r s)
+    (leave : is_preflight_request r.method r.fields ≡ is_preflight_request s.method s.fields) where
   -- only of PUT does Content-Range count
   same_part : (m : List ℕ)
       → (m ≡ codes "PUT" → r.fields (codes "content-range") ≡ s.fields (codes "content-range"))
@@ -295,6 +312,8 @@ module _ (resource : Resource) (r s : Request) (alike : AreAlike r s) where
   unfolding built rule_for takes_type
   same_reason InvalidHost other = ap (λ (q : Request). applies resource q InvalidHost) (same_read r s alike)
   same_reason Misdirected other = ap (λ (q : Request). applies resource q Misdirected) (same_read r s alike)
+  same_reason Preflight other = ap (λ (b : Bool). is_some resource.cors && b) leave
+  same_reason Denied other = ap (λ (q : Request). applies resource q Denied) (same_read r s alike)
   same_reason UnknownMethod other = ap (λ (q : Request). applies resource q UnknownMethod) (same_read r s alike)
   same_reason MethodNotAllowed other = ap (λ (q : Request). applies resource q MethodNotAllowed) (same_read r s alike)
   same_reason Options other = ap (λ (q : Request). applies resource q Options) (same_read r s alike)
@@ -321,6 +340,7 @@ module _ (resource : Resource) (r s : Request) (alike : AreAlike r s) where
   same_fields : (reason : Reason) → reason_fields resource r reason ≡ reason_fields resource s reason
   unfolding built rule_for
   same_fields InvalidHost = refl
+  same_fields Denied = ap (λ (q : Request). reason_fields resource q Denied) (same_read r s alike)
   same_fields UnsupportedMediaType =
       ap (λ (q : Request). reason_fields resource q UnsupportedMediaType) (same_read r s alike)
   same_fields UnsupportedCoding =
@@ -358,12 +378,12 @@ module _ (resource : Resource) (r s : Request) (alike : AreAlike r s) where
       elim (cases_Bool (depends_on_selection reason)) [
         | inl dep ↦ first_alike (applies resource r) (applies resource s) (all_reasons (select dep)) reason h
         | inr free ↦
-            let low : stage reason < 10 = early reason free in
+            let low : stage reason < 13 = early reason free in
             record {
               is = sym (same_reason reason (other_than reason low)) ∙ h.is;
               none_before = λ other before.
                   let less : stage other < stage reason = before in
-                  let lower : stage other < 10 = omega (arith, less, low) in
+                  let lower : stage other < 13 = omega (arith, less, low) in
                   sym (same_reason other (other_than other lower)) ∙ h.none_before other before;
             }
       ]
@@ -402,7 +422,12 @@ module _ (resource : Resource) (r s : Request) (alike : AreAlike r s) where
             };
       }
   gives_alike present false reason status sent fields select h =
-      record { has_status = h.has_status; sends = h.sends; has_fields = h.has_fields ∙ same_fields reason }
+      record {
+        has_status =
+            h.has_status ∙ ap (λ (why : Option Denial). Some (status_of resource.state why reason)) alike.denied;
+        sends = h.sends;
+        has_fields = h.has_fields ∙ same_fields reason;
+      }
 
   shared_alike : (policy : Option Policy) (lines : List Line) (fs gs : List Field)
       → ((p : Policy) → policy ≡ Some p → granted p (r.fields (codes "origin")) ≡ granted p (s.fields (codes "origin")))
@@ -421,10 +446,12 @@ pub vary_is_sound : (present : ℕ) (resource : Resource) (r s : Request) (a b :
     → Serves (set_all before (fields_of a.fields.items) (codes "vary")) r.fields s.fields → AreSame a b
 vary_is_sound present resource r s a b before h k alike other v =
     let select = selects present resource r a h before r.fields s.fields v in
+    let leave : is_preflight_request r.method r.fields ≡ is_preflight_request s.method s.fields =
+    no_preflight r.method r.fields other ∙ sym (no_preflight s.method s.fields (λ e. other (alike.method ∙ e))) in
     let reason : b.reason ≡ a.reason =
-    one_reason resource s b.reason a.reason k.first (same_first resource r s alike a.reason select h.first) in
+    one_reason resource s b.reason a.reason k.first (same_first resource r s alike leave a.reason select h.first) in
     let mine : GivesIf (is_admitted a.reason) present resource s a.reason a.status a.sends h.own =
-    gives_alike resource r s alike present (is_admitted a.reason) a.reason a.status a.sends h.own
+    gives_alike resource r s alike leave present (is_admitted a.reason) a.reason a.status a.sends h.own
     (λ e. select (admitted_depends a.reason e)) h.gives in
     let theirs : GivesIf (is_admitted a.reason) present resource s a.reason b.status b.sends k.own =
     subst (λ (q : Reason). GivesIf (is_admitted q) present resource s q b.status b.sends k.own) reason k.gives in
@@ -433,7 +460,7 @@ vary_is_sound present resource r s a b before h k alike other v =
     let shares : IsShared resource.cors s (vary_lines resource a.reason) k.shared =
     subst (λ (q : Reason). IsShared resource.cors s (vary_lines resource q) k.shared) reason k.is_shared in
     let shared : h.shared ≡ k.shared =
-    shared_alike resource r s alike resource.cors (vary_lines resource a.reason) h.shared k.shared
+    shared_alike resource r s alike leave resource.cors (vary_lines resource a.reason) h.shared k.shared
     (grants present resource r a h before r.fields s.fields v) other h.is_shared shares in
     record {
       reason = sym reason;

@@ -34,6 +34,7 @@ abbrev pub place_in : State → List Representation → Option ℕ → Option �
 place_in state.Current representations choice = place_of representations choice
 place_in state.Absent representations choice = None
 place_in state.Gone representations choice = None
+place_in state.Server representations choice = None
 place_in (state.Moved redirect location) representations choice = None
 
 -- The place of the representation that a request selects. It is the one that the client prefers, or else the first.
@@ -54,6 +55,7 @@ abbrev pub bare : State → Target
 bare state.Current = without_validators
 bare state.Absent = target.Missing
 bare state.Gone = target.Missing
+bare state.Server = target.Missing
 bare (state.Moved redirect location) = target.Missing
 
 abbrev pub no_content : Content
@@ -119,7 +121,7 @@ sent_for reason = sends.Nothing
 
 pub record Stops (resource : Resource) (request : Request) (reason : Reason) (status : Option ℕ) (sent : Sends)
     (fields : List Field) : Type 0 where
-  pub has_status : status ≡ Some (status_of resource.state reason)
+  pub has_status : status ≡ Some (status_of resource.state request.denied reason)
   pub sends : sent ≡ sent_for reason
   pub has_fields : fields ≡ reason_fields resource request reason
 

@@ -12,9 +12,10 @@ use Rattle.decide_preconditions.specs.Tags.{is_star}
 use Rattle.headers_syntax.specs.AsciiCase.{same_name}
 use Rattle.decide_resource.{specs.Representations.are_unacceptable, specs.Requests.Request}
 use Rattle.decide_resource.{specs.declared.reason.Reason.Reason, specs.declared.reason.Reason.TheVariants.InvalidHost}
-use Rattle.decide_resource.specs.declared.reason.Reason.TheVariants.{Misdirected, UnknownMethod, MethodNotAllowed}
-use Rattle.decide_resource.specs.declared.reason.Reason.TheVariants.{Options, UnmetExpectation, PartialContent, Moved}
-use Rattle.decide_resource.specs.declared.reason.Reason.TheVariants.{Gone, NotFound, LengthRequired, ContentTooLarge}
+use Rattle.decide_resource.specs.declared.reason.Reason.TheVariants.{Misdirected, Preflight, Denied, UnknownMethod}
+use Rattle.decide_resource.specs.declared.reason.Reason.TheVariants.{MethodNotAllowed, UnmetExpectation, PartialContent}
+use Rattle.decide_resource.specs.declared.reason.Reason.TheVariants.{Moved, Gone, NotFound, Options, LengthRequired}
+use Rattle.decide_resource.specs.declared.reason.Reason.TheVariants.{ContentTooLarge}
 use Rattle.decide_resource.specs.declared.reason.Reason.TheVariants.{UnsupportedMediaType, UnsupportedCoding}
 use Rattle.decide_resource.specs.declared.reason.Reason.TheVariants.{NotAcceptable, PreconditionRequired, Admitted}
 use Rattle.decide_resource.specs.declared.request.RequestContent.{RequestContent}
@@ -53,11 +54,14 @@ is_misdirected resource request =
 
 -- ---- the method (section 9)
 
--- the methods of RFC 9110, section 9.3, and PATCH (RFC 5789)
-abbrev pub standard_methods : List (List ℕ)
-standard_methods =
-    codes "GET" ∷ codes "HEAD" ∷ codes "POST" ∷ codes "PUT" ∷ codes "DELETE" ∷ codes "CONNECT" ∷ codes "OPTIONS"
-    ∷ codes "TRACE" ∷ codes "PATCH" ∷ []
+-- GET or HEAD
+abbrev pub is_read : List ℕ → Bool
+is_read method = bytes_eq method (codes "GET") || bytes_eq method (codes "HEAD")
+
+-- The server implements the method for some resource, if these are the methods that it names. Each implements GET and
+-- HEAD (section 9.1).
+abbrev pub is_implemented : List (List ℕ) → List ℕ → Bool
+is_implemented named method = is_read method || list_any (bytes_eq method) named
 
 -- the method whose rule counts: HEAD is answered as GET (section 9.3.2)
 abbrev pub ruled : List ℕ → List ℕ
@@ -87,9 +91,6 @@ methods_of rule =
 abbrev pub methods : List MethodRule → List (List ℕ)
 methods rules = flat_map methods_of rules ++ codes "OPTIONS" ∷ []
 
-abbrev pub is_standard : List ℕ → Bool
-is_standard method = list_any (bytes_eq method) standard_methods
-
 -- ---- the state (sections 15.4 and 15.5)
 
 abbrev pub has_moved : State → Bool
@@ -97,27 +98,34 @@ has_moved (state.Moved redirect location) = true
 has_moved state.Current = false
 has_moved state.Absent = false
 has_moved state.Gone = false
+has_moved state.Server = false
 
 abbrev pub is_gone : State → Bool
 is_gone state.Gone = true
 is_gone state.Current = false
 is_gone state.Absent = false
 is_gone (state.Moved redirect location) = false
-
-abbrev pub is_absent : State → Bool
-is_absent state.Absent = true
-is_absent state.Current = false
-is_absent state.Gone = false
-is_absent (state.Moved redirect location) = false
+is_gone state.Server = false
 
 abbrev pub is_current : State → Bool
 is_current state.Current = true
 is_current state.Absent = false
 is_current state.Gone = false
 is_current (state.Moved redirect location) = false
+is_current state.Server = false
 
 abbrev pub creates : Option MethodRule → Bool
 creates rule = option_map_or (λ r. r.creates) rule false
+
+-- There is no representation, and the method, where this is the rule for it, makes none. OPTIONS asks about all methods,
+-- so it does if one does. The server in general represents nothing, and answers OPTIONS (section 9.3.7).
+abbrev pub is_missing : State → List MethodRule → Option MethodRule → List ℕ → Bool
+is_missing state.Absent rules rule method =
+    not (if bytes_eq method (codes "OPTIONS") then list_any (λ r. r.creates) rules else creates rule)
+is_missing state.Server rules rule method = not (bytes_eq method (codes "OPTIONS"))
+is_missing state.Current rules rule method = false
+is_missing state.Gone rules rule method = false
+is_missing (state.Moved redirect location) rules rule method = false
 
 -- ---- the content of the request
 
@@ -176,6 +184,14 @@ abbrev pub is_unsupported_part : Option MethodRule → List ℕ → List Line �
 is_unsupported_part rule method ranges =
     bytes_eq method (codes "PUT") && (is_present ranges && not (takes_parts rule))
 
+-- ---- requests from other origins
+
+-- a preflight: OPTIONS with Origin, and with the method that it asks about (Fetch standard, "CORS-preflight request")
+abbrev pub is_preflight_request : List ℕ → LineMap → Bool
+is_preflight_request method fields =
+    bytes_eq method (codes "OPTIONS")
+    && (is_present (fields (codes "origin")) && is_present (fields (codes "access-control-request-method")))
+
 -- ---- conditions (RFC 6585, section 3)
 
 -- The request names what it may replace: by entity tags in If-Match, the representation that has one of them; by `*` in
@@ -192,10 +208,6 @@ needs_condition rule = option_map_or (λ r. r.needs_condition) rule false
 
 -- ---- reading
 
--- GET or HEAD
-abbrev pub is_read : List ℕ → Bool
-is_read method = bytes_eq method (codes "GET") || bytes_eq method (codes "HEAD")
-
 -- a read of a current representation of which none is acceptable, by a resource that says so
 unfoldable pub is_unacceptable : Resource → Request → Bool
 is_unacceptable resource request =
@@ -210,14 +222,17 @@ module _ (resource : Resource) (request : Request) where
   abbrev pub applies_by : Option MethodRule → Reason → Bool
   applies_by rule InvalidHost = not (has_host request.protocol (request.fields (codes "host")))
   applies_by rule Misdirected = is_misdirected resource request
-  applies_by rule UnknownMethod = not (is_standard request.method || has_method_by rule request.method)
+  applies_by rule Preflight = is_some resource.cors && is_preflight_request request.method request.fields
+  applies_by rule Denied = is_some request.denied
+  applies_by rule UnknownMethod =
+      not (is_implemented resource.implemented.items request.method || has_method_by rule request.method)
   applies_by rule MethodNotAllowed = not (has_method_by rule request.method)
-  applies_by rule Options = bytes_eq request.method (codes "OPTIONS")
   applies_by rule UnmetExpectation = not (has_known_expectation (request.fields (codes "expect")))
   applies_by rule PartialContent = is_unsupported_part rule request.method (request.fields (codes "content-range"))
   applies_by rule Moved = has_moved resource.state
   applies_by rule Gone = is_gone resource.state
-  applies_by rule NotFound = is_absent resource.state && not (creates rule)
+  applies_by rule NotFound = is_missing resource.state resource.rules.items rule request.method
+  applies_by rule Options = bytes_eq request.method (codes "OPTIONS")
   applies_by rule LengthRequired = resource.needs_length && is_unsized request.content
   applies_by rule ContentTooLarge = exceeds resource.limit request.content
   applies_by rule UnsupportedMediaType =

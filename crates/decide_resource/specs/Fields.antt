@@ -1,15 +1,18 @@
 -- The fields of an answer, and its status (RFC 9110).
-use Rattle.std.specs.Prelude.{ℕ, Bool, true, false, List, [], ◌∷◌, ◌++◌, Option, Some, None, bytes_eq, codes, not}
-use Rattle.std.{specs.Prelude.if◌then◌else◌, specs.Option.option_map_or}
+use Rattle.std.specs.Prelude.{ℕ, Bool, true, false, List, [], ◌∷◌, ◌++◌, Option, Some, None, bytes_eq, codes, decimal}
+use Rattle.std.{specs.Prelude.{if◌then◌else◌, not}, specs.Option.option_map_or}
 use Rattle.http_header.specs.FieldValue.{FieldValue}
 use Rattle.headers.{specs.LineMap.{Field, lines_at}, specs.Lines.Line, specs.Merge.merge, specs.Places.comma}
 use Rattle.decide_preconditions.{specs.declared.plan.Plan.Plan, specs.declared.plan.Plan.TheVariants.NotModified}
 use Rattle.decide_preconditions.specs.declared.plan.Plan.TheVariants.{Failed, Full, Single, Multiple, Unsatisfiable}
 use Rattle.decide_resource.{specs.Applies.{methods, rule, rule_for}, specs.Requests.Request}
+use Rattle.decide_resource.specs.declared.denied.Denied.{Denied as Denial}
+use Rattle.decide_resource.specs.declared.denied.Denied.TheVariants as denied
 use Rattle.decide_resource.{specs.declared.reason.Reason.Reason, specs.declared.reason.Reason.TheVariants.InvalidHost}
-use Rattle.decide_resource.specs.declared.reason.Reason.TheVariants.{Misdirected, UnknownMethod, MethodNotAllowed}
-use Rattle.decide_resource.specs.declared.reason.Reason.TheVariants.{Options, UnmetExpectation, PartialContent, Moved}
-use Rattle.decide_resource.specs.declared.reason.Reason.TheVariants.{Gone, NotFound, LengthRequired, ContentTooLarge}
+use Rattle.decide_resource.specs.declared.reason.Reason.TheVariants.{Misdirected, Preflight, Denied, UnknownMethod}
+use Rattle.decide_resource.specs.declared.reason.Reason.TheVariants.{MethodNotAllowed, UnmetExpectation, PartialContent}
+use Rattle.decide_resource.specs.declared.reason.Reason.TheVariants.{Moved, Gone, NotFound, Options, LengthRequired}
+use Rattle.decide_resource.specs.declared.reason.Reason.TheVariants.{ContentTooLarge}
 use Rattle.decide_resource.specs.declared.reason.Reason.TheVariants.{UnsupportedMediaType, UnsupportedCoding}
 use Rattle.decide_resource.specs.declared.reason.Reason.TheVariants.{NotAcceptable, PreconditionRequired, Admitted}
 use Rattle.decide_resource.specs.declared.representation.Negotiation.{Negotiation}
@@ -32,28 +35,59 @@ moved_status (state.Moved redirect location) = redirect_status redirect
 moved_status state.Current = 200
 moved_status state.Absent = 200
 moved_status state.Gone = 200
+moved_status state.Server = 200
 
--- the status of a reason, where the state says which redirect; that of a request that goes on isn't among them
-abbrev pub status_of : State → Reason → ℕ
-status_of state InvalidHost = 400
-status_of state Misdirected = 421
-status_of state UnknownMethod = 501
-status_of state MethodNotAllowed = 405
-status_of state Options = 204
-status_of state UnmetExpectation = 417
-status_of state PartialContent = 400
-status_of state Moved = moved_status state
-status_of state Gone = 410
-status_of state NotFound = 404
-status_of state LengthRequired = 411
-status_of state ContentTooLarge = 413
-status_of state UnsupportedMediaType = 415
-status_of state UnsupportedCoding = 415
-status_of state NotAcceptable = 406
-status_of state PreconditionRequired = 428
-status_of state Admitted = 200
+-- the status of a request that is denied (sections 15.5.2, 15.5.4 and 15.6.4; RFC 6585, section 4)
+abbrev pub status_denied : Denial → ℕ
+status_denied (denied.Unauthenticated challenge) = 401
+status_denied denied.Forbidden = 403
+status_denied (denied.TooManyRequests seconds) = 429
+status_denied (denied.Unavailable seconds) = 503
+
+abbrev pub denied_status : Option Denial → ℕ
+denied_status None = 200
+denied_status (Some why) = status_denied why
+
+-- The status of a reason, where the state says which redirect, and the request why it is denied; that of a request that
+-- goes on isn't among them.
+abbrev pub status_of : State → Option Denial → Reason → ℕ
+status_of state why InvalidHost = 400
+status_of state why Misdirected = 421
+status_of state why Preflight = 204
+status_of state why Denied = denied_status why
+status_of state why UnknownMethod = 501
+status_of state why MethodNotAllowed = 405
+status_of state why UnmetExpectation = 417
+status_of state why PartialContent = 400
+status_of state why Moved = moved_status state
+status_of state why Gone = 410
+status_of state why NotFound = 404
+status_of state why Options = 204
+status_of state why LengthRequired = 411
+status_of state why ContentTooLarge = 413
+status_of state why UnsupportedMediaType = 415
+status_of state why UnsupportedCoding = 415
+status_of state why NotAcceptable = 406
+status_of state why PreconditionRequired = 428
+status_of state why Admitted = 200
 
 -- ---- the fields that explain a reason
+
+-- after how many seconds a client may send another request (section 10.2.3)
+abbrev pub retry_field : ℕ → Field
+retry_field seconds = (codes "retry-after", decimal seconds ∷ [])
+
+abbrev pub retry_fields : Option ℕ → List Field
+retry_fields None = []
+retry_fields (Some seconds) = retry_field seconds ∷ []
+
+-- a 401 has challenges (section 11.6.1), and a 429 or a 503 says when to come again, if that is known
+abbrev pub denied_fields : Option Denial → List Field
+denied_fields None = []
+denied_fields (Some (denied.Unauthenticated challenge)) = (codes "www-authenticate", challenge.bytes ∷ []) ∷ []
+denied_fields (Some denied.Forbidden) = []
+denied_fields (Some (denied.TooManyRequests seconds)) = retry_fields seconds
+denied_fields (Some (denied.Unavailable seconds)) = retry_fields seconds
 
 -- Allow lists the methods (section 10.2.1)
 abbrev pub allow_field : List MethodRule → Field
@@ -65,6 +99,7 @@ location_fields (state.Moved redirect location) = (codes "location", location.by
 location_fields state.Current = []
 location_fields state.Absent = []
 location_fields state.Gone = []
+location_fields state.Server = []
 
 -- the field of this name lists the media types that a method takes
 abbrev pub types_fields : List ℕ → Option MethodRule → List Field
@@ -98,6 +133,7 @@ accept_encoding_fields rule =
 module _ (resource : Resource) (request : Request) where
   -- A 415 for a media type has no Accept-Encoding, from which a client would learn that a coding is to blame (12.5.3).
   abbrev pub reason_fields : Reason → List Field
+  reason_fields Denied = denied_fields request.denied
   reason_fields MethodNotAllowed = allow_field resource.rules.items ∷ []
   reason_fields Options = allow_field resource.rules.items ∷ offered_fields resource.rules.items
   reason_fields Moved = location_fields resource.state
@@ -105,6 +141,7 @@ module _ (resource : Resource) (request : Request) where
   reason_fields UnsupportedCoding = accept_encoding_fields (rule resource request)
   reason_fields InvalidHost = []
   reason_fields Misdirected = []
+  reason_fields Preflight = []
   reason_fields UnknownMethod = []
   reason_fields UnmetExpectation = []
   reason_fields PartialContent = []
@@ -158,6 +195,8 @@ depends_on_selection PreconditionRequired = true
 depends_on_selection Admitted = true
 depends_on_selection InvalidHost = false
 depends_on_selection Misdirected = false
+depends_on_selection Preflight = false
+depends_on_selection Denied = false
 depends_on_selection UnknownMethod = false
 depends_on_selection MethodNotAllowed = false
 depends_on_selection Options = false

@@ -1,9 +1,10 @@
 -- Which of the reasons that apply to a request decides.
 use Rattle.std.specs.Prelude.{◌≡◌, ℕ, ◌<◌, Bool, true, false, List, [], ◌∷◌, Option, Some, None}
 use Rattle.decide_resource.{specs.declared.reason.Reason.Reason, specs.declared.reason.Reason.TheVariants.InvalidHost}
-use Rattle.decide_resource.specs.declared.reason.Reason.TheVariants.{Misdirected, UnknownMethod, MethodNotAllowed}
-use Rattle.decide_resource.specs.declared.reason.Reason.TheVariants.{Options, UnmetExpectation, PartialContent, Moved}
-use Rattle.decide_resource.specs.declared.reason.Reason.TheVariants.{Gone, NotFound, LengthRequired, ContentTooLarge}
+use Rattle.decide_resource.specs.declared.reason.Reason.TheVariants.{Misdirected, Preflight, Denied, UnknownMethod}
+use Rattle.decide_resource.specs.declared.reason.Reason.TheVariants.{MethodNotAllowed, UnmetExpectation, PartialContent}
+use Rattle.decide_resource.specs.declared.reason.Reason.TheVariants.{Moved, Gone, NotFound, Options, LengthRequired}
+use Rattle.decide_resource.specs.declared.reason.Reason.TheVariants.{ContentTooLarge}
 use Rattle.decide_resource.specs.declared.reason.Reason.TheVariants.{UnsupportedMediaType, UnsupportedCoding}
 use Rattle.decide_resource.specs.declared.reason.Reason.TheVariants.{NotAcceptable, PreconditionRequired, Admitted}
 
@@ -11,32 +12,38 @@ use Rattle.decide_resource.specs.declared.reason.Reason.TheVariants.{NotAcceptab
 --
 -- 0, 1: a request without a valid Host is answered by 400 whatever else it says (RFC 9112, section 3.2), and one that
 -- was sent to another server is no request for the resource (RFC 9110, section 7.4).
--- 2, 3: a method that is known is compared with those of the resource (section 9.1).
--- 4: our choice: a method that is never performed, as OPTIONS, raises no expectation (section 10.1.1).
--- 5: a part is no content of the method, whatever the state of the resource (section 14.5).
--- 6: our choice: a client learns where the resource is before it is asked for other content.
--- 7, 8, 9: our choice: the content's length, its type, its codings, each before the next.
--- 10: our choice: what can't be performed needs no representation.
--- 11: a precondition is asked for only if the request would otherwise go on (RFC 6585, section 3).
--- 12: preconditions are evaluated after all other checks, and before the method is performed (section 13.2.1).
+-- 2: a preflight has no credentials (Fetch standard, "CORS-preflight fetch"), so it is answered before they are asked for.
+-- 3: a request that is denied learns nothing of the resource: neither which methods it has nor whether it exists (RFC
+-- 9110, sections 15.5.4 and 15.5.5).
+-- 4, 5: a method that the server implements is compared with those of the resource (section 9.1).
+-- 6: our choice: an expectation is about the exchange, and not about the resource (section 10.1.1).
+-- 7: a part is no content of the method, whatever the state of the resource (section 14.5).
+-- 8: our choice: a client learns where the resource is before it is asked for other content.
+-- 9: OPTIONS tells the methods of what is there (section 9.3.7), and has no content.
+-- 10, 11, 12: our choice: the content's length, its type, its codings, each before the next.
+-- 13: our choice: what can't be performed needs no representation.
+-- 14: a precondition is asked for only if the request would otherwise go on (RFC 6585, section 3).
+-- 15: preconditions are evaluated after all other checks, and before the method is performed (section 13.2.1).
 abbrev pub stage : Reason → ℕ
 stage InvalidHost = 0
 stage Misdirected = 1
-stage UnknownMethod = 2
-stage MethodNotAllowed = 3
-stage Options = 3
-stage UnmetExpectation = 4
-stage PartialContent = 5
-stage Moved = 6
-stage Gone = 6
-stage NotFound = 6
-stage LengthRequired = 7
-stage ContentTooLarge = 7
-stage UnsupportedMediaType = 8
-stage UnsupportedCoding = 9
-stage NotAcceptable = 10
-stage PreconditionRequired = 11
-stage Admitted = 12
+stage Preflight = 2
+stage Denied = 3
+stage UnknownMethod = 4
+stage MethodNotAllowed = 5
+stage UnmetExpectation = 6
+stage PartialContent = 7
+stage Moved = 8
+stage Gone = 8
+stage NotFound = 8
+stage Options = 9
+stage LengthRequired = 10
+stage ContentTooLarge = 10
+stage UnsupportedMediaType = 11
+stage UnsupportedCoding = 12
+stage NotAcceptable = 13
+stage PreconditionRequired = 14
+stage Admitted = 15
 
 -- one reason comes before another
 abbrev pub Before : Reason → Reason → Type 0
@@ -52,9 +59,9 @@ pub record IsFirst (applies : Reason → Bool) (reason : Reason) : Type 0 where
 -- the reasons in one order that keeps to the stages
 abbrev pub in_order : List Reason
 in_order =
-    InvalidHost ∷ Misdirected ∷ UnknownMethod ∷ MethodNotAllowed ∷ Options ∷ UnmetExpectation ∷ PartialContent
-    ∷ Moved ∷ Gone ∷ NotFound ∷ LengthRequired ∷ ContentTooLarge ∷ UnsupportedMediaType ∷ UnsupportedCoding
-    ∷ NotAcceptable ∷ PreconditionRequired ∷ []
+    InvalidHost ∷ Misdirected ∷ Preflight ∷ Denied ∷ UnknownMethod ∷ MethodNotAllowed ∷ UnmetExpectation
+    ∷ PartialContent ∷ Moved ∷ Gone ∷ NotFound ∷ Options ∷ LengthRequired ∷ ContentTooLarge ∷ UnsupportedMediaType
+    ∷ UnsupportedCoding ∷ NotAcceptable ∷ PreconditionRequired ∷ []
 
 -- the first that applies, or else that nothing stands in the way
 abbrev pub or_admitted : Option Reason → Reason

@@ -1,18 +1,19 @@
 -- A request, as contracts see it.
-use Rattle.std.specs.Prelude.{ℕ, List, [], ◌∷◌, Option, bytes_eq, codes, option_map, if◌then◌else◌}
+use Rattle.std.specs.Prelude.{ℕ, List, [], ◌∷◌, Option, bytes_eq, codes, option_copied, option_map, if◌then◌else◌}
 use Rattle.std.specs.List.{list_any}
 use Rattle.headers.{specs.LineMap.{LineMap, lines_at, remove}, specs.Lines.Line}
 use Rattle.gateway_messages.specs.declared.protocol.Protocol.{Protocol}
-use Rattle.decide_resource.specs.declared.request.RequestContent.{RequestContent}
+use Rattle.decide_resource.{specs.declared.denied.Denied.Denied, specs.declared.request.RequestContent.RequestContent}
 use Rattle.decide_resource.specs.declared.request.RequestHead.{RequestHead}
 
--- the authority is that of a target in absolute-form
+-- The authority is that of a target in absolute-form. The server may say why it denies the request.
 pub record Request : Type 0 where
   pub protocol : Protocol
   pub method : List ℕ
   pub authority : Option Line
   pub content : RequestContent
   pub fields : LineMap
+  pub denied : Option Denied
 
 abbrev pub request_of : RequestHead → Request
 request_of head =
@@ -22,6 +23,7 @@ request_of head =
       authority = option_map (λ value. value.now.bytes) head.authority;
       content = head.content;
       fields = lines_at head.fields.now;
+      denied = option_copied head.denied;
     }
 
 -- a HEAD with these fields
@@ -33,6 +35,7 @@ head_of request =
       authority = request.authority;
       content = request.content;
       fields = request.fields;
+      denied = request.denied;
     }
 
 -- a GET with these fields, but for Range, which is for GET alone (section 14.2)
@@ -44,6 +47,7 @@ get_of request =
       authority = request.authority;
       content = request.content;
       fields = remove request.fields (codes "range");
+      denied = request.denied;
     }
 
 -- the fields that make a request conditional (section 13.1)
@@ -60,4 +64,5 @@ unconditional request =
       authority = request.authority;
       content = request.content;
       fields = λ name. if list_any (bytes_eq name) conditional_names then [] else request.fields name;
+      denied = request.denied;
     }

@@ -13,8 +13,8 @@ pub record AskAlike (r s : LineMap) : Type 0 where
   pub range : r (codes "range") ≡ s (codes "range")
   pub if_range : r (codes "if-range") ≡ s (codes "if-range")
 
--- Both have the same method, target and content, and the same conditions. The fields that select a representation, and
--- Origin, may differ, and so may all fields that no decision reads.
+-- Both have the same method, target and content, and the same conditions, and the server denies both alike. The fields
+-- that select a representation, and Origin, may differ, and so may all fields that no decision reads.
 pub record AreAlike (r s : Request) : Type 0 where
   pub protocol : r.protocol ≡ s.protocol
   pub method : r.method ≡ s.method
@@ -22,6 +22,7 @@ pub record AreAlike (r s : Request) : Type 0 where
   pub host : r.fields (codes "host") ≡ s.fields (codes "host")
   pub expect : r.fields (codes "expect") ≡ s.fields (codes "expect")
   pub content : r.content ≡ s.content
+  pub denied : r.denied ≡ s.denied
   pub content_type : r.fields (codes "content-type") ≡ s.fields (codes "content-type")
   pub content_encoding : r.fields (codes "content-encoding") ≡ s.fields (codes "content-encoding")
   pub content_range : r.method ≡ codes "PUT" → r.fields (codes "content-range") ≡ s.fields (codes "content-range")

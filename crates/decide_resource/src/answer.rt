@@ -63,7 +63,7 @@ fn stopped(
 {
     let fields = reason_fields(alloc, resource, request, reason)?;
     Ok(Given {
-        status: Some(status_of(&resource.state, reason)),
+        status: Some(status_of(&resource.state, request.denied, reason)),
         sends: sent_for(reason),
         fields,
     })

@@ -37,7 +37,7 @@ fn place_in(
 {
     match state {
         State::Current => place_of(representations, choice),
-        State::Absent | State::Gone | State::Moved(_, _) => None,
+        State::Absent | State::Gone | State::Moved(_, _) | State::Server => None,
     }
 }
 
@@ -72,7 +72,7 @@ fn bare(state: &State) -> Target
             last_modified: None,
             is_date_strong: false,
         }),
-        State::Absent | State::Gone | State::Moved(_, _) => Target::Missing,
+        State::Absent | State::Gone | State::Moved(_, _) | State::Server => Target::Missing,
     }
 }
 

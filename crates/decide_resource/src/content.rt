@@ -3,16 +3,17 @@ ghost use Rattle.std.{specs.Prelude.{◌≡◌, ◌&&◌, codes, false, nat_lt, 
 ghost use Rattle.std.specs.Option.{option_map_or};
 ghost use Rattle.headers.specs.LineMap.{lines_at};
 ghost use Rattle.decide_preconditions.specs.Tags.{is_star};
-ghost use Rattle.decide_resource.specs.Applies.{exceeds, has_content, is_guarded, is_present, is_unsized};
-ghost use Rattle.decide_resource.specs.Applies.{is_unsupported_part, needs_condition, takes_coding, takes_codings};
-ghost use Rattle.decide_resource.specs.Applies.{takes_parts, takes_type, type_named};
+ghost use Rattle.decide_resource.specs.Applies.{exceeds, has_content, is_guarded, is_preflight_request, is_present};
+ghost use Rattle.decide_resource.specs.Applies.{is_unsized, is_unsupported_part, needs_condition, takes_coding};
+ghost use Rattle.decide_resource.specs.Applies.{takes_codings, takes_parts, takes_type, type_named};
 
 use crate::request::RequestContent;
 use crate::resource::MethodRule;
 use decide_negotiation::{Accept, AcceptEncoding, quality};
 use headers::{HeaderMap, HeaderName, HeaderValue};
 use http_header::{
-    ACCEPT_ENCODING, CONTENT_ENCODING, CONTENT_RANGE, CONTENT_TYPE, IF_MATCH, IF_NONE_MATCH,
+    ACCEPT_ENCODING, ACCESS_CONTROL_REQUEST_METHOD, CONTENT_ENCODING, CONTENT_RANGE, CONTENT_TYPE,
+    IF_MATCH, IF_NONE_MATCH, ORIGIN,
 };
 use rfc_fields::only_value;
 
@@ -126,6 +127,15 @@ fn takes_parts(rule: Option<&MethodRule>) -> bool
         Some(rule) => rule.takes_parts,
         None => false,
     }
+}
+
+/// Whether a request is a preflight.
+pub(crate) fn is_preflight_request(method: &str, fields: &HeaderMap) -> bool
+    ensures { result ≡ is_preflight_request method.now (lines_at fields.now) }
+{
+    method == "OPTIONS"
+        && is_present(fields, ORIGIN)
+        && is_present(fields, ACCESS_CONTROL_REQUEST_METHOD)
 }
 
 /// Whether a PUT has a part as its content, where this is the rule for the method, which takes none.

@@ -7,12 +7,15 @@ ghost use Rattle.decide_cors.{specs.Cache.Serves, specs.Policy.Policy, specs.Rul
 ghost use Rattle.decide_cors.specs.Rules.{AllowsRequest, IsLawful, IsPolicyOf};
 ghost use Rattle.decide_cors.specs.declared.rules.CorsRules.{CorsRules};
 ghost use Rattle.decide_resource.{specs.Answers.{AreSame, IsAnswer, IsSelected}, specs.Applies.{applies, is_read}};
-ghost use Rattle.decide_resource.{specs.Applies.{methods, needs_condition, rule}, specs.Guards.ReplacesNamed};
+ghost use Rattle.decide_resource.specs.Applies.{is_implemented, methods, needs_condition, rule};
+ghost use Rattle.decide_resource.{specs.Fields.status_denied, specs.Guards.ReplacesNamed};
 ghost use Rattle.decide_resource.{specs.Reasons.{Before, IsFirst}, specs.Requests.{Request, get_of, head_of}};
 ghost use Rattle.decide_resource.{specs.Requests.unconditional, specs.Vary.{AreAlike, ChooseAlike, SelectTheSame}};
 ghost use Rattle.decide_resource.{specs.declared.answer.Answer.Answer, specs.declared.answer.Sends.TheVariants.Perform};
 ghost use Rattle.decide_resource.{specs.declared.answer.Sends.TheVariants.Planned, specs.declared.reason.Reason.Reason};
-ghost use Rattle.decide_resource.specs.declared.reason.Reason.TheVariants.{Admitted, MethodNotAllowed, Options};
+ghost use Rattle.decide_resource.specs.declared.denied.Denied.{Denied as Denial};
+ghost use Rattle.decide_resource.specs.declared.reason.Reason.TheVariants.{Admitted, Denied, MethodNotAllowed};
+ghost use Rattle.decide_resource.specs.declared.reason.Reason.TheVariants.{Options, Preflight};
 ghost use Rattle.decide_resource.specs.declared.reason.Reason.TheVariants.{PreconditionRequired, UnknownMethod};
 ghost use Rattle.decide_resource.specs.declared.reason.Reason.TheVariants.{UnmetExpectation};
 ghost use Rattle.decide_resource.specs.declared.resource.Resource.{Resource};
@@ -135,7 +138,7 @@ pub fn members_alone_select()
 
 /// Theorem: Allow of an OPTIONS and of a 405 is the list of the resource's methods (RFC 9110,
 /// sections 9.3.7 and 10.2.1). A method of the list never gets 405 or 501, and any other gets 400,
-/// 421, 501 or 405.
+/// 421, 501 or 405, or is denied.
 pub fn options_agrees_with_methods()
     ensures told { (present : ℕ) (resource : Resource) (request : Request) (answer : Answer) (before : LineMap)
         → IsAnswer present resource request answer
@@ -147,18 +150,43 @@ pub fn options_agrees_with_methods()
         → (answer.reason ≢ MethodNotAllowed) × (answer.reason ≢ UnknownMethod) }
     ensures others { (present : ℕ) (resource : Resource) (request : Request) (answer : Answer)
         → IsAnswer present resource request answer → ¬ (Contains (methods resource.rules.items) request.method)
-        → Before answer.reason UnmetExpectation × (answer.reason ≢ Options) }
+        → Before answer.reason UnmetExpectation × (answer.reason ≢ Preflight) }
 {}
 
-/// Theorem: a preflight for a resource with a policy gets 204, and a browser sends the request
-/// after it exactly if the policy's rules allow it.
+/// Theorem: a preflight for a resource with a policy gets 204, also if the server denies it, and a
+/// browser sends the request after it exactly if the policy's rules allow it. Only an invalid host
+/// and another server's host decide before.
 pub fn preflight_is_answered()
     ensures { (present : ℕ) (resource : Resource) (request : Request) (answer : Answer) (rules : CorsRules)
         (policy : Policy) (before : LineMap) (sent : Sent) → resource.cors ≡ Some policy
-        → IsAnswer present resource request answer → answer.reason ≡ Options → IsLawful rules
-        → IsPolicyOf rules policy → IsPreflightFor sent request.method request.fields
-        → (answer.status ≡ Some 204)
-        × (PreflightPasses 204 (set_all before (fields_of answer.fields.items)) sent ↔ AllowsRequest rules sent) }
+        → IsAnswer present resource request answer → IsLawful rules → IsPolicyOf rules policy
+        → IsPreflightFor sent request.method request.fields
+        → Before answer.reason Preflight ⊎ ((answer.status ≡ Some 204)
+        × (PreflightPasses 204 (set_all before (fields_of answer.fields.items)) sent ↔ AllowsRequest rules sent)) }
+{}
+
+/// Theorem: a request that the server denies learns nothing of the resource (RFC 9110, section
+/// 15.5.4). It gets the status of the denial, unless its host or a preflight decides before; and two
+/// resources with the same hosts and the same policy, whatever their states, methods and
+/// representations, give it the same answer, at any time.
+pub fn denied_request_learns_nothing()
+    ensures status { (present : ℕ) (resource : Resource) (request : Request) (answer : Answer) (why : Denial)
+        → request.denied ≡ Some why → IsAnswer present resource request answer
+        → Before answer.reason Denied ⊎ (answer.status ≡ Some (status_denied why)) }
+    ensures same { (present later : ℕ) (a b : Resource) (request : Request) (x y : Answer) (why : Denial)
+        → request.denied ≡ Some why → a.hosts ≡ b.hosts → a.cors ≡ b.cors → IsAnswer present a request x
+        → IsAnswer later b request y → AreSame x y }
+{}
+
+/// Theorem: 405 is for a method that the server implements, and 501 for one that it doesn't (RFC
+/// 9110, sections 9.1 and 15.6.2).
+pub fn statuses_agree_with_the_server()
+    ensures not_allowed { (present : ℕ) (resource : Resource) (request : Request) (answer : Answer)
+        → IsAnswer present resource request answer → answer.reason ≡ MethodNotAllowed
+        → is_implemented resource.implemented.items request.method ≡ true }
+    ensures unknown { (present : ℕ) (resource : Resource) (request : Request) (answer : Answer)
+        → IsAnswer present resource request answer → answer.reason ≡ UnknownMethod
+        → is_implemented resource.implemented.items request.method ≡ false }
 {}
 
 /// Theorem: a 304 has the ETag of the 200 that the request would get without its conditions (RFC

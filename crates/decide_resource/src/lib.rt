@@ -5,6 +5,7 @@ mod allow;
 mod answer;
 mod chosen;
 mod content;
+mod denied;
 pub mod laws;
 mod order;
 mod reason;
@@ -16,6 +17,7 @@ mod shared;
 mod target;
 
 pub use crate::answer::{Answer, Sends, answer_request};
+pub use crate::denied::Denied;
 pub use crate::reason::Reason;
 pub use crate::representation::{Negotiation, Representation};
 pub use crate::request::{RequestContent, RequestHead};

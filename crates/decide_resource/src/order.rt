@@ -4,16 +4,16 @@ ghost use Rattle.decide_resource.{specs.Applies.{applies, applies_by, is_unaccep
 ghost use Rattle.decide_resource.specs.Requests.{request_of};
 
 use crate::content::{
-    exceeds, is_unsized, is_unsupported_coding, is_unsupported_part, is_unsupported_type,
-    lacks_condition,
+    exceeds, is_preflight_request, is_unsized, is_unsupported_coding, is_unsupported_part,
+    is_unsupported_type, lacks_condition,
 };
 use crate::reason::Reason;
 use crate::representation::are_unacceptable;
 use crate::request::RequestHead;
 use crate::resource::{MethodRule, Resource};
 use crate::target::{
-    has_method_by, has_moved, is_current, is_gone, is_misdirected, is_missing, is_options, is_read,
-    is_standard, rule_for,
+    has_method_by, has_moved, is_current, is_gone, is_implemented, is_misdirected, is_missing,
+    is_options, is_read, rule_for,
 };
 use gateway_messages::{has_host, has_known_expectation};
 
@@ -52,17 +52,20 @@ fn applies_by(
     match reason {
         Reason::InvalidHost => !has_host(request.protocol, fields),
         Reason::Misdirected => is_misdirected(resource, request),
+        Reason::Preflight => resource.cors.is_some()
+            && is_preflight_request(method.as_str(), fields),
+        Reason::Denied => request.denied.is_some(),
         Reason::UnknownMethod => {
             let name = method.as_str();
-            !(is_standard(name) || has_method_by(rule, name))
+            !(is_implemented(&resource.implemented, name) || has_method_by(rule, name))
         }
         Reason::MethodNotAllowed => !has_method_by(rule, method.as_str()),
-        Reason::Options => is_options(method.as_str()),
         Reason::UnmetExpectation => !has_known_expectation(fields),
         Reason::PartialContent => is_unsupported_part(rule, method.as_str(), fields),
         Reason::Moved => has_moved(&resource.state),
         Reason::Gone => is_gone(&resource.state),
-        Reason::NotFound => is_missing(&resource.state, rule),
+        Reason::NotFound => is_missing(resource, rule, method.as_str()),
+        Reason::Options => is_options(method.as_str()),
         Reason::LengthRequired => resource.needs_length && is_unsized(content),
         Reason::ContentTooLarge => exceeds(resource.limit, content),
         Reason::UnsupportedMediaType => is_unsupported_type(content, rule, fields),
@@ -98,14 +101,16 @@ pub(crate) fn reason_for(resource: &Resource, request: &RequestHead<'_>) -> Reas
     let in_order = [
         Reason::InvalidHost,
         Reason::Misdirected,
+        Reason::Preflight,
+        Reason::Denied,
         Reason::UnknownMethod,
         Reason::MethodNotAllowed,
-        Reason::Options,
         Reason::UnmetExpectation,
         Reason::PartialContent,
         Reason::Moved,
         Reason::Gone,
         Reason::NotFound,
+        Reason::Options,
         Reason::LengthRequired,
         Reason::ContentTooLarge,
         Reason::UnsupportedMediaType,

@@ -9,12 +9,14 @@ pub enum Reason {
     InvalidHost,
     /// 421: the host isn't one of the resource's (section 7.4).
     Misdirected,
-    /// 501: the method isn't known (section 9.1).
+    /// 204: a preflight, where there is a policy for cross-origin requests (Fetch standard).
+    Preflight,
+    /// 401, 403, 429 or 503: the server denies the request.
+    Denied,
+    /// 501: the server doesn't implement the method (sections 9.1 and 15.6.2).
     UnknownMethod,
-    /// 405: the resource doesn't have the method (section 15.5.6).
+    /// 405: the server implements the method, and the resource doesn't have it (section 15.5.6).
     MethodNotAllowed,
-    /// 204: the method is OPTIONS (section 9.3.7).
-    Options,
     /// 417: Expect has a member other than `100-continue` (section 10.1.1).
     UnmetExpectation,
     /// 400: PUT with Content-Range, of a resource that takes no parts (section 14.5).
@@ -23,8 +25,11 @@ pub enum Reason {
     Moved,
     /// 410: the resource is gone (section 15.5.11).
     Gone,
-    /// 404: there is no current representation, and the method makes none (section 15.5.5).
+    /// 404: there is no current representation, and the method makes none (section 15.5.5). OPTIONS
+    /// asks about all methods: it gets 404 if none makes one.
     NotFound,
+    /// 204: the method is OPTIONS (section 9.3.7).
+    Options,
     /// 411: the length of the content isn't stated (section 15.5.12).
     LengthRequired,
     /// 413: the content is longer than the limit (section 15.5.14).
@@ -51,17 +56,20 @@ impl Reason {
         match self {
             Reason::InvalidHost => 0,
             Reason::Misdirected => 1,
-            Reason::UnknownMethod => 2,
-            Reason::MethodNotAllowed | Reason::Options => 3,
-            Reason::UnmetExpectation => 4,
-            Reason::PartialContent => 5,
-            Reason::Moved | Reason::Gone | Reason::NotFound => 6,
-            Reason::LengthRequired | Reason::ContentTooLarge => 7,
-            Reason::UnsupportedMediaType => 8,
-            Reason::UnsupportedCoding => 9,
-            Reason::NotAcceptable => 10,
-            Reason::PreconditionRequired => 11,
-            Reason::Admitted => 12,
+            Reason::Preflight => 2,
+            Reason::Denied => 3,
+            Reason::UnknownMethod => 4,
+            Reason::MethodNotAllowed => 5,
+            Reason::UnmetExpectation => 6,
+            Reason::PartialContent => 7,
+            Reason::Moved | Reason::Gone | Reason::NotFound => 8,
+            Reason::Options => 9,
+            Reason::LengthRequired | Reason::ContentTooLarge => 10,
+            Reason::UnsupportedMediaType => 11,
+            Reason::UnsupportedCoding => 12,
+            Reason::NotAcceptable => 13,
+            Reason::PreconditionRequired => 14,
+            Reason::Admitted => 15,
         }
     }
 }

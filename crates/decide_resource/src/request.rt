@@ -1,5 +1,6 @@
 //! Requests.
 
+use crate::denied::Denied;
 use gateway_messages::Protocol;
 use headers::{HeaderMap, HeaderValue};
 use http::Method;
@@ -28,4 +29,7 @@ pub struct RequestHead<'a> {
     pub content: RequestContent,
     /// The fields.
     pub fields: &'a HeaderMap,
+    /// Why the server denies the request, if it does. What credentials it takes, and how many requests
+    /// of a client, are the server's own.
+    pub denied: Option<&'a Denied>,
 }

@@ -19,7 +19,7 @@ pub struct MethodRule {
     /// name media types, without ranges and weights.
     pub takes: HeaderMap,
     /// Whether the method is performed if there is no current representation, as PUT is (section
-    /// 9.3.4). Any other method then gets 404.
+    /// 9.3.4). Any other method then gets 404, and so does OPTIONS if no method of the resource is.
     pub creates: bool,
     /// Whether the request must name what it may replace, by entity tags in If-Match or by `*` in
     /// If-None-Match (RFC 6585, section 3). GET and HEAD replace nothing, and need none.
@@ -51,6 +51,9 @@ pub enum State {
     Gone,
     /// The target is under another URI, that of Location.
     Moved(Redirect, HeaderValue),
+    /// The target is the server in general, which `*` names (RFC 9110, section 9.3.7). OPTIONS tells
+    /// the methods of the rules, those of the server, and any other method gets 404.
+    Server,
 }
 
 /// What a server knows about the target of a request before it performs a method.
@@ -59,6 +62,10 @@ pub struct Resource {
     /// The hosts that it is served for, as they are written in Host, or `None` for any (RFC 9110,
     /// section 7.4). They are compared without case. One without a port is served at each port.
     pub hosts: Option<Vec<HeaderValue>>,
+    /// The methods that the server implements for some resource, beside GET and HEAD, which each does
+    /// (section 9.1), and those of the rules. A method that the resource doesn't have is answered by
+    /// 405 if it is one of them, and by 501 if not (section 15.6.2).
+    pub implemented: Vec<Method>,
     /// The methods of the resource. Of two rules for one method the first counts.
     pub rules: Vec<MethodRule>,
     /// The state of the resource.

@@ -11,6 +11,7 @@ ghost use Rattle.decide_resource.specs.Requests.{request_of};
 
 use crate::allow::allow_field;
 use crate::answer::Sends;
+use crate::denied::{Denied, denied_status, push_denied};
 use crate::reason::Reason;
 use crate::representation::Representation;
 use crate::request::RequestHead;
@@ -37,17 +38,19 @@ fn moved_status(state: &State) -> StatusCode
 {
     match state {
         State::Moved(redirect, _) => redirect_status(*redirect),
-        State::Current | State::Absent | State::Gone => StatusCode::OK,
+        State::Current | State::Absent | State::Gone | State::Server => StatusCode::OK,
     }
 }
 
 /// The status of a reason.
-pub(crate) fn status_of(state: &State, reason: Reason) -> StatusCode
-    ensures { result ≡ status_of state.now reason }
+pub(crate) fn status_of(state: &State, denied: Option<&Denied>, reason: Reason) -> StatusCode
+    ensures { result ≡ status_of state.now (option_copied denied.entry) reason }
 {
     match reason {
         Reason::InvalidHost => StatusCode::BAD_REQUEST,
         Reason::Misdirected => StatusCode::MISDIRECTED_REQUEST,
+        Reason::Preflight => StatusCode::NO_CONTENT,
+        Reason::Denied => denied_status(denied),
         Reason::UnknownMethod => StatusCode::NOT_IMPLEMENTED,
         Reason::MethodNotAllowed => StatusCode::METHOD_NOT_ALLOWED,
         Reason::Options => StatusCode::NO_CONTENT,
@@ -225,6 +228,7 @@ pub(crate) fn reason_fields(
     let rule = rule_for(&resource.rules, method);
     let mut fields = Vec::new(alloc);
     match reason {
+        Reason::Denied => push_denied(alloc, &mut fields, request.denied)?,
         Reason::MethodNotAllowed => push_allow(alloc, &mut fields, &resource.rules)?,
         Reason::Options => {
             push_allow(alloc, &mut fields, &resource.rules)?;

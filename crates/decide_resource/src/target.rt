@@ -1,15 +1,16 @@
 //! The target of a request: its host, the method and the state of the resource.
-ghost use Rattle.std.specs.Prelude.{◌≡◌, ◌&&◌, bytes_eq, codes, not, option_map, option_copied};
+ghost use Rattle.std.specs.Prelude.{◌≡◌, bytes_eq, codes, if◌then◌else◌, option_map, option_copied};
 ghost use Rattle.std.{specs.Char.is_ascii_digit, specs.List.{list_all, list_any}, specs.Option.option_map_or};
 ghost use Rattle.headers.{specs.LineMap.lines_at, specs.Lines.only_line};
 ghost use Rattle.headers_syntax.specs.AsciiCase.{same_name};
-ghost use Rattle.decide_resource.specs.Applies.{creates, has_method_by, has_moved, host_named, is_absent, is_at_host};
-ghost use Rattle.decide_resource.specs.Applies.{is_current, is_gone, is_misdirected, is_own, is_port, is_read};
-ghost use Rattle.decide_resource.{specs.Applies.{is_standard, rule_for, ruled}, specs.Requests.request_of};
+ghost use Rattle.decide_resource.specs.Applies.{creates, has_method_by, has_moved, host_named, is_at_host, is_current};
+ghost use Rattle.decide_resource.specs.Applies.{is_gone, is_implemented, is_misdirected, is_missing, is_own, is_port};
+ghost use Rattle.decide_resource.{specs.Applies.{is_read, rule_for, ruled}, specs.Requests.request_of};
 
 use crate::request::RequestHead;
 use crate::resource::{MethodRule, Resource, State};
 use headers::{HeaderMap, HeaderValue};
+use http::Method;
 use http_header::HOST;
 
 // The only line of Host.
@@ -86,18 +87,17 @@ pub(crate) fn is_misdirected(resource: &Resource, request: &RequestHead<'_>) -> 
     }
 }
 
-pub(crate) fn is_standard(method: &str) -> bool
-    ensures { result ≡ is_standard method.now }
+fn is_named(named: &[Method], method: &str) -> bool
+    ensures { result ≡ list_any (λ other. bytes_eq method.now other) named.now }
 {
-    method == "GET"
-        || method == "HEAD"
-        || method == "POST"
-        || method == "PUT"
-        || method == "DELETE"
-        || method == "CONNECT"
-        || method == "OPTIONS"
-        || method == "TRACE"
-        || method == "PATCH"
+    named.iter().any(|other| method == other.as_str())
+}
+
+/// Whether a server that names these methods implements a method.
+pub(crate) fn is_implemented(named: &[Method], method: &str) -> bool
+    ensures { result ≡ is_implemented named.now method.now }
+{
+    is_read(method) || is_named(named, method)
 }
 
 // The method whose rule counts.
@@ -151,12 +151,6 @@ pub(crate) fn is_current(state: &State) -> bool
     matches!(state, State::Current)
 }
 
-fn is_absent(state: &State) -> bool
-    ensures { result ≡ is_absent state.now }
-{
-    matches!(state, State::Absent)
-}
-
 fn creates(rule: Option<&MethodRule>) -> bool
     ensures { result ≡ creates (option_copied rule.entry) }
 {
@@ -166,9 +160,31 @@ fn creates(rule: Option<&MethodRule>) -> bool
     }
 }
 
-// Whether there is no current representation, and the method makes none.
-pub(crate) fn is_missing(state: &State, rule: Option<&MethodRule>) -> bool
-    ensures { result ≡ (is_absent state.now && not (creates (option_copied rule.entry))) }
+fn some_creates(rules: &[MethodRule]) -> bool
+    ensures { result ≡ list_any (λ r. r.creates) rules.now }
 {
-    is_absent(state) && !creates(rule)
+    rules.iter().any(|rule| rule.creates)
+}
+
+// Whether what is asked for makes a representation: the method, or with OPTIONS one of all.
+fn may_create(rules: &[MethodRule], rule: Option<&MethodRule>, method: &str) -> bool
+    ensures { result ≡ if bytes_eq method.now (codes "OPTIONS") then list_any (λ r. r.creates) rules.now
+        else creates (option_copied rule.entry) }
+{
+    if is_options(method) {
+        some_creates(rules)
+    } else {
+        creates(rule)
+    }
+}
+
+/// Whether there is no representation, and the method, where this is its rule, makes none.
+pub(crate) fn is_missing(resource: &Resource, rule: Option<&MethodRule>, method: &str) -> bool
+    ensures { result ≡ is_missing resource.now.state resource.now.rules.items (option_copied rule.entry) method.now }
+{
+    match &resource.state {
+        State::Absent => !may_create(&resource.rules, rule, method),
+        State::Server => !is_options(method),
+        State::Current | State::Gone | State::Moved(_, _) => false,
+    }
 }

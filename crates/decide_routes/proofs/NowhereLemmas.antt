@@ -1,133 +1,245 @@
--- How a request for what is nowhere is answered.
-use Rattle.std.proofs.Common.{◌≡◌, ◌≢◌, ◌⊎◌, ℕ, Bool, true, false, cond, List, [], ◌∷◌, Option, Some, refl, sym, ◌∙◌}
-use Rattle.std.{proofs.Common.{ap, subst, inl, inr, lit<, bytes_eq}, proofs.lemmas.Slice.Eq.bytes_eq-Decides}
-use Rattle.std.{specs.Prelude.{◌&&◌, ◌||◌, not, codes, find}, specs.List.{list_all, list_any}}
-use Rattle.headers.specs.LineMap.{Field}
+-- How a request for what is no resource of its own is answered.
+use Rattle.std.proofs.Common.{◌≡◌, ◌≢◌, ◌⊎◌, ℕ, Bool, true, false, cond, List, [], ◌∷◌, Option, Some, refl}
+use Rattle.std.{proofs.Common.{sym, ◌∙◌, ap, subst, inl, inr, lit<, bytes_eq, map}, specs.Prelude.{◌||◌, not}}
+use Rattle.std.{specs.Prelude.{codes, find, if◌then◌else◌, is_some}, specs.List.list_any}
+use Rattle.std.proofs.lemmas.Slice.Eq.{bytes_eq-Decides}
 use Rattle.decide_resource.{specs.Answers.{Gives, IsAnswer}, specs.Reasons.{Before, IsFirst}, specs.Requests.Request}
 use Rattle.decide_resource.{specs.declared.answer.Answer.Answer, specs.declared.answer.Sends.Sends}
 use Rattle.decide_resource.{specs.declared.reason.Reason.Reason, specs.declared.resource.MethodRule.MethodRule}
 use Rattle.decide_resource.{specs.declared.resource.Resource.Resource, specs.declared.resource.State.State}
-use Rattle.decide_resource.specs.Applies.{applies, creates, has_method, has_moved, is_absent, is_gone, rule_for, ruled}
-use Rattle.decide_resource.{specs.Applies.standard_methods, specs.declared.reason.Reason.TheVariants.InvalidHost}
-use Rattle.decide_resource.specs.declared.reason.Reason.TheVariants.{Misdirected, UnknownMethod, MethodNotAllowed}
-use Rattle.decide_resource.specs.declared.reason.Reason.TheVariants.{Options, UnmetExpectation, PartialContent, Moved}
-use Rattle.decide_resource.specs.declared.reason.Reason.TheVariants.{Gone, NotFound, LengthRequired, ContentTooLarge}
+use Rattle.decide_resource.specs.Applies.{applies, creates, has_method, has_moved, is_gone, is_implemented, is_missing}
+use Rattle.decide_resource.specs.Applies.{rule_for, ruled}
+use Rattle.decide_resource.specs.declared.resource.State.TheVariants as state
+use Rattle.decide_resource.specs.declared.reason.Reason.TheVariants.{InvalidHost, Misdirected, Preflight, Denied}
+use Rattle.decide_resource.specs.declared.reason.Reason.TheVariants.{UnknownMethod, MethodNotAllowed, UnmetExpectation}
+use Rattle.decide_resource.specs.declared.reason.Reason.TheVariants.{PartialContent, Moved, Gone, NotFound, Options}
+use Rattle.decide_resource.specs.declared.reason.Reason.TheVariants.{LengthRequired, ContentTooLarge}
 use Rattle.decide_resource.specs.declared.reason.Reason.TheVariants.{UnsupportedMediaType, UnsupportedCoding}
 use Rattle.decide_resource.specs.declared.reason.Reason.TheVariants.{NotAcceptable, PreconditionRequired, Admitted}
-use Rattle.decide_routes.specs.Routes.{IsNowhere}
+use Rattle.decide_routes.specs.Routes.{IsNowhere, IsServerWide, idle_rule, told_of}
+use Rattle.headers.specs.LineMap.{Field}
 
 -- ---- the rules
 
-both : (a b : Bool) → (a && b) ≡ true → (a ≡ true) × (b ≡ true)
-both true b e = (refl, e)
-both false b e = absurd (cc e)
+abbrev Told : Type 0
+Told = List ℕ × Bool
 
--- no rule creates anything, so none that is found does
-idle_found : (q : MethodRule → Bool) (rules : List MethodRule)
-    → list_all (λ (rule : MethodRule). not rule.creates) rules ≡ true → creates (find q rules) ≡ false
-idle_found q [] all = refl
-idle_found q (rule ∷ rules) all =
-    let each = both (not rule.creates) (list_all (λ (r : MethodRule). not r.creates) rules) all in
-    by (q rule) (opposite rule.creates each.0) (idle_found q rules each.1)
+abbrev is_of : List ℕ → Told → Bool
+is_of own told = bytes_eq told.0 own
+
+flip : (a b : List ℕ) → bytes_eq a b ≡ true → bytes_eq b a ≡ true
+flip a b e = (bytes_eq-Decides b a).1 (sym ((bytes_eq-Decides a b).0 e))
+
+-- a rule is found where one of the methods is the rule's
+found_by : (own : List ℕ) (rules : List MethodRule)
+    → is_some (find (λ (rule : MethodRule). bytes_eq rule.method own) rules)
+    ≡ list_any (is_of own) (map told_of rules)
+found_by own [] = refl
+found_by own (rule ∷ rules) = by (bytes_eq rule.method own) (found_by own rules)
   where
-    opposite : (b : Bool) → not b ≡ true → b ≡ false
-    opposite true e = absurd (cc e)
-    opposite false e = refl
+    rest : Option MethodRule
+    rest = find (λ (r : MethodRule). bytes_eq r.method own) rules
 
-    by : (v : Bool) → rule.creates ≡ false → creates (find q rules) ≡ false
-        → creates (cond v (Some rule) (find q rules)) ≡ false
-    by true own more = own
-    by false own more = more
+    by : (b : Bool) → is_some rest ≡ list_any (is_of own) (map told_of rules)
+        → is_some (cond b (Some rule) rest) ≡ (b || list_any (is_of own) (map told_of rules))
+    by true more = refl
+    by false more = more
 
--- what holds of each holds of one of them
-one_of : (p : List ℕ → Bool) (m : List ℕ) (xs : List (List ℕ)) → list_all p xs ≡ true
-    → list_any (bytes_eq m) xs ≡ true → p m ≡ true
-one_of p m [] all any = absurd (cc any)
-one_of p m (x ∷ xs) all any =
-    let each = both (p x) (list_all p xs) all in
-    by (bytes_eq m x) refl any each.0 (one_of p m xs each.1)
+later : (b c : Bool) → c ≡ true → (b || c) ≡ true
+later true c e = refl
+later false c e = e
+
+-- a method that a list has is that of one of its rules
+idle_any : (m : List ℕ) (methods : List (List ℕ)) → list_any (bytes_eq m) methods ≡ true
+    → list_any (is_of m) (map idle_rule methods) ≡ true
+idle_any m [] any = absurd (cc any)
+idle_any m (x ∷ methods) any = by (bytes_eq m x) refl any (idle_any m methods)
   where
-    by : (v : Bool) → bytes_eq m x ≡ v → (v || list_any (bytes_eq m) xs) ≡ true → p x ≡ true
-        → (list_any (bytes_eq m) xs ≡ true → p m ≡ true) → p m ≡ true
-    by true e any own more = subst (λ (y : List ℕ). p y ≡ true) (sym ((bytes_eq-Decides m x).0 e)) own
-    by false e any own more = more any
+    by : (v : Bool) → bytes_eq m x ≡ v → (v || list_any (bytes_eq m) methods) ≡ true
+        → (list_any (bytes_eq m) methods ≡ true → list_any (is_of m) (map idle_rule methods) ≡ true)
+        → (bytes_eq x m || list_any (is_of m) (map idle_rule methods)) ≡ true
+    by true e any more = ap (λ (b : Bool). b || list_any (is_of m) (map idle_rule methods)) (flip m x e)
+    by false e any more = later (bytes_eq x m) _ (more any)
+
+-- there is a rule for GET, HEAD and each method that the server names
+ruled_any : (m : List ℕ) (methods : List (List ℕ)) → is_implemented methods m ≡ true
+    → list_any (is_of (ruled m)) ((codes "GET", false) ∷ map idle_rule methods) ≡ true
+ruled_any m methods e = by (bytes_eq m (codes "GET")) refl (bytes_eq m (codes "HEAD")) refl e
+  where
+    by : (g : Bool) → bytes_eq m (codes "GET") ≡ g → (h : Bool) → bytes_eq m (codes "HEAD") ≡ h
+        → ((g || h) || list_any (bytes_eq m) methods) ≡ true
+        → list_any (is_of (if h then codes "GET" else m)) ((codes "GET", false) ∷ map idle_rule methods) ≡ true
+    by g eg true eh any = refl
+    by true eg false eh any =
+        ap (λ (b : Bool). b || list_any (is_of m) (map idle_rule methods)) (flip m (codes "GET") eg)
+    by false eg false eh any = later (bytes_eq (codes "GET") m) _ (idle_any m methods any)
+
+module _ (resource : Resource)
+    (rules : map told_of resource.rules.items ≡ (codes "GET", false) ∷ map idle_rule resource.implemented.items) where
+  -- the resource has each method that the server implements
+  has_implemented : (m : List ℕ) → is_implemented resource.implemented.items m ≡ true
+      → has_method resource.rules.items m ≡ true
+  unfolding rule_for
+  has_implemented m implemented =
+      later (bytes_eq m (codes "OPTIONS")) _
+      (found_by (ruled m) resource.rules.items ∙ ap (list_any (is_of (ruled m))) rules
+      ∙ ruled_any m resource.implemented.items implemented)
+
+  unknown : (b c : Bool) → (b ≡ true → c ≡ true) → not c ≡ true → not (b || c) ≡ false → ⊥
+  unknown true c has none known = let there = has refl in cc (none, there)
+  unknown false c has none known = cc (none, known)
+
+  -- so none that it lacks gets 405
+  pub never_refused : (present : ℕ) (request : Request) (answer : Answer) → IsAnswer present resource request answer
+      → answer.reason ≢ MethodNotAllowed
+  never_refused present request answer is same =
+      let first : IsFirst (applies resource request) MethodNotAllowed = rw same at is.first in
+      unknown (is_implemented resource.implemented.items request.method)
+      (has_method resource.rules.items request.method) (has_implemented request.method) first.is
+      (first.none_before UnknownMethod (lit< tt))
+
+-- ---- what the rules make
+
+abbrev makes : Told → Bool
+makes told = told.1
+
+-- no rule makes anything, so none that is found does
+idle_found : (own : List ℕ) (rules : List MethodRule) → list_any makes (map told_of rules) ≡ false
+    → creates (find (λ (rule : MethodRule). bytes_eq rule.method own) rules) ≡ false
+idle_found own [] none = refl
+idle_found own (rule ∷ rules) none = by (bytes_eq rule.method own) rule.creates refl none (idle_found own rules)
+  where
+    by : (v c : Bool) → rule.creates ≡ c → (c || list_any makes (map told_of rules)) ≡ false
+        → (list_any makes (map told_of rules) ≡ false
+        → creates (find (λ (r : MethodRule). bytes_eq r.method own) rules) ≡ false)
+        → creates (cond v (Some rule) (find (λ (r : MethodRule). bytes_eq r.method own) rules)) ≡ false
+    by v true e none more = absurd (cc none)
+    by true false e none more = e
+    by false false e none more = more none
+
+some_makes : (rules : List MethodRule)
+    → list_any (λ (rule : MethodRule). rule.creates) rules ≡ list_any makes (map told_of rules)
+some_makes [] = refl
+some_makes (rule ∷ rules) = ap (λ (b : Bool). rule.creates || b) (some_makes rules)
+
+idle_makes : (methods : List (List ℕ)) → list_any makes (map idle_rule methods) ≡ false
+idle_makes [] = refl
+idle_makes (m ∷ methods) = idle_makes methods
 
 -- ---- the reasons
 
-module _ (resource : Resource) (request : Request) (nowhere : IsNowhere resource) where
-  missing : applies resource request NotFound ≡ true
+module _ (resource : Resource) (request : Request) (not_moved : applies resource request Moved ≡ false)
+    (not_gone : applies resource request Gone ≡ false) where
+  module _ (missing : applies resource request NotFound ≡ true) where
+    past : (reason : Reason) → IsFirst (applies resource request) reason → Before NotFound reason → ⊥
+    past reason first later = let none = first.none_before NotFound later in cc (none, missing)
+
+    pub answered : (present : ℕ) (reason : Reason) (status : Option ℕ) (sent : Sends) (own : List Field)
+        → IsFirst (applies resource request) reason → Gives present resource request reason status sent own
+        → Before reason NotFound ⊎ (status ≡ Some 404)
+    answered present InvalidHost status sent own first gives = inl (lit< tt)
+    answered present Misdirected status sent own first gives = inl (lit< tt)
+    answered present Preflight status sent own first gives = inl (lit< tt)
+    answered present Denied status sent own first gives = inl (lit< tt)
+    answered present UnknownMethod status sent own first gives = inl (lit< tt)
+    answered present MethodNotAllowed status sent own first gives = inl (lit< tt)
+    answered present UnmetExpectation status sent own first gives = inl (lit< tt)
+    answered present PartialContent status sent own first gives = inl (lit< tt)
+    answered present Moved status sent own first gives = absurd (cc (not_moved, first.is))
+    answered present Gone status sent own first gives = absurd (cc (not_gone, first.is))
+    answered present NotFound status sent own first gives = inr gives.has_status
+    answered present Options status sent own first gives = absurd (past Options first (lit< tt))
+    answered present LengthRequired status sent own first gives = absurd (past LengthRequired first (lit< tt))
+    answered present ContentTooLarge status sent own first gives = absurd (past ContentTooLarge first (lit< tt))
+    answered present UnsupportedMediaType status sent own first gives =
+        absurd (past UnsupportedMediaType first (lit< tt))
+    answered present UnsupportedCoding status sent own first gives = absurd (past UnsupportedCoding first (lit< tt))
+    answered present NotAcceptable status sent own first gives = absurd (past NotAcceptable first (lit< tt))
+    answered present PreconditionRequired status sent own first gives =
+        absurd (past PreconditionRequired first (lit< tt))
+    answered present Admitted status sent own first gives = absurd (past Admitted first (lit< tt))
+
+  module _ (found : applies resource request NotFound ≡ false) (options : applies resource request Options ≡ true) where
+    behind : (reason : Reason) → IsFirst (applies resource request) reason → Before Options reason → ⊥
+    behind reason first later = let none = first.none_before Options later in cc (none, options)
+
+    pub told : (reason : Reason) → IsFirst (applies resource request) reason
+        → Before reason NotFound ⊎ (reason ≡ Options)
+    told InvalidHost first = inl (lit< tt)
+    told Misdirected first = inl (lit< tt)
+    told Preflight first = inl (lit< tt)
+    told Denied first = inl (lit< tt)
+    told UnknownMethod first = inl (lit< tt)
+    told MethodNotAllowed first = inl (lit< tt)
+    told UnmetExpectation first = inl (lit< tt)
+    told PartialContent first = inl (lit< tt)
+    told Moved first = absurd (cc (not_moved, first.is))
+    told Gone first = absurd (cc (not_gone, first.is))
+    told NotFound first = absurd (cc (found, first.is))
+    told Options first = inr refl
+    told LengthRequired first = absurd (behind LengthRequired first (lit< tt))
+    told ContentTooLarge first = absurd (behind ContentTooLarge first (lit< tt))
+    told UnsupportedMediaType first = absurd (behind UnsupportedMediaType first (lit< tt))
+    told UnsupportedCoding first = absurd (behind UnsupportedCoding first (lit< tt))
+    told NotAcceptable first = absurd (behind NotAcceptable first (lit< tt))
+    told PreconditionRequired first = absurd (behind PreconditionRequired first (lit< tt))
+    told Admitted first = absurd (behind Admitted first (lit< tt))
+
+-- ---- a path without a resource
+
+module _ (resource : Resource) (nowhere : IsNowhere resource) where
+  abbrev rules : List MethodRule
+  rules = resource.rules.items
+
+  none_makes : list_any makes (map told_of rules) ≡ false
+  none_makes = ap (list_any makes) nowhere.rules ∙ idle_makes resource.implemented.items
+
+  missing : (request : Request) → applies resource request NotFound ≡ true
   unfolding rule_for
-  missing =
-      ap (λ (s : State). is_absent s && not (creates (rule_for resource.rules.items request.method))) nowhere.absent
-      ∙ ap (λ (b : Bool). not b)
-      (
-      idle_found (λ (rule : MethodRule). bytes_eq rule.method (ruled request.method)) _ nowhere.idle
-      )
+  missing request =
+      ap
+      (λ (s : State). is_missing s rules
+      (find (λ (r : MethodRule). bytes_eq r.method (ruled request.method)) rules) request.method) nowhere.absent
+      ∙ ap not (by (bytes_eq request.method (codes "OPTIONS")))
+    where
+      by : (b : Bool)
+          → (if b then list_any (λ (r : MethodRule). r.creates) rules
+          else creates (find (λ (r : MethodRule). bytes_eq r.method (ruled request.method)) rules))
+          ≡ false
+      by true = some_makes rules ∙ none_makes
+      by false = idle_found (ruled request.method) rules none_makes
 
-  -- a method that the resource doesn't have isn't known
-  unknown : (b : Bool) → has_method resource.rules.items request.method ≡ b → (c : Bool)
-      → list_any (bytes_eq request.method) standard_methods ≡ c → not b ≡ true → not (c || b) ≡ false → ⊥
-  unknown true e c f none known = cc none
-  unknown false e true f none known =
-      let has = one_of (has_method resource.rules.items) request.method standard_methods nowhere.has f in
-      cc (has, e)
-  unknown false e false f none known = cc known
+  pub not_found : (present : ℕ) (request : Request) (answer : Answer) → IsAnswer present resource request answer
+      → Before answer.reason NotFound ⊎ (answer.status ≡ Some 404)
+  not_found present request answer is =
+      answered resource request (ap has_moved nowhere.absent) (ap is_gone nowhere.absent) (missing request) present
+      answer.reason answer.status answer.sends is.own is.first is.gives
 
-  never_refused : IsFirst (applies resource request) MethodNotAllowed → ⊥
-  never_refused first =
-      unknown (has_method resource.rules.items request.method) refl
-      (list_any (bytes_eq request.method) standard_methods) refl first.is (first.none_before UnknownMethod (lit< tt))
+-- ---- the server in general
 
-  past : (reason : Reason) → IsFirst (applies resource request) reason → Before NotFound reason → ⊥
-  past reason first later = let none = first.none_before NotFound later in cc (none, missing)
+module _ (resource : Resource) (wide : IsServerWide resource) (present : ℕ) (request : Request) (answer : Answer)
+    (is : IsAnswer present resource request answer) where
+  general : applies resource request NotFound ≡ not (bytes_eq request.method (codes "OPTIONS"))
+  general =
+      ap
+      (λ (s : State). is_missing s resource.rules.items (rule_for resource.rules.items request.method) request.method)
+      wide.general
 
-  pub answered : (present : ℕ) (reason : Reason) (status : Option ℕ) (sent : Sends) (own : List Field)
-      → IsFirst (applies resource request) reason → Gives present resource request reason status sent own
-      → Before reason NotFound ⊎ (status ≡ Some 404)
-  answered present InvalidHost status sent own first gives = inl (lit< tt)
-  answered present Misdirected status sent own first gives = inl (lit< tt)
-  answered present UnknownMethod status sent own first gives = inl (lit< tt)
-  answered present MethodNotAllowed status sent own first gives = inl (lit< tt)
-  answered present Options status sent own first gives = inl (lit< tt)
-  answered present UnmetExpectation status sent own first gives = inl (lit< tt)
-  answered present PartialContent status sent own first gives = inl (lit< tt)
-  answered present Moved status sent own first gives =
-      let gone : has_moved resource.state ≡ false = ap has_moved nowhere.absent in absurd (cc (gone, first.is))
-  answered present Gone status sent own first gives =
-      let gone : is_gone resource.state ≡ false = ap is_gone nowhere.absent in absurd (cc (gone, first.is))
-  answered present NotFound status sent own first gives = inr gives.has_status
-  answered present LengthRequired status sent own first gives = absurd (past LengthRequired first (lit< tt))
-  answered present ContentTooLarge status sent own first gives = absurd (past ContentTooLarge first (lit< tt))
-  answered present UnsupportedMediaType status sent own first gives =
-      absurd (past UnsupportedMediaType first (lit< tt))
-  answered present UnsupportedCoding status sent own first gives = absurd (past UnsupportedCoding first (lit< tt))
-  answered present NotAcceptable status sent own first gives = absurd (past NotAcceptable first (lit< tt))
-  answered present PreconditionRequired status sent own first gives =
-      absurd (past PreconditionRequired first (lit< tt))
-  answered present Admitted status sent own first gives = absurd (past Admitted first (lit< tt))
+  pub others_missing : request.method ≢ codes "OPTIONS"
+      → Before answer.reason NotFound ⊎ (answer.status ≡ Some 404)
+  others_missing other =
+      answered resource request (ap has_moved wide.general) (ap is_gone wide.general)
+      (general ∙ ap not (unequal (bytes_eq request.method (codes "OPTIONS")) refl)) present answer.reason answer.status
+      answer.sends is.own is.first is.gives
+    where
+      unequal : (b : Bool) → bytes_eq request.method (codes "OPTIONS") ≡ b
+          → bytes_eq request.method (codes "OPTIONS") ≡ false
+      unequal true e = absurd (other ((bytes_eq-Decides request.method (codes "OPTIONS")).0 e))
+      unequal false e = e
 
-pub not_found : (present : ℕ) (resource : Resource) (request : Request) (answer : Answer) → IsNowhere resource
-    → IsAnswer present resource request answer → Before answer.reason NotFound ⊎ (answer.status ≡ Some 404)
-not_found present resource request answer nowhere is =
-    answered resource request nowhere present answer.reason answer.status answer.sends is.own is.first is.gives
-
-pub not_refused : (present : ℕ) (resource : Resource) (request : Request) (answer : Answer) → IsNowhere resource
-    → IsAnswer present resource request answer → answer.reason ≢ MethodNotAllowed
-not_refused present resource request answer nowhere is same =
-    never_refused resource request nowhere (rw same at is.first)
-
--- ---- the rules that it has
-
-pub seven_rules : (get post put delete connect trace patch : MethodRule) → get.method ≡ codes "GET"
-    → post.method ≡ codes "POST" → put.method ≡ codes "PUT" → delete.method ≡ codes "DELETE"
-    → connect.method ≡ codes "CONNECT" → trace.method ≡ codes "TRACE" → patch.method ≡ codes "PATCH"
-    → list_all (has_method (get ∷ post ∷ put ∷ delete ∷ connect ∷ trace ∷ patch ∷ [])) standard_methods ≡ true
-unfolding rule_for
-seven_rules get post put delete connect trace patch e1 e2 e3 e4 e5 e6 e7 = rw (e1, e2, e3, e4, e5, e6, e7) refl
-
-pub seven_idle : (get post put delete connect trace patch : MethodRule) → get.creates ≡ false → post.creates ≡ false
-    → put.creates ≡ false → delete.creates ≡ false → connect.creates ≡ false → trace.creates ≡ false
-    → patch.creates ≡ false
-    → list_all (λ (rule : MethodRule). not rule.creates) (get ∷ post ∷ put ∷ delete ∷ connect ∷ trace ∷ patch ∷ [])
-    ≡ true
-seven_idle get post put delete connect trace patch e1 e2 e3 e4 e5 e6 e7 = rw (e1, e2, e3, e4, e5, e6, e7) refl
+  pub options_told : request.method ≡ codes "OPTIONS" → Before answer.reason NotFound ⊎ (answer.reason ≡ Options)
+  options_told options =
+      let asks : bytes_eq request.method (codes "OPTIONS") ≡ true
+      = (bytes_eq-Decides request.method (codes "OPTIONS")).1 options in
+      told resource request (ap has_moved wide.general) (ap is_gone wide.general) (general ∙ ap not asks) asks
+      answer.reason is.first

@@ -1,11 +1,10 @@
 -- Which route a path matches, and how a request is answered by it.
-use Rattle.std.specs.Prelude.{◌≡◌, ◌≢◌, ⊤, ◌<◌, ◌==◌, ℕ, Bool, true, false, not, List, [], ◌∷◌, ◌++◌, Option, Some}
-use Rattle.std.specs.Prelude.{None, length}
-use Rattle.std.specs.List.{list_all}
+use Rattle.std.specs.Prelude.{◌≡◌, ◌≢◌, ⊤, ◌<◌, ◌==◌, ℕ, Bool, true, false, List, [], ◌∷◌, ◌++◌, Option, Some}
+use Rattle.std.specs.Prelude.{None, bytes_eq, codes, length, map}
 use Rattle.matchit.specs.{Router.RouteOf, Seek.has_slash, declared.params.Params.Params}
 use Rattle.matchit.specs.Rows.{RowsOf, catch_all_token, param_token}
-use Rattle.decide_resource.specs.{Answers.IsAnswer, Applies.has_method, Applies.standard_methods, Requests.Request}
-use Rattle.decide_resource.specs.{declared.answer.Answer.Answer, declared.resource.Resource.Resource}
+use Rattle.decide_resource.specs.{Answers.IsAnswer, Requests.Request, declared.answer.Answer.Answer}
+use Rattle.decide_resource.specs.{declared.resource.MethodRule.MethodRule, declared.resource.Resource.Resource}
 use Rattle.decide_resource.specs.declared.resource.State.TheVariants as state
 
 -- ---- patterns
@@ -65,8 +64,36 @@ module _ {T : Type 0} (present : ℕ) (nowhere : Resource) (request : Request)
   IsAnswerAt (Some route) answer =
       (resource : Resource) × describes route resource × IsAnswer present resource request answer
 
--- The resource at a path that has none: it is absent, it has each method of the RFC, and none of them makes it.
+-- the path is `*`, which is the server in general (RFC 9110, section 9.3.7)
+abbrev pub is_asterisk : List ℕ → Bool
+is_asterisk path = bytes_eq path (codes "*")
+
+-- The answer by the path of a target: that of `*` is the resource of the server in general.
+abbrev pub IsAnswerTo : {T : Type 0} → ℕ → Resource → Resource → Request → (RouteOf T → Resource → Type 0) → Bool
+    → Option (RouteOf T) → Answer → Type 0
+IsAnswerTo present wide nowhere request describes true route answer = IsAnswer present wide request answer
+IsAnswerTo present wide nowhere request describes false route answer =
+    IsAnswerAt present nowhere request describes route answer
+
+-- ---- what is no resource of its own
+
+-- the method of a rule, and whether it makes a representation
+abbrev pub told_of : MethodRule → List ℕ × Bool
+told_of rule = (rule.method, rule.creates)
+
+-- that of a method which makes none
+abbrev pub idle_rule : List ℕ → List ℕ × Bool
+idle_rule method = (method, false)
+
+-- The resource at a path that has none: it is absent, it has each method that the server implements, and none of them
+-- makes it.
 pub record IsNowhere (resource : Resource) : Type 0 where
   pub absent : resource.state ≡ state.Absent
-  pub has : list_all (has_method resource.rules.items) standard_methods ≡ true
-  pub idle : list_all (λ rule. not rule.creates) resource.rules.items ≡ true
+  pub rules : map told_of resource.rules.items
+      ≡ (codes "GET", false) ∷ map idle_rule resource.implemented.items
+
+-- The server in general has each method that it implements.
+pub record IsServerWide (resource : Resource) : Type 0 where
+  pub general : resource.state ≡ state.Server
+  pub rules : map told_of resource.rules.items
+      ≡ (codes "GET", false) ∷ map idle_rule resource.implemented.items

@@ -1,6 +1,6 @@
-//! The answer for a path without a resource.
-ghost use Rattle.std.specs.Prelude.{◌≡◌, IfOk, false};
-ghost use Rattle.decide_routes.specs.Routes.{IsNowhere};
+//! What all resources of a server have in common, and the answers for what is no resource of its own.
+ghost use Rattle.std.specs.Prelude.{◌≡◌, ◌∷◌, IfOk, codes, false, map};
+ghost use Rattle.decide_routes.specs.Routes.{IsNowhere, IsServerWide, idle_rule, told_of};
 
 use decide_cors::CorsPolicy;
 use decide_preconditions::Boundary;
@@ -9,10 +9,22 @@ use headers::{HeaderMap, HeaderValue};
 use http::Method;
 use std::alloc::{AllocError, Global};
 
-// A method that is answered, but never performed.
+/// What all resources of a server have in common.
+#[derive(Debug, Drop)]
+pub struct Server {
+    /// The hosts that it is served for, as they are written in Host, or `None` for any.
+    pub hosts: Option<Vec<HeaderValue>>,
+    /// The methods that it implements for some resource, beside GET and HEAD (RFC 9110, section 9.1).
+    pub implemented: Vec<Method>,
+    /// The boundary between several parts.
+    pub boundary: Boundary,
+    /// The policy for cross-origin requests, if there is one.
+    pub cors: Option<CorsPolicy>,
+}
+
+// A method that is never performed on what isn't there.
 fn rule_for(alloc: Global, method: Method) -> MethodRule
-    ensures method { result.method ≡ method }
-    ensures creates { result.creates ≡ false }
+    ensures { told_of result ≡ (method, false) }
 {
     MethodRule {
         method,
@@ -23,32 +35,39 @@ fn rule_for(alloc: Global, method: Method) -> MethodRule
     }
 }
 
-/// Makes the resource for each path that has none: it is absent, no method makes it, and each
-/// method of the RFC gets 404. It is served for these hosts, or for any. Fails only if an
-/// allocation fails.
-pub fn nowhere(
-    alloc: Global,
-    hosts: Option<Vec<HeaderValue>>,
-    boundary: Boundary,
-    cors: Option<CorsPolicy>,
-) -> Result<Resource, AllocError>
-    ensures nowhere { IfOk result IsNowhere }
-    ensures hosts { IfOk result (λ resource. resource.hosts ≡ hosts) }
-    ensures cors { IfOk result (λ resource. resource.cors ≡ cors) }
+// The rules of GET and of these methods, which make nothing.
+fn idle_rules(alloc: Global, methods: &[Method]) -> Result<Vec<MethodRule>, AllocError>
+    ensures { IfOk result (λ rules. map told_of rules.items
+        ≡ (codes "GET", false) ∷ map idle_rule methods.now) }
 {
-    let rules = vec![in alloc;
-        rule_for(alloc, Method::GET),
-        rule_for(alloc, Method::POST),
-        rule_for(alloc, Method::PUT),
-        rule_for(alloc, Method::DELETE),
-        rule_for(alloc, Method::CONNECT),
-        rule_for(alloc, Method::TRACE),
-        rule_for(alloc, Method::PATCH),
-    ]?;
+    let mut rules = vec![in alloc; rule_for(alloc, Method::GET)]?;
+    for method in methods {
+        rules.push(rule_for(alloc, method.clone()?))?;
+    }
+    Ok(rules)
+}
+
+// A resource of this state, which has each method of the server and no representation.
+fn resource_of(alloc: Global, server: Server, state: State) -> Result<Resource, AllocError>
+    ensures rules { IfOk result (λ resource. map told_of resource.rules.items
+        ≡ (codes "GET", false) ∷ map idle_rule resource.implemented.items) }
+    ensures implemented { IfOk result (λ resource. resource.implemented ≡ server.implemented) }
+    ensures state { IfOk result (λ resource. resource.state ≡ state) }
+    ensures hosts { IfOk result (λ resource. resource.hosts ≡ server.hosts) }
+    ensures cors { IfOk result (λ resource. resource.cors ≡ server.cors) }
+{
+    let rules = idle_rules(alloc, &server.implemented)?;
+    let Server {
+        hosts,
+        implemented,
+        boundary,
+        cors,
+    } = server;
     Ok(Resource {
         hosts,
+        implemented,
         rules,
-        state: State::Absent,
+        state,
         representations: Vec::new(alloc),
         negotiation: Negotiation {
             media_type: false,
@@ -61,4 +80,27 @@ pub fn nowhere(
         limit: None,
         cors,
     })
+}
+
+/// Makes the resource for each path that has none: each method that the server implements gets 404,
+/// and so does OPTIONS. Fails only if an allocation fails.
+pub fn nowhere(alloc: Global, server: Server) -> Result<Resource, AllocError>
+    ensures nowhere { IfOk result IsNowhere }
+    ensures implemented { IfOk result (λ resource. resource.implemented ≡ server.implemented) }
+    ensures hosts { IfOk result (λ resource. resource.hosts ≡ server.hosts) }
+    ensures cors { IfOk result (λ resource. resource.cors ≡ server.cors) }
+{
+    resource_of(alloc, server, State::Absent)
+}
+
+/// Makes the resource of `*`, which is the server in general (RFC 9110, section 9.3.7). OPTIONS gets
+/// the methods that the server implements, and each of the others 404: there is nothing of the server
+/// to represent or to replace. Fails only if an allocation fails.
+pub fn server_wide(alloc: Global, server: Server) -> Result<Resource, AllocError>
+    ensures wide { IfOk result IsServerWide }
+    ensures implemented { IfOk result (λ resource. resource.implemented ≡ server.implemented) }
+    ensures hosts { IfOk result (λ resource. resource.hosts ≡ server.hosts) }
+    ensures cors { IfOk result (λ resource. resource.cors ≡ server.cors) }
+{
+    resource_of(alloc, server, State::Server)
 }

@@ -6,5 +6,5 @@ mod absent;
 pub mod laws;
 mod routes;
 
-pub use crate::absent::nowhere;
-pub use crate::routes::Routes;
+pub use crate::absent::{Server, nowhere, server_wide};
+pub use crate::routes::{Asked, Routes};

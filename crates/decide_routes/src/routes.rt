@@ -2,7 +2,7 @@
 ghost use Rattle.std.specs.Prelude.{◌≡◌, IfOk, Ok};
 ghost use Rattle.matchit.specs.Seek.{first};
 ghost use Rattle.decide_resource.specs.Requests.{request_of};
-ghost use Rattle.decide_routes.specs.Routes.{IsAnswerAt, IsTaken};
+ghost use Rattle.decide_routes.specs.Routes.{IsAnswerTo, IsTaken, is_asterisk};
 
 use decide_resource::{Answer, RequestHead, Resource, answer_request};
 use matchit::{Params, Router};
@@ -15,26 +15,49 @@ pub struct Routes<T> {
     pub router: Router<T>,
     /// The resource that answers if no route matches, as `nowhere` makes it.
     pub nowhere: Resource,
+    /// The resource of `*`, as `server_wide` makes it.
+    pub server_wide: Resource,
+}
+
+/// A request by the path of its target.
+#[derive(Clone, Copy)]
+pub struct Asked<'a> {
+    /// The path, without the query; or `*`, if the target is in asterisk-form (RFC 9112, section
+    /// 3.2.4).
+    pub path: &'a str,
+    /// The request.
+    pub request: RequestHead<'a>,
+    /// The time, in seconds since 1970.
+    pub present: u64,
+}
+
+fn is_asterisk(path: &str) -> bool
+    ensures { result ≡ is_asterisk path.now }
+{
+    path == "*"
 }
 
 impl<T: Drop> Routes<T> {
     /// Decides the answer to a request by the path of its target (RFC 9110, section 7.1). If a
     /// route matches, `describe` makes its resource of the value and the parameters of the route;
-    /// else `nowhere` answers. `present` is the time, in seconds since 1970.
+    /// else `nowhere` answers, and for `*` the server in general.
     pub fn answer_at<E: From<AllocError>, F: FnOnce(&T, &Params<'_, '_>) -> Result<Resource, E>>(
         &self,
         alloc: Global,
-        path: &str,
-        request: &RequestHead<'_>,
-        present: u64,
+        asked: &Asked<'_>,
         describe: F,
     ) -> Result<Answer, E>
         requires { F.IsAlwaysCallable describe }
-        ensures { IfOk result (IsAnswerAt present self.now.nowhere (request_of request.now)
+        ensures { IfOk result (IsAnswerTo asked.now.present self.now.server_wide self.now.nowhere
+            (request_of asked.now.request)
             (λ route resource. (value : _) × (params : _) × (value.now ≡ route.value)
-            × IsTaken route path.now params.now × F.post describe value params (Ok resource))
-            (first self.now.router path.now)) }
+            × IsTaken route asked.now.path.now params.now × F.post describe value params (Ok resource))
+            (is_asterisk asked.now.path.now) (first self.now.router asked.now.path.now)) }
     {
+        let (path, request, present) = (asked.path, &asked.request, asked.present);
+        if is_asterisk(path) {
+            return Ok(answer_request(alloc, &self.server_wide, request, present)?);
+        }
         match self.router.at(path) {
             Ok(found) => {
                 let resource = describe(found.value, &found.params)?;

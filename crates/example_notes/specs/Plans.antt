@@ -33,11 +33,13 @@ abbrev pub IsText : Notes → Target → Option Note → Type 0
 IsText notes target.Notes text = text ≡ Some (record { text = list_text notes; version = notes.changes })
 IsText notes (target.Note id) text = text ≡ note_at notes id
 IsText notes target.Nowhere text = text ≡ None
+IsText notes target.Server text = text ≡ None
 
-abbrev pub Describes : Resource → Target → Option Note → Resource → Type 0
-Describes nowhere target.Notes text resource = IsResource collection_methods text resource
-Describes nowhere (target.Note id) text resource = IsResource note_methods text resource
-Describes nowhere target.Nowhere text resource = resource ≡ nowhere
+abbrev pub Describes : (nowhere wide : Resource) → Target → Option Note → Resource → Type 0
+Describes nowhere wide target.Notes text resource = IsResource collection_methods text resource
+Describes nowhere wide (target.Note id) text resource = IsResource note_methods text resource
+Describes nowhere wide target.Nowhere text resource = resource ≡ nowhere
+Describes nowhere wide target.Server text resource = resource ≡ wide
 
 -- What decisions read of a request. The content was read to its end, so its length is known.
 pub record IsAsked (request : Request (List ℕ)) (asked : Asked) : Type 0 where
@@ -47,6 +49,7 @@ pub record IsAsked (request : Request (List ℕ)) (asked : Asked) : Type 0 where
   pub authority : asked.authority ≡ None
   pub content : asked.content ≡ Sized (length (body_of request))
   pub fields : asked.fields ≡ lines_at (head_of request).headers
+  pub admitted : asked.denied ≡ None
 
 -- the answer of the resource to the request, without a clock, as no date is sent
 pub record IsAnswerBy (resource : Resource) (request : Request (List ℕ)) (answer : Answer) : Type 0 where
@@ -55,10 +58,10 @@ pub record IsAnswerBy (resource : Resource) (request : Request (List ℕ)) (answ
   pub answers : IsAnswer 0 resource asked answer
 
 -- the answer of the resource at the target
-pub record IsAnswerAt (nowhere : Resource) (at : Target) (text : Option Note) (request : Request (List ℕ))
+pub record IsAnswerAt (nowhere wide : Resource) (at : Target) (text : Option Note) (request : Request (List ℕ))
     (answer : Answer) : Type 0 where
   pub resource : Resource
-  pub describes : Describes nowhere at text resource
+  pub describes : Describes nowhere wide at text resource
   pub answers : IsAnswerBy resource request answer
 
 -- ---- what methods do
@@ -75,6 +78,7 @@ abbrev pub IsDeletion : List ℕ → Target → Type 0
 IsDeletion method target.Notes = ⊥
 IsDeletion method (target.Note id) = method ≡ codes "DELETE"
 IsDeletion method target.Nowhere = ⊥
+IsDeletion method target.Server = ⊥
 
 -- DELETE removes a note
 abbrev pub Deletes : Notes → List ℕ → Target → Notes → Done → Type 0
@@ -82,6 +86,7 @@ Deletes before method target.Notes after done = ⊥
 Deletes before method (target.Note id) after done =
     IsDeletion method (target.Note id) × Removes before id after × HasDone 204 [] done
 Deletes before method target.Nowhere after done = ⊥
+Deletes before method target.Server after done = ⊥
 
 -- what isn't JSON is rejected
 abbrev pub Rejects : Notes → List ℕ → Notes → Done → Type 0
@@ -100,6 +105,7 @@ Stores before (target.Note id) content after done =
     Writes before id content after
     × HasDone 204 ((codes "etag", tag_of (before.changes + 1) ∷ []) ∷ []) done
 Stores before target.Nowhere content after done = (after ≡ before) × HasDone 404 [] done
+Stores before target.Server content after done = (after ≡ before) × HasDone 404 [] done
 
 -- what becomes of content
 abbrev pub Takes : Notes → Target → List ℕ → Notes → Done → Type 0
@@ -137,7 +143,7 @@ pub record IsPlanned (before : Service) (request : Request (List ℕ)) (plan : P
   pub text : Option Note
   pub is_text : IsText before.notes at text
   pub answer : Answer
-  pub answers : IsAnswerAt before.routes.nowhere at text request answer
+  pub answers : IsAnswerAt before.routes.nowhere before.routes.server_wide at text request answer
   pub done : Done
   pub does : Does answer.status before.notes (head_of request).method at (body_of request) after.notes done
   pub status : plan.status ≡ done.status

@@ -2,6 +2,7 @@
 use Rattle.std.specs.Prelude.{◌≡◌, ℕ, ◌<◌, ◌^◌, Bool, true, false, not, ◌&&◌, List, [], ◌∷◌, Option, Some, None, codes}
 use Rattle.std.{specs.Prelude.nat_lt, specs.Str.Parse.{IsNumeral, digits_value, without_leading_plus}}
 use Rattle.matchit.{specs.Params.{AllText, named, walk}, specs.Router.RouteOf, specs.Rows.RowsOf, specs.Seek.first}
+use Rattle.decide_routes.specs.Routes.{is_asterisk}
 use Rattle.example_notes.specs.declared.target.Place.{Place}
 use Rattle.example_notes.specs.declared.target.Place.TheVariants as place
 use Rattle.example_notes.specs.declared.target.Target.{Target}
@@ -23,6 +24,7 @@ abbrev pub IsNamed : Option (List ℕ) → Target → Type 0
 IsNamed None named = named ≡ target.Nowhere
 IsNamed (Some digits) target.Notes = ⊥
 IsNamed (Some digits) (target.Note id) = IsId digits id
+IsNamed (Some digits) target.Server = ⊥
 IsNamed (Some digits) target.Nowhere = (id : ℕ) → id < 2 ^ 64 → ¬ (IsId digits id)
 
 -- what the parameter `id` of a route takes of the path, if all that is taken is text
@@ -39,6 +41,10 @@ abbrev pub IsTargetAt : Option (RouteOf Place) → List ℕ → Target → Type 
 IsTargetAt None path found = found ≡ target.Nowhere
 IsTargetAt (Some route) path found = LeadsTo route.value route path found
 
--- the target of the route that the path matches, or nothing
+abbrev pub IsTargetIf : Bool → Option (RouteOf Place) → List ℕ → Target → Type 0
+IsTargetIf true route path found = found ≡ target.Server
+IsTargetIf false route path found = IsTargetAt route path found
+
+-- the server in general, for `*`; else the target of the route that the path matches, or nothing
 abbrev pub IsTarget : RowsOf (RouteOf Place) → List ℕ → Target → Type 0
-IsTarget router path found = IsTargetAt (first router path) path found
+IsTarget router path found = IsTargetIf (is_asterisk path) (first router path) path found

@@ -98,7 +98,7 @@ fn take(
     match target {
         Target::Note(id) => write(alloc, notes, id, content),
         Target::Notes => add(alloc, notes, content),
-        Target::Nowhere => Ok(only(alloc, StatusCode::NOT_FOUND)),
+        Target::Nowhere | Target::Server => Ok(only(alloc, StatusCode::NOT_FOUND)),
     }
 }
 
@@ -118,6 +118,6 @@ pub fn perform(
             Ok(only(alloc, StatusCode::NO_CONTENT))
         }
         Target::Note(_) => take(alloc, notes, target, content),
-        Target::Notes | Target::Nowhere => take(alloc, notes, target, content),
+        Target::Notes | Target::Nowhere | Target::Server => take(alloc, notes, target, content),
     }
 }

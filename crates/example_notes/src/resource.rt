@@ -7,6 +7,7 @@ use crate::text::tag_of;
 use decide_cors::{Allowed, AllowedNames, CorsPolicy, CorsRules};
 use decide_preconditions::{Boundary, Content, Validators};
 use decide_resource::{MethodRule, Negotiation, Representation, Resource, State};
+use decide_routes::Server;
 use headers::{ETag, HeaderMap, HeaderValue, Refused};
 use http::Method;
 use http_header::{ACCEPT, CONTENT_TYPE, ETAG, IF_MATCH, IF_NONE_MATCH, LOCATION};
@@ -25,8 +26,8 @@ fn allocated<T, E: Drop>(made: Result<T, E>) -> Result<T, AllocError>
     }
 }
 
-/// Makes the policy for cross-origin requests: scripts of any origin may use the notes.
-pub fn policy(alloc: Global) -> Result<CorsPolicy, AllocError> {
+// Makes the policy for cross-origin requests: scripts of any origin may use the notes.
+fn policy(alloc: Global) -> Result<CorsPolicy, AllocError> {
     let mut rules = CorsRules::new(alloc, Allowed::Any);
     rules.methods = Allowed::Listed(vec![in alloc; Method::PUT, Method::DELETE]?);
     rules.names = AllowedNames::Listed(vec![in alloc; CONTENT_TYPE, IF_MATCH, IF_NONE_MATCH]?);
@@ -34,9 +35,24 @@ pub fn policy(alloc: Global) -> Result<CorsPolicy, AllocError> {
     allocated(CorsPolicy::new(alloc, rules))
 }
 
-/// Makes the boundary between several parts. Ranges aren't sent, so no response has it.
-pub fn boundary(alloc: Global) -> Result<Boundary, AllocError> {
+// Makes the boundary between several parts. Ranges aren't sent, so no response has it.
+fn boundary(alloc: Global) -> Result<Boundary, AllocError> {
     allocated(Boundary::new(alloc, "part"))
+}
+
+// The methods that the notes have, beside GET and HEAD.
+fn implemented(alloc: Global) -> Result<Vec<Method>, AllocError> {
+    Ok(vec![in alloc; Method::POST, Method::PUT, Method::DELETE]?)
+}
+
+/// Makes what all resources of the server have in common.
+pub fn server(alloc: Global) -> Result<Server, AllocError> {
+    Ok(Server {
+        hosts: None,
+        implemented: implemented(alloc)?,
+        boundary: boundary(alloc)?,
+        cors: Some(policy(alloc)?),
+    })
 }
 
 // A method without content.
@@ -114,6 +130,7 @@ fn resource(
     };
     Ok(Resource {
         hosts: None,
+        implemented: implemented(alloc)?,
         rules,
         state,
         representations,

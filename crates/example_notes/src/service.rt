@@ -9,13 +9,13 @@ ghost use Rattle.example_notes.specs.Plans.{Carries, Does, IsAnswerAt, IsAnswerB
 
 use crate::notes::{Note, Notes};
 use crate::perform::{Done, only, perform};
-use crate::resource::{boundary, collection, note, policy};
+use crate::resource::{collection, note, server};
 use crate::target::{Place, Target, router, target_of};
 use crate::text::list_text;
 use bytes::Bytes;
 use decide_preconditions::Plan as Planned;
 use decide_resource::{Answer, RequestContent, RequestHead, Resource, Sends, answer_request};
-use decide_routes::{Routes, nowhere};
+use decide_routes::{Routes, nowhere, server_wide};
 use gateway_messages::Protocol;
 use headers::{Encoded, HeaderMap, set_all};
 use http::{Request, Version};
@@ -37,14 +37,19 @@ pub fn new_service(alloc: Global) -> Result<Service, AllocError> {
     let Ok(router) = router(alloc) else {
         return Err(AllocError);
     };
-    let nowhere = nowhere(alloc, None, boundary(alloc)?, Some(policy(alloc)?))?;
+    let nowhere = nowhere(alloc, server(alloc)?)?;
+    let server_wide = server_wide(alloc, server(alloc)?)?;
     let notes = Notes {
         by_id: BTreeMap::new(alloc),
         changes: 0,
     };
     Ok(Service {
         alloc,
-        routes: Routes { router, nowhere },
+        routes: Routes {
+            router,
+            nowhere,
+            server_wide,
+        },
         notes,
     })
 }
@@ -65,6 +70,7 @@ fn asked(request: &Request<Bytes>) -> RequestHead<'_>
         authority,
         content: RequestContent::Sized(request.body().len() as u64),
         fields: request.headers(),
+        denied: None,
     }
 }
 
@@ -91,7 +97,7 @@ impl Service {
                 version: self.notes.changes,
             })),
             Target::Note(id) => self.notes.get(id),
-            Target::Nowhere => Ok(None),
+            Target::Nowhere | Target::Server => Ok(None),
         }
     }
 
@@ -102,7 +108,8 @@ impl Service {
         text: Option<&Note>,
         request: &Request<Bytes>,
     ) -> Result<Answer, AllocError>
-        ensures { IfOk result (IsAnswerAt self.now.routes.nowhere target (option_copied text.entry) request.now) }
+        ensures { IfOk result (IsAnswerAt self.now.routes.nowhere self.now.routes.server_wide target
+            (option_copied text.entry) request.now) }
     {
         let alloc = self.alloc;
         match target {
@@ -118,6 +125,10 @@ impl Service {
             }
             Target::Nowhere => {
                 let answer = answer_by(alloc, &self.routes.nowhere, request)?;
+                Ok(answer)
+            }
+            Target::Server => {
+                let answer = answer_by(alloc, &self.routes.server_wide, request)?;
                 Ok(answer)
             }
         }

@@ -1,5 +1,6 @@
 //! The target of a path.
 ghost use Rattle.std.specs.Prelude.{◌≡◌, option_map};
+ghost use Rattle.decide_routes.specs.Routes.{is_asterisk};
 ghost use Rattle.example_notes.specs.Targets.{IsNamed, IsTarget, is_plain};
 
 use matchit::{InsertError, Router};
@@ -23,6 +24,8 @@ pub enum Target {
     Note(u64),
     /// No resource.
     Nowhere,
+    /// The server in general, `*`.
+    Server,
 }
 
 /// Makes the router, with the routes `/notes` and `/notes/{id}`.
@@ -56,10 +59,19 @@ fn note_named(id: Option<&str>) -> Target
     }
 }
 
+fn is_asterisk(path: &str) -> bool
+    ensures { result ≡ is_asterisk path.now }
+{
+    path == "*"
+}
+
 /// Returns the target of a path.
 pub fn target_of(router: &Router<Place>, path: &str) -> Target
     ensures { IsTarget router.now path.now result }
 {
+    if is_asterisk(path) {
+        return Target::Server;
+    }
     match router.at(path) {
         Ok(found) => match found.value {
             Place::Notes => Target::Notes,

@@ -1,8 +1,8 @@
 -- What a request that is sent again has in common with the first, at another time.
-use Rattle.std.proofs.Common.{◌≡◌, ℕ, zero, suc, ◌<◌, Bool, false, not, ◌&&◌, List, [], ◌∷◌, length, get_or, map}
+use Rattle.std.proofs.Common.{◌≡◌, ℕ, zero, suc, ◌<◌, Bool, true, false, not, ◌&&◌, List, [], ◌∷◌, length, get_or, map}
 use Rattle.std.proofs.Common.{Option, Some, None, refl, sym, ap, subst, ◌∙◌, inl, inr, arith}
 use Rattle.std.{proofs.lemmas.List.length-map, proofs.lemmas.Option.slice_get-map, specs.Global.Vec}
-use Rattle.std.{specs.List.list_all, specs.Option.option_map_or, specs.Prelude.{◌==◌, codes, option_map, slice_get}}
+use Rattle.std.{specs.List.list_all, specs.Option.option_map_or, specs.Prelude.{◌==◌, codes, is_some, option_map, slice_get}}
 use Rattle.http_header.specs.FieldValue.{FieldValue}
 use Rattle.headers.{specs.LineMap.LineMap, specs.Lines.Line, specs.Typed.HasLine}
 use Rattle.gateway_messages.{specs.Expectations.has_known_expectation, specs.Requests.has_host}
@@ -20,7 +20,8 @@ use Rattle.decide_resource.{specs.Applies.{host_named, is_own, is_unacceptable, 
 use Rattle.decide_resource.specs.Representations.{are_unacceptable, joined, rank_by, score}
 use Rattle.decide_resource.specs.Requests.{Request as Asked}
 use Rattle.decide_resource.{specs.declared.reason.Reason.Reason, specs.declared.reason.Reason.TheVariants.InvalidHost}
-use Rattle.decide_resource.specs.declared.reason.Reason.TheVariants.{Misdirected, UnmetExpectation, PartialContent}
+use Rattle.decide_resource.specs.declared.reason.Reason.TheVariants.{Misdirected, Preflight, Denied, UnmetExpectation}
+use Rattle.decide_resource.specs.declared.reason.Reason.TheVariants.{PartialContent}
 use Rattle.decide_resource.specs.declared.reason.Reason.TheVariants.{UnsupportedMediaType, UnsupportedCoding}
 use Rattle.decide_resource.specs.declared.reason.Reason.TheVariants.{NotAcceptable, PreconditionRequired, Admitted}
 use Rattle.decide_resource.specs.declared.representation.Negotiation.{Negotiation}
@@ -37,7 +38,14 @@ use Rattle.server_answers.specs.Similar.{Label, label_of}
 
 abbrev pub reading : Protocol → Option Line → List ℕ → LineMap → Asked
 reading protocol authority method fields =
-    record { protocol = protocol; method = method; authority = authority; content = Absent; fields = fields }
+    record {
+      protocol = protocol;
+      method = method;
+      authority = authority;
+      content = Absent;
+      fields = fields;
+      denied = None;
+    }
 
 module _ (resource : Resource) (protocol : Protocol) (authority : Option Line) (fields : LineMap) where
   abbrev applies_to : List ℕ → Reason → Bool
@@ -46,6 +54,7 @@ module _ (resource : Resource) (protocol : Protocol) (authority : Option Line) (
   head_as_get : (reason : Reason) → applies_to (codes "HEAD") reason ≡ applies_to (codes "GET") reason
   unfolding rule_for is_unacceptable
   head_as_get InvalidHost = refl
+  head_as_get Preflight = refl
   head_as_get reason = refl
 
   read_as_get : (method : List ℕ) → IsGetOrHead method → (reason : Reason)
@@ -197,6 +206,10 @@ module _ (site : Resource) (st : State) (v w : Vec Representation) (now later : 
   unacceptable_same =
       rw (mine, theirs, same_length, same_none)
 
+  no_options : (b : Bool) → (b && false) ≡ false
+  no_options true = refl
+  no_options false = refl
+
   -- what doesn't keep the first from being performed doesn't keep the second from it
   still : (reason : Reason) → applies first (reading protocol authority get f) reason ≡ false
       → applies second (reading protocol authority get g) reason ≡ false
@@ -214,6 +227,8 @@ module _ (site : Resource) (st : State) (v w : Vec Representation) (now later : 
   still UnsupportedMediaType e = refl
   still UnsupportedCoding e = refl
   still PreconditionRequired e = refl
+  still Preflight e = no_options (is_some site.cors)
+  still Denied e = refl
   still reason e = e
 
   pub first_again : (method again : List ℕ) → IsGetOrHead method → IsGetOrHead again

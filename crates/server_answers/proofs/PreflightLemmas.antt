@@ -1,6 +1,6 @@
 -- The response to a preflight, as a browser reads it.
-use Rattle.std.proofs.Common.{◌≡◌, ◌↔◌, ℕ, Bool, true, false, not, cond, List, [], ◌∷◌, ◌++◌, Option, Some, refl, sym}
-use Rattle.std.{proofs.Common.{ap, ◌∙◌, append-nil, arith, inl, inr}, proofs.lemmas.Slice.Eq.bytes_eq-Decides}
+use Rattle.std.proofs.Common.{◌≡◌, ◌↔◌, ◌⊎◌, ℕ, Bool, true, false, not, ◌&&◌, cond, List, [], ◌∷◌, ◌++◌, Option, Some}
+use Rattle.std.{proofs.Common.{refl, sym, ap, ◌∙◌, append-nil, arith, inl, inr}, proofs.lemmas.Slice.Eq.bytes_eq-Decides}
 use Rattle.std.specs.Prelude.{◌||◌, bytes_eq, codes, is_some, string_bytes}
 use Rattle.http.{specs.Request.head_of, specs.declared.request.Request.Request}
 use Rattle.headers.specs.LineMap.{Field, LineMap, fields_of as encoded_fields, lines_at, set, set_all}
@@ -11,11 +11,10 @@ use Rattle.decide_cors.{specs.Rules.IsPolicyOf, specs.declared.rules.CorsRules.C
 use Rattle.server_connection.specs.declared.plan.Plan.{Plan as Response}
 use Rattle.gateway_messages.specs.Requests.{has_host}
 use Rattle.decide_resource.{specs.Answers.{IsAnswer, Stops}, specs.Applies.{applies, is_misdirected}}
-use Rattle.decide_resource.specs.Reasons.{IsFirst}
+use Rattle.decide_resource.{specs.Applies.{is_preflight_request, is_present}, specs.Reasons.{Before, IsFirst, stage}}
 use Rattle.decide_resource.specs.Requests.{Request as Asked, head_of as as_head}
 use Rattle.decide_resource.{specs.declared.answer.Answer.Answer, specs.declared.reason.Reason.Reason}
-use Rattle.decide_resource.specs.declared.reason.Reason.TheVariants.{InvalidHost, Misdirected, UnknownMethod}
-use Rattle.decide_resource.specs.declared.reason.Reason.TheVariants.{MethodNotAllowed, Options}
+use Rattle.decide_resource.specs.declared.reason.Reason.TheVariants.{InvalidHost, Misdirected, Preflight}
 use Rattle.decide_resource.specs.declared.resource.Resource.{Resource}
 use Rattle.server_service.{specs.Answer.{Decides, IsAnswerAt, clock, sends_several, status_for}, specs.Asked.Asks}
 use Rattle.server_service.specs.Response.{fields_of, headers_sent, headers_set, is_named, lines_under, lines_unless}
@@ -103,44 +102,33 @@ alike_back m n same = record {
 
 -- ---- the reason
 
-module _ (resource : Resource) (asked : Asked) (options : asked.method ≡ codes "OPTIONS")
+module _ (resource : Resource) (asked : Asked) (policy : Policy) (has : resource.cors ≡ Some policy) (sent : Sent)
+    (asks : IsPreflightFor sent asked.method asked.fields)
     (host : has_host asked.protocol (asked.fields (codes "host")) ≡ true)
     (own : is_misdirected resource asked ≡ false) where
-  asks_options : applies resource asked Options ≡ true
-  asks_options = ap (λ (m : List ℕ). bytes_eq m (codes "OPTIONS")) options
+  asks_leave : applies resource asked Preflight ≡ true
+  asks_leave =
+      ap (λ (cors : Option Policy). is_some cors && is_preflight_request asked.method asked.fields) has
+      ∙ ap (λ (m : List ℕ). is_preflight_request m asked.fields) asks.options
+      ∙ ap
+      (λ (lines : List Line). is_present lines && is_present (asked.fields (codes "access-control-request-method")))
+      asks.origin
+      ∙ ap is_present asks.asked
 
-  no_other : (b : Bool) (reason : Reason) → b ≡ true → b ≡ false → reason ≡ Options
+  no_other : (b : Bool) (reason : Reason) → b ≡ true → b ≡ false → reason ≡ Preflight
   no_other b reason t f = absurd (cc (t, f))
 
-  abbrev as_options : List ℕ → Asked
-  as_options method =
-      record {
-        protocol = asked.protocol;
-        method = method;
-        authority = asked.authority;
-        content = asked.content;
-        fields = asked.fields;
-      }
-
-  known : applies resource asked UnknownMethod ≡ false
-  known = ap (λ (m : List ℕ). applies resource (as_options m) UnknownMethod) options
-
-  allowed : applies resource asked MethodNotAllowed ≡ false
-  allowed = ap (λ (m : List ℕ). applies resource (as_options m) MethodNotAllowed) options
-
-  options_first : (reason : Reason) → IsFirst (applies resource asked) reason → reason ≡ Options
-  options_first InvalidHost h = no_other _ InvalidHost h.is (ap not host)
-  options_first Misdirected h = no_other _ Misdirected h.is own
-  options_first UnknownMethod h = no_other _ UnknownMethod h.is known
-  options_first MethodNotAllowed h = no_other _ MethodNotAllowed h.is allowed
-  options_first Options h = refl
-  options_first reason h = no_other _ reason asks_options (h.none_before Options (omega arith))
+  preflight_first : (reason : Reason) → IsFirst (applies resource asked) reason → reason ≡ Preflight
+  preflight_first InvalidHost h = no_other _ InvalidHost h.is (ap not host)
+  preflight_first Misdirected h = no_other _ Misdirected h.is own
+  preflight_first Preflight h = refl
+  preflight_first reason h = no_other _ reason asks_leave (h.none_before Preflight (omega arith))
 
   module _ (present : ℕ) (answer : Answer) (a : IsAnswer present resource asked answer) where
-    reason_is : answer.reason ≡ Options
-    reason_is = options_first answer.reason a.first
+    reason_is : answer.reason ≡ Preflight
+    reason_is = preflight_first answer.reason a.first
 
-    stops : Stops resource asked Options answer.status answer.sends a.own
+    stops : Stops resource asked Preflight answer.status answer.sends a.own
     stops =
         rw reason_is at a.gives
 
@@ -159,10 +147,10 @@ module _ (resource : Resource) (asked : Asked) (options : asked.method ≡ codes
 abbrev pub PreflightIsAnswered : Type 0
 PreflightIsAnswered = (present : ℕ) (resource : Resource) (request : Asked) (answer : Answer) (rules : CorsRules)
     (policy : Policy) (before : LineMap) (sent : Sent) → resource.cors ≡ Some policy
-    → IsAnswer present resource request answer → answer.reason ≡ Options → IsLawful rules
-    → IsPolicyOf rules policy → IsPreflightFor sent request.method request.fields
-    → (answer.status ≡ Some 204)
-    × (PreflightPasses 204 (set_all before (encoded_fields answer.fields.items)) sent ↔ AllowsRequest rules sent)
+    → IsAnswer present resource request answer → IsLawful rules → IsPolicyOf rules policy
+    → IsPreflightFor sent request.method request.fields
+    → Before answer.reason Preflight ⊎ ((answer.status ≡ Some 204)
+    × (PreflightPasses 204 (set_all before (encoded_fields answer.fields.items)) sent ↔ AllowsRequest rules sent))
 
 -- and that of the CORS check
 abbrev pub ResponseIsShared : Type 0
@@ -217,21 +205,21 @@ module _ (now : Option ℕ) (left : ℕ) (site : Site) (look : List ℕ → Entr
         state = x.found.state;
         representations = x.described.representations;
       } in
-      let options : asked.method ≡ codes "OPTIONS" = asks.2.method ∙ preflight.options in
       let decides : Decides present (string_bytes site.divider) x.found.files.items resource asked x.answer =
       rw (x.described.is, same) at x.decides in
-      let a : IsAnswer present resource asked x.answer =
-      decided resource asked options host own present (string_bytes site.divider) x.found.files.items x.answer
-      decides in
-      let reason : x.answer.reason ≡ Options = reason_is resource asked options host own present x.answer a in
-      let stopped = stops resource asked options host own present x.answer a in
       let asked_so : IsPreflightFor sent asked.method asked.fields = record {
-        options = options;
+        options = asks.2.method ∙ preflight.options;
         origin = ap (λ (m : LineMap). m (codes "origin")) asks.2.fields ∙ preflight.origin;
         asked = ap (λ (m : LineMap). m (codes "access-control-request-method")) asks.2.fields ∙ preflight.asked;
       } in
+      let a : IsAnswer present resource asked x.answer =
+      decided resource asked policy has sent asked_so host own present (string_bytes site.divider) x.found.files.items
+      x.answer decides in
+      let reason : x.answer.reason ≡ Preflight =
+      reason_is resource asked policy has sent asked_so host own present x.answer a in
+      let stopped = stops resource asked policy has sent asked_so host own present x.answer a in
       let answered =
-      law present resource asked x.answer rules policy nothing sent has a reason lawful made asked_so in
+      passed reason (law present resource asked x.answer rules policy nothing sent has a lawful made asked_so) in
       let code : status_for x.found.status x.answer.reason x.answer.status ≡ 204 =
       rw (reason, answered.0) in
       let status : response.status ≡ 204 = x.carries.status ∙ code in
@@ -246,6 +234,10 @@ module _ (now : Option ℕ) (left : ℕ) (site : Site) (look : List ℕ → Entr
               (rw status (answered.1.1 allows)),
         ),
       )
+    where
+      passed : {A : Type 0} → x.answer.reason ≡ Preflight → Before x.answer.reason Preflight ⊎ A → A
+      passed reason (inl low) = let level : stage x.answer.reason ≡ 2 = ap stage reason in absurd (omega (arith, level, low))
+      passed reason (inr answered) = answered
 
   pub response_shared : ResponseIsShared → (rules : CorsRules) (sent : Sent) → IsLawful rules
       → IsPolicyOf rules policy → lines_at (head_of request).headers (codes "origin") ≡ sent.origin ∷ []

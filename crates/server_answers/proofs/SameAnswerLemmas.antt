@@ -40,6 +40,7 @@ get_is asked is none = λ i. record {
   method = sym is i;
   authority = asked.authority;
   content = asked.content;
+  denied = asked.denied;
   fields = λ name. unchanged asked.fields none name i;
 }
 
@@ -70,6 +71,7 @@ module _ (get head : Request (List ℕ)) (is : IsHeadOf get head) where
       has_authority = x.2.has_authority;
       content = x.2.content;
       fields = x.2.fields ∙ ap (λ headers. lines_at headers) (sym is.headers);
+      admitted = x.2.admitted;
     },
   )
 

@@ -7,7 +7,7 @@ use Rattle.server_files.{specs.Codings.coding_suffix, specs.Path.Names, specs.de
 use Rattle.server_files.specs.declared.coding.Coding.TheVariants.{Identity, Brotli, Gzip}
 use Rattle.server_files.specs.declared.listing.Listing.{Listing}
 use Rattle.decide_resource.specs.declared.resource.State.{State}
-use Rattle.server_service.specs.Found.{FindsEntry, FindsFolder, FindsListing, IsAbsent, LeadsTo}
+use Rattle.server_service.specs.Found.{FindsEntry, FindsFolder, FindsListing, IsEmpty, LeadsTo}
 use Rattle.server_service.specs.Representations.{AreContents, HasEntryAt, offered, represented}
 use Rattle.server_service.{specs.declared.file.Entry.Entry, specs.declared.file.Entry.TheVariants.{Missing, Forbidden}}
 use Rattle.server_service.specs.declared.file.Entry.TheVariants.{Unavailable, Folder, Listed, Readable}
@@ -23,7 +23,7 @@ seen_by : (s t same : State) (fs gs all : List File) → s ≡ same → t ≡ sa
     → AreSeenAlike s t fs gs
 seen_by s t same fs gs all a b c d = record { state = a ∙ sym b; labels = ap (map label_of) (c ∙ sym d) }
 
-absent_seen : (code : ℕ) (f g : _) → IsAbsent code f → IsAbsent code g
+absent_seen : {s : State} (code : ℕ) (f g : _) → IsEmpty s code f → IsEmpty s code g
     → AreSeenAlike f.state g.state f.files.items g.files.items
 absent_seen code f g h k = seen_by _ _ _ _ _ _ h.state k.state h.files k.files
 

@@ -25,13 +25,15 @@ use Rattle.decide_preconditions.specs.declared.response.Response.{Response as Pl
 use Rattle.decide_preconditions.proofs.PreconditionLemmas.{one_answer}
 use Rattle.decide_resource.specs.Answers.{GivesIf, GoesOn, IsAnswer, IsSelected, IsShared, at_place, content_of}
 use Rattle.decide_resource.specs.Answers.{is_admitted, is_sent, response_fields, status_sent, target_of, with_metadata}
-use Rattle.decide_resource.{specs.Applies.{applies, rule, rule_for}, specs.Fields.{location_fields, metadata_fields}}
-use Rattle.decide_resource.specs.Fields.{reason_fields, types_fields, vary_fields, accept_encoding_fields, describes}
-use Rattle.decide_resource.{specs.Fields.vary_lines, specs.Reasons.IsFirst}
+use Rattle.decide_resource.{specs.Applies.{applies, rule, rule_for}, specs.Fields.{denied_fields, location_fields}}
+use Rattle.decide_resource.specs.Fields.{metadata_fields, reason_fields, types_fields, vary_fields}
+use Rattle.decide_resource.{specs.Fields.{accept_encoding_fields, describes, vary_lines}, specs.Reasons.IsFirst}
+use Rattle.decide_resource.specs.declared.denied.Denied.{Denied as Denial}
+use Rattle.decide_resource.specs.declared.denied.Denied.TheVariants as denied
 use Rattle.decide_resource.specs.Requests.{Request as Asked}
 use Rattle.decide_resource.{specs.declared.answer.Answer.Answer, specs.declared.answer.Sends.Sends}
 use Rattle.decide_resource.{specs.declared.answer.Sends.TheVariants.Planned, specs.declared.reason.Reason.Reason}
-use Rattle.decide_resource.specs.declared.reason.Reason.TheVariants.{MethodNotAllowed, Options, Moved}
+use Rattle.decide_resource.specs.declared.reason.Reason.TheVariants.{Denied, MethodNotAllowed, Options, Moved}
 use Rattle.decide_resource.specs.declared.reason.Reason.TheVariants.{UnsupportedMediaType, UnsupportedCoding, Admitted}
 use Rattle.decide_resource.specs.declared.representation.Representation.{Representation}
 use Rattle.decide_resource.{specs.declared.resource.MethodRule.MethodRule, specs.declared.resource.Resource.Resource}
@@ -121,12 +123,22 @@ codings_untagged : (own : Option MethodRule) → is_named etag (accept_encoding_
 codings_untagged None = refl
 codings_untagged (Some own) = refl
 
+denied_untagged : (why : Option Denial) → is_named etag (denied_fields why) ≡ false
+denied_untagged None = refl
+denied_untagged (Some (denied.Unauthenticated challenge)) = refl
+denied_untagged (Some denied.Forbidden) = refl
+denied_untagged (Some (denied.TooManyRequests None)) = refl
+denied_untagged (Some (denied.TooManyRequests (Some seconds))) = refl
+denied_untagged (Some (denied.Unavailable None)) = refl
+denied_untagged (Some (denied.Unavailable (Some seconds))) = refl
+
 location_untagged : (s : State) → is_named etag (location_fields s) ≡ false
 location_untagged (state.Moved redirect location) = refl
 location_untagged s = refl
 
 module _ (resource : Resource) (request : Asked) where
   reason_untagged : (reason : Reason) → is_named etag (reason_fields resource request reason) ≡ false
+  reason_untagged Denied = denied_untagged request.denied
   reason_untagged MethodNotAllowed = refl
   reason_untagged Options =
       offered_untagged (rule_for resource.rules.items (codes "PATCH")) (rule_for resource.rules.items (codes "POST"))
@@ -435,6 +447,7 @@ module _ (now : Option ℕ) (left : ℕ) (site : Site) (look : List ℕ → Entr
         authority = x.asked.authority;
         content = x.asks.2.content i;
         fields = x.asks.2.fields i;
+        denied = x.asks.2.admitted i;
       }
 
   read_answer : IsReadBy present
@@ -568,6 +581,7 @@ module _ (now later : Option ℕ) (left more : ℕ) (site : Site) (look other : 
       has_authority = y.asks.2.has_authority;
       content = refl;
       fields = refl;
+      admitted = refl;
     },
   )
 

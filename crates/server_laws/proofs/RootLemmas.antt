@@ -26,7 +26,10 @@ use Rattle.decide_resource.{specs.Fields.vary_lines, specs.Representations.score
 use Rattle.decide_resource.specs.Requests.{Request as Asked, head_of as as_head}
 use Rattle.decide_resource.{specs.declared.answer.Answer.Answer, specs.declared.answer.Sends.Sends}
 use Rattle.decide_resource.{specs.declared.answer.Sends.TheVariants.Planned, specs.declared.reason.Reason.Reason}
-use Rattle.decide_resource.specs.declared.reason.Reason.TheVariants.{Admitted, Moved}
+use Rattle.decide_resource.specs.declared.reason.Reason.TheVariants.{Admitted, Denied, Moved}
+use Rattle.decide_resource.specs.Fields.{denied_status}
+use Rattle.decide_resource.specs.declared.denied.Denied.{Denied as Denial}
+use Rattle.decide_resource.specs.declared.denied.Denied.TheVariants as denials
 use Rattle.decide_resource.specs.declared.representation.Representation.{Representation}
 use Rattle.decide_resource.{specs.declared.resource.Resource.Resource, specs.declared.resource.State.State}
 use Rattle.decide_resource.specs.declared.resource.State.TheVariants.{Current}
@@ -113,10 +116,18 @@ module _ (present : ℕ) (site : Resource) (v : Vec Representation) (file : File
         (λ (at : Option ℕ). GoesOn present here asked at (at_place v.items at) status sent own) place h.goes) in
         response_full status sent own goes.response goes.answered goes.has_status goes.sends goes.has_fields is
 
+    denied : (why : Option Denial) → is_some why ≡ true → denied_status why ≢ 200
+    denied None t is = cc t
+    denied (Some (denials.Unauthenticated challenge)) t is = omega (arith, is)
+    denied (Some denials.Forbidden) t is = omega (arith, is)
+    denied (Some (denials.TooManyRequests seconds)) t is = omega (arith, is)
+    denied (Some (denials.Unavailable seconds)) t is = omega (arith, is)
+
     no_other : (reason : Reason) → is_admitted reason ≡ false → applies here asked reason ≡ true
-        → status_for 404 reason (Some (code_of Current reason)) ≢ 200
+        → status_for 404 reason (Some (code_of Current asked.denied reason)) ≢ 200
     no_other Admitted admits t is = cc admits
     no_other Moved admits t is = cc t
+    no_other Denied admits t is = denied asked.denied t is
     no_other reason admits t is = omega (arith, is)
 
     by_reason : (admitted : Bool) (reason : Reason) → is_admitted reason ≡ admitted → (status : Option ℕ) (sent : Sends)

@@ -32,13 +32,17 @@ use Rattle.decide_resource.specs.Answers.{Gives, GivesIf, is_admitted, Goes, Goe
 use Rattle.decide_resource.specs.Answers.{is_sent, response_fields, sent_for, status_sent, target_of, with_metadata}
 use Rattle.decide_resource.{specs.Answers.IsShared, specs.Applies.{applies, has_method, has_moved, rule_for, rule}}
 use Rattle.decide_resource.specs.Fields.{moved_status, status_of, vary_fields, vary_lines, accept_encoding_fields}
+use Rattle.decide_resource.specs.Fields.{denied_fields}
+use Rattle.decide_resource.specs.declared.denied.Denied.{Denied as Denial}
+use Rattle.decide_resource.specs.declared.denied.Denied.TheVariants as denials
 use Rattle.decide_resource.specs.Fields.{describes, location_fields, metadata_fields, reason_fields, types_fields}
 use Rattle.decide_resource.specs.Reasons.{IsFirst}
 use Rattle.decide_resource.specs.Requests.{Request as Asked, head_of as as_head}
 use Rattle.decide_resource.{specs.declared.answer.Answer.Answer, specs.declared.answer.Sends.Sends}
 use Rattle.decide_resource.{specs.declared.reason.Reason.Reason, specs.declared.reason.Reason.TheVariants.Admitted}
 use Rattle.decide_resource.specs.declared.reason.Reason.TheVariants.{MethodNotAllowed, Moved, NotAcceptable, NotFound}
-use Rattle.decide_resource.specs.declared.reason.Reason.TheVariants.{Options, UnsupportedMediaType, UnsupportedCoding}
+use Rattle.decide_resource.specs.declared.reason.Reason.TheVariants.{Options, Preflight, Denied, UnsupportedMediaType}
+use Rattle.decide_resource.specs.declared.reason.Reason.TheVariants.{UnsupportedCoding}
 use Rattle.decide_resource.specs.declared.representation.Representation.{Representation}
 use Rattle.decide_resource.specs.declared.resource.MethodRule.{MethodRule}
 use Rattle.decide_resource.specs.declared.resource.Redirect.TheVariants as redirect
@@ -73,6 +77,16 @@ unfolding eq_ignore_case
 location_plain (state.Moved redirect location) = refl
 location_plain now = refl
 
+denied_plain : (why : Option Denial) → list_all is_plain (denied_fields why) ≡ true
+unfolding eq_ignore_case
+denied_plain None = refl
+denied_plain (Some (denials.Unauthenticated challenge)) = refl
+denied_plain (Some denials.Forbidden) = refl
+denied_plain (Some (denials.TooManyRequests None)) = refl
+denied_plain (Some (denials.TooManyRequests (Some seconds))) = refl
+denied_plain (Some (denials.Unavailable None)) = refl
+denied_plain (Some (denials.Unavailable (Some seconds))) = refl
+
 codings_plain : (own : Option MethodRule) → list_all is_plain (accept_encoding_fields own) ≡ true
 unfolding eq_ignore_case
 codings_plain None = refl
@@ -98,6 +112,7 @@ accept_plain false (Some own) = refl
 module _ (resource : Resource) (request : Asked) where
   reason_plain : (reason : Reason) → list_all is_plain (reason_fields resource request reason) ≡ true
   unfolding eq_ignore_case
+  reason_plain Denied = denied_plain request.denied
   reason_plain MethodNotAllowed = refl
   reason_plain Options =
       offered_plain (rule_for resource.rules.items (codes "PATCH")) (rule_for resource.rules.items (codes "POST"))
@@ -339,21 +354,30 @@ found_explained negotiates has uri found x =
       | inr h ↦ ap is_explained h.1.status
     ]
 
--- what stops a request is explained, but for OPTIONS
-reason_explained : (absent : ℕ) → is_explained absent ≡ true → (now : State) (reason : Reason)
-    → is_admitted reason ≡ false → (reason ≡ Moved → has_moved now ≡ true)
-    → (reason ≡ Options) ⊎ (is_explained (status_for absent reason (Some (status_of now reason))) ≡ true)
-reason_explained absent missing now Admitted other moved = absurd (cc other)
-reason_explained absent missing now Options other moved = inl refl
-reason_explained absent missing now NotFound other moved = inr missing
-reason_explained absent missing now Moved other moved = inr (by now (moved refl))
+-- what a server offers is answered by 204 without content
+abbrev IsOffer : ℕ → State → Option Denial → Reason → Type 0
+IsOffer absent now why reason =
+    ((reason ≡ Options) ⊎ (reason ≡ Preflight))
+    × (status_for absent reason (Some (status_of now why reason)) ≡ 204) × (sent_for reason ≡ sends.Nothing)
+
+-- what stops a request that isn't denied is explained, but for OPTIONS and a preflight
+reason_explained : (absent : ℕ) → is_explained absent ≡ true → (now : State) (why : Option Denial) (reason : Reason)
+    → is_admitted reason ≡ false → (reason ≡ Moved → has_moved now ≡ true) → reason ≢ Denied
+    → IsOffer absent now why reason
+    ⊎ (is_explained (status_for absent reason (Some (status_of now why reason))) ≡ true)
+reason_explained absent missing now why Admitted other moved admits = absurd (cc other)
+reason_explained absent missing now why Denied other moved admits = absurd (admits refl)
+reason_explained absent missing now why Preflight other moved admits = inl (inr refl, refl, refl)
+reason_explained absent missing now why Options other moved admits = inl (inl refl, refl, refl)
+reason_explained absent missing now why NotFound other moved admits = inr missing
+reason_explained absent missing now why Moved other moved admits = inr (by now (moved refl))
   where
     by : (now : State) → has_moved now ≡ true → is_explained (moved_status now) ≡ true
     by (state.Moved redirect.MovedPermanently location) t = refl
     by (state.Moved redirect.Temporary location) t = refl
     by (state.Moved redirect.Permanent location) t = refl
     by now t = absurd (cc t)
-reason_explained absent missing now reason other moved = inr refl
+reason_explained absent missing now why reason other moved admits = inr refl
 
 -- ---- the content of a plan
 
@@ -454,6 +478,14 @@ module _ (present : ℕ) (resource : Resource) (own_rule : MethodRule) (alone : 
       let named = (bytes_eq-Decides request.method (codes "OPTIONS")).0 first.is in
       ap (λ (name : List ℕ). is_connect (method_kind name)) named
 
+  grants : (request : Asked) → IsFirst (applies resource request) Preflight
+      → is_connect (method_kind request.method) ≡ false
+  grants request first =
+      let leave = and_parts (is_some resource.cors) _ first.is in
+      let options = and_parts (bytes_eq request.method (codes "OPTIONS")) _ leave.1 in
+      let named = (bytes_eq-Decides request.method (codes "OPTIONS")).0 options.0 in
+      ap (λ (name : List ℕ). is_connect (method_kind name)) named
+
   stopped_several : (reason : Reason) → sends_several (sent_for reason) ≡ false
   stopped_several NotAcceptable = refl
   stopped_several reason = refl
@@ -468,7 +500,7 @@ module _ (present : ℕ) (resource : Resource) (own_rule : MethodRule) (alone : 
   module _ (divider : List ℕ) (pages : List Page) (files : List File) (absent : ℕ)
       (missing : is_explained absent ≡ true)
       (represented : resource.representations.items ≡ map (representation_of present) files) (method : MethodKind)
-      (request : Asked) where
+      (request : Asked) (admits_it : request.denied ≡ None) where
     -- the response by this status is accepted
     abbrev Accepts : ℕ → Sends → List Field → Type 0
     Accepts code sent own = IsAccepted method code (total_len (pieces_for divider pages files code sent)) own
@@ -586,7 +618,7 @@ module _ (present : ℕ) (resource : Resource) (own_rule : MethodRule) (alone : 
 
     by_reason : (admitted : Bool) (reason : Reason) → is_admitted reason ≡ admitted → (status : Option ℕ) (sent : Sends)
         (own : List Field) → applies resource request reason ≡ true
-        → ((reason ≡ Options) ⊎ (reason ≡ Admitted) → is_connect method ≡ false)
+        → (((reason ≡ Options) ⊎ (reason ≡ Preflight)) ⊎ (reason ≡ Admitted) → is_connect method ≡ false)
         → GivesIf admitted present resource request reason status sent own → is_bare_tag (tag_sent files sent) ≡ true
         → Accepts (status_for absent reason status) sent own
     by_reason true Admitted is status sent own t free g tagged = goes (free (inr refl)) status sent own g tagged
@@ -595,14 +627,16 @@ module _ (present : ℕ) (resource : Resource) (own_rule : MethodRule) (alone : 
         let plain : list_all is_plain own ≡ true =
         ap (list_all is_plain) g.has_fields ∙ reason_plain resource request reason in
         elim
-        (reason_explained absent missing resource.state reason is
-        (λ moved. sym (ap (applies resource request) moved) ∙ t)) [
-          | inl options ↦
+        (reason_explained absent missing resource.state request.denied reason is
+        (λ moved. sym (ap (applies resource request) moved) ∙ t)
+        (λ denied.
+        let applied : is_some request.denied ≡ true = sym (ap (applies resource request) denied) ∙ t in
+        cc (ap is_some admits_it, applied))) [
+          | inl offer ↦
               let code : status_for absent reason status ≡ 204 =
-              (λ i. status_for absent (options i) (g.has_status i))
-              ∙ ap (λ (r : Reason). status_for absent Options (Some (status_of resource.state r))) options in
-              rw (code, g.sends, options)
-              (empty (free (inl options)) 204 own (omega arith) (omega arith) (λ is. omega (arith, is)) refl plain)
+              ap (status_for absent reason) g.has_status ∙ offer.1 in
+              rw (code, g.sends ∙ offer.2)
+              (empty (free (inl offer.0)) 204 own (omega arith) (omega arith) (λ is. omega (arith, is)) refl plain)
           | inr page ↦
               explained method (status_for absent reason status) _ own
               (ap (λ (s : Option ℕ). is_explained (status_for absent reason s)) g.has_status ∙ page) plain
@@ -610,7 +644,8 @@ module _ (present : ℕ) (resource : Resource) (own_rule : MethodRule) (alone : 
 
     -- with Vary, and with what the policy says
     answer_accepted : (answer : Answer) → (h : IsAnswer present resource request answer)
-        → ((answer.reason ≡ Options) ⊎ (answer.reason ≡ Admitted) → is_connect method ≡ false)
+        → (((answer.reason ≡ Options) ⊎ (answer.reason ≡ Preflight)) ⊎ (answer.reason ≡ Admitted)
+        → is_connect method ≡ false)
         → IsBareIfAny resource.cors → is_bare_tag (tag_sent files answer.sends) ≡ true
         → Accepts (status_for absent answer.reason answer.status) answer.sends (encoded_fields answer.fields.items)
     answer_accepted answer h free bare tagged =
@@ -677,24 +712,31 @@ module _ (limits : Limits) (head : RequestHead) (framing : Framing) (now : Optio
   missing =
       found_explained site.resource.negotiation.coding has (head_of request).uri x.found x.leads
 
-  accepts : (asked : Asked) → IsAnswer present x.resource asked x.answer
-      → ((x.answer.reason ≡ Options) ⊎ (x.answer.reason ≡ Admitted) → is_connect sender ≡ false)
+  accepts : (asked : Asked) → asked.denied ≡ None → IsAnswer present x.resource asked x.answer
+      → (((x.answer.reason ≡ Options) ⊎ (x.answer.reason ≡ Preflight)) ⊎ (x.answer.reason ≡ Admitted)
+      → is_connect sender ≡ false)
       → IsAccepted sender code len given
-  accepts asked h free =
+  accepts asked admitted h free =
       answer_accepted present x.resource is_site.rule rules is_site.is_read.method divider site.pages.items files
-      x.found.status missing represented sender asked x.answer h free bare_policy x.carries.tagged
+      x.found.status missing represented sender asked admitted x.answer h free bare_policy x.carries.tagged
 
   accepted : IsAccepted sender code len given
   accepted =
       elim x.decides [
         | inl h ↦
-            accepts x.asked h.1
+            accepts x.asked x.asks.2.admitted h.1
             (λ why.
             let other : is_connect (method_kind x.asked.method) ≡ false =
             elim why [
-              | inl is ↦
-                  offers present x.resource is_site.rule rules is_site.is_read.method x.asked
-                  (subst (IsFirst (applies x.resource x.asked)) is h.1.first)
+              | inl offer ↦
+                  elim offer [
+                    | inl is ↦
+                        offers present x.resource is_site.rule rules is_site.is_read.method x.asked
+                        (subst (IsFirst (applies x.resource x.asked)) is h.1.first)
+                    | inr is ↦
+                        grants present x.resource is_site.rule rules is_site.is_read.method x.asked
+                        (subst (IsFirst (applies x.resource x.asked)) is h.1.first)
+                  ]
               | inr is ↦
                   admits present x.resource is_site.rule rules is_site.is_read.method x.asked
                   (subst (IsFirst (applies x.resource x.asked)) is h.1.first)
@@ -711,7 +753,7 @@ module _ (limits : Limits) (head : RequestHead) (framing : Framing) (now : Optio
                   (subst (IsFirst (applies x.resource x.asked)) is h.2.first)
               | inr one ↦ absurd (h.1 (λ several. absurd (cc (one, several))))
             ] in
-            accepts (as_head x.asked) h.3 (λ why. ap is_connect asked_kind ∙ free)
+            accepts (as_head x.asked) x.asks.2.admitted h.3 (λ why. ap is_connect asked_kind ∙ free)
       ]
 
   len_is : content_len response ≡ len

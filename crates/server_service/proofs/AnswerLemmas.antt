@@ -19,9 +19,10 @@ use Rattle.decide_resource.specs.Requests.{Request as Asked}
 use Rattle.decide_resource.{specs.declared.answer.Answer.Answer, specs.declared.answer.Sends.Sends}
 use Rattle.decide_resource.specs.declared.answer.Sends.TheVariants.{Nothing, Alternatives, Planned, Perform}
 use Rattle.decide_resource.{specs.declared.reason.Reason.Reason, specs.declared.reason.Reason.TheVariants.InvalidHost}
-use Rattle.decide_resource.specs.declared.reason.Reason.TheVariants.{Misdirected, UnknownMethod, MethodNotAllowed}
-use Rattle.decide_resource.specs.declared.reason.Reason.TheVariants.{Options, UnmetExpectation, PartialContent, Moved}
-use Rattle.decide_resource.specs.declared.reason.Reason.TheVariants.{Gone, NotFound, LengthRequired, ContentTooLarge}
+use Rattle.decide_resource.specs.declared.reason.Reason.TheVariants.{Misdirected, Preflight, Denied, UnknownMethod}
+use Rattle.decide_resource.specs.declared.reason.Reason.TheVariants.{MethodNotAllowed, UnmetExpectation, PartialContent}
+use Rattle.decide_resource.specs.declared.reason.Reason.TheVariants.{Moved, Gone, NotFound, Options, LengthRequired}
+use Rattle.decide_resource.specs.declared.reason.Reason.TheVariants.{ContentTooLarge}
 use Rattle.decide_resource.specs.declared.reason.Reason.TheVariants.{UnsupportedMediaType, UnsupportedCoding}
 use Rattle.decide_resource.specs.declared.reason.Reason.TheVariants.{NotAcceptable, PreconditionRequired, Admitted}
 use Rattle.decide_resource.specs.declared.representation.Representation.{Representation}
@@ -62,6 +63,8 @@ module _ (present : ℕ) (resource : Resource) (asked : Asked) where
   stopped : (reason : Reason) → IsPlannedIn present resource asked (sent_for reason)
   stopped InvalidHost = tt
   stopped Misdirected = tt
+  stopped Preflight = tt
+  stopped Denied = tt
   stopped UnknownMethod = tt
   stopped MethodNotAllowed = tt
   stopped Options = tt

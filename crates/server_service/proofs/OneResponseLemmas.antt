@@ -11,6 +11,7 @@ use Rattle.server_connection.specs.declared.plan.Plan.{Plan as Response}
 use Rattle.gateway_messages.specs.declared.protocol.Protocol.{Protocol}
 use Rattle.decide_preconditions.{specs.Contents.{divisible_len, limits_of}, specs.declared.part.Part.Part}
 use Rattle.decide_preconditions.specs.declared.plan.Plan.TheVariants.{Full, Multiple}
+use Rattle.decide_resource.specs.declared.denied.Denied.{Denied as Denial}
 use Rattle.decide_resource.specs.Answers.{AreSame, AreSent, IsAnswer, at_place, content_of, target_of}
 use Rattle.decide_resource.specs.Requests.{Request as Asked, head_of as as_head}
 use Rattle.decide_resource.{specs.declared.answer.Answer.Answer, specs.declared.answer.Sends.Sends}
@@ -23,7 +24,7 @@ use Rattle.server_service.specs.Answer.{Carries, Decides, IsAnswerAt, IsDescribe
 use Rattle.server_service.specs.Answer.{clock, explained_fields, file_at, file_sent, first_fields, pieces_for}
 use Rattle.server_service.{specs.Answer.{pieces_of, sends_several, status_for}, specs.Asked.{Asks, HasAuthority}}
 use Rattle.server_service.{specs.Asked.IsProtocolOf, specs.File.representation_of, specs.Found.FindsEntry}
-use Rattle.server_service.{specs.Found.{FindsFolder, FindsListing, IsAbsent, LeadsTo}, specs.Multipart.multipart}
+use Rattle.server_service.{specs.Found.{FindsFolder, FindsListing, IsEmpty, LeadsTo}, specs.Multipart.multipart}
 use Rattle.server_service.specs.Response.{IsSameResponse, headers_sent, trimmed_lines}
 use Rattle.server_service.{specs.declared.file.Entry.Entry, specs.declared.file.Entry.TheVariants.{Missing, Forbidden}}
 use Rattle.server_service.specs.declared.file.Entry.TheVariants.{Unavailable, Folder, Listed, Readable}
@@ -40,7 +41,7 @@ record AreAlike (f g : Found) : Type 0 where
   status : f.status ≡ g.status
   files : f.files.items ≡ g.files.items
 
-absent_alike : (status : ℕ) (f g : Found) → IsAbsent status f → IsAbsent status g → AreAlike f g
+absent_alike : {s : State} (status : ℕ) (f g : Found) → IsEmpty s status f → IsEmpty s status g → AreAlike f g
 absent_alike status f g h k =
     record { state = h.state ∙ sym k.state; status = h.status ∙ sym k.status; files = h.files ∙ sym k.files }
 
@@ -133,20 +134,31 @@ protocol_once version a b x y =
       | inr h ↦ elim y [ inl k ↦ absurd (h.0 k.0) | inr k ↦ h.1 ∙ sym k.1 ]
     ]
 
-abbrev asking : Protocol → List ℕ → Option Line → RequestContent → LineMap → Asked
-asking protocol method authority content fields =
-    record { protocol = protocol; method = method; authority = authority; content = content; fields = fields }
+abbrev asking : Protocol → List ℕ → Option Line → RequestContent → LineMap → Option Denial → Asked
+asking protocol method authority content fields denied =
+    record {
+      protocol = protocol;
+      method = method;
+      authority = authority;
+      content = content;
+      fields = fields;
+      denied = denied;
+    }
 
 pub asked_once : (request : Request (List ℕ)) (a b : Asked) → Asks request a → Asks request b → a ≡ b
 asked_once request a b h k =
     let authority = authority_once (uri_authority (head_of request).uri) h.0 k.0 h.1 k.1 in
-    ap (λ (x : Protocol). asking x a.method a.authority a.content a.fields)
+    ap (λ (x : Protocol). asking x a.method a.authority a.content a.fields a.denied)
     (protocol_once (head_of request).version a.protocol b.protocol h.2.protocol k.2.protocol)
-    ∙ ap (λ (x : List ℕ). asking b.protocol x a.authority a.content a.fields) (h.2.method ∙ sym k.2.method)
-    ∙ ap (λ (x : Option Line). asking b.protocol b.method x a.content a.fields)
+    ∙ ap (λ (x : List ℕ). asking b.protocol x a.authority a.content a.fields a.denied) (h.2.method ∙ sym k.2.method)
+    ∙ ap (λ (x : Option Line). asking b.protocol b.method x a.content a.fields a.denied)
     (h.2.has_authority ∙ authority ∙ sym k.2.has_authority)
-    ∙ ap (λ (x : RequestContent). asking b.protocol b.method b.authority x a.fields) (h.2.content ∙ sym k.2.content)
-    ∙ ap (λ (x : LineMap). asking b.protocol b.method b.authority b.content x) (h.2.fields ∙ sym k.2.fields)
+    ∙ ap (λ (x : RequestContent). asking b.protocol b.method b.authority x a.fields a.denied)
+    (h.2.content ∙ sym k.2.content)
+    ∙ ap (λ (x : LineMap). asking b.protocol b.method b.authority b.content x a.denied)
+    (h.2.fields ∙ sym k.2.fields)
+    ∙ ap (λ (x : Option Denial). asking b.protocol b.method b.authority b.content b.fields x)
+    (h.2.admitted ∙ sym k.2.admitted)
 
 -- ---- the answer
 

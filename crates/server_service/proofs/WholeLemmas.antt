@@ -27,11 +27,12 @@ use Rattle.decide_resource.{specs.Answers.{place_of, status_sent}, specs.Applies
 use Rattle.decide_resource.specs.Applies.{is_unacceptable, is_unsized, rule_for}
 use Rattle.decide_resource.specs.Representations.{are_unacceptable, coding_of, joined, rank_by, score}
 use Rattle.decide_resource.specs.Requests.{Request as Asked}
+use Rattle.decide_resource.specs.declared.denied.Denied.{Denied as Denial}
 use Rattle.decide_resource.{specs.declared.answer.Answer.Answer, specs.declared.answer.Sends.Sends}
 use Rattle.decide_resource.{specs.declared.answer.Sends.TheVariants.Planned, specs.declared.reason.Reason.Reason}
-use Rattle.decide_resource.specs.declared.reason.Reason.TheVariants.{InvalidHost, Misdirected, UnknownMethod}
-use Rattle.decide_resource.specs.declared.reason.Reason.TheVariants.{MethodNotAllowed, Options, UnmetExpectation}
-use Rattle.decide_resource.specs.declared.reason.Reason.TheVariants.{PartialContent, Moved, Gone, NotFound}
+use Rattle.decide_resource.specs.declared.reason.Reason.TheVariants.{InvalidHost, Misdirected, Preflight, Denied}
+use Rattle.decide_resource.specs.declared.reason.Reason.TheVariants.{UnknownMethod, MethodNotAllowed, UnmetExpectation}
+use Rattle.decide_resource.specs.declared.reason.Reason.TheVariants.{Options, PartialContent, Moved, Gone, NotFound}
 use Rattle.decide_resource.specs.declared.reason.Reason.TheVariants.{LengthRequired, ContentTooLarge}
 use Rattle.decide_resource.specs.declared.reason.Reason.TheVariants.{UnsupportedMediaType, UnsupportedCoding}
 use Rattle.decide_resource.specs.declared.reason.Reason.TheVariants.{NotAcceptable, PreconditionRequired, Admitted}
@@ -168,7 +169,14 @@ rule_found rules rule e m =
 
 abbrev reading : Protocol → Option Line → LineMap → Asked
 reading protocol authority fields =
-    record { protocol = protocol; method = get; authority = authority; content = Absent; fields = fields }
+    record {
+      protocol = protocol;
+      method = get;
+      authority = authority;
+      content = Absent;
+      fields = fields;
+      denied = None;
+    }
 
 module _ (site : Resource) (divider : List ℕ) (is_site : IsSite divider site) (v : Vec Representation)
     (protocol : Protocol) (authority : Option Line) (fields : LineMap)
@@ -191,12 +199,18 @@ module _ (site : Resource) (divider : List ℕ) (is_site : IsSite divider site) 
       (λ (strict : Bool). strict && (nat_lt 0 (length v.items)
       && are_unacceptable site.negotiation fields v.items)) is_site.lenient
 
+  no_options : (b : Bool) → (b && false) ≡ false
+  no_options true = refl
+  no_options false = refl
+
   never : (b : Bool) (reason : Reason) → b ≡ true → b ≡ false → reason ≡ Admitted
   never b reason t f = absurd (cc (t, f))
 
   admitted : (reason : Reason) → applies file asked reason ≡ true → reason ≡ Admitted
   admitted InvalidHost t = never _ InvalidHost t (ap not host)
   admitted Misdirected t = never _ Misdirected t own_host
+  admitted Preflight t = never _ Preflight t (no_options (is_some site.cors))
+  admitted Denied t = never _ Denied t refl
   admitted UnknownMethod t = never _ UnknownMethod t refl
   admitted MethodNotAllowed t = never _ MethodNotAllowed t (ap (λ (r : Option MethodRule). not (is_some r)) rule)
   admitted Options t = never _ Options t refl
@@ -352,6 +366,7 @@ module _ (now : Option ℕ) (left : ℕ) (site : Site) (divider : List ℕ) (loo
         authority = asked.authority;
         content = asked.content;
         fields = asked.fields;
+        denied = asked.denied;
       }) (asks.2.method ∙ method)
       ∙ ap
       (λ (c : RequestContent).
@@ -361,7 +376,18 @@ module _ (now : Option ℕ) (left : ℕ) (site : Site) (divider : List ℕ) (loo
         authority = asked.authority;
         content = c;
         fields = asked.fields;
-      }) asks.2.content in
+        denied = asked.denied;
+      }) asks.2.content
+      ∙ ap
+      (λ (d : Option Denial).
+      record {
+        protocol = asked.protocol;
+        method = get;
+        authority = asked.authority;
+        content = Absent;
+        fields = asked.fields;
+        denied = d;
+      }) asks.2.admitted in
       let described = x.described in
       let resource : x.resource ≡ record site.resource {
         state = Current;

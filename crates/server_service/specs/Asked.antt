@@ -25,13 +25,14 @@ HasAuthority None line = line ≡ None
 HasAuthority (Some text) line = IsAuthority text line
 
 -- What the decision reads of a request. Content gives a read no other meaning (RFC 9110, section 9.3.1): it counts as
--- none.
+-- none. No request is denied.
 pub record IsAsked (request : Request (List ℕ)) (authority : Option Line) (asked : Asked) : Type 0 where
   pub protocol : IsProtocolOf (head_of request).version asked.protocol
   pub method : asked.method ≡ (head_of request).method
   pub has_authority : asked.authority ≡ authority
   pub content : asked.content ≡ Absent
   pub fields : asked.fields ≡ lines_at (head_of request).headers
+  pub admitted : asked.denied ≡ None
 
 -- the request with the authority of its target
 abbrev pub Asks : Request (List ℕ) → Asked → Type 0

@@ -1,8 +1,10 @@
 -- What the path of a request leads to.
-use Rattle.std.specs.Prelude.{◌≡◌, ◌⊎◌, ℕ, Bool, true, false, List, [], ◌∷◌, Option, Some, None, codes, string_bytes}
+use Rattle.std.specs.Prelude.{◌≡◌, ◌⊎◌, ℕ, Bool, true, false, List, [], ◌∷◌, Option, Some, None, bytes_eq, codes}
+use Rattle.std.specs.Prelude.{if◌then◌else◌, string_bytes}
 use Rattle.http_header.specs.FieldValue.{plain_value}
 use Rattle.http_uri.{specs.declared.uri.Uri.Uri, specs.Uri.{uri_path, uri_query}}
 use Rattle.decide_resource.specs.declared.resource.Redirect.TheVariants.{MovedPermanently}
+use Rattle.decide_resource.specs.declared.resource.State.{State}
 use Rattle.decide_resource.specs.declared.resource.State.TheVariants as state
 use Rattle.server_files.{specs.Path.{IsIndexOf, Names, ends_in_slash}, specs.Redirect.{HasNoIndex, index_target}}
 use Rattle.server_files.{specs.declared.coding.Coding.TheVariants.Identity, specs.declared.listing.Listing.Listing}
@@ -11,11 +13,18 @@ use Rattle.server_service.specs.declared.file.Entry.TheVariants.{Missing, Forbid
 use Rattle.server_service.{specs.declared.file.Entry.TheVariants.Readable, specs.declared.file.File.File}
 use Rattle.server_service.{specs.declared.found.Found.Found, specs.declared.source.Source.TheVariants.Kept}
 
--- there is nothing to send, and a read is answered by this status
-pub record IsAbsent (code : ℕ) (found : Found) : Type 0 where
-  pub state : found.state ≡ state.Absent
+-- there is nothing to send in this state, and a read is answered by this status
+pub record IsEmpty (now : State) (code : ℕ) (found : Found) : Type 0 where
+  pub state : found.state ≡ now
   pub status : found.status ≡ code
   pub files : found.files.items ≡ []
+
+abbrev pub IsAbsent : ℕ → Found → Type 0
+IsAbsent code found = IsEmpty state.Absent code found
+
+-- what a path is that names nothing of the store: `*` is the server in general (RFC 9110, section 9.3.7)
+abbrev pub unnamed : List ℕ → State
+unnamed path = if bytes_eq path (codes "*") then state.Server else state.Absent
 
 -- it moved to the path with a slash and the query (RFC 9110, section 15.4.2)
 pub record HasMoved (path : List ℕ) (query : Option (List ℕ)) (found : Found) : Type 0 where
@@ -64,4 +73,4 @@ abbrev pub LeadsTo : Bool → (List ℕ → Entry → Type 0) → Uri → Found 
 LeadsTo negotiates has uri found =
     ((named : List ℕ) × Names (uri_path uri) (Some named)
     × ((entry : Entry) × has named entry × FindsEntry negotiates has uri named entry found))
-    ⊎ (Names (uri_path uri) None × IsAbsent 404 found)
+    ⊎ (Names (uri_path uri) None × IsEmpty (unnamed (uri_path uri)) 404 found)

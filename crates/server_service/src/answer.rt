@@ -75,6 +75,7 @@ pub(crate) fn decide(
         authority: request.authority,
         content: request.content,
         fields: request.fields,
+        denied: request.denied,
     };
     answer_request(alloc, resource, &whole, present)
 }

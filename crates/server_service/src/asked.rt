@@ -62,5 +62,6 @@ pub(crate) fn asked<'a>(
         authority,
         content: RequestContent::Absent,
         fields: request.headers(),
+        denied: None,
     }
 }

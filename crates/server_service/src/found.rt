@@ -2,8 +2,8 @@
 ghost use Rattle.std.specs.Prelude.{◌≡◌, IfOk, option_copied};
 ghost use Rattle.http.specs.Request.{head_of};
 ghost use Rattle.http_uri.specs.Uri.{uri_path, uri_query};
-ghost use Rattle.server_service.specs.Found.{FindsEntry, FindsFolder, FindsListing, IsAbsent, LeadsTo, listed_file};
-ghost use Rattle.server_service.specs.Stores.{ListsOwn};
+ghost use Rattle.server_service.specs.Found.{FindsEntry, FindsFolder, FindsListing, IsAbsent, IsEmpty, LeadsTo};
+ghost use Rattle.server_service.{specs.Found.{listed_file, unnamed}, specs.Stores.ListsOwn};
 
 use crate::file::{Entry, File};
 use crate::representation::contents_of;
@@ -33,6 +33,27 @@ fn absent(alloc: Global, status: StatusCode) -> Found
     Found {
         state: State::Absent,
         status,
+        files: Vec::new(alloc),
+    }
+}
+
+fn state_unnamed(path: &str) -> State
+    ensures { result ≡ unnamed path.now }
+{
+    if path == "*" {
+        State::Server
+    } else {
+        State::Absent
+    }
+}
+
+// What a path is that names nothing of the store.
+fn unnamed(alloc: Global, path: &str) -> Found
+    ensures { IsEmpty (unnamed path.now) 404 result }
+{
+    Found {
+        state: state_unnamed(path),
+        status: StatusCode::NOT_FOUND,
         files: Vec::new(alloc),
     }
 }
@@ -133,6 +154,6 @@ pub(crate) fn look_up<S: Store>(
             let entry = store.find(alloc, path)?;
             found_by(alloc, store, negotiates, request, path, entry)
         }
-        None => Ok(absent(alloc, StatusCode::NOT_FOUND)),
+        None => Ok(unnamed(alloc, path_of(request))),
     }
 }

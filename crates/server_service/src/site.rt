@@ -43,6 +43,7 @@ impl Site {
             pages,
             resource: Resource {
                 hosts: hosts_listed(hosts),
+                implemented: Vec::new(alloc),
                 rules,
                 state: State::Absent,
                 representations: Vec::new(alloc),

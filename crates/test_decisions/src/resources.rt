@@ -2,11 +2,12 @@
 //!
 //! `note` is a JSON document of `a.example`, which scripts of `https://app.example` may use. `page` is HTML in English,
 //! in German, and in English with gzip; a client that accepts none of them gets the first. `report` is a PDF document.
-//! Each has 20 bytes.
+//! Each has 20 bytes. `draft` at `/drafts/{name}` is missing, and PUT makes it. The server implements POST, PUT, DELETE
+//! and PATCH, beside GET and HEAD.
 use decide_cors::{Allowed, CorsPolicy, CorsRules};
 use decide_preconditions::{Boundary, Content, RangeLimits, Validators};
 use decide_resource::{MethodRule, Negotiation, Representation, Resource, State};
-use decide_routes::{Routes, nowhere};
+use decide_routes::{Routes, Server, nowhere, server_wide};
 use headers::{ETag, HeaderMap, HeaderValue, Origin, decode_values};
 use http::Method;
 use matchit::Router;
@@ -54,6 +55,11 @@ fn rule(alloc: Global, method: Method) -> MethodRule {
     }
 }
 
+// The methods of the server, beside GET and HEAD.
+fn implemented(alloc: Global) -> Result<Vec<Method>, Failure> {
+    Ok(vec![in alloc; Method::POST, Method::PUT, Method::DELETE, Method::PATCH]?)
+}
+
 // A resource with GET for any host.
 fn open_resource(
     alloc: Global,
@@ -65,6 +71,7 @@ fn open_resource(
     rules.push(rule(alloc, Method::GET))?;
     Ok(Resource {
         hosts: None,
+        implemented: implemented(alloc)?,
         rules,
         state: State::Current,
         representations,
@@ -127,6 +134,16 @@ fn report(alloc: Global) -> Result<Resource, Failure> {
     open_resource(alloc, reports, true)
 }
 
+// What all resources have in common.
+fn server(alloc: Global) -> Result<Server, Failure> {
+    Ok(Server {
+        hosts: Some(own_hosts(alloc)?),
+        implemented: implemented(alloc)?,
+        boundary: Boundary::new(alloc, "THIS_STRING_SEPARATES")?,
+        cors: Some(policy(alloc)?),
+    })
+}
+
 /// The routes.
 pub fn routes(alloc: Global) -> Result<Routes<&'static str>, Failure> {
     let mut router = Router::new(alloc);
@@ -134,19 +151,26 @@ pub fn routes(alloc: Global) -> Result<Routes<&'static str>, Failure> {
         ("/note", "note"),
         ("/pages/{name}", "page"),
         ("/reports/{*path}", "report"),
+        ("/drafts/{name}", "draft"),
     ] {
         if router.insert(route, name).is_err() {
             return Err(Failure::Memory);
         }
     }
-    let boundary = Boundary::new(alloc, "THIS_STRING_SEPARATES")?;
-    let nowhere = nowhere(
-        alloc,
-        Some(own_hosts(alloc)?),
-        boundary,
-        Some(policy(alloc)?),
-    )?;
-    Ok(Routes { router, nowhere })
+    Ok(Routes {
+        router,
+        nowhere: nowhere(alloc, server(alloc)?)?,
+        server_wide: server_wide(alloc, server(alloc)?)?,
+    })
+}
+
+fn draft(alloc: Global) -> Result<Resource, Failure> {
+    let mut draft = open_resource(alloc, Vec::new(alloc), true)?;
+    let mut put = rule(alloc, Method::PUT);
+    put.creates = true;
+    draft.rules.push(put)?;
+    draft.state = State::Absent;
+    Ok(draft)
 }
 
 /// The resource of this name.
@@ -154,6 +178,7 @@ pub fn resource_named(alloc: Global, name: &str) -> Result<Resource, Failure> {
     match name {
         "note" => note(alloc),
         "page" => page(alloc),
+        "draft" => draft(alloc),
         _ => report(alloc),
     }
 }

@@ -2,9 +2,10 @@
 use crate::resources::{resource_named, routes};
 use crate::store::method;
 use decide_preconditions::Plan;
-use decide_resource::{Answer as Made, Reason, RequestContent, RequestHead, Sends};
+use decide_resource::{Answer as Made, Denied, Reason, RequestContent, RequestHead, Sends};
+use decide_routes::Asked;
 use gateway_messages::Protocol;
-use headers::{HeaderMap, set_all};
+use headers::{HeaderMap, HeaderValue, set_all};
 use http::Method;
 use test_rows::{Answer, Arguments, Calls, Failure};
 
@@ -29,8 +30,12 @@ fn add_outcome(made: Made, answer: &mut Answer) -> Result<(), Failure> {
     answer.map(&map)
 }
 
-// A request of HTTP/1.1 without content.
-fn plain_head<'a>(method: &'a Method, fields: &'a HeaderMap) -> RequestHead<'a> {
+// A request of HTTP/1.1 without content, which the server may deny.
+fn plain_head<'a>(
+    method: &'a Method,
+    fields: &'a HeaderMap,
+    denied: Option<&'a Denied>,
+) -> RequestHead<'a> {
     let authority = None;
     RequestHead {
         protocol: Protocol::Http11,
@@ -38,20 +43,49 @@ fn plain_head<'a>(method: &'a Method, fields: &'a HeaderMap) -> RequestHead<'a> 
         authority,
         content: RequestContent::Absent,
         fields,
+        denied,
     }
 }
 
 // `route PATH METHOD FIELDS`: the reason, the status or `(none)`, what is sent, and the fields, for a request of HTTP/1.1
 // without content by its path, among the routes of `resources.rt`.
 fn call_route(arguments: &mut Arguments<'_>, answer: &mut Answer) -> Result<(), Failure> {
+    answer_route(arguments, answer, None)
+}
+
+// Why the server denies a request, by its status.
+fn denied_by(status: &str) -> Result<Denied, Failure> {
+    Ok(match status {
+        "401" => Denied::Unauthenticated(HeaderValue::from_static("Basic realm=\"a\"")),
+        "403" => Denied::Forbidden,
+        "429" => Denied::TooManyRequests(Some(120)),
+        "503" => Denied::Unavailable(None),
+        _ => return Err(Failure::NoCall),
+    })
+}
+
+// `denied STATUS PATH METHOD FIELDS`: the same for a request that the server denies: by 401 with the challenge `Basic
+// realm="a"`, by 403, by 429 for 120 seconds, or by 503.
+fn call_denied(arguments: &mut Arguments<'_>, answer: &mut Answer) -> Result<(), Failure> {
+    let denied = denied_by(arguments.word()?)?;
+    answer_route(arguments, answer, Some(&denied))
+}
+
+fn answer_route(
+    arguments: &mut Arguments<'_>,
+    answer: &mut Answer,
+    denied: Option<&Denied>,
+) -> Result<(), Failure> {
     let alloc = arguments.alloc();
     let path = arguments.word()?;
     let method = method(arguments)?;
     let fields = arguments.map()?;
-    let request = plain_head(&method, &fields);
-    let made = routes(alloc)?.answer_at(alloc, path, &request, PRESENT, |name, _| {
-        resource_named(alloc, name)
-    })?;
+    let asked = Asked {
+        path,
+        request: plain_head(&method, &fields, denied),
+        present: PRESENT,
+    };
+    let made = routes(alloc)?.answer_at(alloc, &asked, |name, _| resource_named(alloc, name))?;
     add_outcome(made, answer)
 }
 
@@ -59,6 +93,8 @@ fn read_reason(arguments: &mut Arguments<'_>) -> Result<Reason, Failure> {
     Ok(match arguments.word()? {
         "InvalidHost" => Reason::InvalidHost,
         "Misdirected" => Reason::Misdirected,
+        "Preflight" => Reason::Preflight,
+        "Denied" => Reason::Denied,
         "UnknownMethod" => Reason::UnknownMethod,
         "MethodNotAllowed" => Reason::MethodNotAllowed,
         "Options" => Reason::Options,
@@ -82,6 +118,7 @@ impl Calls for Routing {
     fn make(name: &str, arguments: &mut Arguments<'_>, answer: &mut Answer) -> Result<(), Failure> {
         match name {
             "route" => call_route(arguments, answer),
+            "denied" => call_denied(arguments, answer),
             // `stage REASON`: its stage.
             "stage" => Ok(answer.word(read_reason(arguments)?.stage())?),
             _ => Err(Failure::NoCall),

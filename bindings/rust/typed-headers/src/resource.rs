@@ -60,6 +60,8 @@ pub enum State<'a> {
     Temporary(&'a str),
     /// It is under another URI for good, and the method stays: 308.
     Permanent(&'a str),
+    /// It is the server in general, `*` (RFC 9110, section 9.3.7): OPTIONS gets the methods, and any other method 404.
+    Server,
 }
 
 /// What a server knows of the target of a request before it performs a method.
@@ -129,11 +131,11 @@ pub enum Reason {
     InvalidHost,
     /// 421: the host isn't one of the resource's.
     Misdirected,
-    /// 501: the method isn't known.
+    /// 501: the server doesn't implement the method. Those of RFC 9110, PATCH and the resource's count as implemented.
     UnknownMethod,
-    /// 405: the resource doesn't have the method.
+    /// 405: the server implements the method, and the resource doesn't have it.
     MethodNotAllowed,
-    /// 204: the method is OPTIONS, also as a preflight.
+    /// 204: the method is OPTIONS. A missing resource that no method makes gets 404.
     Options,
     /// 417: Expect has a member other than `100-continue`.
     UnmetExpectation,
@@ -157,11 +159,15 @@ pub enum Reason {
     PreconditionRequired,
     /// 400: PUT with Content-Range, and no parts are taken. It comes after 417.
     PartialContent,
+    /// 204: a preflight, where the rules for other origins count. It comes after 421.
+    Preflight,
+    /// 401, 403, 429 or 503: the server denies the request. It comes after a preflight.
+    Denied,
     /// A reason that this crate doesn't know.
     Unknown,
 }
 
-const REASONS: [Reason; 17] = [
+const REASONS: [Reason; 19] = [
     Reason::Admitted,
     Reason::InvalidHost,
     Reason::Misdirected,
@@ -179,6 +185,8 @@ const REASONS: [Reason; 17] = [
     Reason::NotAcceptable,
     Reason::PreconditionRequired,
     Reason::PartialContent,
+    Reason::Preflight,
+    Reason::Denied,
 ];
 
 /// What an answer sends. A response to HEAD never has content.
@@ -230,6 +238,7 @@ impl State<'_> {
             State::MovedPermanently(location) => (301, location),
             State::Temporary(location) => (307, location),
             State::Permanent(location) => (308, location),
+            State::Server => (3, ""),
         }
     }
 }

@@ -19,6 +19,7 @@ returns c section holds =
             authority = option_map (λ (it : Bor FieldValue). it.now.bytes) c.as_ref-host.result;
             content = c.content_of.result;
             fields = lines_at c.args.fields.now;
+            denied = None;
           };
       is_request =
           record {
@@ -34,6 +35,7 @@ returns c section holds =
             fields = c.args.fields.now;
             holds = holds;
             fields_are = refl;
+            admitted = refl;
           };
       answer = c.in_ok-answer.answer;
       is_answer = c.in_ok-answer.ensures;

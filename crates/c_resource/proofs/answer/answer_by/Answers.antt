@@ -19,6 +19,7 @@ returns c =
             authority = option_map (λ (it : Bor FieldValue). it.now.bytes) c.as_ref.result;
             content = c.content_of.result;
             fields = lines_at c.in_ok-fields.fields;
+            denied = None;
           };
       is_request =
           record {
@@ -33,6 +34,7 @@ returns c =
             fields = c.in_ok-fields.fields;
             holds = c.in_ok-fields.ensures;
             fields_are = refl;
+            admitted = refl;
           };
       answer = c.in_ok-answer.answer;
       is_answer = c.in_ok-answer.ensures;

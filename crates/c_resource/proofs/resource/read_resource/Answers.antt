@@ -1,6 +1,18 @@
 use Rattle.std.{proofs.Common.{◌≡◌, Err, inl, inr, subst, sym}, proofs.lemmas.Result.err_from_is_err_and}
-use Rattle.c_resource.specs.Resources.{IsResourceAnswer}
+use Rattle.c_decisions.specs.Contents.{IsBoundaryOf}
+use Rattle.c_parts.specs.declared.status.Failure.{Failure}
+use Rattle.c_resource.specs.Resources.{IsResourceAnswer, boundary_text}
 use Rattle.c_resource.proofs.resource.read_resource.Goals as goal
+
+pub returns-in_err-implemented : goal.returns-in_err-implemented
+returns-in_err-implemented c =
+    let answer = c.from_residual-in_err-implemented in
+    let failure = c.in_err-implemented.field-0.0 in
+    let error = err_from_is_err_and answer.result answer.ensures.1 in
+    let is : answer.result ≡ Err failure = cc (error.1, error.2) in
+    subst (IsResourceAnswer c.args.parts.now c.args.numbers.now c.args.rules.now) (sym is)
+    (inr (inl (subst (λ (why : Failure). IsBoundaryOf (boundary_text c.args.parts.now.boundary.now) (Err why))
+    (sym c.in_err-implemented.ensures) c.in_ok-boundary.ensures.0)))
 
 pub returns-in_err-methods : goal.returns-in_err-methods
 returns-in_err-methods c =

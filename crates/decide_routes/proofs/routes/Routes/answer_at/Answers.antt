@@ -1,9 +1,9 @@
-use Rattle.std.proofs.Common.{refl}
+use Rattle.std.proofs.Common.{refl, sym}
 use Rattle.decide_routes.proofs.routes.Routes.answer_at.Goals as goal
 
 pub returns-in_ok-answer_request-in-Ok : goal.returns-in_ok-answer_request-in-Ok
 returns-in_ok-answer_request-in-Ok g c =
-    rw c.in-Ok.ensures.found (
+    rw (sym c.if-is_asterisk.ensures, c.in-Ok.ensures.found) (
       c.in_ok-resource-in-Ok.resource,
       (
         _,

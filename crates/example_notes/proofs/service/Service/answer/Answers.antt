@@ -24,3 +24,11 @@ returns-in_ok-answer-in-Nowhere c =
       describes = rw c.in-Nowhere.is refl;
       answers = c.in_ok-answer-in-Nowhere.ensures;
     }
+
+pub returns-in_ok-answer-in-Server : goal.returns-in_ok-answer-in-Server
+returns-in_ok-answer-in-Server c =
+    record {
+      resource = c.args.self.now.routes.server_wide;
+      describes = rw c.in-Server.is refl;
+      answers = c.in_ok-answer-in-Server.ensures;
+    }

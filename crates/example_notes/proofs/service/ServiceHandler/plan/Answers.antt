@@ -20,7 +20,8 @@ returns c =
       answer = answer;
       answers =
           subst
-          (λ (text : Option Note). IsAnswerAt routes.nowhere c.target_of-target.result text c.args.request.now answer)
+          (λ (text : Option Note). IsAnswerAt routes.nowhere routes.server_wide c.target_of-target.result text
+          c.args.request.now answer)
           c.as_ref.ensures.value c.in_ok-answer.ensures;
       done = done;
       does = c.in_ok-done.ensures;

@@ -1,0 +1,161 @@
+-- A request that is denied learns nothing of the resource.
+use Rattle.std.proofs.Common.{◌≡◌, ◌⊎◌, ◌<◌, ℕ, Bool, true, false, ◌&&◌, List, [], ◌++◌, Option, Some, refl, sym, ◌∙◌, ap}
+use Rattle.std.{proofs.Common.{subst, inl, inr, arith, lit<}, specs.Prelude.{codes, is_some, not}, specs.Global.Vec}
+use Rattle.std.{specs.Option.option_map_or, proofs.lemmas.Bool.cases_order}
+use Rattle.http_header.specs.FieldValue.{FieldValue}
+use Rattle.headers.specs.LineMap.{Field}
+use Rattle.decide_cors.specs.Policy.{Policy}
+use Rattle.decide_resource.specs.Answers.{AreSame, GivesIf, IsAnswer, IsShared, Stops, is_admitted}
+use Rattle.decide_resource.{specs.Applies.{applies, host_named, is_own, is_preflight_request}, specs.Fields.reason_fields}
+use Rattle.decide_resource.specs.Fields.{status_denied, status_of, vary_fields, vary_lines}
+use Rattle.decide_resource.{specs.Reasons.{Before, IsFirst, stage}, specs.Requests.Request}
+use Rattle.decide_resource.{specs.declared.answer.Answer.Answer, specs.declared.answer.Sends.Sends}
+use Rattle.decide_resource.specs.declared.denied.Denied.{Denied as Denial}
+use Rattle.decide_resource.{specs.declared.reason.Reason.Reason, specs.declared.reason.Reason.TheVariants.InvalidHost}
+use Rattle.decide_resource.specs.declared.reason.Reason.TheVariants.{Misdirected, Preflight, Denied, UnknownMethod}
+use Rattle.decide_resource.{specs.declared.resource.Resource.Resource, proofs.AnswerLemmas.{gives_same, shared_same}}
+use Rattle.decide_resource.proofs.OneReasonLemmas.{one_reason}
+
+module _ (request : Request) (why : Denial) (denies : request.denied ≡ Some why) where
+  is_denied : (resource : Resource) → applies resource request Denied ≡ true
+  is_denied resource = ap (λ (denied : Option Denial). is_some denied) denies
+
+  -- Host, a policy or the denial decides
+  early : (resource : Resource) (reason : Reason) → IsFirst (applies resource request) reason
+      → Before reason UnknownMethod
+  early resource reason first =
+      elim (cases_order (stage reason) 3) [
+        | inl level ↦ omega (arith, level)
+        | inr apart ↦
+            elim apart [
+              | inl low ↦ omega (arith, low)
+              | inr high ↦
+                  let none : applies resource request Denied ≡ false = first.none_before Denied high in
+                  absurd (cc (none, is_denied resource))
+            ]
+      ]
+
+  only_denied : (reason : Reason) → stage reason ≡ 3 → reason ≡ Denied
+  only_denied Denied e = refl
+  only_denied reason e = absurd (omega (arith, e))
+
+  stops : (present : ℕ) (resource : Resource) (reason : Reason) (status : Option ℕ) (sent : Sends) (own : List Field)
+      → Before reason UnknownMethod → GivesIf (is_admitted reason) present resource request reason status sent own
+      → Stops resource request reason status sent own
+  stops present resource InvalidHost status sent own low h = h
+  stops present resource Misdirected status sent own low h = h
+  stops present resource Preflight status sent own low h = h
+  stops present resource Denied status sent own low h = h
+  stops present resource reason status sent own low h = absurd (omega (arith, low))
+
+  pub told_why : (present : ℕ) (resource : Resource) (answer : Answer) → IsAnswer present resource request answer
+      → Before answer.reason Denied ⊎ (answer.status ≡ Some (status_denied why))
+  told_why present resource answer a =
+      let low : Before answer.reason UnknownMethod = early resource answer.reason a.first in
+      elim (cases_order (stage answer.reason) 3) [
+        | inl level ↦
+            let is : answer.reason ≡ Denied = only_denied answer.reason level in
+            let given : GivesIf false present resource request Denied answer.status answer.sends a.own =
+            subst
+            (λ (r : Reason). GivesIf (is_admitted r) present resource request r answer.status answer.sends a.own)
+            is a.gives in
+            inr (given.has_status
+            ∙ ap (λ (denied : Option Denial). Some (status_of resource.state denied Denied)) denies)
+        | inr apart ↦
+            elim apart [
+              | inl before ↦ inl before
+              | inr high ↦ absurd (omega (arith, low, high))
+            ]
+      ]
+
+  module _ (a b : Resource) (hosts : a.hosts ≡ b.hosts) (cors : a.cors ≡ b.cors) where
+    same_test : (reason : Reason) → Before reason UnknownMethod
+        → applies a request reason ≡ applies b request reason
+    same_test InvalidHost low = refl
+    same_test Misdirected low =
+        ap
+        (λ (own : Option (Vec FieldValue)). option_map_or
+        (λ (h : Vec FieldValue). not (is_own h.items (host_named request.authority (request.fields (codes "host")))))
+        own false)
+        hosts
+    same_test Preflight low =
+        ap (λ (policy : Option Policy). is_some policy && is_preflight_request request.method request.fields) cors
+    same_test Denied low = refl
+    same_test reason low = absurd (omega (arith, low))
+
+    same_first : (reason : Reason) → IsFirst (applies b request) reason → IsFirst (applies a request) reason
+    same_first reason first =
+        let low : Before reason UnknownMethod = early b reason first in
+        record {
+          is = same_test reason low ∙ first.is;
+          none_before = λ other before.
+              let less : stage other < stage reason = before in
+              let under : stage reason < 4 = low in
+              let lower : Before other UnknownMethod = omega (arith, less, under) in
+              same_test other lower ∙ first.none_before other before;
+        }
+
+    -- what a reason gives, of either resource
+    same_stops : (reason : Reason) (status : Option ℕ) (sent : Sends) (own : List Field)
+        → Before reason UnknownMethod → Stops b request reason status sent own → Stops a request reason status sent own
+    same_stops InvalidHost status sent own low h =
+        record { has_status = h.has_status; sends = h.sends; has_fields = h.has_fields }
+    same_stops Misdirected status sent own low h =
+        record { has_status = h.has_status; sends = h.sends; has_fields = h.has_fields }
+    same_stops Preflight status sent own low h =
+        record { has_status = h.has_status; sends = h.sends; has_fields = h.has_fields }
+    same_stops Denied status sent own low h =
+        record { has_status = h.has_status; sends = h.sends; has_fields = h.has_fields }
+    same_stops reason status sent own low h = absurd (omega (arith, low))
+
+    no_vary : (resource : Resource) (reason : Reason) → Before reason UnknownMethod → vary_lines resource reason ≡ []
+    no_vary resource InvalidHost low = refl
+    no_vary resource Misdirected low = refl
+    no_vary resource Preflight low = refl
+    no_vary resource Denied low = refl
+    no_vary resource reason low = absurd (omega (arith, low))
+
+    not_admitted : (reason : Reason) → Before reason UnknownMethod → is_admitted reason ≡ false
+    not_admitted InvalidHost low = refl
+    not_admitted Misdirected low = refl
+    not_admitted Preflight low = refl
+    not_admitted Denied low = refl
+    not_admitted reason low = absurd (omega (arith, low))
+
+    pub tells_nothing : (present later : ℕ) (x y : Answer) → IsAnswer present a request x → IsAnswer later b request y
+        → AreSame x y
+    tells_nothing present later x y h k =
+        let low : Before x.reason UnknownMethod = early a x.reason h.first in
+        let reason : y.reason ≡ x.reason =
+        one_reason a request y.reason x.reason (same_first y.reason k.first) h.first in
+        let mine : Stops a request x.reason x.status x.sends h.own =
+        stops present a x.reason x.status x.sends h.own low h.gives in
+        let other : GivesIf (is_admitted x.reason) later b request x.reason y.status y.sends k.own =
+        subst (λ (r : Reason). GivesIf (is_admitted r) later b request r y.status y.sends k.own) reason k.gives in
+        let theirs : Stops a request x.reason y.status y.sends k.own =
+        same_stops x.reason y.status y.sends k.own low (stops later b x.reason y.status y.sends k.own low other) in
+        let given = gives_same present a request x.status y.status x.sends y.sends h.own k.own false x.reason mine
+        theirs in
+        let under : Before y.reason UnknownMethod =
+        subst (λ (r : Reason). Before r UnknownMethod) (sym reason) low in
+        let my_lines = no_vary a x.reason low in
+        let their_lines = no_vary b y.reason under in
+        let mine_shared : IsShared a.cors request [] h.shared =
+        subst (λ (lines : _). IsShared a.cors request lines h.shared) my_lines h.is_shared in
+        let theirs_shared : IsShared a.cors request [] k.shared =
+        subst (λ (policy : Option Policy). IsShared policy request [] k.shared) (sym cors)
+        (subst (λ (lines : _). IsShared b.cors request lines k.shared) their_lines k.is_shared) in
+        let shared : h.shared ≡ k.shared =
+        shared_same a.cors request [] h.shared k.shared mine_shared theirs_shared in
+        record {
+          reason = sym reason;
+          status = given.status;
+          sends = given.sends;
+          fields =
+              h.fields
+              ∙ ap (λ (lines : _). (h.own ++ vary_fields lines) ++ h.shared) my_lines
+              ∙ ap (λ (own : List Field). (own ++ []) ++ h.shared) given.fields
+              ∙ ap (λ (fields : List Field). (k.own ++ []) ++ fields) shared
+              ∙ ap (λ (lines : _). (k.own ++ vary_fields lines) ++ k.shared) (sym their_lines)
+              ∙ sym k.fields;
+        }
