@@ -150,8 +150,7 @@ struct typed_headers_text {
  */
 struct typed_headers_cors_rules {
     /* The origins, as `https://a.example`. One is compared byte for byte with what a browser sends. A text that no
-     * browser sends is rejected: upper-case letters in the host, `*`, userinfo, a default port, or a port that is no
-     * number. */
+     * browser sends is rejected, as upper-case letters, `*`, userinfo, a default port, `http://127.1` or `wss:`. */
     struct typed_headers_text origins;
     /* The methods besides GET, HEAD and POST, with case. */
     struct typed_headers_text methods;
@@ -1038,11 +1037,12 @@ uint8_t typed_headers_websocket_accept(const uint8_t *lines, size_t lines_length
  * What a server answers to a client's opening handshake (RFC 6455, sections 4.2.1 and 4.2.2). `version` is that of the
  * request: 10 for HTTP/1.0, 11, 20 or 30. `protocols` has the server's own subprotocols, one a line, the most wanted
  * first: the first that the request asks for is taken. `origins` has the origins whose scripts may open a connection,
- * one a line, or the line `*` for any; a request without Origin is no script's, and is let in.
+ * one a line, as browsers send them, or the line `*` for any; a request without Origin is no script's, and is let in.
  *
  * The text is the lines of the answer, each `name: value` and a LF. sec-websocket-protocol and sec-websocket-extensions
  * are to be taken off a 101 first. Refused: the method is no token, the version is another number, a line of a text
- * can't be one, or a line of the section before its first empty one is no field. Memory: the answer has lines.
+ * can't be one, no browser sends one of the origins, or a line of the section before its first empty one is no field.
+ * Memory: the answer has lines.
  */
 uint8_t typed_headers_websocket_respond(const uint8_t *method, size_t method_length, uint8_t version,
                                         const uint8_t *section, size_t section_length,
@@ -1078,10 +1078,11 @@ uint8_t typed_headers_websocket_check(const uint8_t *sent, size_t sent_length, u
  * -allow-methods, -allow-headers and access-control-max-age. If the text has lines of `vary`, they stand in place of
  * the response's own. A preflight is answered with a status from 200 to 299.
  *
- * Refused: the rules have a line that is no origin, method or name; they have `*` in a list of several methods or
- * names, or any origin, method or name with credentials, which no browser reads so; the method is no token; or a line
- * of a section before its first empty one is no field. Too large: a section has more names than a map has room for
- * (24,576). Memory: nothing is rejected. Whether rules are refused shows with the method GET and two empty sections.
+ * Refused: the rules have a line that is no origin that browsers send, no method or no name; they have `*` in a list of
+ * several methods or names, or any origin, method or name with credentials, which no browser reads so; the method is no
+ * token; or a line of a section before its first empty one is no field. Too large: a section has more names than a map
+ * has room for (24,576). Memory: nothing is rejected. Whether rules are refused shows with the method GET and two empty
+ * sections.
  */
 uint8_t typed_headers_cors_answer(const struct typed_headers_cors_rules *rules, const uint8_t *method,
                                   size_t method_length, const uint8_t *request, size_t request_length,

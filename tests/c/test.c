@@ -1375,6 +1375,10 @@ static void check_handshake(const struct row *row) {
     call.method = put(third_area, row->words[i].bytes, row->words[i].length);
     call.version = numbers[place_of(&row->words[i + 1], versions, 5)];
     read_section(row, i + 2, first_area, &call.request);
+    if (is_answer(row, "(refused)")) {
+        check(row, call_handshake, &call, TYPED_HEADERS_REFUSED, NO_NUMBER, NO_TEXT);
+        return;
+    }
     const struct row *answer = answer_words(row);
     const uint64_t status = strtoull(row->answer, NULL, 10);
     const size_t fault = status == 400 ? place_of(&answer->words[1], faults, 9) : 0;

@@ -353,7 +353,9 @@ def resource_answer(words, wanted):
 def handshake(words, wanted, own=(), origins="*"):
     method, version, *left = words
     number = {"HTTP/0.9": 9, "HTTP/1.0": 10, "HTTP/1.1": 11, "HTTP/2": 20, "HTTP/3": 30}[version]
-    given = headers.websocket_respond(decode(method), section(left)[0], own, origins, number)
+    given = answer(headers.websocket_respond, decode(method), section(left)[0], own, origins, number)
+    if REFUSED in (given, wanted[0]):
+        return given == REFUSED == wanted[0]
     fault = re.sub(r"(?<!^)(?=[A-Z]|11)", "_", wanted[1]).upper() if wanted[0] == "400" else None
     hoped = [] if wanted[-1] == "(none)" else shown_fields(wanted[1:])
     shown = (given.status, None if given.fault is None else given.fault.name)

@@ -77,7 +77,7 @@ def websocket_respond(
     """What a server answers to an opening handshake (RFC 6455, sections 4.2.1 and 4.2.2).
 
     `protocols` are the server's own subprotocols, the most wanted first. `origins` are those whose scripts may open a
-    connection, or `"*"`; a server that relies on cookies lists its own. `version` is that of the request: 9, 10, 11,
+    connection, as browsers send them, or `"*"`; a server that relies on cookies lists its own. `version` is that of the request: 9, 10, 11,
     20 or 30.
 
     >>> request = {"Host": "a", "Upgrade": "websocket", "Connection": "Upgrade", "Sec-WebSocket-Version": "13"}
@@ -92,7 +92,7 @@ def websocket_respond(
     status, (code, fault), text = _library.calls.websocket_respond(verb, number, section, own, allowed)
     _library.check(status, lambda: _wrong_sections(section) or HeaderError(
         f"the request can't be answered: {_library.to_str(verb)!r} is no token, {version} no version of HTTP, "
-        "or a byte of a protocol or an origin is none of a field value"
+        "a byte of a protocol or an origin is none of a field value, or no browser sends one of the origins"
     ))
     return Handshake(code, Fault(fault) if fault else None, tuple(Headers(text).pairs()))
 

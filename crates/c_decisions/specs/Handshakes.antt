@@ -1,18 +1,18 @@
 -- Both ends of the opening handshake of a WebSocket, by what a caller hands in.
 use Rattle.std.specs.Prelude.{◌≡◌, ◌≢◌, ◌⊎◌, ℕ, true, false, List, [], length, Option, Some, None, Result, Ok, Err}
-use Rattle.std.{specs.Prelude.{◌==◌, if◌then◌else◌}, specs.Global.Vec}
+use Rattle.std.{specs.Prelude.{◌==◌, All, IsSome, if◌then◌else◌}, specs.Global.Vec}
 use Rattle.http.{specs.declared.version.Version.Version, specs.declared.version.TheConstants.Version.{HTTP_09, HTTP_10}}
 use Rattle.http.specs.declared.version.TheConstants.Version.{HTTP_11, HTTP_2, HTTP_3}
-use Rattle.http_header.{specs.FieldValue.FieldValue, specs.HeaderMap.Entries, specs.Token.IsToken}
+use Rattle.http_header.{specs.FieldValue.{FieldValue, IsFieldValue}, specs.HeaderMap.Entries, specs.Token.IsToken}
 use Rattle.websocket.specs.Handshake.{base64}
 use Rattle.headers.{specs.LineMap.{LineMap, lines_at}, specs.Lines.Line}
 use Rattle.headers_section.specs.Section.{Holds}
+use Rattle.decide_cors.specs.SentOrigins.{unsent_place}
 use Rattle.decide_handshake.{specs.Client.Checks, specs.Messages.{answer_fields, request_fields, status_of}}
 use Rattle.decide_handshake.{specs.Server.{Answers, IsAccepted}, specs.declared.client.Checked.Checked}
 use Rattle.decide_handshake.{specs.declared.client.Checked.TheVariants.{Open, Fail}, specs.declared.client.Flaw.Flaw}
 use Rattle.decide_handshake.specs.declared.client.Flaw.TheVariants as flaw
-use Rattle.decide_handshake.{specs.declared.origins.Origins.Origins, specs.declared.origins.Origins.TheVariants.Any}
-use Rattle.decide_handshake.{specs.declared.origins.Origins.TheVariants.Listed, specs.declared.server.Answer.Answer}
+use Rattle.decide_handshake.{specs.Origins.OriginList, specs.declared.server.Answer.Answer}
 use Rattle.decide_handshake.specs.declared.server.Answer.TheVariants.{Switch, BadRequest, UpgradeRequired, Forbidden}
 use Rattle.decide_handshake.specs.declared.server.Fault.{Fault}
 use Rattle.decide_handshake.specs.declared.server.Fault.TheVariants as fault
@@ -36,10 +36,20 @@ abbrev pub IsVersionOf : ℕ → Result Version Failure → Type 0
 IsVersionOf number (Ok version) = version_of number ≡ Some version
 IsVersionOf number (Err failure) = (failure ≡ Refused) × (version_of number ≡ None)
 
--- the origins of a text: any if its only line is a star, else those of the lines
-abbrev pub AreOriginsOf : List ℕ → Result Origins Failure → Type 0
-AreOriginsOf text (Ok Any) = is_any (field_lines text) ≡ true
-AreOriginsOf text (Ok (Listed origins)) = (is_any (field_lines text) ≡ false) × AreValuesOf text origins.items
+-- the lines of the text are origins that browsers send, or aren't
+abbrev pub AreSent : List ℕ → Type 0
+AreSent text = (is_any (field_lines text) ≡ false) × (unsent_place (field_lines text) ≡ None)
+
+abbrev pub HasUnsent : List ℕ → Type 0
+HasUnsent text = (is_any (field_lines text) ≡ false) × IsSome (unsent_place (field_lines text))
+
+-- The origins of a text: any if its only line is a star, else those of the lines. `Refused` also if browsers don't send
+-- one of them.
+abbrev pub AreOriginsOf : List ℕ → Result OriginList Failure → Type 0
+AreOriginsOf text (Ok None) = is_any (field_lines text) ≡ true
+AreOriginsOf text (Ok (Some origins)) =
+    AreSent text × All IsFieldValue (field_lines text) × (origins ≡ field_lines text)
+AreOriginsOf text (Err Refused) = FailsAt text Refused ⊎ HasUnsent text
 AreOriginsOf text (Err failure) = FailsAt text failure
 
 -- the place of each rule in the list of typed_headers.h
@@ -74,7 +84,7 @@ pub record IsAnsweredHandshake (method : List ℕ) (number : ℕ) (input protoco
   pub is_version : version_of number ≡ Some version
   pub own : List FieldValue
   pub are_own : AreValuesOf protocols own
-  pub allowed : Origins
+  pub allowed : OriginList
   pub are_allowed : AreOriginsOf origins (Ok allowed)
   pub request : Entries FieldValue
   pub holds : Holds input request
@@ -83,7 +93,7 @@ pub record IsAnsweredHandshake (method : List ℕ) (number : ℕ) (input protoco
   pub is_shown : IsShownHandshake answer shown
 
 -- the handshake is accepted, or its answer has fields
-abbrev pub HasFields : List ℕ → Version → LineMap → Origins → List FieldValue → Type 0
+abbrev pub HasFields : List ℕ → Version → LineMap → OriginList → List FieldValue → Type 0
 HasFields method version request allowed own =
     ((key : Line) × IsAccepted method version request allowed key)
     ⊎ ((answer : Answer) × Answers method version request allowed own answer × (answer_fields answer ≢ []))
@@ -95,7 +105,7 @@ pub record IsAnsweredByFields (method : List ℕ) (number : ℕ) (input protocol
   pub is_version : version_of number ≡ Some version
   pub own : List FieldValue
   pub are_own : AreValuesOf protocols own
-  pub allowed : Origins
+  pub allowed : OriginList
   pub are_allowed : AreOriginsOf origins (Ok allowed)
   pub request : Entries FieldValue
   pub holds : Holds input request
@@ -109,7 +119,7 @@ AnswersHandshake method number input protocols origins (Err failure) =
     IsMethodOf method (Err failure)
     ⊎ (IsVersionOf number (Err failure)
     ⊎ (FailsAt protocols failure
-    ⊎ (FailsAt origins failure
+    ⊎ (AreOriginsOf origins (Err failure)
     ⊎ (IsMapOf input (Err failure)
     ⊎ ((failure ≡ Memory) × IsAnsweredByFields method number input protocols origins)))))
 

@@ -11,6 +11,7 @@ use crate::status_code::read_status;
 use crate::texts::values_of;
 use c_parts::{Failure, HashKeys, read_map};
 use decide_handshake::{Answer, Checked, Fault, Flaw, Origins, accept, check, request};
+use headers::Refused;
 use http::Version;
 use std::alloc::{AllocError, Global};
 
@@ -51,9 +52,13 @@ fn origins_of(alloc: Global, text: &[u8]) -> Result<Origins, Failure>
 {
     let values = values_of(alloc, text)?;
     if is_any(values.as_slice()) {
-        return Ok(Origins::Any);
+        return Ok(Origins::any());
     }
-    Ok(Origins::Listed(values))
+    match Origins::listed(alloc, values) {
+        Ok(origins) => Ok(origins),
+        Err(Refused::Invalid(_)) => Err(Failure::Refused),
+        Err(Refused::Memory(_)) => Err(Failure::Memory),
+    }
 }
 
 /// What a server with these subprotocols, one a line, and these origins answers to an opening

@@ -1,20 +1,15 @@
 -- What is granted of listed origins.
 use Rattle.std.proofs.Common.{◌≡◌, Bool, Option, Some, None, List, [], ◌∷◌, refl, ap, arith}
-use Rattle.std.specs.{Prelude.if◌then◌else◌, Prelude.bytes_eq, List.list_all, List.list_any}
+use Rattle.std.specs.{Prelude.if◌then◌else◌, Prelude.bytes_eq, List.list_any}
 use Rattle.http_header.specs.FieldValue.{FieldValue}
 use Rattle.headers.specs.Lines.{Line, lines_of}
-use Rattle.decide_cors.specs.{Fields.grant, SentOrigins.are_sent, SentOrigins.is_sent}
+use Rattle.decide_cors.specs.Fields.{grant}
 
 -- a test of the bytes of some values
-any_lines : (p : Line → Bool) (values : List FieldValue)
+pub any_lines : (p : Line → Bool) (values : List FieldValue)
     → list_any (λ value. p value.bytes) values ≡ list_any p (lines_of values)
 any_lines p [] = refl
 any_lines p (value ∷ values) = grind (arith, any_lines p values)
-
-pub all_lines : (p : Line → Bool) (values : List FieldValue)
-    → list_all (λ value. p value.bytes) values ≡ list_all p (lines_of values)
-all_lines p [] = refl
-all_lines p (value ∷ values) = grind (arith, all_lines p values)
 
 -- what a request with one field line of Origin is granted
 pub granted_by : (origins : Option (List Line)) (sent : Option Line) (listed : List FieldValue) (text : Line)
@@ -25,8 +20,3 @@ granted_by origins sent listed text b e f r =
     rw e (rw f (rw r
     (ap (λ (any : Bool). let line : Option Line = if any then Some text else None in line)
     (any_lines (bytes_eq text) listed))))
-
--- a fact about the bytes of the listed origins' values is one about the origins' texts
-pub sent_by : (origins : Option (List Line)) (listed : List FieldValue) → origins ≡ Some (lines_of listed)
-    → list_all (λ line. is_sent line.bytes) listed ≡ are_sent origins
-sent_by origins listed e = rw e (all_lines is_sent listed)

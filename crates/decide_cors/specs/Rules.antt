@@ -1,12 +1,12 @@
 -- What rules allow, which rules make a policy, and which policy they make.
-use Rattle.std.specs.Prelude.{◌≡◌, ◌≢◌, ◌⊎◌, ℕ, Bool, true, false, List, map, Option, Some, None, Contains, IsTrue, ⊤}
+use Rattle.std.specs.Prelude.{◌≡◌, ◌≢◌, ◌⊎◌, ℕ, Bool, false, List, map, Option, Some, None, Contains, IsTrue, ⊤}
 use Rattle.std.specs.Prelude.{codes, decimal, min, option_map, IfSome, IsSome}
 use Rattle.http_header.specs.Token.{lowercase}
 use Rattle.headers.specs.{Lines.Line, Origin.origin_text, declared.Origin.Origin}
 use Rattle.headers.specs.ListItem.{Reading, IsListOf, method_of, name_of}
 use Rattle.decide_cors.specs.Allowed.{Admits, IsAny, IsAnyName, Lists, ListsName, ListsNone, ListsNoName}
 use Rattle.decide_cors.specs.Browser.{Request, IsForbidden, IsSafeMethod, safe_fields, star}
-use Rattle.decide_cors.specs.{Policy.Policy, SentOrigins.are_sent, declared.error.RulesError.RulesError}
+use Rattle.decide_cors.specs.{Policy.Policy, SentOrigins.unsent_of, declared.error.RulesError.RulesError}
 use Rattle.decide_cors.specs.{declared.rules.Allowed.Allowed, declared.rules.AllowedNames.AllowedNames}
 use Rattle.decide_cors.specs.{declared.rules.CorsRules.CorsRules}
 use Rattle.decide_cors.specs.declared.rules.Allowed.TheVariants.{Any, Listed}
@@ -68,14 +68,11 @@ pub record IsReadable (rules : CorsRules) : Type 0 where
   pub lists : IsTrue rules.credentials → ListsAll rules
   pub no_star : ¬ (HasStar rules)
 
--- in addition, some browser sends each of the listed origins
+-- in addition, browsers send each of the listed origins
 pub record IsLawful (rules : CorsRules) : Type 0 where
   pub lists : IsTrue rules.credentials → ListsAll rules
   pub no_star : ¬ (HasStar rules)
-  pub sent : are_sent (texts rules.origins) ≡ true
-
-abbrev pub HasUnsent : CorsRules → Type 0
-HasUnsent rules = are_sent (texts rules.origins) ≡ false
+  pub sent : unsent_of (texts rules.origins) ≡ None
 
 -- what is any although credentials are allowed
 abbrev pub RefusesAny : CorsRules → Option RulesError → Type 0
@@ -85,7 +82,7 @@ RefusesAny rules (Some Error.AnyMethodWithCredentials) = IsTrue rules.credential
 RefusesAny rules (Some Error.AnyNameWithCredentials) = IsTrue rules.credentials × IsAnyName rules.names
 RefusesAny rules (Some Error.AnyExposedWithCredentials) = IsTrue rules.credentials × IsAny rules.exposed
 RefusesAny rules (Some Error.Star) = ⊥
-RefusesAny rules (Some Error.UnsentOrigin) = ⊥
+RefusesAny rules (Some (Error.UnsentOrigin place)) = ⊥
 RefusesAny rules (Some Error.Memory) = ⊥
 
 -- why browsers take rules in another sense than they mean
@@ -94,15 +91,27 @@ RefusesReading rules None = IsReadable rules
 RefusesReading rules (Some Error.Star) = HasStar rules
 RefusesReading rules (Some error) = RefusesAny rules (Some error)
 
--- why rules make no policy
+-- Why rules make no policy. The listed origin at the place is the first that no browser sends.
 abbrev pub Refuses : CorsRules → RulesError → Type 0
-Refuses rules Error.UnsentOrigin = HasUnsent rules
+Refuses rules (Error.UnsentOrigin place) = unsent_of (texts rules.origins) ≡ Some place
 Refuses rules error = RefusesReading rules (Some error)
 
 -- something of the rules is encoded: a list, or the seconds; a star needs no allocation
 abbrev pub IsWritten : CorsRules → Type 0
 IsWritten rules = ¬ (IsAny rules.origins) ⊎ ¬ (IsAny rules.methods) ⊎ ¬ (IsAnyName rules.names)
     ⊎ ¬ (IsAny rules.exposed) ⊎ IsSome rules.max_age
+
+-- Why rules that browsers take as they mean aren't encoded as a policy.
+abbrev pub IsUnwritten : CorsRules → RulesError → Type 0
+IsUnwritten rules Error.Memory = IsWritten rules
+IsUnwritten rules (Error.UnsentOrigin place) = Refuses rules (Error.UnsentOrigin place)
+IsUnwritten rules error = ⊥
+
+-- the same of the texts of the origins alone, or of `None` for any
+abbrev pub RejectsTexts : Option (List Line) → RulesError → Type 0
+RejectsTexts origins Error.Memory = IsSome origins
+RejectsTexts origins (Error.UnsentOrigin place) = unsent_of origins ≡ Some place
+RejectsTexts origins error = ⊥
 
 -- What an error says. Memory runs out only if something is encoded, and once all rules are checked but whether some
 -- browser sends the listed origins.

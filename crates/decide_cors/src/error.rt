@@ -1,4 +1,5 @@
 //! Why rules make no policy.
+use crate::sent::UnsentOrigin;
 use std::alloc::AllocError;
 use std::error::Error;
 use std::fmt;
@@ -19,10 +20,9 @@ pub enum RulesError {
     AnyExposedWithCredentials,
     /// A listed method or field name is `*`, which browsers take for any.
     Star,
-    /// A listed origin has a text that no browser sends, so no request would match it. It has an
-    /// upper-case letter, a star or userinfo, or its port is the scheme's default, is past 65,535,
-    /// is empty or begins with a zero.
-    UnsentOrigin,
+    /// The listed origin at this place, from 0, has a text that no browser sends, so no request
+    /// would match it. It is the first such origin.
+    UnsentOrigin(usize),
     /// Out of memory: an allocation failed.
     Memory,
 }
@@ -35,12 +35,14 @@ impl fmt::Display for RulesError {
 
     fn fmt<W: fmt::Write>(&self, f: &mut fmt::Formatter<W>) -> fmt::Result {
         f.write_str(match self {
+            RulesError::UnsentOrigin(place) => {
+                return fmt::Display::fmt(&UnsentOrigin { place: *place }, f);
+            }
             RulesError::AnyOriginWithCredentials => "any origin with credentials",
             RulesError::AnyMethodWithCredentials => "any method with credentials",
             RulesError::AnyNameWithCredentials => "any request field with credentials",
             RulesError::AnyExposedWithCredentials => "any response field with credentials",
             RulesError::Star => "a star in a list",
-            RulesError::UnsentOrigin => "an origin that no browser sends",
             RulesError::Memory => "out of memory",
         })
     }

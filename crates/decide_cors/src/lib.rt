@@ -19,3 +19,4 @@ pub use crate::error::RulesError;
 pub use crate::kind::CorsKind;
 pub use crate::policy::{CorsAnswer, CorsPolicy};
 pub use crate::rules::{Allowed, AllowedNames, CorsRules};
+pub use crate::sent::{UnsentOrigin, check_origins};

@@ -1,9 +1,9 @@
 //! A server's policy, and its answer to a request.
-ghost use Rattle.std.specs.Prelude.{◌≡◌, ◌&&◌, ◌⊎◌, ◌++◌, true, IfErr, IfOk, OnOk, Some, option_map, is_some, codes};
-ghost use Rattle.headers.specs.LineMap.{field_of, fields_of, lines_at};
-ghost use Rattle.decide_cors.specs.{Answer.allows, Answer.IsAnswer, Policy.Policy, SentOrigins.are_sent};
+ghost use Rattle.std.specs.Prelude.{◌≡◌, ◌&&◌, ◌++◌, None, Some, IfErr, IfOk, OnOk, option_map, is_some, codes};
+ghost use Rattle.headers.specs.{LineMap.{field_of, fields_of, lines_at}, Lines.lines_of};
+ghost use Rattle.decide_cors.specs.{Answer.allows, Answer.IsAnswer, Policy.Policy, SentOrigins.unsent_of};
 ghost use Rattle.decide_cors.specs.Fields.{filled_line, granted, grant_fields, lines_if, vary_sent};
-ghost use Rattle.decide_cors.specs.Rules.{HasUnsent, IsErrorOf, IsLawful, IsPolicyOf, IsWritten, texts};
+ghost use Rattle.decide_cors.specs.Rules.{IsErrorOf, IsLawful, IsPolicyOf, IsUnwritten, RejectsTexts, texts};
 
 use crate::error::RulesError;
 use crate::fields::{field, field_if, filled};
@@ -11,10 +11,10 @@ use crate::kind::{CorsKind, kind_of};
 use crate::origin::granted;
 use crate::refusal::refusal;
 use crate::rules::CorsRules;
-use crate::sent::are_sent;
+use crate::sent::{UnsentOrigin, check_origins};
 use crate::vary::push_vary;
 use crate::written::{line_of_age, line_of_exposed, line_of_methods, line_of_names, texts_of};
-use headers::{Encoded, HeaderMap, HeaderValue};
+use headers::{Encoded, HeaderMap, HeaderValue, Refused};
 use http::Method;
 use http_header::{
     ACCESS_CONTROL_ALLOW_CREDENTIALS, ACCESS_CONTROL_ALLOW_HEADERS, ACCESS_CONTROL_ALLOW_METHODS,
@@ -59,8 +59,8 @@ impl CorsPolicy {
     /// Makes the policy of these rules, or says why they make none. Rules are rejected if browsers
     /// would take them in another sense than they mean: any origin, method or name with
     /// credentials, and a listed method or name `*`. A listed origin that no browser sends is
-    /// rejected as well. `Memory` only if the rules have a list or a `max_age`, and browsers take
-    /// them as they mean.
+    /// rejected as well, with its place. `Memory` only if the rules have a list or a `max_age`, and
+    /// browsers take them as they mean.
     pub fn new(alloc: Global, rules: CorsRules) -> Result<CorsPolicy, RulesError>
         ensures ok { IfOk result (λ policy. IsLawful rules × IsPolicyOf rules policy) }
         ensures err { IfErr result (IsErrorOf rules) }
@@ -203,11 +203,25 @@ impl CorsPolicy {
     }
 }
 
+// Whether browsers send each of the listed origins.
+fn check_sent(alloc: Global, origins: &Option<Vec<HeaderValue>>) -> Result<(), RulesError>
+    ensures ok { IfOk result (λ _. unsent_of (option_map (λ listed. lines_of listed.items) origins.now) ≡ None) }
+    ensures err { IfErr result (RejectsTexts (option_map (λ listed. lines_of listed.items) origins.now)) }
+{
+    let Some(listed) = origins else {
+        return Ok(());
+    };
+    match check_origins(alloc, listed) {
+        Ok(()) => Ok(()),
+        Err(Refused::Invalid(UnsentOrigin { place })) => Err(RulesError::UnsentOrigin(place)),
+        Err(Refused::Memory(_)) => Err(RulesError::Memory),
+    }
+}
+
 // The policy that the rules write, if browsers send each of the listed origins.
 fn written_of(alloc: Global, rules: CorsRules) -> Result<CorsPolicy, RulesError>
-    ensures ok { IfOk result (λ policy. (are_sent (texts rules.origins) ≡ true) × IsPolicyOf rules policy) }
-    ensures err { IfErr result (λ error. ((error ≡ RulesError.Memory) × IsWritten rules)
-        ⊎ ((error ≡ RulesError.UnsentOrigin) × HasUnsent rules)) }
+    ensures ok { IfOk result (λ policy. (unsent_of (texts rules.origins) ≡ None) × IsPolicyOf rules policy) }
+    ensures err { IfErr result (IsUnwritten rules) }
 {
     let CorsRules {
         origins,
@@ -218,9 +232,7 @@ fn written_of(alloc: Global, rules: CorsRules) -> Result<CorsPolicy, RulesError>
         max_age,
     } = rules;
     let origins = texts_of(alloc, &origins)?;
-    if !are_sent(&origins) {
-        return Err(RulesError::UnsentOrigin);
-    }
+    check_sent(alloc, &origins)?;
     let methods = line_of_methods(alloc, methods)?;
     let names = line_of_names(alloc, names)?;
     let exposed = line_of_exposed(alloc, exposed)?;

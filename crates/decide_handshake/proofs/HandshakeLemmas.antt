@@ -6,7 +6,7 @@ use Rattle.http_header.specs.FieldValue.{FieldValue}
 use Rattle.websocket.specs.Handshake.{IsValidKey, accept_key_of}
 use Rattle.headers.{specs.LineMap.LineMap, specs.Lines.{Line, only_line}}
 use Rattle.decide_handshake.{specs.Client.{IsOpened, SendsKey}, specs.Extensions.HasExtensions}
-use Rattle.decide_handshake.{specs.declared.origins.Origins.Origins, specs.declared.server.Answer.Answer}
+use Rattle.decide_handshake.{specs.Origins.OriginList, specs.declared.server.Answer.Answer}
 use Rattle.decide_handshake.specs.Messages.{Carries, CarriesButOffers, FitsProtocol, answer_fields, request_fields}
 use Rattle.decide_handshake.{specs.Messages.status_of, specs.Protocols.{AsksFor, OffersProtocols, UsesAskedProtocol}}
 use Rattle.decide_handshake.specs.Server.{Answers, HasHost, HasKey, IsHandshake, IsSwitch, Switches}
@@ -83,7 +83,7 @@ opens_by_value accept (Some protocol) map response sent key sends carries =
     (uses_this sent response protocol.bytes (carries (codes "sec-websocket-protocol")))
     (uses_asked sent response protocol.bytes (carries (codes "sec-websocket-protocol")))
 
-module _ (method : List ℕ) (version : Version) (request : LineMap) (origins : Origins) (own : List FieldValue) where
+module _ (method : List ℕ) (version : Version) (request : LineMap) (origins : OriginList) (own : List FieldValue) where
   -- what a server takes was asked for
   takes_asked : (accept : FieldValue) (protocol : Option FieldValue)
       → Switches method version request origins own accept protocol → FitsProtocol request (Switch accept protocol)

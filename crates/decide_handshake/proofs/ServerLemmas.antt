@@ -5,8 +5,8 @@ use Rattle.http_header.specs.FieldValue.{FieldValue, plain_value}
 use Rattle.websocket.specs.Handshake.{accept_key_of}
 use Rattle.headers.specs.{LineMap.LineMap, Lines.Line}
 use Rattle.decide_handshake.specs.{Extensions.HasExtensions, Fields.ListsUpgrade, Fields.ListsWebsocket}
-use Rattle.decide_handshake.specs.{Origins.AllowsOrigin, Protocols.OffersProtocols, Protocols.taken, Rules.KeepsBelow}
-use Rattle.decide_handshake.specs.{declared.origins.Origins.Origins, declared.server.Answer.Answer}
+use Rattle.decide_handshake.specs.{Origins.{AllowsOrigin, OriginList}, Protocols.OffersProtocols, Protocols.taken}
+use Rattle.decide_handshake.specs.{Rules.KeepsBelow, declared.server.Answer.Answer}
 use Rattle.decide_handshake.specs.{declared.server.Refusal.Refusal}
 use Rattle.decide_handshake.specs.Server.{Answers, HasHost, HasKey, HasVersion13, IsAccepted, IsFirst, IsGet, IsHttp11}
 use Rattle.decide_handshake.specs.Server.{IsRecent, IsSwitch, Rule, refusal_number}
@@ -70,7 +70,7 @@ at_low (suc (suc (suc (suc (suc (suc (suc (suc zero)))))))) = omega arith
 at_low (suc (suc (suc (suc (suc (suc (suc (suc (suc zero))))))))) = omega arith
 at_low (suc (suc (suc (suc (suc (suc (suc (suc (suc (suc n)))))))))) = omega arith
 
-module _ (method : List ℕ) (version : Version) (request : LineMap) (origins : Origins) where
+module _ (method : List ℕ) (version : Version) (request : LineMap) (origins : OriginList) where
   -- the rules of this request, and those before a number
   abbrev R : Refusal → Type 0
   R = Rule method version request origins

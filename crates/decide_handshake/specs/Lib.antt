@@ -1,6 +1,7 @@
 pub mod Client
 pub mod Extensions
 pub mod Fields
+pub mod Inside
 pub mod Messages
 pub mod Origins
 pub mod Protocols

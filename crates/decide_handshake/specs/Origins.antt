@@ -1,20 +1,24 @@
 -- Which origins a server allows (RFC 6455, sections 4.2.2 and 10.2).
-use Rattle.std.{specs.Prelude.{◌≡◌, ◌⊎◌, ⊤, Bool, List, [], IsSomeAnd, IsTrue, bytes_eq, codes}, specs.List.list_any}
-use Rattle.http_header.{specs.FieldValue.FieldValue, specs.Token.lowercase}
+use Rattle.std.specs.Prelude.{◌≡◌, ◌⊎◌, ⊤, Bool, List, [], Option, Some, None, IsSomeAnd, IsTrue, bytes_eq, codes}
+use Rattle.std.specs.List.{list_any}
+use Rattle.http_header.specs.Token.{lowercase}
 use Rattle.headers.{specs.LineMap.LineMap, specs.Lines.{Line, only_line}}
-use Rattle.decide_handshake.{specs.declared.origins.Origins.Origins, specs.declared.origins.Origins.TheVariants.Any}
-use Rattle.decide_handshake.specs.declared.origins.Origins.TheVariants.{Listed}
+
+-- the listed origins, or `None` for any
+abbrev pub OriginList : Type 0
+OriginList = Option (List Line)
 
 -- one of the origins is this text, ignoring the case of ASCII letters
-abbrev pub lists_origin : List FieldValue → Line → Bool
-lists_origin origins text = list_any (λ origin. bytes_eq (lowercase origin.bytes) (lowercase text)) origins
+abbrev pub lists_origin : List Line → Line → Bool
+lists_origin origins text = list_any (λ origin. bytes_eq (lowercase origin) (lowercase text)) origins
 
 -- the only line of Origin is one of these
-abbrev pub NamesListed : List FieldValue → LineMap → Type 0
+abbrev pub NamesListed : List Line → LineMap → Type 0
 NamesListed origins request =
     IsSomeAnd (only_line (request (codes "origin"))) (λ text. IsTrue (lists_origin origins text))
 
--- A request without Origin is from no browser (section 4.2.1), and only scripts in browsers are to be kept out.
-abbrev pub AllowsOrigin : Origins → LineMap → Type 0
-AllowsOrigin Any request = ⊤
-AllowsOrigin (Listed origins) request = (request (codes "origin") ≡ []) ⊎ NamesListed origins.items request
+-- A request without Origin is from no browser (section 4.2.1), and only scripts in
+-- browsers are to be kept out.
+abbrev pub AllowsOrigin : OriginList → LineMap → Type 0
+AllowsOrigin None request = ⊤
+AllowsOrigin (Some origins) request = (request (codes "origin") ≡ []) ⊎ NamesListed origins request

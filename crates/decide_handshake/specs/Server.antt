@@ -6,8 +6,8 @@ use Rattle.http_header.specs.FieldValue.{FieldValue, plain_value}
 use Rattle.websocket.specs.Handshake.{IsValidKey, accept_key_of}
 use Rattle.headers.specs.{LineMap.LineMap, Lines.Line, Lines.only_line}
 use Rattle.decide_handshake.specs.{Extensions.HasExtensions, Fields.ListsUpgrade, Fields.ListsWebsocket}
-use Rattle.decide_handshake.specs.{Origins.AllowsOrigin, Protocols.OffersProtocols, Protocols.taken}
-use Rattle.decide_handshake.specs.{Rules.IsFirstBroken, declared.origins.Origins.Origins, declared.server.Answer.Answer}
+use Rattle.decide_handshake.specs.{Origins.{AllowsOrigin, OriginList}, Protocols.OffersProtocols, Protocols.taken}
+use Rattle.decide_handshake.specs.{Rules.IsFirstBroken, declared.server.Answer.Answer}
 use Rattle.decide_handshake.specs.{declared.server.Refusal.Refusal}
 use Rattle.decide_handshake.specs.declared.server.Answer.TheVariants.{Switch, BadRequest, UpgradeRequired, Forbidden}
 use Rattle.decide_handshake.specs.declared.server.Fault.TheVariants.{NotGet, OldHttp, NotHttp11, NoHost, NoUpgrade}
@@ -70,7 +70,7 @@ refusal_number (Faulty MalformedProtocols) = 8
 refusal_number (Faulty MalformedExtensions) = 9
 refusal_number OtherOrigin = 10
 
-module _ (method : List ℕ) (version : Version) (request : LineMap) (origins : Origins) where
+module _ (method : List ℕ) (version : Version) (request : LineMap) (origins : OriginList) where
   -- the rule that is broken if the server rejects the request; the last one is the server's own (section 4.2.2, 4)
   abbrev pub Rule : Refusal → Type 0
   Rule (Faulty NotGet) = IsGet method

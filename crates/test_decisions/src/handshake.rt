@@ -1,7 +1,8 @@
 //! Calls of the opening handshake. Fields are written as those of a map, with the blanks that a section loses.
 use crate::store::{method, status};
+use decide_cors::UnsentOrigin;
 use decide_handshake::{Answer as Response, Checked, Origins, accept, check};
-use headers::{HeaderMap, HeaderValue, set_all};
+use headers::{HeaderMap, HeaderValue, Refused, set_all};
 use http::Version;
 use test_rows::{Answer, Arguments, Calls, Failure};
 
@@ -27,7 +28,7 @@ fn show_answer(
         Version::HTTP_11,
         &request,
         own,
-        &Origins::Any,
+        &Origins::any(),
     )?;
     answer.word(response.status().as_u16())?;
     if let Response::BadRequest(fault) = &response {
@@ -49,6 +50,23 @@ fn show_check(arguments: &mut Arguments<'_>, answer: &mut Answer) -> Result<(), 
     Ok(())
 }
 
+// `Origins.listed (origin) ORIGIN ..`: `listed`, or the place of the first that no browser sends.
+fn show_origins(arguments: &mut Arguments<'_>, answer: &mut Answer) -> Result<(), Failure> {
+    let alloc = arguments.alloc();
+    let mut origins = Vec::new(alloc);
+    for origin in arguments.map()?.get_all("origin") {
+        origins.push(origin.clone()?)?;
+    }
+    match Origins::listed(alloc, origins) {
+        Ok(_) => answer.word("listed")?,
+        Err(Refused::Invalid(UnsentOrigin { place })) => {
+            answer.word(format_args!("UnsentOrigin {place}"))?;
+        }
+        Err(Refused::Memory(_)) => return Err(Failure::Memory),
+    }
+    Ok(())
+}
+
 impl Calls for Handshake {
     fn make(name: &str, arguments: &mut Arguments<'_>, answer: &mut Answer) -> Result<(), Failure> {
         match name {
@@ -58,6 +76,7 @@ impl Calls for Handshake {
                 show_answer(&[own], arguments, answer)
             }
             "check" => show_check(arguments, answer),
+            "Origins.listed" => show_origins(arguments, answer),
             _ => Err(Failure::NoCall),
         }
     }

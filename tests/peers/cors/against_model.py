@@ -11,7 +11,7 @@ from cors.policy import Policy
 ORIGINS = ["http://127.0.0.1:18080", "null", "https://a.example", "http://a.example", "https://b.example:8443"]
 # Origins that no browser sends, for rules.
 UNSENT = ["https://A.example", "https://a.example:443", "http://a.example:80", "https://*.example",
-          "https://u@a.example",
+          "https://u@a.example", "http://127.1", "http://0x7f.1:81", "http://[0:0:0:0:0:0:0:1]", "wss://a.example",
           "https://a.example:99999", "https://a.example:", "https://a.example:0443"]
 NAMES = ["x-a", "X-B", "content-type", "Authorization", "range", "etag", "set-cookie"]
 VARY = ["origin", "Origin", "*", "accept", "", "a,b", "x-origin", " accept , ORIGIN ", "accept;origin", "a, *",

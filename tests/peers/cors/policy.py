@@ -3,6 +3,7 @@ a browser do, and the field lines of its answer."""
 import re
 from collections.abc import Iterable
 from dataclasses import asdict, dataclass, field
+from ipaddress import IPv6Address
 from typing import Any, Literal
 
 from common.fields import members
@@ -15,7 +16,7 @@ SIX = ("access-control-allow-origin", "access-control-allow-credentials", "acces
        "access-control-allow-methods", "access-control-allow-headers", "access-control-max-age")
 # The greatest age that is written.
 MAX_AGE = 2**31 - 1
-DEFAULT_PORTS = {"http": 80, "https": 443}
+DEFAULT_PORTS = {"ftp": 21, "http": 80, "https": 443}
 
 # Any value, or the listed ones.
 Allowed = Literal["*"] | list[str]
@@ -38,20 +39,36 @@ class Policy:
 
 
 def is_sent(origin: str) -> bool:
-    """Whether browsers send such an origin: without upper case, userinfo, a star, a default port or an odd one."""
+    """Whether browsers send such an origin, as the URL standard serializes it."""
     if origin == "null":
         return True
-    scheme, mark, rest = origin.partition("://")
+    scheme, mark, host = origin.partition("://")
     # (the case of these two schemes is put right)
-    scheme = scheme.lower() if scheme.lower() in DEFAULT_PORTS else scheme
-    if re.search("[A-Z*@]", scheme + mark + rest):
+    scheme = scheme.lower() if scheme.lower() in ("http", "https") else scheme
+    if not mark or not re.fullmatch("[a-z][a-z0-9+.-]*", scheme) or scheme in ("ws", "wss", "file"):
         return False
-    port = re.search(r":([^:\]]*)\Z", rest)
-    if not port:
-        return True
-    if not re.fullmatch("0|[1-9][0-9]*", port[1]) or int(port[1]) > 65535:
+    if ":" in host and not host.endswith("]"):
+        host, _, port = host.rpartition(":")
+        if not re.fullmatch("0|[1-9][0-9]*", port) or int(port) > 65535 or int(port) == DEFAULT_PORTS.get(scheme):
+            return False
+    return is_sent_host(host)
+
+
+def is_sent_host(host: str) -> bool:
+    if host.startswith("["):
+        try:
+            groups = [f"{int(group, 16):x}" for group in IPv6Address(host[1:-1]).exploded.split(":")]
+        except ValueError:
+            return False
+        run = max((re.findall("(?:^|(?<=:))0(?::0)+(?![^:])", ":".join(groups))), key=len, default="")
+        before, _, after = ":".join(groups).partition(run) if run else (":".join(groups), "", "")
+        return host == f"[{before[:-1]}::{after[1:]}]" if run else host == f"[{before}]"
+    if not re.fullmatch("[!-~]+", host) or re.search(r"[A-Z*%#/:<>?@\[\\\]^|]", host):
         return False
-    return DEFAULT_PORTS.get(scheme) != int(port[1])
+    if re.fullmatch("[0-9]+|0x[0-9a-f]*", host.removesuffix(".").rpartition(".")[2]):
+        parts = host.split(".")
+        return len(parts) == 4 and all(re.fullmatch("0|[1-9][0-9]*", it) and int(it) < 256 for it in parts)
+    return True
 
 
 def is_lawful(policy: Policy) -> bool:
