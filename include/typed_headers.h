@@ -767,6 +767,18 @@ struct typed_headers_retry_time {
     uint8_t is_date;
 };
 
+/* For how many seconds a response may be served once it is stale (RFC 5861). */
+struct typed_headers_stale_directives {
+    /* The seconds of `stale-while-revalidate`, or 0. */
+    uint64_t while_revalidate;
+    /* The seconds of `stale-if-error`, or 0. */
+    uint64_t if_error;
+    /* 1 if the first is set, else 0. */
+    uint8_t has_while_revalidate;
+    /* 1 if the second is set, else 0. */
+    uint8_t has_if_error;
+};
+
 /* How a recipient is to present content (RFC 6266, section 4.2). */
 enum typed_headers_disposition {
     /* By another word. RFC 6266 has it treated as an attachment. */
@@ -1412,6 +1424,23 @@ uint8_t typed_headers_strict_transport_security(const uint8_t *lines, size_t lin
  * number below 2^64 nor a date up to the year 9999.
  */
 uint8_t typed_headers_retry_after(const uint8_t *lines, size_t lines_length, struct typed_headers_retry_time *time);
+
+/*
+ * `stale-while-revalidate` and `stale-if-error` of `cache-control`, by all its lines, as a cache counts them (RFC
+ * 5861): the first of two, and 0 seconds if the argument is no number. None is set if a member of the lines is no
+ * directive. Refused: a line can't be one.
+ */
+uint8_t typed_headers_stale_directives(const uint8_t *lines, size_t lines_length,
+                                       struct typed_headers_stale_directives *directives);
+
+/*
+ * What the directives of this name in `cache-control` have as arguments, by all its lines: each as it means, without
+ * quotes, with a LF, in order. `typed_headers_members` takes those of `no-cache` and `private` as lines: the members
+ * are field names (RFC 9111, sections 5.2.2.4 and 5.2.2.7). `typed_headers_cache_control` has such a directive as not
+ * set. Refused: a line can't be one.
+ */
+uint8_t typed_headers_directive_arguments(const uint8_t *lines, size_t lines_length, const uint8_t *name,
+                                          size_t name_length, uint8_t *room, size_t room_length, size_t *written);
 
 /*
  * The range and the complete length of `content-range`: its first line (RFC 9110, section 14.4). Numbers that aren't

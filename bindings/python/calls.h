@@ -22,6 +22,7 @@ union slot {
         struct typed_headers_port port;
         struct typed_headers_transport_security transport_security;
         struct typed_headers_retry_time retry_time;
+        struct typed_headers_stale_directives stale_directives;
         struct typed_headers_cache_directives cache_directives;
         struct typed_headers_cors_rules cors_rules;
         struct typed_headers_cache_extensions cache_extensions;
@@ -69,6 +70,8 @@ SHAPE(port, FLAGGED(port, number, U16, is_set))
 SHAPE(transport_security, MEMBER(transport_security, max_age, U64),
       MEMBER(transport_security, include_subdomains, U8))
 SHAPE(retry_time, MEMBER(retry_time, seconds, U64), MEMBER(retry_time, is_date, U8))
+SHAPE(stale_directives, FLAGGED(stale_directives, while_revalidate, U64, has_while_revalidate),
+      FLAGGED(stale_directives, if_error, U64, has_if_error))
 SHAPE(cache_directives, INNER(cache_directives, max_age, directive_seconds),
       INNER(cache_directives, max_stale, directive_seconds), INNER(cache_directives, min_fresh, directive_seconds),
       INNER(cache_directives, s_maxage, directive_seconds), MEMBER(cache_directives, no_cache, U8),
@@ -275,6 +278,10 @@ CALL(strict_transport_security, MAY(REFUSED) | MAY(ABSENT) | MAY(NO_MEMORY), (FI
      &at[1].any.transport_security), PLAIN(LINES), OF_SHAPE(OUT_STRUCT, transport_security))
 CALL(retry_after, MAY(REFUSED) | MAY(ABSENT) | MAY(NO_MEMORY), (FIELD(at[0]), &at[1].any.retry_time), PLAIN(LINES),
      OF_SHAPE(OUT_STRUCT, retry_time))
+CALL(stale_directives, MAY(REFUSED) | MAY(ABSENT) | MAY(NO_MEMORY), (FIELD(at[0]), &at[1].any.stale_directives),
+     PLAIN(LINES), OF_SHAPE(OUT_STRUCT, stale_directives))
+CALL(directive_arguments, MAY(REFUSED) | MAY(ABSENT) | MAY(NO_MEMORY), (FIELD(at[0]), TEXT_OF(at[1]), ROOM(at[2])),
+     PLAIN(LINES), PLAIN(GIVEN_TEXT), PLAIN(ROOM_OF_BYTES))
 CALL(content_range, MAY(REFUSED) | MAY(ABSENT) | MAY(NO_MEMORY), (FIELD(at[0]), &at[1].any.content_range),
      PLAIN(LINES), OF_SHAPE(OUT_STRUCT, content_range))
 CALL(content_disposition, MAY(REFUSED) | MAY(ABSENT) | MAY(NO_MEMORY), (FIELD(at[0]), &at[1].u8), PLAIN(LINES),
@@ -373,14 +380,15 @@ enum { MOST_SLOTS = 10 };
     METHOD(cache_answer), METHOD(cache_store), METHOD(cache_freshen), METHOD(cache_freshen_by_head), \
     METHOD(cache_invalidate), METHOD(cache_remove), METHOD(forward_request), METHOD(forward_response), \
     METHOD(framing), METHOD(basic), METHOD(bearer), METHOD(cookie), METHOD(cookies), METHOD(host), METHOD(origin), \
-    METHOD(strict_transport_security), METHOD(retry_after), METHOD(content_range), METHOD(content_disposition), \
-    METHOD(members), METHOD(has_member), METHOD(section_free), METHOD(cors_policy_free), \
-    METHOD(resource_handle_free), METHOD(section_new), METHOD(section_field), METHOD(section_evaluate), \
-    METHOD(section_select), METHOD(section_respond), METHOD(section_choose_type), METHOD(section_choose_coding), \
-    METHOD(section_choose_language), METHOD(cors_policy_new), METHOD(cors_policy_answer), \
-    METHOD(resource_handle_new), METHOD(resource_handle_answer), METHOD(connection_free), METHOD(connection_new), \
-    METHOD(connection_next), METHOD(connection_receive), METHOD(connection_finish_input), METHOD(connection_method), \
-    METHOD(connection_path), METHOD(connection_query), METHOD(connection_content), METHOD(connection_plan), \
-    METHOD(connection_plan_field), METHOD(connection_plan_bytes), METHOD(connection_plan_range), \
-    METHOD(connection_respond), METHOD(connection_output), METHOD(connection_range), METHOD(connection_sent), \
-    METHOD(connection_time_out), METHOD(connection_rejection), METHOD(connection_planned)
+    METHOD(strict_transport_security), METHOD(retry_after), METHOD(stale_directives), METHOD(directive_arguments), \
+    METHOD(content_range), METHOD(content_disposition), METHOD(members), METHOD(has_member), METHOD(section_free), \
+    METHOD(cors_policy_free), METHOD(resource_handle_free), METHOD(section_new), METHOD(section_field), \
+    METHOD(section_evaluate), METHOD(section_select), METHOD(section_respond), METHOD(section_choose_type), \
+    METHOD(section_choose_coding), METHOD(section_choose_language), METHOD(cors_policy_new), \
+    METHOD(cors_policy_answer), METHOD(resource_handle_new), METHOD(resource_handle_answer), \
+    METHOD(connection_free), METHOD(connection_new), METHOD(connection_next), METHOD(connection_receive), \
+    METHOD(connection_finish_input), METHOD(connection_method), METHOD(connection_path), METHOD(connection_query), \
+    METHOD(connection_content), METHOD(connection_plan), METHOD(connection_plan_field), \
+    METHOD(connection_plan_bytes), METHOD(connection_plan_range), METHOD(connection_respond), \
+    METHOD(connection_output), METHOD(connection_range), METHOD(connection_sent), METHOD(connection_time_out), \
+    METHOD(connection_rejection), METHOD(connection_planned)

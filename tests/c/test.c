@@ -2065,6 +2065,14 @@ static void check_cookie(const struct row *row) {
     }
 }
 
+static uint8_t call_arguments(const void *arguments, uint64_t *number, uint8_t *room, size_t room_length,
+                              size_t *written) {
+    const struct word_call *call = arguments;
+    (void)number;
+    return typed_headers_directive_arguments(call->lines.bytes, call->lines.length, call->word.bytes,
+                                             call->word.length, room, room_length, written);
+}
+
 /* The words of an answer from one on that aren't empty, as text: after each stands one of the bytes in turn. */
 static struct word joined_words(const struct row *answer, size_t from, const char *ends, bool keeps_empty) {
     static char text[AREA];
@@ -2247,6 +2255,24 @@ static uint8_t call_content_range(const void *arguments, uint64_t *number, uint8
     return shown(status, &given, sizeof given, text, room, room_length, written);
 }
 
+static uint8_t call_stale(const void *arguments, uint64_t *number, uint8_t *room, size_t room_length,
+                          size_t *written) {
+    const struct text *lines = arguments;
+    struct typed_headers_stale_directives given;
+    char text[64] = "", first[32] = "(none)", second[32] = "(none)";
+    (void)number;
+    memset(&given, FILL, sizeof given);
+    uint8_t status = typed_headers_stale_directives(lines->bytes, lines->length, &given);
+    if (given.has_while_revalidate) {
+        sprintf(first, "%llu", (unsigned long long)given.while_revalidate);
+    }
+    if (given.has_if_error) {
+        sprintf(second, "%llu", (unsigned long long)given.if_error);
+    }
+    sprintf(text, "%.31s %.31s", first, second);
+    return shown(status, &given, sizeof given, text, room, room_length, written);
+}
+
 /* Checks a call that gives a struct, which is shown as this text. */
 static void check_shown(const struct row *row, call_fn *call, const char *wanted) {
     struct text text = lines(row, 0);
@@ -2356,6 +2382,14 @@ static void check_allow(const struct row *row) {
     }
 }
 
+/* `CacheControl.arguments NAME LINE..` */
+static void check_arguments(const struct row *row) {
+    struct word_call call = {lines(row, 1), put(second_area, row->words[0].bytes, row->words[0].length), false};
+    const bool has_none = is_answer(row, "(none)");
+    check(row, call_arguments, &call, TYPED_HEADERS_DONE, NO_NUMBER,
+          has_none ? EMPTY : joined_words(answer_words(row), 0, "\n", true));
+}
+
 /* The typed calls of a row. */
 static void check_typed(const struct row *row) {
     const char *call = row->call;
@@ -2364,6 +2398,10 @@ static void check_typed(const struct row *row) {
     } else if (strcmp(call, "AuthorizationBearer.decode") == 0 ||
                strcmp(call, "ProxyAuthorizationBearer.decode") == 0) {
         check_bearer(row);
+    } else if (strcmp(call, "CacheControl.stale") == 0) {
+        check_shown(row, call_stale, row->answer);
+    } else if (strcmp(call, "CacheControl.arguments") == 0) {
+        check_arguments(row);
     } else if (strcmp(call, "Cookie.get") == 0) {
         check_cookie(row);
     } else if (strcmp(call, "Cookie.decode") == 0) {

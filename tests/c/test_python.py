@@ -105,6 +105,19 @@ def cache_control(words, wanted):
     return shown == wanted[2:]
 
 
+def stale(words, wanted):
+    given = headers.CacheControl.parse(*map(decode, words))
+    seconds = [given.stale_while_revalidate, given.stale_if_error]
+    return ["(none)" if it is None else str(it) for it in seconds] == wanted
+
+
+def named_fields(words, wanted):
+    given = headers.CacheControl.parse(*map(decode, words[1:]))
+    names = {"private": given.private_fields, "no-cache": given.no_cache_fields}.get(words[0])
+    hoped = [] if wanted == ["(none)"] else [decode(word).decode() for word in wanted]
+    return names is None or list(names) == [name.strip() for text in hoped for name in text.split(",") if name]
+
+
 def ranges(words, wanted):
     given = decoded(headers.Range.parse, words[1:])
     if wanted[0] == REFUSED:
@@ -583,6 +596,8 @@ CALLS = {
     "canon.run": canonical,
     "EntityTag.compare": compare,
     "CacheControl.decode": cache_control,
+    "CacheControl.stale": stale,
+    "CacheControl.arguments": named_fields,
     "Range.satisfiable_ranges": ranges,
     "evaluate": evaluate,
     "select": select,

@@ -209,12 +209,25 @@ class Directives(unittest.TestCase):
 
     def test_lines_and_ignored_ones(self) -> None:
         self.assertEqual(CacheControl.parse("max-age=1", "MAX-AGE=2, other=x"), CacheControl(max_age=2))
-        self.assertEqual(CacheControl.parse('private="set-cookie, proxy-revalidate"'), CacheControl())
+        named = CacheControl.parse('private="set-cookie, proxy-revalidate", No-Cache="X-a\\,b", private=x, no-cache=')
+        wanted = CacheControl(private_fields=("set-cookie", "proxy-revalidate", "x"), no_cache_fields=("X-a", "b"))
+        self.assertEqual(named, wanted)
+        self.assertEqual(CacheControl.parse(str(named)), named)
         self.assertEqual(str(CacheControl()), "")
 
     def test_rejected(self) -> None:
         with self.assertRaisesRegex(InvalidField, "cache-control: .*not 'max-age=x'"):
             CacheControl.parse("max-age=x")
+        with self.assertRaisesRegex(HeaderError, "private_fields: 'a b' is no field name"):
+            CacheControl(private_fields=("a b",))
+
+    def test_stale_ones(self) -> None:
+        it = CacheControl.parse("max-age=1, stale-while-revalidate=2", "STALE-IF-ERROR=3, stale-if-error=4")
+        self.assertEqual((it.stale_while_revalidate, it.stale_if_error), (2, 3))
+        self.assertEqual(str(it), "max-age=1, stale-while-revalidate=2, stale-if-error=3")
+        self.assertEqual(CacheControl.parse(str(it)), it)
+        self.assertEqual(CacheControl.parse("stale-if-error=x").stale_if_error, 0)
+        self.assertIsNone(CacheControl.parse("stale-if-error=3, a b").stale_if_error)
 
 
 class Ranges(unittest.TestCase):

@@ -32,6 +32,8 @@ calls = _native
 
 #: Text of a field. A `str` has one character for each byte (ISO 8859-1), as in WSGI and `http.client`.
 Text = Union[str, bytes, bytearray, memoryview]
+#: A token (RFC 9110, section 5.6.2).
+TOKEN = re.compile(r"[!#$%&'*+.^_`|~0-9A-Za-z-]+")
 #: A time: a `datetime` with a time zone, or the seconds since the start of 1970.
 Time = Union[datetime, int]
 

@@ -168,7 +168,6 @@ class Answer:
 
 _NO_RULES = (b"", b"", b"", b"", None, False)
 
-_TOKEN = re.compile(r"[!#$%&'*+.^_`|~0-9A-Za-z-]+")
 _VERSIONS = (10, 11, 20, 30)
 _BOUNDARY = re.compile(r"[A-Za-z0-9'+._-]{1,70}")
 
@@ -319,7 +318,7 @@ class Resource:
 
     def _refused(self, methods: Tuple[Method, ...]) -> HeaderError:
         for method in methods:
-            if not _TOKEN.fullmatch(method.name):
+            if not _library.TOKEN.fullmatch(method.name):
                 return HeaderError(f"methods: {method.name!r} is no token (RFC 9110, section 9.1)")
         if self.state >= State.MOVED_PERMANENTLY and not self.location:
             return HeaderError("location: a resource that has moved needs one")
@@ -349,7 +348,7 @@ def _wrong_request(method: bytes, target: bytes, section: bytes, version: int) -
         _library.canonical_text(section)
     except HeaderError as error:
         return error
-    if not _TOKEN.fullmatch(_library.to_str(method)):
+    if not _library.TOKEN.fullmatch(_library.to_str(method)):
         return HeaderError(f"method: {_library.to_str(method)!r} is no token (RFC 9110, section 9.1)")
     if version not in _VERSIONS:
         return HeaderError(f"version: {version} is none of 10, 11, 20 and 30")

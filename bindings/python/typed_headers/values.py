@@ -234,6 +234,8 @@ class MediaType:
 
 # The directives in the order of the library's call.
 _SECONDS = ("max_age", "max_stale", "min_fresh", "s_maxage")
+_STALE = ("stale_while_revalidate", "stale_if_error")
+_NAMES = ("no_cache_fields", "private_fields")
 _FLAGS = (
     "no_cache",
     "no_store",
@@ -250,11 +252,13 @@ _FLAGS = (
 
 @dataclass(frozen=True)
 class CacheControl:
-    """The directives of `Cache-Control` (RFC 9111, section 5.2, and RFC 8246). A number of seconds is `None` if it
-    isn't set. Other directives are ignored.
+    """The directives of `Cache-Control` (RFC 9111, section 5.2, RFC 5861 and RFC 8246). A number of seconds is `None`
+    if it isn't set. Other directives are ignored.
 
     >>> CacheControl.parse("no-cache, MAX-AGE=060").max_age
     60
+    >>> CacheControl.parse('private="set-cookie, x-user", stale-if-error=5').private_fields
+    ('set-cookie', 'x-user')
     >>> str(CacheControl(max_age=60, public=True))
     'public, max-age=60'
     """
@@ -273,12 +277,23 @@ class CacheControl:
     public: bool = False
     private: bool = False
     immutable: bool = False
+    stale_while_revalidate: Optional[int] = None
+    stale_if_error: Optional[int] = None
+    #: The field names of `no-cache="..."` and `private="..."`, by which `no_cache` and `private` aren't set (RFC 9111,
+    #: sections 5.2.2.4 and 5.2.2.7).
+    no_cache_fields: Tuple[str, ...] = ()
+    private_fields: Tuple[str, ...] = ()
 
     def __post_init__(self) -> None:
-        for name in _SECONDS:
+        for name in _SECONDS + _STALE:
             seconds = getattr(self, name)
             if seconds is not None:
                 object.__setattr__(self, name, _library.to_number(seconds, name))
+        for name in _NAMES:
+            object.__setattr__(self, name, tuple(getattr(self, name)))
+            for field_name in getattr(self, name):
+                if not _library.TOKEN.fullmatch(field_name):
+                    raise HeaderError(f"{name}: {field_name!r} is no field name (RFC 9110, section 5.1)")
 
     @classmethod
     def parse(cls, line: Text, *more: Text) -> "CacheControl":
@@ -289,13 +304,29 @@ class CacheControl:
             raise _library.failed(status, "cache-control", lines)
         members = dict(zip(_SECONDS, found))
         members.update(zip(_FLAGS, map(bool, found[len(_SECONDS) :])))
-        return _made(cls, **members)
+        status, stale = _library.calls.stale_directives(lines)
+        if status:
+            raise _library.failed(status, "cache-control", lines)
+        names = (_arguments(lines, b"no-cache"), _arguments(lines, b"private"))
+        return _made(cls, **members, **dict(zip(_STALE, stale)), **dict(zip(_NAMES, names)))
 
     def __str__(self) -> str:
-        members = [(it.name.replace("_", "-"), getattr(self, it.name)) for it in fields(self)]
-        words = [name for name, value in members if value is True]
-        words += [f"{name}={value}" for name, value in members if value is not None and not isinstance(value, bool)]
-        return _only("cache-control", (", ".join(words),))
+        known = {it.name: getattr(self, it.name) for it in fields(self)}
+        names = [f'{name[:-7].replace("_", "-")}="{", ".join(known.pop(name))}"' for name in _NAMES if known[name]]
+        stale = [f'{name.replace("_", "-")}={known.pop(name)}' for name in _STALE if known[name] is not None]
+        words = [name.replace("_", "-") for name, value in known.items() if value is True]
+        words += [f'{name.replace("_", "-")}={known[name]}' for name in _SECONDS if known[name] is not None]
+        # (the typed header has none of the others)
+        line = _only("cache-control", (", ".join(words),))
+        return ", ".join(([line] if line else []) + stale + names)
+
+
+def _arguments(lines: Tuple[Text, ...], name: bytes) -> Tuple[str, ...]:
+    """The members of the arguments of a directive of Cache-Control."""
+    status, text = _library.calls.directive_arguments(lines, name)
+    if status:
+        raise _library.failed(status, "cache-control", lines)
+    return tuple(members(*text.split(b"\n")[:-1])) if text else ()
 
 
 @dataclass(frozen=True)

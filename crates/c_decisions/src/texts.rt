@@ -19,7 +19,7 @@ pub fn values_of(alloc: Global, text: &[u8]) -> Result<Vec<HeaderValue>, Failure
 }
 
 /// A request that has these field lines under the name, and no others.
-pub(crate) fn request_with(
+pub fn request_with(
     alloc: Global,
     name: &HeaderName,
     lines: &[u8],

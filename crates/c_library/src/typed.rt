@@ -8,15 +8,16 @@ ghost use Rattle.c_typed.{specs.Cookies.{FindsCookie, ShowsCookies, reads_cookie
 ghost use Rattle.c_typed.{specs.Credentials.{ShowsUserPassword, basic_reads, bearer_reads}, specs.Hosts.ShowsHost};
 ghost use Rattle.c_typed.{specs.Hosts.{ShowsOrigin, is_whole_host, is_whole_origin}, specs.Members.ShowsMembers};
 ghost use Rattle.c_typed.{specs.Members.{ShowsMembership, reads_list}, specs.Policies.{ShowsRetryTime, ShowsSecurity}};
-ghost use Rattle.c_typed.specs.Shown.{FieldShows, FieldShowsIf};
+ghost use Rattle.c_typed.specs.{Directives.{ShowsArguments, ShowsStale}, Shown.{FieldShows, FieldShowsIf, LinesShow}};
 
 use crate::giving::give;
 use c_fields::ContentRangeParts;
 use c_parts::{DONE, copy_into};
 use c_typed::{
-    OriginParts, PortNumber, RetryTime, TransportSecurity, cookies_text, find_cookie, has_member,
-    members_text, read_content_range, read_disposition, read_host, read_origin, read_retry_after,
-    read_token, read_transport_security, read_user_password,
+    OriginParts, PortNumber, RetryTime, StaleDirectives, TransportSecurity, arguments_text,
+    cookies_text, find_cookie, has_member, members_text, read_content_range, read_disposition,
+    read_host, read_origin, read_retry_after, read_stale_directives, read_token,
+    read_transport_security, read_user_password,
 };
 use std::alloc::Global;
 
@@ -92,6 +93,37 @@ pub extern "C" fn typed_headers_cookies(
         room.old room.new written.old written.new result }
 {
     match cookies_text(alloc, lines) {
+        Ok(text) => copy_into(text.as_slice(), DONE, room, written),
+        Err(failure) => failure.status(),
+    }
+}
+
+/// Decodes the field lines of `cache-control` to the directives of RFC 5861.
+#[unsafe(no_mangle)]
+pub extern "C" fn typed_headers_stale_directives(
+    alloc: Global,
+    lines: &[u8],
+    directives: &mut StaleDirectives,
+) -> u8
+    ensures { Gives (LinesShow ShowsStale lines.now) directives.old directives.new result }
+{
+    give(read_stale_directives(alloc, lines), directives)
+}
+
+/// Gives the arguments of the directives of a name, by the field lines of `cache-control`, one a
+/// line.
+#[unsafe(no_mangle)]
+pub extern "C" fn typed_headers_directive_arguments(
+    alloc: Global,
+    lines: &[u8],
+    name: &[u8],
+    room: &mut [u8],
+    written: &mut usize,
+) -> u8
+    ensures { Writes (λ text. text.items) (λ _. done) (LinesShow (ShowsArguments name.now) lines.now)
+        room.old room.new written.old written.new result }
+{
+    match arguments_text(alloc, lines, name) {
         Ok(text) => copy_into(text.as_slice(), DONE, room, written),
         Err(failure) => failure.status(),
     }

@@ -1,6 +1,7 @@
 pub mod Contents
 pub mod Cookies
 pub mod Credentials
+pub mod Directives
 pub mod Hosts
 pub mod Members
 pub mod Policies

@@ -1,8 +1,9 @@
 -- What a call shows of the value that field lines decode to.
-use Rattle.std.specs.Prelude.{◌≡◌, ◌⊎◌, ℕ, Bool, true, false, List, Result, Ok, Err, ⊤}
+use Rattle.std.specs.Prelude.{◌≡◌, ◌⊎◌, ℕ, Bool, true, false, List, [], Result, Ok, Err, ⊤}
 use Rattle.headers.{specs.Lines.Line, specs.Typed.HasLine}
 use Rattle.c_parts.{specs.FieldText.{FieldDecodes, FieldReads, field_lines}, specs.declared.status.Failure.Failure}
 use Rattle.c_parts.specs.declared.status.Failure.TheVariants.{Refused, Memory, Absent, TooLarge}
+use Rattle.c_decisions.specs.Texts.{FailsAt}
 
 -- The lines of the text decode to a value, and this is what a call shows of it. The failures are those of decoding:
 -- `Refused` only if there are lines and they decode to nothing, `Absent` only if there is no line, `Memory` only if
@@ -30,3 +31,10 @@ ShowsIf is_shown Shows (Err Refused) = is_shown ≡ false
 ShowsIf is_shown Shows (Err Memory) = ⊤
 ShowsIf is_shown Shows (Err Absent) = ⊥
 ShowsIf is_shown Shows (Err TooLarge) = ⊥
+
+-- What a call shows of the lines of the text. `Refused` only if one can't be a field value, `Absent` only if there is
+-- no line, and `Memory` only if there are lines.
+abbrev pub LinesShow : {V : Type 0} → (List Line → V → Type 0) → List ℕ → Result V Failure → Type 0
+LinesShow Shows text (Ok shown) = HasLine (field_lines text) × FieldReads Shows text shown
+LinesShow Shows text (Err Absent) = field_lines text ≡ []
+LinesShow Shows text (Err failure) = FailsAt text failure

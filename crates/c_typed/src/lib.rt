@@ -4,6 +4,7 @@
 mod content;
 mod cookies;
 mod credentials;
+mod directives;
 mod hosts;
 mod members;
 mod policies;
@@ -11,6 +12,7 @@ mod policies;
 pub use crate::content::{read_content_range, read_disposition};
 pub use crate::cookies::{cookies_text, find_cookie};
 pub use crate::credentials::{UserPassword, read_token, read_user_password};
+pub use crate::directives::{StaleDirectives, arguments_text, read_stale_directives};
 pub use crate::hosts::{HostText, OriginParts, OriginText, PortNumber, read_host, read_origin};
 pub use crate::members::{has_member, members_text};
 pub use crate::policies::{

@@ -253,6 +253,14 @@ pub struct Cache {
     pub is_open: bool,
 }
 
+/// The handle of a server connection. Zero bytes are a closed one.
+#[repr(C)]
+#[derive(Debug)]
+pub struct Connection {
+    pub place: *mut core::ffi::c_void,
+    pub is_open: bool,
+}
+
 /// The handle of a section. Zero bytes are a closed one.
 #[repr(C)]
 #[derive(Debug)]
@@ -380,6 +388,15 @@ pub struct TransportSecurity {
 pub struct RetryTime {
     pub seconds: u64,
     pub is_date: u8,
+}
+
+#[repr(C)]
+#[derive(Clone, Copy, Debug, Default, PartialEq, Eq, Hash)]
+pub struct StaleDirectives {
+    pub while_revalidate: u64,
+    pub if_error: u64,
+    pub has_while_revalidate: u8,
+    pub has_if_error: u8,
 }
 
 /// A call that reads one number of the lines of a field.
@@ -885,6 +902,20 @@ extern "C" {
         policy: *mut TransportSecurity,
     ) -> u8;
     pub fn typed_headers_retry_after(lines: *const u8, lines_length: usize, time: *mut RetryTime) -> u8;
+    pub fn typed_headers_stale_directives(
+        lines: *const u8,
+        lines_length: usize,
+        directives: *mut StaleDirectives,
+    ) -> u8;
+    pub fn typed_headers_directive_arguments(
+        lines: *const u8,
+        lines_length: usize,
+        name: *const u8,
+        name_length: usize,
+        room: *mut u8,
+        room_length: usize,
+        written: *mut usize,
+    ) -> u8;
     pub fn typed_headers_content_range(lines: *const u8, lines_length: usize, range: *mut ContentRange) -> u8;
     pub fn typed_headers_content_disposition(lines: *const u8, lines_length: usize, disposition: *mut u8) -> u8;
     pub fn typed_headers_members(

@@ -233,7 +233,7 @@ pub fn weak_eq(one: impl AsRef<[u8]>, other: impl AsRef<[u8]>) -> Result<bool, E
     compare(sys::typed_headers_weak_eq, one.as_ref(), other.as_ref())
 }
 
-/// The directives of `Cache-Control` that are set (RFC 9111, section 5.2). Seconds are `None` if they aren't.
+/// The directives of `Cache-Control` that are set (RFC 9111, section 5.2; RFC 5861). Seconds are `None` if they aren't.
 ///
 /// ```
 /// use typed_headers::CacheControl;
@@ -241,7 +241,7 @@ pub fn weak_eq(one: impl AsRef<[u8]>, other: impl AsRef<[u8]>) -> Result<bool, E
 /// let value = CacheControl::new().with_public().with_max_age(60);
 /// assert_eq!(value.to_string(), "public, max-age=60");
 /// ```
-#[derive(Clone, Copy, Debug, Default, PartialEq, Eq, Hash)]
+#[derive(Clone, Debug, Default, PartialEq, Eq, Hash)]
 #[non_exhaustive]
 #[allow(missing_docs)]
 pub struct CacheControl {
@@ -259,6 +259,12 @@ pub struct CacheControl {
     pub is_private: bool,
     pub immutable: bool,
     pub proxy_revalidate: bool,
+    pub stale_while_revalidate: Option<u64>,
+    pub stale_if_error: Option<u64>,
+    /// The field names of `no-cache="..."`, by which `no_cache` isn't set (RFC 9111, section 5.2.2.4).
+    pub no_cache_fields: Vec<String>,
+    /// The field names of `private="..."`, by which `is_private` isn't set (RFC 9111, section 5.2.2.7).
+    pub private_fields: Vec<String>,
 }
 
 // The directives in the order in which the library writes them.
@@ -299,7 +305,12 @@ macro_rules! directives {
                     write!(formatter, "{between}{}={seconds}", $name)?;
                     between = ", ";
                 })*
-                let _ = between;
+                for (name, fields) in [("no-cache", &self.no_cache_fields), ("private", &self.private_fields)] {
+                    if !fields.is_empty() {
+                        write!(formatter, "{between}{name}=\"{}\"", fields.join(", "))?;
+                        between = ", ";
+                    }
+                }
                 Ok(())
             }
         }
@@ -322,6 +333,8 @@ directives! {
     max_stale, with_max_stale, "max-stale";
     min_fresh, with_min_fresh, "min-fresh";
     s_maxage, with_s_maxage, "s-maxage";
+    stale_while_revalidate, with_stale_while_revalidate, "stale-while-revalidate";
+    stale_if_error, with_stale_if_error, "stale-if-error";
 }
 
 /// The directives of `Cache-Control` (RFC 9111, section 5.2).
@@ -336,14 +349,22 @@ where
     I: IntoIterator,
     I::Item: AsRef<[u8]>,
 {
-    let mut given = sys::CacheDirectives::default();
-    let is_there = joined(lines).and_then(|text| {
-        // SAFETY: as above.
-        check(unsafe { sys::typed_headers_cache_control(text.as_ptr(), text.len(), &mut given) })
-    });
-    if !is_there.map_err(|error| error.of("cache-control"))? {
+    read_directives(lines).map_err(|error| error.of("cache-control"))
+}
+
+fn read_directives<I>(lines: I) -> Result<Option<CacheControl>, Error>
+where
+    I: IntoIterator,
+    I::Item: AsRef<[u8]>,
+{
+    let text = joined(lines)?;
+    let (mut given, mut stale) = (sys::CacheDirectives::default(), sys::StaleDirectives::default());
+    // SAFETY: as above.
+    if !check(unsafe { sys::typed_headers_cache_control(text.as_ptr(), text.len(), &mut given) })? {
         return Ok(None);
     }
+    // SAFETY: as above.
+    check(unsafe { sys::typed_headers_stale_directives(text.as_ptr(), text.len(), &mut stale) })?;
     let seconds = |directive: sys::DirectiveSeconds| (directive.is_set == 1).then_some(directive.seconds);
     Ok(Some(CacheControl {
         max_age: seconds(given.max_age),
@@ -360,7 +381,25 @@ where
         is_private: given.is_private == 1,
         immutable: given.immutable == 1,
         proxy_revalidate: given.proxy_revalidate == 1,
+        stale_while_revalidate: (stale.has_while_revalidate == 1).then_some(stale.while_revalidate),
+        stale_if_error: (stale.has_if_error == 1).then_some(stale.if_error),
+        no_cache_fields: named_fields(&text, b"no-cache")?,
+        private_fields: named_fields(&text, b"private")?,
     }))
+}
+
+// The members of the arguments of a directive.
+fn named_fields(text: &[u8], name: &[u8]) -> Result<Vec<String>, Error> {
+    let (lines, size) = (text.as_ptr(), text.len());
+    // SAFETY: as above.
+    let found = written(size, |room, length, count| unsafe {
+        sys::typed_headers_directive_arguments(lines, size, name.as_ptr(), name.len(), room, length, count)
+    })?;
+    let lists = found.map(|(lists, _)| lists).unwrap_or_default();
+    match lists.strip_suffix(b"\n") {
+        Some(lists) => Ok(crate::members(lists.split(|byte| *byte == b'\n'))?.unwrap_or_default()),
+        None => Ok(Vec::new()),
+    }
 }
 
 /// The ranges of `Range` that a representation of so many bytes can satisfy, in order (RFC 9110, section 14.1.2).

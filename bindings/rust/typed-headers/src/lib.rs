@@ -428,6 +428,15 @@ mod tests {
         built = built.with_must_revalidate().with_public().with_private().with_immutable().with_must_understand();
         built = built.with_proxy_revalidate().with_max_age(1).with_max_stale(2).with_min_fresh(3).with_s_maxage(4);
         assert_eq!(built, value);
+        let named = cache_control(["private=\"set-cookie, x-a\", max-age=1", "no-cache=x, stale-if-error=5"]);
+        let named = named.unwrap().unwrap();
+        assert_eq!(
+            (&named.private_fields[..], &named.no_cache_fields[..]),
+            (&["set-cookie".into(), "x-a".into()][..], &["x".into()][..])
+        );
+        assert_eq!((named.is_private, named.stale_if_error, named.stale_while_revalidate), (false, Some(5), None));
+        assert_eq!(named.to_string(), "max-age=1, stale-if-error=5, no-cache=\"x\", private=\"set-cookie, x-a\"");
+        assert_eq!(cache_control([named.to_string()]), Ok(Some(named)));
         for value in [CacheControl::new(), CacheControl::new().with_private(), CacheControl::new().with_max_age(0)] {
             let text = value.to_string();
             assert_eq!(cache_control([&text]), Ok(Some(value)));
