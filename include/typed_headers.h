@@ -17,7 +17,7 @@
  *   its name. No space is taken off its ends.
  * - A call that writes bytes takes room for them. `*written` says how many bytes there are, also if they don't fit: the
  *   status is TYPED_HEADERS_NO_ROOM then, and the room is as it was. Nothing is written after them.
- * - Calls keep no state, but for a `struct typed_headers_cache` and the handles of sections, policies and resources.
+ * - Calls keep no state, but for caches, passes and the handles of sections, policies, resources and connections.
  *   They may run in several threads at once; none may run in a signal handler, nor in the child of a fork of a process
  *   with threads.
  * - Memory comes from malloc, realloc and free, and is given back before the call returns, but for that of a cache and
@@ -232,6 +232,9 @@ struct typed_headers_cache_options {
     size_t responses;
     /* How many bytes of content there may be in all. */
     size_t bytes;
+    /* For how many seconds a response is guessed to be fresh at most, if it states no lifetime (RFC 9111, section
+       4.2.2); 0 for none. */
+    uint64_t guess;
     /* Whether the cache is that of several users, as a proxy's. */
     bool is_shared;
 };
@@ -256,85 +259,48 @@ struct typed_headers_cache_request {
     struct typed_headers_text section;
 };
 
-/* A response that came from the origin. */
-struct typed_headers_cache_response {
-    /* Its header section. */
-    struct typed_headers_text section;
-    /* Its content, without framing. */
-    struct typed_headers_text content;
-    /* When the request was made, in seconds since the start of 1970, and when the response came. */
-    uint64_t requested;
-    uint64_t received;
-    /* Its status. */
-    uint16_t status;
-    /* Whether all of its content came. */
-    bool is_complete;
+/*
+ * A pass: one client's request through a cache, closed or open. Zero bytes are a closed one, as
+ * TYPED_HEADERS_CLOSED_PASS. It is the library's as a cache is. A step of a pass is a call on its cache, too.
+ */
+struct typed_headers_pass {
+    void *place;
+    bool is_open;
 };
 
-/* What is told of a stored response. */
-struct typed_headers_stored {
-    /* How many seconds old it is (RFC 9111, section 4.2.3). */
-    uint64_t age;
-    /* When the request was made that it answered, or that validated it last, and when the response to that came. */
-    uint64_t requested;
-    uint64_t received;
-    /* How many bytes of content it has. */
-    size_t length;
-    /* Its status. */
-    uint16_t status;
+#define TYPED_HEADERS_CLOSED_PASS {0}
+
+/* What is done after a step of a pass. */
+enum typed_headers_pass_action {
+    /* Send the stored response: the status of the facts, the lines of `typed_headers_pass_fields`, and `count` bytes
+       of `typed_headers_pass_content`. The pass has ended. */
+    TYPED_HEADERS_REPLY = 0,
+    /* The same, and then validate it for nobody: by a new pass for the same request with `cache-control: no-cache`. */
+    TYPED_HEADERS_REPLY_AND_VALIDATE = 1,
+    /* Forward the request as it is. */
+    TYPED_HEADERS_ASK = 2,
+    /* Forward the request with the lines of `typed_headers_pass_fields` in place of its own If-None-Match and
+       If-Modified-Since. */
+    TYPED_HEADERS_VALIDATE = 3,
+    /* Send 504: the request forbids to ask the origin (`only-if-cached`). The pass has ended. */
+    TYPED_HEADERS_SEND_504 = 4,
+    /* Pass on what came, and make the step `typed_headers_pass_ended` with its content. */
+    TYPED_HEADERS_PASS_ON_TO_END = 5,
+    /* Pass on what came. The pass has ended. */
+    TYPED_HEADERS_PASS_ON = 6,
+    /* No response came, and no stored one may be sent: send 502 or 504. The pass has ended. */
+    TYPED_HEADERS_NO_RESPONSE = 7
 };
 
-/* What a cache does with a request. */
-struct typed_headers_looked_up {
-    /* What is told of the stored response, if `action` is about one; else 0. */
-    struct typed_headers_stored stored;
-    /* Its number, for the calls that take one; else 0. */
-    uint64_t number;
-    /* What is done, one of `typed_headers_decision` but SERVE_STALE. */
-    uint8_t action;
-};
-
-/* How a stored response answers a client's own conditions and ranges. */
-enum typed_headers_answer_kind {
-    /* As it is. */
-    TYPED_HEADERS_WHOLE = 0,
-    /* By 206, with a part of its content. */
-    TYPED_HEADERS_PART = 1,
-    /* By 304, without content. */
-    TYPED_HEADERS_NOT_MODIFIED = 2,
-    /* By 416: no byte that is asked for is there. */
-    TYPED_HEADERS_UNSATISFIABLE = 3,
-    /* Not at all: the request has a condition that the origin has to evaluate. */
-    TYPED_HEADERS_FORWARD = 4
-};
-
-/* How a stored response answers a client. */
-struct typed_headers_stored_answer {
-    /* The first and the last position of the part, both included, if `kind` is TYPED_HEADERS_PART; else 0. */
+/* What is told of a step. */
+struct typed_headers_pass_facts {
+    /* The first position of the content that is sent of the stored response, and how many bytes are sent. */
     uint64_t first;
-    uint64_t last;
-    /* One of `typed_headers_answer_kind`. */
-    uint8_t kind;
-};
-
-/* What a 304 makes of stored responses. */
-enum typed_headers_outcome {
-    /* No stored response may answer the request. It has to be sent again without conditions. */
-    TYPED_HEADERS_NONE_STORED = 0,
-    /* The 304 is about none of those that may. The request has to be sent again without conditions. */
-    TYPED_HEADERS_NONE_UPDATED = 1,
-    /* A stored response is updated, and is the answer. */
-    TYPED_HEADERS_UPDATED = 2,
-    /* The same, but it is stored no longer: its new fields forbid that, or its reuse for this request. */
-    TYPED_HEADERS_UPDATED_ONCE = 3
-};
-
-/* What a 304 makes of stored responses, and which one is the answer. */
-struct typed_headers_freshened {
-    /* The number of the answer, which is new; 0 if there is none. */
-    uint64_t number;
-    /* One of `typed_headers_outcome`. */
-    uint8_t outcome;
+    uint64_t count;
+    /* The status that is sent with it, or 0 if no stored response is sent. */
+    uint16_t status;
+    /* One of `typed_headers_pass_action`. */
+    uint8_t action;
 };
 
 /* What a response carries of a representation. */
@@ -1199,9 +1165,9 @@ uint8_t typed_headers_validators(const uint8_t *response, size_t response_length
                                  size_t *written);
 
 /*
- * Opens a closed cache, with an empty store in bounded memory (RFC 9111). It copies the keys. Refused: it is open. Such
- * a cache has memory until it is closed again. Absent, of each other call on a cache: it is closed. On a failure of
- * parsing what is passed, a cache is as it was. Memory: the cache is closed.
+ * Opens a closed cache, which is empty, and stores in bounded memory (RFC 9111). It copies the keys. Requests go
+ * through it as passes: see `typed_headers_pass_begin`. Refused: it is open. Such a cache has memory until it is closed
+ * again. Memory: the cache is closed.
  */
 uint8_t typed_headers_cache_new(struct typed_headers_cache *cache, const struct typed_headers_cache_options *options,
                                 const struct typed_headers_keys *keys);
@@ -1219,94 +1185,10 @@ uint8_t typed_headers_cache_new_with(struct typed_headers_cache *cache,
 uint8_t typed_headers_cache_free(struct typed_headers_cache *cache);
 
 /*
- * What a cache does with a request, by its store (RFC 9111, section 4). `now` is the present. Where the origin states
- * no lifetime, at most `guess` seconds are guessed (section 4.2.2), none if it is 0. The target becomes the most
- * recently used. The text is, by `facts->action`:
- *
- * - SERVE and SERVE_AND_REVALIDATE: the field lines of the stored response, with its present Age in place of its own.
- *   They are sent with its status and its content.
- * - REVALIDATE and REVALIDATE_OR_SERVE: the fields by which the origin is asked, as `typed_headers_validators` writes
- *   them. The request is sent with them in place of its own two fields.
- * - UNAVAILABLE and FETCH: empty.
- *
- * Refused, here and below: the target is no UTF-8, a method is no token, a status is no number from 100 to 999, or a
- * line of a section before its first empty one is no field. Memory: nothing is rejected.
+ * Removes what is stored under a target. What was asked for it before isn't stored any more either. A pass does this by
+ * itself for what its response outdates (RFC 9111, section 4.4). Refused: the target is no UTF-8. Absent: the cache is
+ * closed.
  */
-uint8_t typed_headers_cache_lookup(struct typed_headers_cache *cache,
-                                   const struct typed_headers_cache_request *request, uint64_t now, uint64_t guess,
-                                   struct typed_headers_looked_up *facts, uint8_t *room, size_t room_length,
-                                   size_t *written);
-
-/*
- * What is told of the stored response with a number, and its field lines with its Age at the present `now`. A number
- * names one response of a cache, with its status, its fields and its content, and is never used again: 0 names none.
- * Absent: the response isn't stored under the target any more. Memory: it is.
- *
- * A response that answers once (UPDATED_ONCE) is Absent under any other target, and after the next call that changes
- * the cache: `store`, `freshen`, `freshen_by_head`, `invalidate` and `remove`, where they can parse what is passed.
- */
-uint8_t typed_headers_cache_response(struct typed_headers_cache *cache, const uint8_t *target, size_t target_length,
-                                     uint64_t number, uint64_t now, struct typed_headers_stored *facts,
-                                     uint8_t *room, size_t room_length, size_t *written);
-
-/*
- * The content of the stored response with a number, from a position on: as much of it as fits. So content is sent in
- * pieces: each is of this response, or Absent, if it isn't stored under the target any more.
- */
-uint8_t typed_headers_cache_content(struct typed_headers_cache *cache, const uint8_t *target, size_t target_length,
-                                    uint64_t number, size_t from, uint8_t *room, size_t room_length,
-                                    size_t *written);
-
-/*
- * How the stored response with a number answers the conditions and the ranges of a request that it may answer (RFC
- * 9111, section 4.3.2). `ranges` says whether a part is sent. Absent: it isn't stored under the target any more.
- * Memory: it is a 200.
- */
-uint8_t typed_headers_cache_answer(struct typed_headers_cache *cache,
-                                   const struct typed_headers_cache_request *request, uint64_t number, uint64_t now,
-                                   bool ranges, struct typed_headers_stored_answer *facts);
-
-/*
- * Stores the response to a request, if a cache may (RFC 9111, section 3): `*number` is its number, 0 if not. If there
- * is too little room, older responses of its target go first, and then the targets that weren't used for the longest
- * time. If there is no memory, some of these may be gone, and nothing is stored that wasn't before. Memory: the content
- * isn't empty, or the response may be stored. Too large also if the map of the response has no room for the fields that
- * change before it is stored.
- */
-uint8_t typed_headers_cache_store(struct typed_headers_cache *cache,
-                                  const struct typed_headers_cache_request *request,
-                                  const struct typed_headers_cache_response *response, uint64_t *number);
-
-/*
- * Updates stored responses by a 304 to a request, with this section (RFC 9111, section 4.3.4). If there is no memory to
- * update them, nothing is stored under the target. Memory: the 304 is about a stored response. Too large also if the
- * map of one that is stored under the target has no room for the fields of the 304: then nothing is stored there.
- */
-uint8_t typed_headers_cache_freshen(struct typed_headers_cache *cache,
-                                    const struct typed_headers_cache_request *request, const uint8_t *section,
-                                    size_t section_length, uint64_t requested, uint64_t received,
-                                    struct typed_headers_freshened *facts);
-
-/*
- * Updates stored responses to GET by a 200 to a HEAD, with this section, and removes those that it isn't about (RFC
- * 9111, section 4.3.5). If there is no memory for that, nothing is stored under the target. Memory: something is stored
- * under the target. Too large also if the map of a response there has no room for the fields of the 200: then nothing
- * is stored there.
- */
-uint8_t typed_headers_cache_freshen_by_head(struct typed_headers_cache *cache,
-                                            const struct typed_headers_cache_request *request,
-                                            const uint8_t *section, size_t section_length, uint64_t requested,
-                                            uint64_t received);
-
-/*
- * Removes what is stored under a target, if the response to a request with this method and this status invalidates it:
- * the method isn't safe, and the status is 2xx or 3xx (RFC 9111, section 4.4).
- */
-uint8_t typed_headers_cache_invalidate(struct typed_headers_cache *cache, const uint8_t *target,
-                                       size_t target_length, const uint8_t *method, size_t method_length,
-                                       uint16_t status);
-
-/* Removes what is stored under a target, as one that Location or Content-Location names (RFC 9111, section 4.4). */
 uint8_t typed_headers_cache_remove(struct typed_headers_cache *cache, const uint8_t *target, size_t target_length);
 
 /*
@@ -1676,6 +1558,76 @@ uint8_t typed_headers_connection_rejection(struct typed_headers_connection *conn
 /* The status of the plan, and how many bytes its content has. */
 uint8_t typed_headers_connection_planned(struct typed_headers_connection *connection, uint16_t *status,
                                          uint64_t *length);
+
+/* ---- A pass: one client's request through a cache, from its arrival to its last byte. Since 1.1. ---- */
+
+/*
+ * Closes a pass, and gives its memory back. It may be closed before, or null. A pass may be closed at any time: nothing
+ * more is stored of it. The status is TYPED_HEADERS_DONE.
+ */
+uint8_t typed_headers_pass_free(struct typed_headers_pass *pass);
+
+/*
+ * Opens a closed pass for a request, and says what is done first, at the present `now` (RFC 9111, section 4): one of
+ * `typed_headers_pass_action`. The steps of passes through one cache may interleave in any way. A program holds its
+ * lock of the cache for one call, or for a call and the reading of the content that it names, and none while it waits
+ * for the origin.
+ *
+ * Refused: the pass is open, the target is no UTF-8, the method is no token, or a line of the section before its first
+ * empty one is no field. Absent: the cache is closed. Memory: nothing is rejected. On each of these the pass stays as
+ * it was, and a program forwards the request as it is and passes on what comes.
+ */
+uint8_t typed_headers_pass_begin(struct typed_headers_cache *cache, struct typed_headers_pass *pass,
+                                 const struct typed_headers_cache_request *request, uint64_t now,
+                                 struct typed_headers_pass_facts *facts);
+
+/*
+ * Says what is done with the status and the fields of the origin's response, which came at the present `now`. A 304 to
+ * a request that validates updates what is stored (RFC 9111, section 4.3.4). A response to a request that isn't safe
+ * removes what it outdates (section 4.4). One that says that the origin failed is replaced by a stored one where that
+ * may be served now (RFC 5861, section 4).
+ *
+ * Refused: the status is no number from 100 to 999, or a line of the section before its first empty one is no field.
+ * Absent: the cache or the pass is closed, or the pass doesn't ask the origin. On these two nothing changes. Memory:
+ * nothing is rejected. Then what came is passed on and not stored; if it is a 304 to a request that validates, the
+ * request is forwarded again as it is.
+ */
+uint8_t typed_headers_pass_came(struct typed_headers_cache *cache, struct typed_headers_pass *pass, uint16_t status,
+                                const uint8_t *section, size_t section_length, uint64_t now,
+                                struct typed_headers_pass_facts *facts);
+
+/*
+ * Says what is done if no response of the origin came. Absent: the cache or the pass is closed, or the pass doesn't ask
+ * the origin; nothing changes then. Memory: the pass asks the origin. Then 502 is sent.
+ */
+uint8_t typed_headers_pass_failed(struct typed_headers_cache *cache, struct typed_headers_pass *pass, uint64_t now,
+                                  struct typed_headers_pass_facts *facts);
+
+/*
+ * The field lines that the last step takes, each with a LF: of REPLY and REPLY_AND_VALIDATE those to send, with the
+ * present Age, which are those of a 206, a 304 or a 416 where the request's own conditions and ranges ask for that; of
+ * VALIDATE those by which the origin is asked; else none. Absent: the pass is closed.
+ */
+uint8_t typed_headers_pass_fields(struct typed_headers_pass *pass, uint8_t *room, size_t room_length,
+                                  size_t *written);
+
+/*
+ * The content of the stored response that the last step of a pass named, from a position on: as much of it as fits.
+ * Each piece is of that response. Absent: the step named none, it isn't stored any more, or the cache or the pass is
+ * closed. It is stored as long as no other call on the cache is made.
+ */
+uint8_t typed_headers_pass_content(struct typed_headers_cache *cache, struct typed_headers_pass *pass, size_t from,
+                                   uint8_t *room, size_t room_length, size_t *written);
+
+/*
+ * Stores the response that passed on, if all of its content came and it may be stored (RFC 9111, section 3), and unless
+ * its target was removed since the origin was asked: `*number` is its number, which the cache gives no other response,
+ * or 0 if it isn't stored. Without memory for that it isn't stored. Absent: the cache or the pass is closed, or no
+ * response passes on that is to be stored. Memory: the content isn't empty. On these two nothing changes.
+ */
+uint8_t typed_headers_pass_ended(struct typed_headers_cache *cache, struct typed_headers_pass *pass,
+                                 const uint8_t *content, size_t content_length, bool is_complete, uint64_t now,
+                                 uint64_t *number);
 
 /* ---- The end of what it writes. ---- */
 

@@ -9,9 +9,7 @@ union slot {
         struct typed_headers_cors_facts cors_facts;
         struct typed_headers_moments moments;
         struct typed_headers_cache_options cache_options;
-        struct typed_headers_stored stored;
-        struct typed_headers_stored_answer stored_answer;
-        struct typed_headers_freshened freshened;
+        struct typed_headers_pass_facts pass_facts;
         struct typed_headers_response response;
         struct typed_headers_quality quality;
         struct typed_headers_handshake handshake;
@@ -27,8 +25,6 @@ union slot {
         struct typed_headers_cors_rules cors_rules;
         struct typed_headers_cache_extensions cache_extensions;
         struct typed_headers_cache_request cache_request;
-        struct typed_headers_cache_response cache_response;
-        struct typed_headers_looked_up looked_up;
         struct typed_headers_content content;
         struct typed_headers_resource resource;
         struct typed_headers_gateway gateway;
@@ -49,12 +45,9 @@ SHAPE(content_range, MEMBER(content_range, first, U64), MEMBER(content_range, la
 SHAPE(cors_facts, MEMBER(cors_facts, kind, U8), MEMBER(cors_facts, is_allowed, U8))
 SHAPE(moments, MEMBER(moments, request, U64), MEMBER(moments, response, U64), MEMBER(moments, now, U64))
 SHAPE(cache_options, MEMBER(cache_options, variants, SIZE), MEMBER(cache_options, responses, SIZE),
-      MEMBER(cache_options, bytes, SIZE), MEMBER(cache_options, is_shared, BOOL))
-SHAPE(stored, MEMBER(stored, age, U64), MEMBER(stored, requested, U64), MEMBER(stored, received, U64),
-      MEMBER(stored, length, SIZE), MEMBER(stored, status, U16))
-SHAPE(stored_answer, MEMBER(stored_answer, first, U64), MEMBER(stored_answer, last, U64),
-      MEMBER(stored_answer, kind, U8))
-SHAPE(freshened, MEMBER(freshened, number, U64), MEMBER(freshened, outcome, U8))
+      MEMBER(cache_options, bytes, SIZE), MEMBER(cache_options, guess, U64), MEMBER(cache_options, is_shared, BOOL))
+SHAPE(pass_facts, MEMBER(pass_facts, first, U64), MEMBER(pass_facts, count, U64), MEMBER(pass_facts, status, U16),
+      MEMBER(pass_facts, action, U8))
 SHAPE(response, MEMBER(response, status, U16), MEMBER(response, keeps_encoding, U8))
 SHAPE(quality, MEMBER(quality, weight, U16), MEMBER(quality, is_acceptable, U8))
 SHAPE(handshake, MEMBER(handshake, status, U16), MEMBER(handshake, fault, U8))
@@ -86,10 +79,6 @@ SHAPE(cors_rules, MEMBER(cors_rules, origins, A_TEXT), MEMBER(cors_rules, method
 SHAPE(cache_extensions, MEMBER(cache_extensions, targets, A_TEXT), MEMBER(cache_extensions, immutable, BOOL))
 SHAPE(cache_request, MEMBER(cache_request, target, A_TEXT), MEMBER(cache_request, method, A_TEXT),
       MEMBER(cache_request, section, A_TEXT))
-SHAPE(cache_response, MEMBER(cache_response, section, A_TEXT), MEMBER(cache_response, content, A_TEXT),
-      MEMBER(cache_response, requested, U64), MEMBER(cache_response, received, U64),
-      MEMBER(cache_response, status, U16), MEMBER(cache_response, is_complete, BOOL))
-SHAPE(looked_up, INNER(looked_up, stored, stored), MEMBER(looked_up, number, U64), MEMBER(looked_up, action, U8))
 SHAPE(content, MEMBER(content, media_type, A_TEXT), FLAGGED(content, length, U64, has_length),
       MEMBER(content, sends_ranges, BOOL))
 SHAPE(resource, MEMBER(resource, hosts, A_TEXT), MEMBER(resource, methods, A_TEXT),
@@ -122,6 +111,7 @@ HANDLE(section)
 HANDLE(cors_policy)
 HANDLE(resource_handle)
 HANDLE(connection)
+HANDLE(pass)
 
 CALL(canonical, MAY(REFUSED) | MAY(TOO_LARGE) | MAY(MARKED) | MAY(NO_MEMORY), (TEXT_OF(at[0]), &keys, ROOM(at[1])),
      PLAIN(GIVEN_TEXT), PLAIN(ROOM_OF_BYTES))
@@ -223,32 +213,6 @@ CALL(cache_new_with, MAY(REFUSED) | MAY(NO_MEMORY), (at[0].handle.at, &at[1].any
      &at[2].any.cache_extensions, &keys), OF_HANDLE(NEW, cache), OF_SHAPE(IN_STRUCT, cache_options),
      OF_SHAPE(IN_STRUCT, cache_extensions))
 CALL(cache_free, 0, (at[0].handle.at), OF_HANDLE(OPENED, cache))
-CALL(cache_lookup, MAY(REFUSED) | MAY(ABSENT) | MAY(TOO_LARGE) | MAY(NO_MEMORY), (at[0].handle.at,
-     &at[1].any.cache_request, at[2].u64, at[3].u64, &at[4].any.looked_up, ROOM(at[5])), OF_HANDLE(OPENED, cache),
-     OF_SHAPE(IN_STRUCT, cache_request), OF_KIND(NUMBER, U64), OF_KIND(NUMBER, U64), OF_SHAPE(OUT_STRUCT, looked_up),
-     PLAIN(ROOM_OF_BYTES))
-CALL(cache_response, MAY(REFUSED) | MAY(ABSENT) | MAY(NO_MEMORY), (at[0].handle.at, TEXT_OF(at[1]), at[2].u64,
-     at[3].u64, &at[4].any.stored, ROOM(at[5])), OF_HANDLE(OPENED, cache), PLAIN(GIVEN_TEXT), OF_KIND(NUMBER, U64),
-     OF_KIND(NUMBER, U64), OF_SHAPE(OUT_STRUCT, stored), PLAIN(ROOM_OF_BYTES))
-CALL(cache_content, MAY(REFUSED) | MAY(ABSENT), (at[0].handle.at, TEXT_OF(at[1]), at[2].u64, at[3].size,
-     ROOM(at[4])), OF_HANDLE(OPENED, cache), PLAIN(GIVEN_TEXT), OF_KIND(NUMBER, U64), OF_KIND(NUMBER, SIZE),
-     PLAIN(PIECE))
-CALL(cache_answer, MAY(REFUSED) | MAY(ABSENT) | MAY(TOO_LARGE) | MAY(NO_MEMORY), (at[0].handle.at,
-     &at[1].any.cache_request, at[2].u64, at[3].u64, at[4].flag, &at[5].any.stored_answer), OF_HANDLE(OPENED, cache),
-     OF_SHAPE(IN_STRUCT, cache_request), OF_KIND(NUMBER, U64), OF_KIND(NUMBER, U64), OF_KIND(NUMBER, BOOL),
-     OF_SHAPE(OUT_STRUCT, stored_answer))
-CALL(cache_store, MAY(REFUSED) | MAY(ABSENT) | MAY(TOO_LARGE) | MAY(NO_MEMORY), (at[0].handle.at,
-     &at[1].any.cache_request, &at[2].any.cache_response, &at[3].u64), OF_HANDLE(OPENED, cache),
-     OF_SHAPE(IN_STRUCT, cache_request), OF_SHAPE(IN_STRUCT, cache_response), OF_KIND(OUT_NUMBER, U64))
-CALL(cache_freshen, MAY(REFUSED) | MAY(ABSENT) | MAY(TOO_LARGE) | MAY(NO_MEMORY), (at[0].handle.at,
-     &at[1].any.cache_request, TEXT_OF(at[2]), at[3].u64, at[4].u64, &at[5].any.freshened), OF_HANDLE(OPENED, cache),
-     OF_SHAPE(IN_STRUCT, cache_request), PLAIN(GIVEN_TEXT), OF_KIND(NUMBER, U64), OF_KIND(NUMBER, U64),
-     OF_SHAPE(OUT_STRUCT, freshened))
-CALL(cache_freshen_by_head, MAY(REFUSED) | MAY(ABSENT) | MAY(TOO_LARGE) | MAY(NO_MEMORY), (at[0].handle.at,
-     &at[1].any.cache_request, TEXT_OF(at[2]), at[3].u64, at[4].u64), OF_HANDLE(OPENED, cache),
-     OF_SHAPE(IN_STRUCT, cache_request), PLAIN(GIVEN_TEXT), OF_KIND(NUMBER, U64), OF_KIND(NUMBER, U64))
-CALL(cache_invalidate, MAY(REFUSED) | MAY(ABSENT) | MAY(NO_MEMORY), (at[0].handle.at, TEXT_OF(at[1]), TEXT_OF(at[2]),
-     at[3].u16), OF_HANDLE(OPENED, cache), PLAIN(GIVEN_TEXT), PLAIN(GIVEN_TEXT), OF_KIND(NUMBER, U16))
 CALL(cache_remove, MAY(REFUSED) | MAY(ABSENT), (at[0].handle.at, TEXT_OF(at[1])), OF_HANDLE(OPENED, cache),
      PLAIN(GIVEN_TEXT))
 CALL(forward_request, MAY(REFUSED) | MAY(TOO_LARGE) | MAY(NO_MEMORY), (&at[0].any.gateway, &at[1].any.hop,
@@ -365,6 +329,21 @@ CALL(connection_rejection, MAY(ABSENT), (at[0].handle.at, &at[1].u16), OF_HANDLE
      OF_KIND(OUT_NUMBER, U16))
 CALL(connection_planned, MAY(ABSENT), (at[0].handle.at, &at[1].u16, &at[2].u64), OF_HANDLE(OPENED, connection),
      OF_KIND(OUT_NUMBER, U16), OF_KIND(OUT_NUMBER, U64))
+CALL(pass_free, 0, (at[0].handle.at), OF_HANDLE(OPENED, pass))
+CALL(pass_begin, MAY(REFUSED) | MAY(ABSENT) | MAY(TOO_LARGE) | MAY(NO_MEMORY), (at[0].handle.at, at[1].handle.at,
+     &at[2].any.cache_request, at[3].u64, &at[4].any.pass_facts), OF_HANDLE(OPENED, cache), OF_HANDLE(NEW, pass),
+     OF_SHAPE(IN_STRUCT, cache_request), OF_KIND(NUMBER, U64), OF_SHAPE(OUT_STRUCT, pass_facts))
+CALL(pass_came, MAY(REFUSED) | MAY(ABSENT) | MAY(TOO_LARGE) | MAY(NO_MEMORY), (at[0].handle.at, at[1].handle.at,
+     at[2].u16, TEXT_OF(at[3]), at[4].u64, &at[5].any.pass_facts), OF_HANDLE(OPENED, cache), OF_HANDLE(OPENED, pass),
+     OF_KIND(NUMBER, U16), PLAIN(GIVEN_TEXT), OF_KIND(NUMBER, U64), OF_SHAPE(OUT_STRUCT, pass_facts))
+CALL(pass_failed, MAY(ABSENT) | MAY(NO_MEMORY), (at[0].handle.at, at[1].handle.at, at[2].u64, &at[3].any.pass_facts),
+     OF_HANDLE(OPENED, cache), OF_HANDLE(OPENED, pass), OF_KIND(NUMBER, U64), OF_SHAPE(OUT_STRUCT, pass_facts))
+CALL(pass_fields, MAY(ABSENT), (at[0].handle.at, ROOM(at[1])), OF_HANDLE(OPENED, pass), PLAIN(ROOM_OF_BYTES))
+CALL(pass_content, MAY(ABSENT), (at[0].handle.at, at[1].handle.at, at[2].size, ROOM(at[3])),
+     OF_HANDLE(OPENED, cache), OF_HANDLE(OPENED, pass), OF_KIND(NUMBER, SIZE), PLAIN(PIECE))
+CALL(pass_ended, MAY(ABSENT) | MAY(NO_MEMORY), (at[0].handle.at, at[1].handle.at, TEXT_OF(at[2]), at[3].flag,
+     at[4].u64, &at[5].u64), OF_HANDLE(OPENED, cache), OF_HANDLE(OPENED, pass), PLAIN(GIVEN_TEXT),
+     OF_KIND(NUMBER, BOOL), OF_KIND(NUMBER, U64), OF_KIND(OUT_NUMBER, U64))
 
 enum { MOST_SLOTS = 10 };
 #define CALLS \
@@ -376,19 +355,19 @@ enum { MOST_SLOTS = 10 };
     METHOD(language_quality), METHOD(websocket_accept), METHOD(websocket_respond), METHOD(websocket_request), \
     METHOD(websocket_check), METHOD(cors_answer), METHOD(resource_answer), METHOD(may_store), METHOD(lifetime), \
     METHOD(heuristic_lifetime), METHOD(current_age), METHOD(decide), METHOD(validators), METHOD(cache_new), \
-    METHOD(cache_new_with), METHOD(cache_free), METHOD(cache_lookup), METHOD(cache_response), METHOD(cache_content), \
-    METHOD(cache_answer), METHOD(cache_store), METHOD(cache_freshen), METHOD(cache_freshen_by_head), \
-    METHOD(cache_invalidate), METHOD(cache_remove), METHOD(forward_request), METHOD(forward_response), \
-    METHOD(framing), METHOD(basic), METHOD(bearer), METHOD(cookie), METHOD(cookies), METHOD(host), METHOD(origin), \
-    METHOD(strict_transport_security), METHOD(retry_after), METHOD(stale_directives), METHOD(directive_arguments), \
-    METHOD(content_range), METHOD(content_disposition), METHOD(members), METHOD(has_member), METHOD(section_free), \
-    METHOD(cors_policy_free), METHOD(resource_handle_free), METHOD(section_new), METHOD(section_field), \
-    METHOD(section_evaluate), METHOD(section_select), METHOD(section_respond), METHOD(section_choose_type), \
-    METHOD(section_choose_coding), METHOD(section_choose_language), METHOD(cors_policy_new), \
-    METHOD(cors_policy_answer), METHOD(resource_handle_new), METHOD(resource_handle_answer), \
-    METHOD(connection_free), METHOD(connection_new), METHOD(connection_next), METHOD(connection_receive), \
-    METHOD(connection_finish_input), METHOD(connection_method), METHOD(connection_path), METHOD(connection_query), \
-    METHOD(connection_content), METHOD(connection_plan), METHOD(connection_plan_field), \
-    METHOD(connection_plan_bytes), METHOD(connection_plan_range), METHOD(connection_respond), \
-    METHOD(connection_output), METHOD(connection_range), METHOD(connection_sent), METHOD(connection_time_out), \
-    METHOD(connection_rejection), METHOD(connection_planned)
+    METHOD(cache_new_with), METHOD(cache_free), METHOD(cache_remove), METHOD(forward_request), \
+    METHOD(forward_response), METHOD(framing), METHOD(basic), METHOD(bearer), METHOD(cookie), METHOD(cookies), \
+    METHOD(host), METHOD(origin), METHOD(strict_transport_security), METHOD(retry_after), METHOD(stale_directives), \
+    METHOD(directive_arguments), METHOD(content_range), METHOD(content_disposition), METHOD(members), \
+    METHOD(has_member), METHOD(section_free), METHOD(cors_policy_free), METHOD(resource_handle_free), \
+    METHOD(section_new), METHOD(section_field), METHOD(section_evaluate), METHOD(section_select), \
+    METHOD(section_respond), METHOD(section_choose_type), METHOD(section_choose_coding), \
+    METHOD(section_choose_language), METHOD(cors_policy_new), METHOD(cors_policy_answer), \
+    METHOD(resource_handle_new), METHOD(resource_handle_answer), METHOD(connection_free), METHOD(connection_new), \
+    METHOD(connection_next), METHOD(connection_receive), METHOD(connection_finish_input), METHOD(connection_method), \
+    METHOD(connection_path), METHOD(connection_query), METHOD(connection_content), METHOD(connection_plan), \
+    METHOD(connection_plan_field), METHOD(connection_plan_bytes), METHOD(connection_plan_range), \
+    METHOD(connection_respond), METHOD(connection_output), METHOD(connection_range), METHOD(connection_sent), \
+    METHOD(connection_time_out), METHOD(connection_rejection), METHOD(connection_planned), METHOD(pass_free), \
+    METHOD(pass_begin), METHOD(pass_came), METHOD(pass_failed), METHOD(pass_fields), METHOD(pass_content), \
+    METHOD(pass_ended)

@@ -1,12 +1,12 @@
 /*
- * A cache through its handle: a history of calls, with what RFC 9111 wants of each.
+ * A cache and its passes through their handles: a history of calls, with what RFC 9111 wants of each.
  *
  *     cache [STEP]
  *
- * The history is played once as it is, and then once for each request for memory, which is refused. Then a call may
- * answer TYPED_HEADERS_NO_MEMORY; it gives nothing then, and the history goes on with the same call. Texts end where
- * memory that nothing may touch begins. After the cache is closed no block may be left. With a step, of so many requests
- * for memory one is refused.
+ * The history is played once as it is, and then once for each request for memory, which is refused. Then a pass may be
+ * told to ask the origin, or its response not be stored: it is made once more. Texts end where memory that nothing may
+ * touch begins. After the cache is closed no block may be left. With a step, of so many requests for memory one is
+ * refused.
  */
 #include "typed_headers.h"
 #include <stdbool.h>
@@ -74,62 +74,46 @@ static void want(bool holds, const char *what) {
 }
 
 static struct typed_headers_cache cache = TYPED_HEADERS_CLOSED_CACHE;
-/* The number that a call on it gave last. */
-static uint64_t named;
+static struct typed_headers_pass pass = TYPED_HEADERS_CLOSED_PASS;
+static struct typed_headers_pass_facts facts;
 static const struct typed_headers_keys KEYS = {1, 2};
 
 static uint8_t status_of_call;
 
-static uint8_t end_call(void) {
+static uint8_t end_call(uint8_t status) {
     is_counting = false;
-    return status_of_call;
+    return status_of_call = status;
 }
 
-#define CALL(call) (is_counting = true, status_of_call = (call), end_call())
+#define CALL(call) (is_counting = true, end_call(call))
 
-/* Makes a call once more if it had no memory: then it gave nothing. */
-#define AGAIN(call, gave_nothing, what)                                                                                \
+/* Wants that something holds. If it doesn't, and memory was refused for it, it is made once more, or let be. */
+#define AGAIN(holds, what) ONCE_MORE(holds, holds, what)
+#define MAYBE(holds, what) ONCE_MORE(holds, true, what)
+#define ONCE_MORE(holds, second, what)                                                                                 \
     do {                                                                                                               \
-        if (CALL(call) == TYPED_HEADERS_NO_MEMORY) {                                                                   \
-            want(refused_request != 0 && (gave_nothing), what " without memory");                                      \
-            CALL(call);                                                                                                \
-        }                                                                                                              \
+        const size_t begun = requests;                                                                                 \
+        const bool is_so = holds, was_refused = begun < refused_request && refused_request <= requests;                \
+        want(is_so || (was_refused && (second)), what);                                                                \
     } while (0)
 
 static struct typed_headers_cache_request request_for(const char *target, const char *method, const char *section) {
     return (struct typed_headers_cache_request){text(target), text(method), text(section)};
 }
 
-static void open_cache(size_t variants, size_t responses, size_t bytes, bool is_shared) {
-    const struct typed_headers_cache_options options = {variants, responses, bytes, is_shared};
-    AGAIN(typed_headers_cache_new(&cache, &options, &KEYS), !cache.is_open, "new");
-    want(status_of_call == TYPED_HEADERS_DONE && cache.is_open, "new");
-    want(CALL(typed_headers_cache_new(&cache, &options, &KEYS)) == TYPED_HEADERS_REFUSED, "new of an open cache");
+static bool opens(const char *targets, uint8_t wanted) {
+    const struct typed_headers_cache_options options = {4, 16, 1000, 60, true};
+    const struct typed_headers_cache_extensions extensions = {text(targets ? targets : ""), true};
+    CALL(targets ? typed_headers_cache_new_with(&cache, &options, &extensions, &KEYS)
+                 : typed_headers_cache_new(&cache, &options, &KEYS));
+    return status_of_call == wanted && cache.is_open == (wanted == TYPED_HEADERS_DONE);
 }
 
-/* Opens it with the targeted fields of a text, one a line, and `immutable`. */
-static void open_with(const char *targets, uint8_t wanted) {
-    const struct typed_headers_cache_options options = {4, 16, 1000, true};
-    const struct typed_headers_cache_extensions extensions = {text(targets), true};
-    AGAIN(typed_headers_cache_new_with(&cache, &options, &extensions, &KEYS), !cache.is_open, "new_with");
-    want(status_of_call == wanted && cache.is_open == (wanted == TYPED_HEADERS_DONE), "new_with");
-}
-
-static void close_cache(void) {
+static void close_all(void) {
+    want(CALL(typed_headers_pass_free(&pass)) == TYPED_HEADERS_DONE && !pass.is_open, "free of a pass");
     want(CALL(typed_headers_cache_free(&cache)) == TYPED_HEADERS_DONE && !cache.is_open, "free");
     want(CALL(typed_headers_cache_free(&cache)) == TYPED_HEADERS_DONE, "free of a closed cache");
     want(blocks == 0, "a block is left");
-    named = 0;
-}
-
-static void store(const char *target, const char *asked, uint64_t at, uint16_t code, const char *section,
-                  const char *content, bool is_complete, bool wanted) {
-    uint64_t number = ROOM;
-    const struct typed_headers_cache_request request = request_for(target, "GET", asked);
-    const struct typed_headers_cache_response response = {text(section), text(content), at, at, code, is_complete};
-    AGAIN(typed_headers_cache_store(&cache, &request, &response, &number), number == ROOM, "store");
-    want(status_of_call == TYPED_HEADERS_DONE && (wanted ? number > named : number == 0), "store");
-    named = wanted ? number : named;
 }
 
 static bool is_filled(const uint8_t *from, const uint8_t *to) {
@@ -141,189 +125,200 @@ static bool is_filled(const uint8_t *from, const uint8_t *to) {
     return true;
 }
 
-/* A lookup with each room from none to one byte more than is wanted. */
-static void look_up(const char *target, const char *method, const char *asked, uint64_t now, uint64_t guess,
-                    uint8_t action, uint16_t code, uint64_t age, const char *lines) {
-    const struct typed_headers_cache_request request = request_for(target, method, asked);
+/* The lines of the last step, with each room from none to one byte more than is wanted. */
+static bool has_fields(const char *lines) {
     const size_t length = strlen(lines);
+    bool holds = true;
     for (size_t room = 0; room <= length + 1; room++) {
-        struct typed_headers_looked_up facts;
-        size_t written = ROOM;
         uint8_t *at = areas[7] - room;
-        memset(&facts, FILL, sizeof facts);
+        size_t written = ROOM;
         memset(at, FILL, room);
-        AGAIN(typed_headers_cache_lookup(&cache, &request, now, guess, &facts, room ? at : NULL, room, &written),
-              facts.action == FILL && written == ROOM && is_filled(at, at + room), "lookup");
-        want(status_of_call == (room < length ? TYPED_HEADERS_NO_ROOM : TYPED_HEADERS_DONE), "lookup: status");
-        want(facts.action == action && facts.stored.status == code && facts.stored.age == age, "lookup: facts");
-        want(written == length, "lookup: count");
-        want(room < length ? is_filled(at, at + room)
-                           : memcmp(at, lines, length) == 0 && is_filled(at + length, at + room), "lookup: lines");
+        CALL(typed_headers_pass_fields(&pass, room ? at : NULL, room, &written));
+        holds &= status_of_call == (room < length ? TYPED_HEADERS_NO_ROOM : TYPED_HEADERS_DONE) && written == length;
+        holds &= room < length ? is_filled(at, at + room)
+                               : memcmp(at, lines, length) == 0 && is_filled(at + length, at + room);
     }
+    return holds;
 }
 
-static void forwards(const char *target, uint64_t now) {
-    look_up(target, "GET", "", now, 0, TYPED_HEADERS_FETCH, 0, 0, "");
-}
-
-/* The content of the response that was named last, in pieces. */
-static void content_is(const char *target, const char *wanted) {
-    const struct typed_headers_text key = text(target);
+/* The content of the response that the last step named, in pieces. */
+static bool has_content(const char *wanted) {
     const size_t length = strlen(wanted);
+    bool holds = true;
     for (size_t from = 0; from <= length + 1; from++) {
         for (size_t room = 0; room <= 3; room++) {
             uint8_t *at = areas[7] - room;
             size_t written = ROOM;
-                memset(at, FILL, room);
-            CALL(typed_headers_cache_content(&cache, key.bytes, key.length, named, from, room ? at : NULL, room,
-                                             &written));
+            memset(at, FILL, room);
+            CALL(typed_headers_pass_content(&cache, &pass, from, room ? at : NULL, room, &written));
             const size_t left = from < length ? length - from : 0, copied = left < room ? left : room;
-            want(status_of_call == TYPED_HEADERS_DONE && written == copied, "content: count");
-            want(memcmp(at, wanted + (from < length ? from : length), copied) == 0 && is_filled(at + copied, at + room),
-                 "content: bytes");
+            holds &= status_of_call == TYPED_HEADERS_DONE && written == copied;
+            holds &= memcmp(at, wanted + (from < length ? from : length), copied) == 0;
+            holds &= is_filled(at + copied, at + room);
         }
     }
+    return holds;
 }
 
-static void absent(const char *target, uint64_t number) {
-    const struct typed_headers_text key = text(target);
+static bool has_no_content(void) {
     uint8_t room[1] = {FILL};
     size_t written = ROOM;
-    struct typed_headers_stored facts;
+    CALL(typed_headers_pass_content(&cache, &pass, 0, room, sizeof room, &written));
+    return status_of_call == TYPED_HEADERS_ABSENT && written == ROOM && room[0] == FILL;
+}
+
+/* A new pass begins, and this is done first. */
+static bool begins(const char *target, const char *method, const char *asked, uint64_t now, uint8_t action) {
+    const struct typed_headers_cache_request request = request_for(target, method, asked);
+    CALL(typed_headers_pass_free(&pass));
     memset(&facts, FILL, sizeof facts);
-    CALL(typed_headers_cache_content(&cache, key.bytes, key.length, number, 0, room, sizeof room, &written));
-    want(status_of_call == TYPED_HEADERS_ABSENT && written == ROOM && room[0] == FILL, "content that isn't there");
-    CALL(typed_headers_cache_response(&cache, key.bytes, key.length, number, 0, &facts, room, sizeof room, &written));
-    want(status_of_call == TYPED_HEADERS_ABSENT && written == ROOM && facts.status == (FILL << 8 | FILL),
-         "a response that isn't there");
+    CALL(typed_headers_pass_begin(&cache, &pass, &request, now, &facts));
+    want(pass.is_open == (status_of_call == TYPED_HEADERS_DONE), "a pass that is open");
+    want(pass.is_open || facts.action == FILL, "a pass that isn't begun");
+    return pass.is_open && facts.action == action;
 }
 
-static void freshen(const char *target, uint64_t at, const char *update, uint8_t outcome) {
-    const struct typed_headers_cache_request request = request_for(target, "GET", "");
-    const struct typed_headers_text section = text(update);
-    struct typed_headers_freshened facts = {ROOM, FILL};
-    CALL(typed_headers_cache_freshen(&cache, &request, section.bytes, section.length, at, at, &facts));
-    want(status_of_call == TYPED_HEADERS_DONE
-             ? facts.outcome == outcome && (outcome < TYPED_HEADERS_UPDATED ? facts.number == 0 : facts.number > named)
-             : status_of_call == TYPED_HEADERS_NO_MEMORY && refused_request && facts.outcome == FILL, "freshen");
-    named = status_of_call == TYPED_HEADERS_DONE && facts.number ? facts.number : named;
+static bool comes(uint16_t code, const char *response, uint64_t now, uint8_t action) {
+    const struct typed_headers_text section = text(response);
+    memset(&facts, FILL, sizeof facts);
+    CALL(typed_headers_pass_came(&cache, &pass, code, section.bytes, section.length, now, &facts));
+    want(status_of_call == TYPED_HEADERS_DONE || facts.action == FILL, "a step that isn't made");
+    return status_of_call == TYPED_HEADERS_DONE && facts.action == action;
 }
 
-static void answers(const char *target, const char *asked, uint8_t kind, uint64_t first, uint64_t last) {
-    const struct typed_headers_cache_request request = request_for(target, "GET", asked);
-    struct typed_headers_stored_answer facts = {ROOM, ROOM, FILL};
-    AGAIN(typed_headers_cache_answer(&cache, &request, named, 1010, true, &facts), facts.kind == FILL, "answer");
-    want(status_of_call == TYPED_HEADERS_DONE && facts.kind == kind && facts.first == first && facts.last == last,
-         "answer");
+static bool ends(const char *bytes, bool is_complete, uint64_t now, bool is_stored) {
+    const struct typed_headers_text content = text(bytes);
+    uint64_t number = ROOM;
+    CALL(typed_headers_pass_ended(&cache, &pass, content.bytes, content.length, is_complete, now, &number));
+    want(status_of_call == TYPED_HEADERS_DONE || number == ROOM, "an end that isn't made");
+    return status_of_call == TYPED_HEADERS_DONE && (number != 0) == is_stored;
 }
 
-static void refuses(void) {
-    struct typed_headers_looked_up facts = {.action = FILL};
-    struct typed_headers_cache_request request = request_for("/\xFF", "GET", "");
-    uint8_t room[1];
-    size_t written = ROOM;
-    CALL(typed_headers_cache_lookup(&cache, &request, 0, 0, &facts, room, 1, &written));
-    want(status_of_call == TYPED_HEADERS_REFUSED && facts.action == FILL, "a target that is no UTF-8");
-    request = request_for("/a", "G T", "");
-    AGAIN(typed_headers_cache_lookup(&cache, &request, 0, 0, &facts, room, 1, &written), true, "lookup");
-    want(status_of_call == TYPED_HEADERS_REFUSED && written == ROOM, "a method that is no token");
-    request = request_for("/a", "GET", "no field\n");
-    AGAIN(typed_headers_cache_lookup(&cache, &request, 0, 0, &facts, room, 1, &written), true, "lookup");
-    want(status_of_call == TYPED_HEADERS_REFUSED && written == ROOM, "a section with a line that is no field");
+/* A client gets this of the cache. */
+static bool sends(uint16_t status, uint64_t first, uint64_t count, const char *lines, const char *content) {
+    return facts.status == status && facts.first == first && facts.count == count && has_fields(lines)
+           && has_content(content);
+}
+
+/* The origin is asked, and its response stored. */
+static bool stores(const char *target, const char *asked, uint64_t now, const char *section, const char *content) {
+    return begins(target, "GET", asked, now, TYPED_HEADERS_ASK)
+           && comes(200, section, now, TYPED_HEADERS_PASS_ON_TO_END) && ends(content, true, now, true);
+}
+
+static bool is_out_of_order(void) {
+    uint64_t number = ROOM;
+    memset(&facts, FILL, sizeof facts);
+    bool holds = CALL(typed_headers_pass_came(&cache, &pass, 200, NULL, 0, 0, &facts)) == TYPED_HEADERS_ABSENT;
+    holds &= CALL(typed_headers_pass_failed(&cache, &pass, 0, &facts)) == TYPED_HEADERS_ABSENT;
+    holds &= CALL(typed_headers_pass_ended(&cache, &pass, NULL, 0, true, 0, &number)) == TYPED_HEADERS_ABSENT;
+    return holds && number == ROOM && facts.action == FILL;
 }
 
 static void closed(void) {
     const struct typed_headers_cache_request request = request_for("/a", "GET", "");
-    struct typed_headers_looked_up facts = {.action = FILL};
-    uint8_t room[1] = {FILL};
-    uint64_t number = ROOM;
     size_t written = ROOM;
-    const struct typed_headers_cache_response response = {text(""), text(""), 0, 0, 200, true};
-    CALL(typed_headers_cache_lookup(&cache, &request, 0, 0, &facts, room, 1, &written));
-    want(status_of_call == TYPED_HEADERS_ABSENT && facts.action == FILL && written == ROOM, "lookup in a closed cache");
-    CALL(typed_headers_cache_store(&cache, &request, &response, &number));
-    want(status_of_call == TYPED_HEADERS_ABSENT && number == ROOM, "store in a closed cache");
-    CALL(typed_headers_cache_remove(&cache, request.target.bytes, request.target.length));
-    want(status_of_call == TYPED_HEADERS_ABSENT && !cache.is_open, "remove in a closed cache");
-    absent("/a", 1);
+    want(CALL(typed_headers_pass_begin(&cache, &pass, &request, 0, &facts)) == TYPED_HEADERS_ABSENT && !pass.is_open,
+         "a pass through a closed cache");
+    want(is_out_of_order() && has_no_content(), "steps of a closed pass");
+    want(CALL(typed_headers_pass_fields(&pass, NULL, 0, &written)) == TYPED_HEADERS_ABSENT && written == ROOM,
+         "fields of a closed pass");
+    want(CALL(typed_headers_cache_remove(&cache, (const uint8_t *)"/a", 2)) == TYPED_HEADERS_ABSENT,
+         "remove in a closed cache");
 }
 
-#define DATED "cache-control: max-age=60\ndate: Thu, 01 Jan 1970 00:16:40 GMT\netag: \"1\"\n"
+static bool is_rejected(const char *target, const char *method, const char *section) {
+    return !begins(target, method, section, 0, TYPED_HEADERS_ASK) && status_of_call == TYPED_HEADERS_REFUSED;
+}
 
-/* RFC 9111, sections 3, 4, 4.2, 4.3 and 4.4. */
+#define FRESH "cache-control: max-age=60\ndate: Thu, 01 Jan 1970 00:16:40 GMT\netag: \"1\"\n"
+#define DIGESTED FRESH "content-length: 5\ncontent-md5: x\n"
+
+/* RFC 9111, sections 3, 4, 4.2, 4.3 and 4.4, and RFC 5861. */
 static void play(void) {
     closed();
-    open_cache(4, 16, 1000, true);
-    refuses();
-    forwards("/a", 1000);
-    look_up("/a", "GET", "cache-control: only-if-cached\n", 1000, 0, TYPED_HEADERS_UNAVAILABLE, 0, 0, "");
-    store("/a", "", 1000, 200, "cache-control: no-store\n", "none", true, 0);
-    store("/a", "", 1000, 200, "cache-control: max-age=60\n", "half", false, 0);
-    store("/a", "", 1000, 200, "age: 0\ncache-control: max-age=60\netag: \"1\"\n", "hello", true, 1);
-    look_up("/a", "GET", "", 1010, 0, TYPED_HEADERS_SERVE, 200, 10,
-            "cache-control: max-age=60\netag: \"1\"\ndate: Thu, 01 Jan 1970 00:16:40 GMT\nage: 10\n");
-    content_is("/a", "hello");
-    absent("/a", named + 1);
-    absent("/b", named);
-    absent("/a", 0);
-    answers("/a", "", TYPED_HEADERS_WHOLE, 0, 0);
-    answers("/a", "range: bytes=1-2\n", TYPED_HEADERS_PART, 1, 2);
-    answers("/a", "range: bytes=9-\n", TYPED_HEADERS_UNSATISFIABLE, 0, 0);
-    answers("/a", "if-none-match: \"1\"\n", TYPED_HEADERS_NOT_MODIFIED, 0, 0);
-    answers("/a", "if-match: \"1\"\n", TYPED_HEADERS_FORWARD, 0, 0);
-    look_up("/a", "GET", "", 1060, 0, TYPED_HEADERS_REVALIDATE, 200, 60, "if-none-match: \"1\"\n");
-    /* A lifetime that is guessed: a tenth of 1,000 seconds. */
-    store("/b", "", 2000, 200, "last-modified: Thu, 01 Jan 1970 00:16:40 GMT\n", "old", true, 1);
-    look_up("/b", "GET", "", 2099, 86400, TYPED_HEADERS_SERVE, 200, 99,
-            "last-modified: Thu, 01 Jan 1970 00:16:40 GMT\ndate: Thu, 01 Jan 1970 00:33:20 GMT\nage: 99\n");
-    look_up("/b", "GET", "", 2099, 60, TYPED_HEADERS_REVALIDATE, 200, 99,
-            "if-modified-since: Thu, 01 Jan 1970 00:16:40 GMT\n");
-    CALL(typed_headers_cache_remove(&cache, (const uint8_t *)"/b", 2));
-    want(status_of_call == TYPED_HEADERS_DONE, "remove");
-    absent("/b", named);
-    /* A 304 that is about none, one that updates, and one after which it may be stored no longer. */
-    if (!refused_request) {
-        freshen("/a", 1100, "etag: \"2\"\n", TYPED_HEADERS_NONE_UPDATED);
-        freshen("/c", 1100, "etag: \"1\"\n", TYPED_HEADERS_NONE_STORED);
-        freshen("/a", 1100, "etag: \"1\"\ncache-control: max-age=30\n", TYPED_HEADERS_UPDATED);
-        forwards("/c", 1100);
-        content_is("/a", "hello");
-        freshen("/a", 1200, "etag: \"1\"\ncache-control: no-store\n", TYPED_HEADERS_UPDATED_ONCE);
-        content_is("/a", "hello");
-        absent("/b", named);
-        CALL(typed_headers_cache_remove(&cache, (const uint8_t *)"/b", 2));
-        absent("/a", named);
-    } else {
-        freshen("/a", 1100, "etag: \"1\"\ncache-control: max-age=30\n", TYPED_HEADERS_UPDATED);
-    }
-    /* A request that isn't safe removes what is stored, unless it failed. */
-    store("/d", "", 1000, 200, "cache-control: max-age=60\n", "one", true, 1);
-    const struct typed_headers_text target = text("/d"), method = text("PUT");
-    AGAIN(typed_headers_cache_invalidate(&cache, target.bytes, target.length, method.bytes, method.length, 500), true,
-          "invalidate");
-    content_is("/d", "one");
-    AGAIN(typed_headers_cache_invalidate(&cache, target.bytes, target.length, method.bytes, method.length, 204), true,
-          "invalidate");
-    absent("/d", named);
-    close_cache();
+    AGAIN(opens(NULL, TYPED_HEADERS_DONE), "new");
+    const struct typed_headers_cache_options options = {0};
+    want(CALL(typed_headers_cache_new(&cache, &options, &KEYS)) == TYPED_HEADERS_REFUSED, "new of an open cache");
+    AGAIN(is_rejected("/\xFF", "GET", ""), "a target that is no UTF-8");
+    AGAIN(is_rejected("/a", "G T", ""), "a method that is no token");
+    AGAIN(is_rejected("/a", "GET", "no field\n"), "a section with a line that is no field");
+    AGAIN(begins("/a", "GET", "cache-control: only-if-cached\n", 1000, TYPED_HEADERS_SEND_504) && has_fields(""), "504");
+    want(is_out_of_order() && has_no_content(), "steps of a pass that has ended");
+    AGAIN(begins("/a", "GET", "", 1000, TYPED_HEADERS_ASK), "ask");
+    const struct typed_headers_cache_request again = request_for("/a", "GET", "");
+    want(CALL(typed_headers_pass_begin(&cache, &pass, &again, 0, &facts)) == TYPED_HEADERS_REFUSED,
+         "a second request of one pass");
+    AGAIN(!comes(99, "", 1000, TYPED_HEADERS_PASS_ON) && status_of_call == TYPED_HEADERS_REFUSED, "a wrong status");
+    AGAIN(begins("/a", "GET", "", 1000, TYPED_HEADERS_ASK)
+          && comes(200, "cache-control: no-store\n", 1000, TYPED_HEADERS_PASS_ON) && is_out_of_order(), "no-store");
+    AGAIN(begins("/a", "GET", "", 1000, TYPED_HEADERS_ASK) && comes(200, FRESH, 1000, TYPED_HEADERS_PASS_ON_TO_END)
+          && ends("hel", false, 1000, false), "half");
+    AGAIN(stores("/a", "", 1000, "age: 0\n" DIGESTED, "hello"), "store");
+    AGAIN(begins("/a", "GET", "", 1010, TYPED_HEADERS_REPLY) && sends(200, 0, 5, DIGESTED "age: 10\n", "hello"), "reply");
+    AGAIN(begins("/a", "HEAD", "", 1010, TYPED_HEADERS_REPLY) && sends(200, 0, 0, DIGESTED "age: 10\n", "hello"), "HEAD");
+    AGAIN(begins("/a", "GET", "range: bytes=1-2\n", 1010, TYPED_HEADERS_REPLY)
+          && sends(206, 1, 2, FRESH "age: 10\ncontent-range: bytes 1-2/5\ncontent-length: 2\n", "hello"), "a part");
+    AGAIN(begins("/a", "GET", "range: bytes=9-\n", 1010, TYPED_HEADERS_REPLY)
+          && sends(416, 0, 0, "date: Thu, 01 Jan 1970 00:16:40 GMT\ncontent-range: bytes */5\ncontent-length: 0\n",
+                   "hello"), "no part");
+    AGAIN(begins("/a", "GET", "if-none-match: \"1\"\n", 1010, TYPED_HEADERS_REPLY)
+          && sends(304, 0, 0, FRESH "content-md5: x\nage: 10\n", "hello"), "304");
+    AGAIN(begins("/a", "GET", "if-match: \"1\"\n", 1010, TYPED_HEADERS_ASK), "a condition for the origin");
+    /* The response that a step named is removed: its content is gone, and is never that of another. */
+    AGAIN(begins("/a", "GET", "", 1010, TYPED_HEADERS_REPLY), "reply");
+    CALL(typed_headers_cache_remove(&cache, (const uint8_t *)"/a", 2));
+    want(status_of_call == TYPED_HEADERS_DONE && has_no_content(), "remove");
+    /* A 304 that updates, one that is about another response, and one after which nothing is stored. */
+    AGAIN(stores("/b", "", 1000, FRESH, "hello"), "store");
+    MAYBE(begins("/b", "GET", "", 1100, TYPED_HEADERS_VALIDATE) && has_fields("if-none-match: \"1\"\n")
+          && comes(304, "etag: \"1\"\ncache-control: max-age=30\n", 1100, TYPED_HEADERS_REPLY) && has_content("hello"),
+          "a 304");
+    AGAIN(stores("/c", "", 1000, FRESH, "hello"), "store");
+    MAYBE(begins("/c", "GET", "", 1100, TYPED_HEADERS_VALIDATE)
+          && comes(304, "etag: \"2\"\n", 1100, TYPED_HEADERS_ASK)
+          && comes(200, "cache-control: no-store\n", 1100, TYPED_HEADERS_PASS_ON), "a 304 about another response");
+    AGAIN(stores("/d", "", 1000, FRESH, "hello"), "store");
+    MAYBE(begins("/d", "GET", "", 1100, TYPED_HEADERS_VALIDATE)
+          && comes(304, "etag: \"1\"\ncache-control: no-store\n", 1100, TYPED_HEADERS_REPLY) && has_content("hello")
+          && begins("/d", "GET", "", 1100, TYPED_HEADERS_ASK), "a 304 after which nothing is stored");
+    /* The origin fails: by a status, or without a response. */
+    AGAIN(stores("/e", "", 1000, "cache-control: max-age=10, stale-if-error=60\netag: \"1\"\n", "hello"), "store");
+    AGAIN(begins("/e", "GET", "", 1050, TYPED_HEADERS_VALIDATE) && comes(503, "", 1050, TYPED_HEADERS_REPLY)
+          && has_content("hello"), "stale on an error");
+    AGAIN(begins("/e", "GET", "", 1050, TYPED_HEADERS_VALIDATE)
+          && CALL(typed_headers_pass_failed(&cache, &pass, 1050, &facts)) == TYPED_HEADERS_DONE
+          && facts.action == TYPED_HEADERS_REPLY && has_content("hello"), "stale without a response");
+    AGAIN(begins("/e", "GET", "", 1050, TYPED_HEADERS_VALIDATE)
+          && CALL(typed_headers_pass_failed(&cache, &pass, 2000, &facts)) == TYPED_HEADERS_DONE
+          && facts.action == TYPED_HEADERS_NO_RESPONSE && is_out_of_order(), "too stale");
+    /* A request that isn't safe removes what is stored, and what is asked isn't stored any more. */
+    AGAIN(stores("/f", "", 1000, FRESH, "old"), "store");
+    AGAIN(begins("/f", "PUT", "", 1000, TYPED_HEADERS_ASK) && comes(204, "", 1000, TYPED_HEADERS_PASS_ON)
+          && begins("/f", "GET", "", 1000, TYPED_HEADERS_ASK), "PUT");
+    AGAIN(begins("/f", "GET", "", 1000, TYPED_HEADERS_ASK) && comes(200, FRESH, 1000, TYPED_HEADERS_PASS_ON_TO_END)
+          && CALL(typed_headers_cache_remove(&cache, (const uint8_t *)"/f", 2)) == TYPED_HEADERS_DONE
+          && ends("old", true, 1000, false), "outdated");
+    /* A lifetime that is guessed, at most 60 seconds; and stale-while-revalidate. */
+    AGAIN(stores("/g", "", 2000, "last-modified: Thu, 01 Jan 1970 00:16:40 GMT\n", "old"), "store");
+    AGAIN(begins("/g", "GET", "", 2059, TYPED_HEADERS_REPLY), "a guess");
+    AGAIN(begins("/g", "GET", "", 2061, TYPED_HEADERS_VALIDATE)
+          && has_fields("if-modified-since: Thu, 01 Jan 1970 00:16:40 GMT\n"), "the end of a guess");
+    AGAIN(stores("/h", "", 1000, "cache-control: max-age=10, stale-while-revalidate=60\netag: \"1\"\n", "old"), "store");
+    AGAIN(begins("/h", "GET", "", 1020, TYPED_HEADERS_REPLY_AND_VALIDATE) && has_content("old"), "stale");
+    AGAIN(begins("/h", "GET", "cache-control: no-cache\n", 1020, TYPED_HEADERS_VALIDATE), "its validation");
+    close_all();
     /* RFC 8246, and RFC 9213, section 2.2: the first targeted field that is there, valid and not empty, counts. */
-    open_with("no name", TYPED_HEADERS_REFUSED);
-    open_with("\n", TYPED_HEADERS_REFUSED);
-    open_with("X-CDN-Control\r\ncdn-cache-control", TYPED_HEADERS_DONE);
-    store("/a", "", 1000, 200, "cache-control: max-age=60\ncdn-cache-control: no-store\n", "none", true, 0);
-    store("/a", "", 1000, 200,
-          "date: Thu, 01 Jan 1970 00:16:40 GMT\nx-cdn-control: max-age=60, immutable\ncdn-cache-control: no-store\n",
-          "kept", true, 1);
-    look_up("/a", "GET", "cache-control: max-age=0\n", 1010, 0, TYPED_HEADERS_SERVE, 200, 10,
-            "date: Thu, 01 Jan 1970 00:16:40 GMT\nx-cdn-control: max-age=60, immutable\ncdn-cache-control: no-store\n"
-            "age: 10\n");
-    close_cache();
-    open_with("", TYPED_HEADERS_DONE);
-    store("/a", "", 1000, 200, "date: Thu, 01 Jan 1970 00:16:40 GMT\ncache-control: max-age=60, immutable\n", "kept",
-          true, 1);
-    look_up("/a", "GET", "cache-control: max-age=0\n", 1010, 0, TYPED_HEADERS_SERVE, 200, 10,
-            "date: Thu, 01 Jan 1970 00:16:40 GMT\ncache-control: max-age=60, immutable\nage: 10\n");
-    close_cache();
+    AGAIN(opens("no name", TYPED_HEADERS_REFUSED), "a name that is none");
+    AGAIN(opens("X-CDN-Control\r\ncdn-cache-control", TYPED_HEADERS_DONE), "new_with");
+    AGAIN(begins("/a", "GET", "", 1000, TYPED_HEADERS_ASK)
+          && comes(200, "cache-control: max-age=60\ncdn-cache-control: no-store\n", 1000, TYPED_HEADERS_PASS_ON),
+          "a targeted field");
+    AGAIN(stores("/a", "", 1000, "x-cdn-control: max-age=60, immutable\ncdn-cache-control: no-store\n", "kept"),
+          "the first targeted field");
+    AGAIN(begins("/a", "GET", "cache-control: max-age=0\n", 1010, TYPED_HEADERS_REPLY) && has_content("kept"),
+          "immutable");
+    close_all();
 }
 
 int main(int count, char **words) {

@@ -1036,17 +1036,22 @@ static void check_decide(const struct row *row) {
 /* What a cache without a response does. */
 static uint8_t call_unstored(const void *arguments, uint64_t *number, uint8_t *room, size_t room_length,
                              size_t *written) {
-    static const struct typed_headers_cache_options options = {1, 1, 1, true};
+    static const struct typed_headers_cache_options options = {1, 1, 1, 0, true};
     const struct cache_call *call = arguments;
     const struct typed_headers_cache_request request = {{(const uint8_t *)"/", 1},
                                                         {call->method.bytes, call->method.length},
                                                         {call->request.bytes, call->request.length}};
     struct typed_headers_cache cache = TYPED_HEADERS_CLOSED_CACHE;
-    struct typed_headers_looked_up facts = {.action = FILL};
+    struct typed_headers_pass pass = TYPED_HEADERS_CLOSED_PASS;
+    struct typed_headers_pass_facts facts = {.action = FILL};
     uint8_t status = typed_headers_cache_new(&cache, &options, &KEYS);
     if (status == TYPED_HEADERS_DONE) {
-        status = typed_headers_cache_lookup(&cache, &request, 0, 0, &facts, room, room_length, written);
+        status = typed_headers_pass_begin(&cache, &pass, &request, 0, &facts);
     }
+    if (status == TYPED_HEADERS_DONE) {
+        status = typed_headers_pass_fields(&pass, room, room_length, written);
+    }
+    typed_headers_pass_free(&pass);
     typed_headers_cache_free(&cache);
     if (facts.action != FILL) {
         *number = facts.action;
@@ -1058,7 +1063,7 @@ static uint8_t call_unstored(const void *arguments, uint64_t *number, uint8_t *r
 static void check_unstored(const struct row *row) {
     struct cache_call call = {.method = put(third_area, row->words[0].bytes, row->words[0].length)};
     read_section(row, 1, first_area, &call.request);
-    const uint64_t wanted = is_answer(row, "Fetch") ? TYPED_HEADERS_FETCH : TYPED_HEADERS_UNAVAILABLE;
+    const uint64_t wanted = is_answer(row, "Fetch") ? TYPED_HEADERS_ASK : TYPED_HEADERS_SEND_504;
     check(row, call_unstored, &call, TYPED_HEADERS_DONE, wanted, EMPTY);
 }
 

@@ -286,8 +286,8 @@ def play(make: Callable[[Application], Any], is_async: bool, count: int, seed: i
     world = World(START)
     origin = Application(world, draw)
     application = (noted_asgi if is_async else noted_wsgi)(origin, make(origin))
-    cache = Cache(shared=True, variants=8, responses=64)
-    cached = (asgi if is_async else wsgi).Cached(application, cache, guess=86_400, clock=lambda: world.now)
+    cache = Cache(shared=True, variants=8, responses=64, guess=86_400)
+    cached = (asgi if is_async else wsgi).Cached(application, cache, clock=lambda: world.now)
     traffic = Traffic(draw, [Client(it, f"c{it}-{draw.randrange(1 << 32):08x}") for it in range(3)], list(TARGETS), False,
                       world.now)
     for _ in range(count):

@@ -1,154 +1,195 @@
-"""The cache: what its class adds to the calls of the library."""
+"""The cache and its passes: what their classes add to the calls of the library."""
 
+import pickle
 import threading
 import unittest
 from datetime import datetime, timezone
+from typing import Dict, Optional
 
-from typed_headers import (
-    Cache,
-    CacheAnswerKind,
-    Decision,
-    FreshenOutcome,
-    HeaderError,
-    InvalidSection,
-    StoredResponse,
-)
+from typed_headers import Ask, Cache, HeaderError, InvalidSection, OutOfOrder, Pass, PassOn, Reply
 
 FRESH = {"Cache-Control": "max-age=60", "ETag": '"a"'}
+A = "http://a.example/a"
+B = "http://a.example/b"
 
 
-def filled(body: bytes = b"hello", content: int = 1 << 20) -> Cache:
-    cache = Cache(shared=True, content=content)
-    cache.store("GET", "/a", {}, 200, FRESH, body, requested=1000, received=1000)
+def store(
+    cache: Cache,
+    content: bytes,
+    fields: Dict[str, str] = FRESH,
+    target: str = A,
+    asked: Optional[Dict[str, str]] = None,
+    complete: bool = True,
+) -> bool:
+    """Whether what the origin answers at the time 1000 is stored."""
+    asking = cache.begin("GET", target, asked or {}, now=1000)
+    step = asking.came(200, fields, now=1000)
+    return step == PassOn(True) and asking.ended(content, complete=complete, now=1000)
+
+
+def filled(content: bytes = b"hello", most: int = 1 << 20) -> Cache:
+    cache = Cache(shared=True, content=most)
+    store(cache, content)
     return cache
 
 
+def got(cache: Cache, target: str = A, now: int = 1010, **asked: str) -> Optional[bytes]:
+    """The content that a client gets of the cache: `None` if the origin is asked."""
+    step = cache.begin("GET", target, {name.replace("_", "-"): it for name, it in asked.items()}, now=now).step
+    return step.content if isinstance(step, Reply) else None
+
+
 class CacheTest(unittest.TestCase):
-    def test_serves_what_is_stored(self) -> None:
+    def test_replies_by_what_is_stored(self) -> None:
         cache = filled()
-        found = cache.lookup("GET", "/a", {}, now=1010)
-        self.assertEqual(found.decision, Decision.SERVE)
-        self.assertEqual(found.stored, StoredResponse(1, 200, 10, 1000, 1000, 5))
-        self.assertEqual(dict(found.fields)["age"], "10")
-        self.assertEqual(cache.lookup("GET", "/b", {}, now=1010).stored, None)
+        step = cache.begin("GET", A, {}, now=1010).step
+        assert isinstance(step, Reply)
+        self.assertEqual((step.status, step.content, step.validates), (200, b"hello", False))
+        self.assertEqual(dict(step.fields)["age"], "10")
+        self.assertEqual(cache.begin("GET", B, {}, now=1010).step, Ask())
+        head = cache.begin("HEAD", A, {}, now=1010).step
+        assert isinstance(head, Reply)
+        self.assertIsNone(head.content)
 
     def test_takes_times_with_a_zone(self) -> None:
-        cache = filled()
-        now = datetime(1970, 1, 1, 0, 17, 0, tzinfo=timezone.utc)
-        found = cache.lookup("GET", "/a", {}, now=now).stored
-        self.assertEqual(found and found.age, 20)
+        step = filled().begin("GET", A, {}, now=datetime(1970, 1, 1, 0, 17, 0, tzinfo=timezone.utc)).step
+        assert isinstance(step, Reply)
+        self.assertEqual(dict(step.fields)["age"], "20")
 
     def test_asks_the_origin_by_the_stored_validators(self) -> None:
-        found = filled().lookup("GET", "/a", {"If-None-Match": '"b"'}, now=1100)
-        self.assertEqual(found.decision, Decision.REVALIDATE)
-        self.assertEqual(found.fields, (("if-none-match", '"a"'),))
-
-    def test_copies_parts_of_the_content(self) -> None:
-        cache = filled(bytes(range(256)) * 100)
-        self.assertEqual(cache.content("/a", 1), bytes(range(256)) * 100)
-        self.assertEqual(cache.content("/a", 1, 25_598), b"\xfe\xff")
-        self.assertEqual(cache.content("/a", 1, 1, 2), b"\x01\x02")
-        self.assertEqual(cache.content("/a", 1, 30_000), b"")
-        with self.assertRaises(LookupError):
-            cache.content("/a", 2)
-
-    def test_keeps_a_response_that_answers_once(self) -> None:
-        cache = filled()
-        update = {"ETag": '"a"', "Cache-Control": "no-store"}
-        freshened = cache.freshen("GET", "/a", {}, update, requested=1100, received=1100)
-        self.assertEqual(freshened.outcome, FreshenOutcome.UPDATED_ONCE)
-        assert freshened.number is not None
-        self.assertEqual(cache.content("/a", freshened.number), b"hello")
-        self.assertEqual(cache.response("/b", freshened.number), None)
-        self.assertEqual(cache.response("/a", 1), None)
-        cache.remove("/b")
-        self.assertEqual(cache.response("/a", freshened.number), None)
-
-    def test_shows_no_other_response_under_a_number(self) -> None:
-        cache = Cache(shared=True)
-        numbers = {}
-        for user in ("alice", "bob"):
-            fields = {"Cache-Control": "max-age=10, stale-if-error=600", "Vary": "Cookie", "ETag": f'"{user}"'}
-            page, request = f"page of {user}".encode(), {"Cookie": user}
-            number = cache.store("GET", "/a", request, 200, fields, page, requested=1000, received=1000)
-            numbers[user] = number or 0
-        found = cache.lookup("GET", "/a", {"Cookie": "alice"}, now=1100).stored
-        assert found is not None
-        self.assertEqual(cache.content("/a", found.number), b"page of alice")
-        # Another request of hers is validated in the meantime. The page goes on under a new number.
-        update = {"ETag": '"alice"'}
-        renewed = cache.freshen("GET", "/a", {"Cookie": "alice"}, update, requested=1100, received=1100).number
-        assert renewed is not None
-        self.assertIsNone(cache.response("/a", found.number))
-        self.assertEqual(cache.content("/a", renewed), b"page of alice")
-        self.assertEqual(cache.content("/a", numbers["bob"]), b"page of bob")
-
-    def test_shows_what_answers_once_for_its_own_request_alone(self) -> None:
-        cache = Cache(shared=True)
-        for path, page in (("/a", b"page of a"), ("/b", b"page of b")):
-            fields = {"Cache-Control": "max-age=1", "ETag": '"1"'}
-            cache.store("GET", path, {}, 200, fields, page, requested=1000, received=1000)
-        numbers = []
-        for path, directive in (("/a", "private"), ("/b", "no-store")):
-            update = {"ETag": '"1"', "Cache-Control": directive}
-            freshened = cache.freshen("GET", path, {}, update, requested=1100, received=1100)
-            self.assertEqual(freshened.outcome, FreshenOutcome.UPDATED_ONCE)
-            numbers.append(freshened.number or 0)
-        self.assertIsNone(cache.response("/a", numbers[0]))
-        self.assertIsNone(cache.response("/a", numbers[1]))
-        self.assertEqual(cache.content("/b", numbers[1]), b"page of b")
-
-    def test_says_where_a_304_is_about_nothing(self) -> None:
-        freshened = filled().freshen("GET", "/b", {}, {}, requested=1100, received=1100)
-        self.assertEqual((freshened.outcome, freshened.number), (FreshenOutcome.NONE_STORED, None))
+        step = filled().begin("GET", A, {"If-None-Match": '"b"'}, now=1100).step
+        assert isinstance(step, Ask)
+        self.assertEqual(step.apply([("If-None-Match", '"b"'), ("X", "y")]), [("X", "y"), ("if-none-match", '"a"')])
+        self.assertEqual(Ask().apply([("If-None-Match", '"b"')]), [("If-None-Match", '"b"')])
 
     def test_answers_conditions_and_ranges(self) -> None:
-        cache = filled()
-        found = cache.answer("GET", "/a", {"Range": "bytes=-2"}, 1, now=1010)
-        self.assertEqual(found and (found.kind, found.part), (CacheAnswerKind.PART, (3, 4)))
-        self.assertEqual(cache.answer("GET", "/a", {}, 2, now=1010), None)
+        cache = filled(bytes(range(256)) * 100)
+        part = cache.begin("GET", A, {"Range": "bytes=-2"}, now=1010).step
+        assert isinstance(part, Reply)
+        self.assertEqual((part.status, part.content), (206, b"\xfe\xff"))
+        self.assertEqual(dict(part.fields)["content-range"], "bytes 25598-25599/25600")
+        same = cache.begin("GET", A, {"If-None-Match": '"a"'}, now=1010).step
+        assert isinstance(same, Reply)
+        self.assertEqual((same.status, same.content), (304, None))
+        none = cache.begin("GET", A, {"Range": "bytes=25600-"}, now=1010).step
+        assert isinstance(none, Reply)
+        self.assertEqual((none.status, none.content, dict(none.fields)["content-range"]), (416, b"", "bytes */25600"))
+
+    def test_sends_what_a_304_lets_answer_once(self) -> None:
+        cache = Cache(shared=True)
+        for target, page in ((A, b"page of a"), (B, b"page of b")):
+            store(cache, page, FRESH, target)
+        first, second = (cache.begin("GET", it, {}, now=1100) for it in (A, B))
+        for validating, page in ((first, b"page of a"), (second, b"page of b")):
+            step = validating.came(304, {"ETag": '"a"', "Cache-Control": "no-store"}, now=1100)
+            assert isinstance(step, Reply)
+            self.assertEqual(step.content, page)
+        self.assertEqual((got(cache), got(cache, B)), (None, None))
+
+    def test_sends_each_user_the_own_page_on_an_error(self) -> None:
+        cache = Cache(shared=True)
+        for user in ("alice", "bob"):
+            fields = {"Cache-Control": "max-age=10, stale-if-error=600", "Vary": "Cookie", "ETag": f'"{user}"'}
+            store(cache, f"page of {user}".encode(), fields, asked={"Cookie": user})
+        waits, second = (cache.begin("GET", A, {"Cookie": "alice"}, now=1100) for _ in range(2))
+        # Another request of hers is validated in the meantime.
+        self.assertIsInstance(second.came(304, {"ETag": '"alice"'}, now=1100), Reply)
+        step = waits.failed(now=1100)
+        self.assertEqual(step and step.content, b"page of alice")
+
+    def test_decides_at_the_time_of_the_error(self) -> None:
+        for now, content in ((1025, b"hello"), (1100, None)):
+            cache = Cache(shared=True)
+            store(cache, b"hello", {"Cache-Control": "max-age=10, stale-if-error=20", "ETag": '"1"'})
+            asking = cache.begin("GET", A, {}, now=1020)
+            step = asking.came(503, {}, now=now)
+            self.assertEqual(step.content if isinstance(step, Reply) else None, content)
+
+    def test_validates_what_was_served_stale(self) -> None:
+        cache = Cache(shared=True)
+        store(cache, b"hello", {"Cache-Control": "max-age=10, stale-while-revalidate=60", "ETag": '"1"'})
+        served = cache.begin("GET", A, {}, now=1020)
+        assert isinstance(served.step, Reply)
+        self.assertTrue(served.step.validates)
+        validating = served.validation(now=1020)
+        assert validating is not None
+        self.assertEqual(validating.step, Ask((("if-none-match", '"1"'),)))
+        self.assertIsInstance(validating.came(304, {"ETag": '"1"'}, now=1020), Reply)
+        self.assertEqual(got(cache, now=1025), b"hello")
+        self.assertIsNone(served.validation(now=1025))
+
+    def test_stores_nothing_that_was_asked_before_a_removal(self) -> None:
+        cache = Cache(shared=True)
+        asking = cache.begin("GET", A, {}, now=1000)
+        self.assertEqual(asking.came(200, FRESH, now=1000), PassOn(True))
+        putting = cache.begin("PUT", A, {}, now=1000)
+        self.assertEqual(putting.came(204, {}, now=1000), PassOn(False))
+        self.assertFalse(asking.ended(b"old", now=1000))
+        self.assertIsNone(got(cache))
 
     def test_removes(self) -> None:
         cache = filled()
-        cache.invalidate("POST", "/a", 500)
-        self.assertIsNotNone(cache.response("/a", 1))
-        cache.invalidate("POST", "/a", 201)
-        self.assertIsNone(cache.response("/a", 1))
+        for status, content in ((500, b"hello"), (201, None)):
+            cache.begin("POST", A, {}, now=1000).came(status, {}, now=1000)
+            self.assertEqual(got(cache), content)
         cache = filled()
-        cache.remove("/a")
-        self.assertIsNone(cache.response("/a", 1))
+        cache.remove(A)
+        self.assertIsNone(got(cache))
+
+    def test_a_step_out_of_order_changes_nothing(self) -> None:
+        cache = Cache(shared=True)
+        asking = cache.begin("GET", A, {}, now=1000)
+        with self.assertRaisesRegex(OutOfOrder, "^ended: "):
+            asking.ended(b"", now=1000)
+        asking.came(200, FRESH, now=1000)
+        with self.assertRaises(OutOfOrder) as raised:
+            asking.came(200, FRESH, now=1000)
+        self.assertEqual(raised.exception.step, "came")
+        self.assertEqual(str(pickle.loads(pickle.dumps(raised.exception))), str(raised.exception))
+        with self.assertRaisesRegex(OutOfOrder, "^failed: "):
+            asking.failed(now=1000)
+        self.assertTrue(asking.ended(b"hello", now=1000))
+        self.assertEqual(got(cache), b"hello")
+        asking.close()
+        with self.assertRaises(OutOfOrder):
+            asking.ended(b"hello", now=1000)
 
     def test_stays_within_its_limits(self) -> None:
-        cache = filled(content=8)
-        self.assertFalse(cache.store("GET", "/b", {}, 200, FRESH, b"too long.", requested=1000, received=1000))
-        self.assertFalse(cache.store("GET", "/b", {}, 200, FRESH, b"half", requested=1000, received=1000, complete=False))
-        self.assertIsNotNone(cache.response("/a", 1))
-        self.assertTrue(cache.store("GET", "/b", {}, 200, FRESH, b"long", requested=1000, received=1000))
-        self.assertIsNone(cache.response("/a", 1))
+        cache = filled(most=8)
+        self.assertFalse(store(cache, b"too long.", target=B))
+        self.assertFalse(store(cache, b"half", target=B, complete=False))
+        self.assertEqual(got(cache), b"hello")
+        self.assertTrue(store(cache, b"long", target=B))
+        self.assertIsNone(got(cache))
+
+    def test_guesses_a_lifetime_if_told(self) -> None:
+        dates = {"Last-Modified": "Thu, 01 Jan 1970 00:00:00 GMT", "Date": "Thu, 01 Jan 1970 00:16:40 GMT"}
+        for guess, content in ((0, None), (60, b"hello")):
+            cache = Cache(shared=True, guess=guess)
+            store(cache, b"hello", dates)
+            self.assertEqual(got(cache, now=1050), content)
 
     def test_serves_a_reload_of_what_is_immutable(self) -> None:
-        for immutable, decision in ((False, Decision.REVALIDATE), (True, Decision.SERVE)):
+        for immutable, content in ((False, None), (True, b"hello")):
             cache = Cache(shared=True, immutable=immutable)
-            fields = {"Cache-Control": "max-age=60, immutable"}
-            cache.store("GET", "/a", {}, 200, fields, b"", requested=1000, received=1000)
-            found = cache.lookup("GET", "/a", {"Cache-Control": "max-age=0"}, now=1010)
-            self.assertEqual(found.decision, decision)
+            store(cache, b"hello", {"Cache-Control": "max-age=60, immutable"})
+            self.assertEqual(got(cache, Cache_Control="max-age=0"), content)
 
     def test_is_governed_by_the_first_targeted_field(self) -> None:
         fields = {"Cache-Control": "no-store", "X-CDN-Control": "max-age=60", "CDN-Cache-Control": "no-store"}
         for targets, is_stored in (((), False), (["x-cdn-control", "CDN-Cache-Control"], True)):
-            cache = Cache(shared=True, targets=targets)
-            stored = cache.store("GET", "/a", {}, 200, fields, b"", requested=1000, received=1000)
-            self.assertEqual(stored is not None, is_stored)
+            self.assertEqual(store(Cache(shared=True, targets=targets), b"", fields), is_stored)
 
     def test_says_what_is_wrong(self) -> None:
         cache = filled()
         with self.assertRaises(InvalidSection):
-            cache.lookup("GET", "/a", "no field\n")
+            cache.begin("GET", A, "no field\n")
         with self.assertRaises(HeaderError):
-            cache.lookup("G T", "/a", {})
+            cache.begin("G T", A, {})
+        asking = cache.begin("GET", B, {})
         with self.assertRaises(HeaderError):
-            cache.store("GET", "/a", {}, 99, FRESH, b"", requested=1000)
+            asking.came(99, FRESH)
+        self.assertEqual(asking.came(404, {"Cache-Control": "no-store"}), PassOn(False))
         with self.assertRaises(HeaderError):
             Cache(shared=True, responses=-1)
         for targets in (["no name"], [""], ["a\nb"]):
@@ -157,21 +198,24 @@ class CacheTest(unittest.TestCase):
 
     def test_is_closed_once(self) -> None:
         with filled() as cache:
-            pass
+            asking = cache.begin("GET", B, {})
         cache.close()
         with self.assertRaisesRegex(ValueError, "closed"):
-            cache.lookup("GET", "/a", {})
+            cache.begin("GET", A, {})
+        with self.assertRaisesRegex(ValueError, "closed"):
+            asking.came(200, {})
 
     def test_is_used_by_several_threads(self) -> None:
         cache, wrong = Cache(shared=True, responses=8), []
 
         def work(number: int) -> None:
-            target, content = f"/{number % 4}", b"%d" % (number % 4)
+            target, content = f"http://a.example/{number % 4}", b"%d" % (number % 4)
             for _ in range(200):
-                cache.store("GET", target, {}, 200, FRESH, content, requested=1000, received=1000)
-                found = cache.lookup("GET", target, {}, now=1000)
-                if found.decision != Decision.SERVE:
-                    wrong.append(found)
+                asking: Pass = cache.begin("GET", target, {"Cache-Control": "no-cache"}, now=1000)
+                if asking.came(200, FRESH, now=1000) == PassOn(True):
+                    asking.ended(content, now=1000)
+                if got(cache, target) not in (None, content):
+                    wrong.append(target)
 
         threads = [threading.Thread(target=work, args=(number,)) for number in range(8)]
         for thread in threads:

@@ -67,9 +67,9 @@ class Origin:
 class Served:
     """An origin behind a cache, at a time that the test sets."""
 
-    def __init__(self, kind: str, respond: Respond, **more: Any) -> None:
+    def __init__(self, kind: str, respond: Respond, guess: int = 0, **more: Any) -> None:
         self.kind, self.now, self.origin = kind, 1000, Origin(respond)
-        self.cache = Cache(shared=True)
+        self.cache = Cache(shared=True, guess=guess)
         middleware: Any = wsgi.Cached if kind == "wsgi" else asgi.Cached
         application: Any = self.origin.wsgi if kind == "wsgi" else self.origin.asgi
         self.application: Any = middleware(application, self.cache, clock=lambda: self.now, **more)
@@ -248,7 +248,7 @@ class CachedTest(unittest.TestCase):
             def respond(seen: Seen) -> Given:
                 if seen.method == "GET":
                     # (meanwhile another client changes it)
-                    other.application.rules.outdate("http://a.example/a")
+                    other.cache.remove("http://a.example/a")
                 return Given(200, [("Cache-Control", "max-age=60")], b"old")
 
             other.origin.respond = respond

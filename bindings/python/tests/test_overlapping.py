@@ -13,7 +13,7 @@ import tracemalloc
 import unittest
 from typing import Any, Dict, Iterable, List, Optional, Tuple
 
-from typed_headers import Cache, asgi, wsgi
+from typed_headers import Cache, Pass, asgi, wsgi
 
 USERS = ("alice", "bobby", "carol", "david", "ellen", "frank")
 REQUESTS = int(os.environ.get("TYPED_HEADERS_REQUESTS", "20000"))
@@ -268,8 +268,7 @@ class Changing(unittest.TestCase):
             start_response("200 X", [("Cache-Control", "max-age=600")])
             return [state[0].encode()]
 
-        cache = Cache(shared=True)
-        cached = wsgi.Cached(application, cache)
+        cached = wsgi.Cached(application, Cache(shared=True))
 
         def ask(method: str) -> bytes:
             environ = {"REQUEST_METHOD": method, "HTTP_HOST": "a.example", "PATH_INFO": "/"}
@@ -280,19 +279,18 @@ class Changing(unittest.TestCase):
                 close()
             return whole
 
-        real = cache.store
+        real = Pass.ended
 
-        def store(*given: Any, **more: Any) -> Optional[int]:
-            cache.store = real  # type: ignore[assignment]
+        def ended(this: Pass, *given: Any, **more: Any) -> bool:
+            setattr(Pass, "ended", real)
             thread = threading.Thread(target=ask, args=("PUT",))
             threads.append(thread)
             thread.start()
-            thread.join(0.2)
-            return real(*given, **more)
+            thread.join()
+            return real(this, *given, **more)
 
-        cache.store = store  # type: ignore[assignment]
+        setattr(Pass, "ended", ended)
         self.assertEqual(ask("GET"), b"old")
-        threads[0].join()
         self.assertEqual(ask("GET"), b"new")
 
     def test_a_fragment_names_no_other_target(self) -> None:

@@ -233,8 +233,7 @@ class Cached:
     most `largest` bytes. One with Set-Cookie isn't stored. A request that isn't safe removes what is stored for its URI,
     and for the URIs of Location and Content-Location at the same host.
 
-    If a response states no lifetime, at most `guess` seconds are guessed (section 4.2.2). `clock` gives the seconds
-    since 1970.
+    `clock` gives the seconds since 1970. Each request is a pass through the cache, which is held for a step of it alone.
     """
 
     def __init__(
@@ -242,11 +241,10 @@ class Cached:
         app: Application,
         cache: Cache,
         *,
-        guess: int = 0,
         largest: int = 8 * 1024 * 1024,
         clock: Callable[[], float] = time.time,
     ) -> None:
-        self.application, self.rules = app, Rules(cache, guess, largest, clock)
+        self.application, self.rules = app, Rules(cache, largest, clock)
 
     async def __call__(self, scope: Scope, receive: Receive, send: Send) -> None:
         if scope["type"] != "http":
@@ -264,14 +262,15 @@ class Cached:
             if not given.rewind():
                 # The application would get a request without its content.
                 turn.end()
-                step = Reply(502, [("content-length", "0")], b"")
+                step = Reply(502, (("content-length", "0"),), b"")
                 break
             step = await self._asked(turn, step, scope, given, send)
         if isinstance(step, Reply):
             await _reply(send, turn.method, step)
-            ask = turn.revalidate() if turn.revalidates and given.rewind() else None
-            if ask is not None:
-                await self._asked(turn, ask, scope, given, None)
+            validation = turn.validation() if turn.validates and given.rewind() else None
+            if validation is not None:
+                await self._asked(validation, validation.asked, scope, given, None)
+                validation.end()
 
     async def _asked(
         self, turn: Turn, ask: Ask, scope: Scope, given: "_Given", send: Optional[Send]
@@ -286,7 +285,8 @@ class Cached:
             if step is None:
                 raise
             return step
-        turn.end()
+        if not isinstance(passing.step, Ask):
+            turn.end()
         return passing.step
 
 
@@ -356,7 +356,7 @@ class _Passing:
 
 
 async def _reply(send: Send, method: str, reply: Reply) -> None:
-    fields, content = reply.fields, reply.content
+    fields, content = list(reply.fields), reply.content
     has_length = any(name == "content-length" for name, _ in fields)
     if content is not None and not has_length and reply.status not in (204, 304):
         fields = [*fields, ("content-length", str(len(content)))]
@@ -376,11 +376,11 @@ def _uri(scope: Scope) -> str:
 
 def _asking(scope: Scope, ask: Ask) -> Scope:
     """The request as the application is asked it. What it sends has to pass here, so it gets no other way."""
-    gone = {name.encode("ascii") for name in ask.without}
+    gone = {name.encode("ascii") for name in ask.replaced}
     fields = [(name, value) for name, value in scope["headers"] if bytes(name).lower() not in gone]
     extensions: Dict[str, Any] = scope.get("extensions") or {}
     kept = {name: it for name, it in extensions.items() if name not in _CONTENT_EXTENSIONS}
-    return {**scope, "headers": [*fields, *_encoded(list(ask.fields))], "extensions": kept}
+    return {**scope, "headers": [*fields, *_encoded(list(ask.fields or ()))], "extensions": kept}
 
 
 #: The content of a response: all of it, or its pieces.

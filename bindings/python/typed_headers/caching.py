@@ -5,10 +5,9 @@ A shared cache serves several users, as a proxy does; a private one serves a sin
 
 import threading
 import time
-from contextlib import contextmanager
 from dataclasses import dataclass
 from enum import IntEnum
-from typing import Any, Callable, Iterator, Optional, Sequence, Tuple, TypeVar
+from typing import Any, Callable, Iterable, List, Optional, Sequence, Tuple, TypeVar, Union
 
 from . import _library
 from ._library import Text, Time
@@ -16,14 +15,13 @@ from .errors import HeaderError
 from .headers import Headers, HeadersLike
 
 __all__ = [
+    "Ask",
     "Cache",
-    "CacheAnswer",
-    "CacheAnswerKind",
-    "CacheLookup",
     "Decision",
-    "FreshenOutcome",
-    "Freshened",
-    "StoredResponse",
+    "OutOfOrder",
+    "Pass",
+    "PassOn",
+    "Reply",
     "Times",
     "current_age",
     "decide",
@@ -188,83 +186,78 @@ def validators(response: HeadersLike, received: Optional[Time] = None) -> Tuple[
 # A cache
 
 
-class FreshenOutcome(IntEnum):
-    """What a 304 makes of stored responses."""
+class OutOfOrder(RuntimeError):
+    """A step that its pass isn't at. Nothing is changed."""
 
-    #: No stored response may answer the request. It has to be sent again without conditions.
-    NONE_STORED = 0
-    #: The 304 is about none of those that may. The request has to be sent again without conditions.
-    NONE_UPDATED = 1
-    #: A stored response is updated, and is the answer.
-    UPDATED = 2
-    #: The same, but it is stored no longer: its new fields forbid that, or its reuse for this request.
-    UPDATED_ONCE = 3
+    #: The name of the step.
+    step: str
+
+    def __init__(self, step: str, reason: str) -> None:
+        super().__init__(f"{step}: {reason}")
+        self.step, self._reason = step, reason
+
+    def __reduce__(self) -> Tuple[Any, ...]:
+        return type(self), (self.step, self._reason)
 
 
-class CacheAnswerKind(IntEnum):
-    """How a stored response answers a client's own conditions and ranges."""
-
-    #: As it is.
-    WHOLE = 0
-    #: By 206, with a part of its content.
-    PART = 1
-    #: By 304, without content.
-    NOT_MODIFIED = 2
-    #: By 416: no byte that is asked for is there.
-    UNSATISFIABLE = 3
-    #: Not at all: the request has a condition that the origin has to evaluate.
-    FORWARD = 4
+FieldLines = Tuple[Tuple[str, str], ...]
+#: The fields of a request by which a cache validates.
+_VALIDATING = ("if-none-match", "if-modified-since")
 
 
 @dataclass(frozen=True)
-class StoredResponse:
-    """A stored response, but for its content, which `Cache.content` returns."""
+class Ask:
+    """The origin is asked."""
 
-    #: Its number, which no other response of the cache ever has.
-    number: int
+    #: By the request with these fields in place of its If-None-Match and If-Modified-Since: `None` if as it is.
+    fields: Optional[FieldLines] = None
+
+    @property
+    def replaced(self) -> Sequence[str]:
+        """The names of the fields that are replaced, in lower case."""
+        return () if self.fields is None else _VALIDATING
+
+    def apply(self, request: Iterable[Tuple[str, str]]) -> List[Tuple[str, str]]:
+        """The fields by which the origin is asked.
+
+        >>> Ask((("if-none-match", '"a"'),)).apply([("Host", "a.example"), ("If-None-Match", '"b"')])
+        [('Host', 'a.example'), ('if-none-match', '"a"')]
+        """
+        kept = [(name, value) for name, value in request if name.lower() not in self.replaced]
+        return [*kept, *(self.fields or ())]
+
+
+@dataclass(frozen=True)
+class Reply:
+    """The client gets this response of the cache. The pass has ended."""
+
     #: Its status.
     status: int
-    #: How many seconds old it is.
-    age: int
-    #: When the request was made that it answered, or that validated it last, in seconds since 1970.
-    requested: int
-    #: When the response to that came.
-    received: int
-    #: How many bytes of content it has.
-    length: int
+    #: Its fields, with its present Age.
+    fields: FieldLines
+    #: Its content: `None` if the response to this request has none, as to HEAD and with 304.
+    content: Optional[bytes]
+    #: Whether the response is then validated for nobody: by `Pass.validation`.
+    validates: bool = False
 
 
 @dataclass(frozen=True)
-class CacheLookup:
-    """What a cache does with a request."""
+class PassOn:
+    """The client gets what the origin answered."""
 
-    #: What is done. A response that is served stale, but needs no validation after that, is `SERVE` too.
-    decision: Decision
-    #: The stored response, if it is served or validated.
-    stored: Optional[StoredResponse]
-    #: `SERVE` and `SERVE_AND_REVALIDATE`: the fields to send with the stored content. `REVALIDATE` and
-    #: `REVALIDATE_OR_SERVE`: the fields that replace the request's own conditions. Else none.
-    fields: Tuple[Tuple[str, str], ...]
+    #: Whether the pass goes on: with `Pass.ended`, once its content came. Else the pass has ended.
+    stores: bool
 
 
-@dataclass(frozen=True)
-class Freshened:
-    """What a 304 makes of stored responses."""
-
-    #: What becomes of them.
-    outcome: FreshenOutcome
-    #: The new number of the answer, if there is one, for `Cache.response` and `Cache.content`.
-    number: Optional[int]
-
-
-@dataclass(frozen=True)
-class CacheAnswer:
-    """How a stored response answers a client's own conditions and ranges."""
-
-    #: How it answers.
-    kind: CacheAnswerKind
-    #: The first and the last position of the part that is sent, both included.
-    part: Optional[Tuple[int, int]]
+class _Action(IntEnum):
+    REPLY = 0
+    REPLY_AND_VALIDATE = 1
+    ASK = 2
+    VALIDATE = 3
+    SEND_504 = 4
+    PASS_ON_TO_END = 5
+    PASS_ON = 6
+    NO_RESPONSE = 7
 
 
 Found = TypeVar("Found")
@@ -274,28 +267,137 @@ def _present(now: Optional[Time]) -> int:
     return int(time.time()) if now is None else _library.to_seconds(now, "now")
 
 
-class Cache:
-    """A store of responses in bounded memory, and what a cache does by it (RFC 9111).
+class Pass:
+    """One client's request through a cache, from its arrival to its last byte. `Cache.begin` makes it.
 
-    A request is a method, a target and its fields. The target is its URI, as a text that is made the same way each
-    time. A time is that of a single clock; the present, if it isn't given. Limits are responses under one target,
-    responses in all, and bytes of content in all. A cache may be used by several threads. The number of a stored
-    response means that response for good: once it is gone, or updated under a new number, nothing has the number.
+    Each step says what is done next. Steps of several passes through one cache may interleave in any way, also in
+    several threads: each holds the cache for itself, and nothing is held between two steps. What a step gives is right
+    for the request of this pass, at the time of that step.
+
+    >>> cache = Cache(shared=True)
+    >>> first = cache.begin("GET", "http://a.example/", {}, now=1000)
+    >>> first.step
+    Ask(fields=None)
+    >>> first.came(200, {"Cache-Control": "max-age=60"}, now=1000)
+    PassOn(stores=True)
+    >>> first.ended(b"hello", now=1000)
+    True
+    >>> cache.begin("GET", "http://a.example/", {"Range": "bytes=1-2"}, now=1010).step.content
+    b'el'
+    """
+
+    #: What is done first.
+    step: Union[Ask, Reply]
+
+    def __init__(self, cache: "Cache", method: str, target: str, request: Headers, now: Optional[Time] = None) -> None:
+        self._cache, self._method, self._target, self._request = cache, method, target, request
+        verb, asked = _library.to_bytes(method, "method"), request.section
+        with cache._lock:
+            given = (target.encode(), verb, asked)
+            status, self._handle, facts = cache._call(_library.calls.pass_begin, given, _present(now))
+            _library.check(status, lambda: _refused(asked))
+            step = self._told(facts)
+        assert isinstance(step, (Ask, Reply))
+        self.step = step
+
+    def came(self, status: int, response: HeadersLike, *, now: Optional[Time] = None) -> Union[Ask, Reply, PassOn]:
+        """What is done with the status and the fields of the origin's response."""
+        given, code = Headers(response).section, _library.to_number(status, "status", 16)
+        step = self._step("came", _library.calls.pass_came, code, given, _present(now), sections=(given,))
+        assert step is not None
+        return step
+
+    def failed(self, *, now: Optional[Time] = None) -> Optional[Reply]:
+        """What the client gets if no response of the origin came: `None` if that is 502 or 504. The pass has ended."""
+        step = self._step("failed", _library.calls.pass_failed, _present(now))
+        assert step is None or isinstance(step, Reply)
+        return step
+
+    def ended(self, content: bytes, *, complete: bool = True, now: Optional[Time] = None) -> bool:
+        """Stores the response that passed on, if it may be stored, and returns whether it is. The pass has ended.
+
+        `complete` says whether all of its content came.
+        """
+        ended, number = self._call(_library.calls.pass_ended, bytes(content), complete, _present(now))
+        if ended == _library.ABSENT:
+            raise OutOfOrder("ended", "no response passes on that is to be stored")
+        _check(ended)
+        return number != 0
+
+    def validation(self, *, now: Optional[Time] = None) -> Optional["Pass"]:
+        """A pass by which what was served stale is validated for nobody: the same request with `no-cache`.
+
+        `None` if what the request would get now needs no validation any more.
+        """
+        fields = [it for it in self._request.pairs() if it[0] != "cache-control"]
+        request = Headers([*fields, ("cache-control", "no-cache")])
+        with self._cache._lock:
+            step = Pass(self._cache, self._method, self._target, self._request, now).step
+            if not isinstance(step, Reply) or not step.validates:
+                return None
+            return Pass(self._cache, self._method, self._target, request, now)
+
+    def close(self) -> None:
+        """Ends the pass. Nothing more is stored of it."""
+        _library.calls.pass_free(self._handle)
+
+    def _call(self, call: Callable[..., Found], *arguments: Any) -> Found:
+        return self._cache._call(call, self._handle, *arguments)
+
+    def _step(
+        self, name: str, call: Callable[..., Tuple[int, Any]], *arguments: Any, sections: Sequence[bytes] = ()
+    ) -> Union[None, Ask, Reply, PassOn]:
+        with self._cache._lock:
+            ended, facts = self._call(call, *arguments)
+            if ended == _library.ABSENT:
+                raise OutOfOrder(name, "the origin isn't asked")
+            _check(ended, *sections)
+            return self._told(facts)
+
+    def _told(self, facts: Tuple[int, int, int, int]) -> Union[None, Ask, Reply, PassOn]:
+        """What a step says. The cache is held since then, so the response that it names is still stored."""
+        first, count, status, number = facts
+        action = _Action(number)
+        if action is _Action.ASK:
+            return Ask()
+        if action is _Action.VALIDATE:
+            return Ask(self._fields())
+        if action is _Action.SEND_504:
+            return Reply(504, (("content-length", "0"),), b"")
+        if action in (_Action.PASS_ON, _Action.PASS_ON_TO_END):
+            return PassOn(action is _Action.PASS_ON_TO_END)
+        if action is _Action.NO_RESPONSE:
+            return None
+        content: Optional[bytes] = None
+        if count:
+            ended, content = self._call(_library.calls.pass_content, first, count)
+            _check(ended)
+        elif self._method != "HEAD" and status not in (204, 304):
+            content = b""
+        return Reply(status, self._fields(), content, action is _Action.REPLY_AND_VALIDATE)
+
+    def _fields(self) -> FieldLines:
+        ended, text = _library.calls.pass_fields(self._handle)
+        _check(ended)
+        return tuple(Headers(text).pairs())
+
+
+class Cache:
+    """What a cache has stored of responses, in bounded memory (RFC 9111). Requests go through it as passes.
+
+    Limits are responses under one target, responses in all, and bytes of content in all. If a response states no
+    lifetime, at most `guess` seconds are guessed (section 4.2.2). A cache may be used by several threads.
 
     With `immutable`, a fresh response with that directive isn't validated for `max-age` of a request (RFC 8246).
     `targets` are the names of targeted fields, as `CDN-Cache-Control`, the most applicable first: the first one that a
     response has, valid and not empty, counts in place of its Cache-Control and Expires (RFC 9213).
 
     >>> with Cache(shared=True) as cache:
-    ...     cache.lookup("GET", "/a", {}, now=1000).decision
-    ...     cache.store("GET", "/a", {}, 200, {"Cache-Control": "max-age=60"}, b"hello", requested=1000, received=1000)
-    ...     found = cache.lookup("GET", "/a", {}, now=1010)
-    ...     found.decision, found.stored.status, cache.content("/a", found.stored.number)
-    ...     found.fields
-    <Decision.FETCH: 6>
-    1
-    (<Decision.SERVE: 0>, 200, b'hello')
-    (('cache-control', 'max-age=60'), ('date', 'Thu, 01 Jan 1970 00:16:40 GMT'), ('age', '10'))
+    ...     first = cache.begin("GET", "http://a.example/", {}, now=1000)
+    ...     first.came(200, {"Cache-Control": "max-age=60"}, now=1000), first.ended(b"hello", now=1000)
+    ...     cache.begin("GET", "http://a.example/", {}, now=1010).step.content
+    (PassOn(stores=True), True)
+    b'hello'
     """
 
     def __init__(
@@ -305,13 +407,16 @@ class Cache:
         variants: int = 16,
         responses: int = 4096,
         content: int = 64 * 1024 * 1024,
+        guess: int = 0,
         immutable: bool = False,
         targets: Sequence[Text] = (),
     ) -> None:
-        limits = (("variants", variants), ("responses", responses), ("content", content))
-        first, second, third = (_library.to_number(number, what) for what, number in limits)
+        limits = (("variants", variants), ("responses", responses), ("content", content), ("guess", guess))
+        first, second, third, fourth = (_library.to_number(number, what) for what, number in limits)
         names = _library.joined(_library.to_lines("targets", targets))
-        status, self._handle = _library.calls.cache_new_with((first, second, third, shared), (names, immutable))
+        status, self._handle = _library.calls.cache_new_with(
+            (first, second, third, fourth, shared), (names, immutable)
+        )
         _library.check(status, lambda: HeaderError(f"some of these is no field name: {list(targets)}"))
         #: Whether it serves several users.
         self.shared = shared
@@ -323,22 +428,8 @@ class Cache:
     def __exit__(self, *_: object) -> None:
         self.close()
 
-    @contextmanager
-    def held(self) -> Iterator[None]:
-        """Holds the cache for calls that belong together: those of other threads wait until the end.
-
-        A response that `lookup` or `freshen` names may go before it is read. It stays while the cache is held.
-
-        >>> cache = Cache(shared=True)
-        >>> with cache.held():
-        ...     found = cache.lookup("GET", "/a", {}, now=1000)
-        ...     content = None if found.stored is None else cache.content("/a", found.stored.number)
-        """
-        with self._lock:
-            yield
-
     def close(self) -> None:
-        """Gives the memory of the cache back. Every other call then raises `ValueError`."""
+        """Gives the memory of the cache back. Every other call, and every step of a pass, then raises `ValueError`."""
         with self._lock:
             self._is_open = False
             _library.calls.cache_free(self._handle)
@@ -349,165 +440,21 @@ class Cache:
                 raise ValueError("the cache is closed")
             return call(self._handle, *arguments)
 
-    def lookup(
-        self, method: Text, target: str, request: HeadersLike, *, now: Optional[Time] = None, guess: int = 0
-    ) -> CacheLookup:
-        """What the cache does with a request. The target becomes the most recently used.
+    def begin(self, method: str, target: str, request: HeadersLike, *, now: Optional[Time] = None) -> Pass:
+        """Begins a pass for a request; its `step` says what is done first.
 
-        Where the origin states no lifetime, at most `guess` seconds are guessed (RFC 9111, section 4.2.2).
+        The target is its URI, as a text that is made the same way each time. `now` is the present of one clock, as of
+        each step.
         """
-        asked = _request(method, target, request)
-        seconds = _library.to_number(guess, "guess")
-        status, (stored, number, action), text = self._call(
-            _library.calls.cache_lookup, asked, _present(now), seconds
-        )
-        _check(status, asked)
-        decision = Decision(action)
-        is_found = decision not in (Decision.UNAVAILABLE, Decision.FETCH)
-        return CacheLookup(decision, _stored(number, stored) if is_found else None, tuple(Headers(text).pairs()))
-
-    def response(
-        self, target: str, number: int, *, now: Optional[Time] = None
-    ) -> Optional[Tuple[StoredResponse, Tuple[Tuple[str, str], ...]]]:
-        """The stored response with a number and its fields, with its present Age. `None` once it is gone.
-
-        A response that answers once (`FreshenOutcome.UPDATED_ONCE`) is gone after the next change of the cache.
-
-        >>> cache = Cache(shared=False)
-        >>> cache.response("/a", 1) is None
-        True
-        """
-        key = target.encode()
-        where = _library.to_number(number, "number")
-        status, stored, text = self._call(_library.calls.cache_response, key, where, _present(now))
-        _check(status)
-        return None if status == _library.ABSENT else (_stored(number, stored), tuple(Headers(text).pairs()))
-
-    def content(self, target: str, number: int, start: int = 0, length: Optional[int] = None) -> bytes:
-        """The content of the stored response with a number, or a part of it. `LookupError` once it is gone."""
-        key, where = target.encode(), _library.to_number(number, "number")
-        begin = _library.to_number(start, "start")
-        if length is None:
-            found_response = self.response(target, number)
-            length = 0 if found_response is None else max(found_response[0].length - begin, 0)
-        status, found = self._call(_library.calls.cache_content, key, where, begin, max(length, 0))
-        _check(status)
-        if status == _library.ABSENT:
-            raise LookupError(f"no response is stored under number {number} of {target!r}")
-        return found
-
-    def answer(
-        self,
-        method: Text,
-        target: str,
-        request: HeadersLike,
-        number: int,
-        *,
-        now: Optional[Time] = None,
-        ranges: bool = True,
-    ) -> Optional[CacheAnswer]:
-        """How the stored response with a number answers the request's own conditions and ranges.
-
-        The request is one that the response may answer (RFC 9111, section 4.3.2). `None` once the response is gone.
-
-        >>> cache = Cache(shared=True)
-        >>> fields = {"Cache-Control": "max-age=60", "ETag": '"a"'}
-        >>> number = cache.store("GET", "/a", {}, 200, fields, b"hello", requested=1000, received=1000)
-        >>> cache.answer("GET", "/a", {"If-None-Match": '"a"'}, number, now=1010).kind
-        <CacheAnswerKind.NOT_MODIFIED: 2>
-        >>> cache.answer("GET", "/a", {"Range": "bytes=1-2"}, number, now=1010).part
-        (1, 2)
-        """
-        asked, where = _request(method, target, request), _library.to_number(number, "number")
-        status, (first, last, kind) = self._call(
-            _library.calls.cache_answer, asked, where, _present(now), ranges
-        )
-        _check(status, asked)
-        if status == _library.ABSENT:
-            return None
-        return CacheAnswer(CacheAnswerKind(kind), (first, last) if kind == CacheAnswerKind.PART else None)
-
-    def store(
-        self,
-        method: Text,
-        target: str,
-        request: HeadersLike,
-        status: int,
-        response: HeadersLike,
-        content: bytes,
-        *,
-        requested: Time,
-        received: Optional[Time] = None,
-        complete: bool = True,
-    ) -> Optional[int]:
-        """Stores the response to a request, if a cache may (RFC 9111, section 3), and returns its number, or `None`.
-
-        `requested` is when the request was made, `received` when the response came. `complete` says whether all of its
-        content came. Older responses go if there is too little room.
-        """
-        asked, given = _request(method, target, request), Headers(response).section
-        times = (_library.to_seconds(requested, "requested"), _received(received))
-        code = _library.to_number(status, "status", 16)
-        ended, number = self._call(
-            _library.calls.cache_store, asked, (given, bytes(content), *times, code, complete)
-        )
-        _check(ended, asked, given)
-        return number or None
-
-    def freshen(
-        self,
-        method: Text,
-        target: str,
-        request: HeadersLike,
-        update: HeadersLike,
-        *,
-        requested: Time,
-        received: Optional[Time] = None,
-    ) -> Freshened:
-        """Updates stored responses by the fields of a 304 to a request (RFC 9111, section 4.3.4)."""
-        asked, given = _request(method, target, request), Headers(update).section
-        times = (_library.to_seconds(requested, "requested"), _received(received))
-        status, (number, outcome) = self._call(_library.calls.cache_freshen, asked, given, *times)
-        _check(status, asked, given)
-        return Freshened(FreshenOutcome(outcome), number if outcome >= FreshenOutcome.UPDATED else None)
-
-    def freshen_by_head(
-        self,
-        method: Text,
-        target: str,
-        request: HeadersLike,
-        head: HeadersLike,
-        *,
-        requested: Time,
-        received: Optional[Time] = None,
-    ) -> None:
-        """Updates stored responses to GET by the fields of a 200 to a HEAD (RFC 9111, section 4.3.5)."""
-        asked, given = _request(method, target, request), Headers(head).section
-        times = (_library.to_seconds(requested, "requested"), _received(received))
-        status = self._call(_library.calls.cache_freshen_by_head, asked, given, *times)
-        _check(status, asked, given)
-
-    def invalidate(self, method: Text, target: str, status: int) -> None:
-        """Removes what is stored for a target, if the response to a request invalidates it (RFC 9111, section 4.4).
-
-        It does if the method isn't safe, and the status is 2xx or 3xx.
-        """
-        verb, code = _library.to_bytes(method, "method"), _library.to_number(status, "status", 16)
-        _check(self._call(_library.calls.cache_invalidate, target.encode(), verb, code))
+        return Pass(self, method, target, Headers(request), now)
 
     def remove(self, target: str) -> None:
-        """Removes what is stored for a target, as one that Location names (RFC 9111, section 4.4)."""
+        """Removes what is stored for a target, as one that changed by other means than a request through this cache.
+
+        What was asked for it before isn't stored any more either.
+        """
         _check(self._call(_library.calls.cache_remove, target.encode()))
 
 
-def _stored(number: int, stored: Tuple[int, int, int, int, int]) -> StoredResponse:
-    age, requested, received, length, status = stored
-    return StoredResponse(number, status, age, requested, received, length)
-
-
-def _request(method: Text, target: str, request: HeadersLike) -> Tuple[bytes, bytes, bytes]:
-    return target.encode(), _library.to_bytes(method, "method"), Headers(request).section
-
-
-def _check(status: int, asked: Tuple[bytes, ...] = (), *sections: bytes) -> None:
-    _library.check(status, lambda: _refused(*asked[2:], *sections))
+def _check(status: int, *sections: bytes) -> None:
+    _library.check(status, lambda: _refused(*sections))

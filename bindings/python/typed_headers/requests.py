@@ -37,21 +37,20 @@ class CachedAdapter(HTTPAdapter):
     `from_cache`. A response is stored if its content has at most `largest` bytes, and is read whole then; with
     `stream=True`, only if it states its length.
 
-    If a response states no lifetime, at most `guess` seconds are guessed (section 4.2.2). `clock` gives the seconds
-    since 1970. Without a cache, one in 64 MiB of memory is made. Adapters and threads may share a cache.
+    `clock` gives the seconds since 1970. Without a cache, one in 64 MiB of memory is made. Adapters and threads may share
+    a cache.
     """
 
     def __init__(
         self,
         cache: Optional[Cache] = None,
         *,
-        guess: int = 0,
         largest: int = 8 * 1024 * 1024,
         clock: Callable[[], float] = time.time,
         **options: Any,
     ) -> None:
         super().__init__(**options)
-        self.rules = Rules(Cache(shared=False) if cache is None else cache, guess, largest, clock, is_shared=False)
+        self.rules = Rules(Cache(shared=False) if cache is None else cache, largest, clock, is_shared=False)
 
     def send(
         self, request: requests.PreparedRequest, stream: bool = False, *given: Any, **named: Any
@@ -79,14 +78,14 @@ class CachedAdapter(HTTPAdapter):
         assert isinstance(step, Reply)
         response = self.build_response(request, _raw(request, step))
         setattr(response, "from_cache", True)
-        if turn.revalidates:
-            Thread(target=self._revalidate, args=(turn, request, given, named), daemon=True).start()
+        if turn.validates:
+            Thread(target=self._validate, args=(turn, request, given, named), daemon=True).start()
         return response
 
     def _kept(self, turn: Turn, response: requests.Response, stream: bool) -> requests.Response:
         """The response, which is stored if it may be."""
         raw = response.raw
-        if turn.came_as is None or stream and length_of(turn.came_as[1]) is None:
+        if turn.came_as is None or stream and length_of(turn.came_as) is None:
             turn.end()
             return response
         pieces: List[bytes] = []
@@ -115,12 +114,12 @@ class CachedAdapter(HTTPAdapter):
         )
         return response
 
-    def _revalidate(self, turn: Turn, request: requests.PreparedRequest, given: Any, named: Any) -> None:
-        ask = turn.revalidate()
-        if ask is None:
+    def _validate(self, served: Turn, request: requests.PreparedRequest, given: Any, named: Any) -> None:
+        turn = served.validation()
+        if turn is None:
             return
         try:
-            response = super().send(_asking(request, ask), False, *given, **named)
+            response = super().send(_asking(request, turn.asked), False, *given, **named)
             if turn.came(response.status_code, list(response.raw.headers.items())) is None:
                 self._kept(turn, response, False)
             response.close()
@@ -152,10 +151,10 @@ class _Chain:
 
 def _asking(request: requests.PreparedRequest, ask: Ask) -> requests.PreparedRequest:
     """The request as the origin is asked it."""
-    if not ask.without and not ask.fields:
+    if ask.fields is None:
         return request
     asked = request.copy()
-    for name in ask.without:
+    for name in ask.replaced:
         asked.headers.pop(name, None)
     asked.headers.update(dict(ask.fields))
     return asked

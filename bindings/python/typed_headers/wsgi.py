@@ -262,8 +262,7 @@ class Cached:
     has at most `largest` bytes. One with Set-Cookie isn't stored. A request that isn't safe removes what is stored for
     its URI, and for the URIs of Location and Content-Location at the same host.
 
-    If a response states no lifetime, at most `guess` seconds are guessed (section 4.2.2). `clock` gives the seconds
-    since 1970.
+    `clock` gives the seconds since 1970. Each request is a pass through the cache, which is held for a step of it alone.
 
     >>> from typed_headers import Cache
     >>> def application(environ, start_response):
@@ -290,11 +289,10 @@ class Cached:
         application: Application,
         cache: Cache,
         *,
-        guess: int = 0,
         largest: int = 8 * 1024 * 1024,
         clock: Callable[[], float] = time.time,
     ) -> None:
-        self.application, self.rules = application, Rules(cache, guess, largest, clock)
+        self.application, self.rules = application, Rules(cache, largest, clock)
 
     def __call__(self, environ: Environ, start_response: StartResponse) -> Iterable[bytes]:
         request = _whole_request(environ)
@@ -314,6 +312,8 @@ class Cached:
                     raise
                 continue
             if started.is_sent or not started.is_called:
+                if started.is_sent:
+                    turn.came(started.status, started.fields)
                 turn.end()
                 return content
             step = turn.came(started.status, started.fields)
@@ -322,8 +322,8 @@ class Cached:
                 return self._passed(turn, content)
             _close(content)
         assert isinstance(step, Reply)
-        replied = _start(start_response, turn.method, step.status, step.fields, step.content)
-        return _Then(replied, lambda: self._revalidate(turn, environ)) if turn.revalidates else replied
+        replied = _start(start_response, turn.method, step.status, list(step.fields), step.content)
+        return _Then(replied, lambda: self._validate(turn, environ)) if turn.validates else replied
 
     def _passed(self, turn: Turn, content: Iterable[bytes]) -> Iterable[bytes]:
         if turn.came_as is None:
@@ -333,13 +333,13 @@ class Cached:
             return content
         return _Kept(turn, content)
 
-    def _revalidate(self, turn: Turn, environ: Environ) -> None:
-        ask = turn.revalidate()
-        if ask is None:
+    def _validate(self, served: Turn, environ: Environ) -> None:
+        turn = served.validation()
+        if turn is None:
             return
         started = _Started(lambda *_: _ignore)
         try:
-            content = self.application(_asking(environ, ask), started)
+            content = self.application(_asking(environ, turn.asked), started)
             if not started.is_called:
                 content = _Ahead(content)
         except Exception:
@@ -414,8 +414,8 @@ def _uri(environ: Environ) -> str:
 
 def _asking(environ: Environ, ask: Ask) -> Environ:
     """The request as the application is asked it."""
-    gone = {f"HTTP_{name.upper().replace('-', '_')}" for name in ask.without}
-    fields = {f"HTTP_{name.upper().replace('-', '_')}": value for name, value in ask.fields}
+    gone = {f"HTTP_{name.upper().replace('-', '_')}" for name in ask.replaced}
+    fields = {f"HTTP_{name.upper().replace('-', '_')}": value for name, value in ask.fields or ()}
     return {**{key: value for key, value in environ.items() if key not in gone}, **fields}
 
 

@@ -4,29 +4,34 @@ use Rattle.http_header.{specs.FieldValue.FieldValue, specs.HeaderMap.Entries}
 use Rattle.decide_cors.specs.Policy.{Policy}
 use Rattle.decide_resource.specs.declared.resource.Resource.{Resource}
 use Rattle.c_parts.{specs.declared.status.Failure.Failure, specs.declared.status.Failure.TheVariants.{Refused, Absent}}
+use Rattle.c_pass.{specs.declared.held.Shared.Shared, specs.declared.held.Stepped.Stepped}
 use Rattle.c_handles.specs.declared.held.Held.{Held}
 use Rattle.c_handles.specs.declared.held.Held.TheVariants as held
 
 -- the fields of the section that a handle has
 abbrev pub section_in : Option Held → Option (Entries FieldValue)
-section_in None = None
 section_in (Some (held.Section fields)) = Some fields
-section_in (Some (held.Policy policy)) = None
-section_in (Some (held.Resource resource)) = None
+section_in other = None
 
 -- the policy that a handle has
 abbrev pub policy_in : Option Held → Option Policy
-policy_in None = None
-policy_in (Some (held.Section fields)) = None
 policy_in (Some (held.Policy policy)) = Some policy
-policy_in (Some (held.Resource resource)) = None
+policy_in other = None
 
 -- the resource that a handle has
 abbrev pub resource_in : Option Held → Option Resource
-resource_in None = None
-resource_in (Some (held.Section fields)) = None
-resource_in (Some (held.Policy policy)) = None
 resource_in (Some (held.Resource resource)) = Some resource
+resource_in other = None
+
+-- the cache that a handle has
+abbrev pub cache_in : Option Held → Option Shared
+cache_in (Some (held.Cache shared)) = Some shared
+cache_in other = None
+
+-- the pass that a handle has
+abbrev pub pass_in : Option Held → Option Stepped
+pass_in (Some (held.Pass stepped)) = Some stepped
+pass_in other = None
 
 -- this is said of what a handle has; without it, the answer is `Absent`
 abbrev pub OnHeld : {X V : Type 0} → (X → Result V Failure → Type 0) → Option X → Result V Failure → Type 0

@@ -1,6 +1,6 @@
-pub mod Cache
 pub mod Handles
 pub mod Ownership
+pub mod Passes
 pub mod Policies
 pub mod Resources
 pub mod Sections

@@ -12,9 +12,8 @@ use Rattle.c_handles.specs.declared.held.Held.TheVariants as held
 
 -- the policy of the rules, or why there is none; `Memory` also for the handle
 abbrev pub IsPolicyHeld : Rules → Result Held Failure → Type 0
-IsPolicyHeld given (Ok (held.Section fields)) = ⊥
 IsPolicyHeld given (Ok (held.Policy policy)) = IsPolicyAnswer given (Ok policy)
-IsPolicyHeld given (Ok (held.Resource resource)) = ⊥
+IsPolicyHeld given (Ok other) = ⊥
 IsPolicyHeld given (Err failure) = IsPolicyAnswer given (Err failure) ⊎ (failure ≡ Memory)
 
 -- the method and the section of the response can be read: a policy's answer to them has fields, which take memory

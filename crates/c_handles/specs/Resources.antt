@@ -15,9 +15,8 @@ use Rattle.c_handles.specs.declared.held.Held.TheVariants as held
 
 -- the resource that was handed in, or why there is none; `Memory` also for the handle
 abbrev pub IsResourceHeld : ResourceParts → List RepresentationParts → Rules → Result Held Failure → Type 0
-IsResourceHeld given numbers rules (Ok (held.Section fields)) = ⊥
-IsResourceHeld given numbers rules (Ok (held.Policy policy)) = ⊥
 IsResourceHeld given numbers rules (Ok (held.Resource resource)) = IsResourceAnswer given numbers rules (Ok resource)
+IsResourceHeld given numbers rules (Ok other) = ⊥
 IsResourceHeld given numbers rules (Err failure) =
     IsResourceAnswer given numbers rules (Err failure) ⊎ (failure ≡ Memory)
 

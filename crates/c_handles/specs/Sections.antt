@@ -21,8 +21,7 @@ use Rattle.c_handles.specs.declared.held.Held.TheVariants as held
 -- the fields of the text, or why there are none; `Memory` also for the handle
 abbrev pub IsSectionHeld : List ℕ → Result Held Failure → Type 0
 IsSectionHeld input (Ok (held.Section fields)) = Holds input fields
-IsSectionHeld input (Ok (held.Policy policy)) = ⊥
-IsSectionHeld input (Ok (held.Resource resource)) = ⊥
+IsSectionHeld input (Ok other) = ⊥
 IsSectionHeld input (Err failure) = IsMapOf input (Err failure) ⊎ (failure ≡ Memory)
 
 -- ---- what is asked of it

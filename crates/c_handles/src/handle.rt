@@ -9,8 +9,8 @@ use std::marker::{Model, Send};
 use std::mem::replace;
 use std::ptr::null_mut;
 
-/// The handle of a section, of a policy or of a resource: closed, or open. C has it by value, and passes a pointer
-/// to it. Zero bytes are a closed one. C neither copies an open one nor changes its fields.
+/// A handle: closed, or open. C has it by value, and passes a pointer to it. Zero bytes are a closed one. C neither
+/// copies an open one nor changes its fields.
 #[repr(C)]
 pub struct Handle {
     at: *mut u8,

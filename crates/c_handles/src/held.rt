@@ -1,5 +1,6 @@
 //! What an open handle has.
 
+use c_pass::{Shared, Stepped};
 use decide_cors::CorsPolicy;
 use decide_resource::Resource;
 use headers::HeaderMap;
@@ -13,4 +14,8 @@ pub enum Held {
     Policy(CorsPolicy),
     /// What a server knows of the target of a request.
     Resource(Resource),
+    /// A cache.
+    Cache(Shared),
+    /// A pass through one.
+    Pass(Stepped),
 }

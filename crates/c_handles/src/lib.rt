@@ -1,12 +1,12 @@
-//! Sections, policies, resources and caches for C, behind handles: each is parsed once.
+//! Sections, policies, resources, caches and passes for C, behind handles.
 #![tactic(auto)]
 
 mod asking;
-pub mod cache;
 mod field;
 mod handle;
 mod held;
 mod opening;
+mod passing;
 mod policy;
 mod resource;
 
@@ -14,6 +14,12 @@ pub use crate::asking::{choose, evaluate, respond, select};
 pub use crate::field::written_field;
 pub use crate::handle::Handle;
 pub use crate::held::Held;
-pub use crate::opening::{close, open_policy, open_resource, open_section};
+pub use crate::opening::{
+    close, open_cache, open_cache_with, open_policy, open_resource, open_section,
+};
+pub use crate::passing::{
+    begin_pass, copy_pass_content, pass_came, pass_ended, pass_failed, remove_stored,
+    write_pass_fields,
+};
 pub use crate::policy::answer_cross_origin;
 pub use crate::resource::answer_as_resource;

@@ -1,12 +1,15 @@
 //! How a handle is opened and closed.
-ghost use Rattle.std.specs.Prelude.{◌≡◌, None, Ok, Err, IfErr, IfOk};
-ghost use Rattle.c_handles.{specs.Handles.Opens, specs.Policies.IsPolicyHeld, specs.Resources.IsResourceHeld};
-ghost use Rattle.c_handles.specs.Sections.{IsSectionHeld};
+ghost use Rattle.std.specs.Prelude.{◌≡◌, ◌⊎◌, None, Ok, Err, IfErr, IfOk};
+ghost use Rattle.c_parts.specs.declared.status.Failure.TheVariants.{Memory};
+ghost use Rattle.c_pass.specs.Caches.{IsExtended, IsPlain};
+ghost use Rattle.c_handles.{specs.Handles.Opens, specs.Passes.IsCacheHeld, specs.Policies.IsPolicyHeld};
+ghost use Rattle.c_handles.{specs.Resources.IsResourceHeld, specs.Sections.IsSectionHeld};
 
 use crate::handle::Handle;
 use crate::held::Held;
 use c_decisions::{Rules, read_policy};
 use c_parts::{Failure, HashKeys, read_map};
+use c_pass::{CacheExtensions, CacheOptions, Shared, new_cache, new_cache_with};
 use c_resource::{RepresentationParts, ResourceParts, read_resource};
 use std::alloc::Global;
 
@@ -91,6 +94,53 @@ pub fn open_resource(
     let held = new_resource(alloc, parts, representations, rules)?;
     handle.put(held);
     Ok(())
+}
+
+fn open_cache_of(
+    alloc: Global,
+    handle: &mut Handle,
+    made: Result<Shared, Failure>,
+) -> Result<(), Failure>
+    ensures { Opens (IsCacheHeld (λ answer. (answer ≡ made) ⊎ (answer ≡ Err Memory)))
+        handle.old.held handle.new.held result }
+{
+    if let Some(held) = handle.take(alloc) {
+        handle.put(held);
+        return Err(Failure::Refused);
+    }
+    let held = Box::new(alloc, Held::Cache(made?))?;
+    handle.put(held);
+    Ok(())
+}
+
+/// Opens a closed handle with an empty cache. Rejected also if the handle is open.
+pub fn open_cache(
+    alloc: Global,
+    handle: &mut Handle,
+    options: &CacheOptions,
+    keys: &HashKeys,
+) -> Result<(), Failure>
+    ensures { Opens (IsCacheHeld (IsPlain options.now keys.now)) handle.old.held handle.new.held result }
+{
+    open_cache_of(alloc, handle, new_cache(alloc, options, keys))
+}
+
+/// Opens a closed handle with an empty cache that does more than RFC 9111. Rejected also if the handle is open.
+pub fn open_cache_with(
+    alloc: Global,
+    handle: &mut Handle,
+    options: &CacheOptions,
+    extensions: &CacheExtensions<'_>,
+    keys: &HashKeys,
+) -> Result<(), Failure>
+    ensures { Opens (IsCacheHeld (IsExtended options.now extensions.entry.now keys.now))
+        handle.old.held handle.new.held result }
+{
+    open_cache_of(
+        alloc,
+        handle,
+        new_cache_with(alloc, options, extensions, keys),
+    )
 }
 
 /// Closes a handle, and frees what it has.

@@ -36,8 +36,8 @@ impl Cache {
         &self.store
     }
 
-    // Removes what is stored under a target. What was asked for it before isn't stored any more either.
-    pub(crate) fn remove(&mut self, alloc: Global, target: &str)
+    /// Removes what is stored under a target. What was asked for it before isn't stored any more either.
+    pub fn remove(&mut self, alloc: Global, target: &str)
         ensures does { Does (settings_of self.old) (Removed target.now) (kept_of self.old) (kept_of self.new) }
         ensures settings { settings_of self.new ≡ settings_of self.old }
     {

@@ -166,8 +166,9 @@ class Proxy(BaseHTTPRequestHandler):
                 return
         # (if no stored response answers the request, it is as if there were none)
         empty = headers.Cache(shared=self.store.is_shared)
-        if empty.lookup(self.command, self.path, section(request)).decision == Decision.UNAVAILABLE:
-            self.send(504, [])
+        step = empty.begin(self.command, self.path, section(request)).step
+        if isinstance(step, headers.Reply):
+            self.send(step.status, list(step.fields))
         else:
             self.fetch(request, body=body)
 
@@ -239,11 +240,11 @@ class Proxy(BaseHTTPRequestHandler):
                 return self.send(206, fields, entry.body[part.slice])
         return self.send(entry.status, fields, entry.body)
 
-    def send(self, status: int, fields: Fields, body: bytes = b"") -> None:
-        if status not in (204, 304) and not any(name == "content-length" for name, _ in fields):
+    def send(self, status: int, fields: Fields, body: bytes | None = b"") -> None:
+        if body is not None and status not in (204, 304) and not any(name == "content-length" for name, _ in fields):
             fields = [*fields, ("content-length", str(len(body)))]
         head = f"HTTP/1.1 {status} X\r\n" + "".join(f"{name}: {value}\r\n" for name, value in fields) + "\r\n"
-        self.wfile.write(head.encode("latin-1") + (b"" if self.command == "HEAD" or status in (204, 304) else body))
+        self.wfile.write(head.encode("latin-1") + (b"" if self.command == "HEAD" or status in (204, 304) else body or b""))
 
 
 class Server(socketserver.ThreadingMixIn, socketserver.TCPServer):

@@ -285,6 +285,22 @@ pub struct ResourceHandle {
     pub is_open: bool,
 }
 
+/// The connection of a server. Zero bytes are a closed one.
+#[repr(C)]
+#[derive(Debug)]
+pub struct Connection {
+    pub place: *mut core::ffi::c_void,
+    pub is_open: bool,
+}
+
+/// A pass through a cache. Zero bytes are a closed one.
+#[repr(C)]
+#[derive(Debug)]
+pub struct Pass {
+    pub place: *mut core::ffi::c_void,
+    pub is_open: bool,
+}
+
 /// How much a cache stores, and for whom.
 #[repr(C)]
 #[derive(Clone, Copy, Debug)]
@@ -292,6 +308,7 @@ pub struct CacheOptions {
     pub variants: usize,
     pub responses: usize,
     pub bytes: usize,
+    pub guess: u64,
     pub is_shared: bool,
 }
 
@@ -312,53 +329,14 @@ pub struct CacheRequest {
     pub section: Text,
 }
 
-/// A response that came from the origin.
-#[repr(C)]
-#[derive(Clone, Copy, Debug)]
-pub struct CacheResponse {
-    pub section: Text,
-    pub content: Text,
-    pub requested: u64,
-    pub received: u64,
-    pub status: u16,
-    pub is_complete: bool,
-}
-
-/// What is told of a stored response.
+/// What is told of a step of a pass.
 #[repr(C)]
 #[derive(Clone, Copy, Debug, Default)]
-pub struct Stored {
-    pub age: u64,
-    pub requested: u64,
-    pub received: u64,
-    pub length: usize,
-    pub status: u16,
-}
-
-/// What a cache does with a request.
-#[repr(C)]
-#[derive(Clone, Copy, Debug, Default)]
-pub struct LookedUp {
-    pub stored: Stored,
-    pub number: u64,
-    pub action: u8,
-}
-
-/// How a stored response answers a client.
-#[repr(C)]
-#[derive(Clone, Copy, Debug, Default)]
-pub struct StoredAnswer {
+pub struct PassFacts {
     pub first: u64,
-    pub last: u64,
-    pub kind: u8,
-}
-
-/// What a 304 makes of stored responses.
-#[repr(C)]
-#[derive(Clone, Copy, Debug, Default)]
-pub struct Freshened {
-    pub number: u64,
-    pub outcome: u8,
+    pub count: u64,
+    pub status: u16,
+    pub action: u8,
 }
 
 #[repr(C)]
@@ -736,76 +714,6 @@ extern "C" {
         keys: *const Keys,
     ) -> u8;
     pub fn typed_headers_cache_free(cache: *mut Cache) -> u8;
-    pub fn typed_headers_cache_lookup(
-        cache: *mut Cache,
-        request: *const CacheRequest,
-        now: u64,
-        guess: u64,
-        facts: *mut LookedUp,
-        room: *mut u8,
-        room_length: usize,
-        written: *mut usize,
-    ) -> u8;
-    pub fn typed_headers_cache_response(
-        cache: *mut Cache,
-        target: *const u8,
-        target_length: usize,
-        number: u64,
-        now: u64,
-        facts: *mut Stored,
-        room: *mut u8,
-        room_length: usize,
-        written: *mut usize,
-    ) -> u8;
-    pub fn typed_headers_cache_content(
-        cache: *mut Cache,
-        target: *const u8,
-        target_length: usize,
-        number: u64,
-        from: usize,
-        room: *mut u8,
-        room_length: usize,
-        written: *mut usize,
-    ) -> u8;
-    pub fn typed_headers_cache_answer(
-        cache: *mut Cache,
-        request: *const CacheRequest,
-        number: u64,
-        now: u64,
-        ranges: bool,
-        facts: *mut StoredAnswer,
-    ) -> u8;
-    pub fn typed_headers_cache_store(
-        cache: *mut Cache,
-        request: *const CacheRequest,
-        response: *const CacheResponse,
-        number: *mut u64,
-    ) -> u8;
-    pub fn typed_headers_cache_freshen(
-        cache: *mut Cache,
-        request: *const CacheRequest,
-        section: *const u8,
-        section_length: usize,
-        requested: u64,
-        received: u64,
-        facts: *mut Freshened,
-    ) -> u8;
-    pub fn typed_headers_cache_freshen_by_head(
-        cache: *mut Cache,
-        request: *const CacheRequest,
-        section: *const u8,
-        section_length: usize,
-        requested: u64,
-        received: u64,
-    ) -> u8;
-    pub fn typed_headers_cache_invalidate(
-        cache: *mut Cache,
-        target: *const u8,
-        target_length: usize,
-        method: *const u8,
-        method_length: usize,
-        status: u16,
-    ) -> u8;
     pub fn typed_headers_cache_remove(cache: *mut Cache, target: *const u8, target_length: usize) -> u8;
     pub fn typed_headers_forward_request(
         gateway: *const Gateway,
@@ -1105,4 +1013,40 @@ extern "C" {
     ) -> u8;
     pub fn typed_headers_connection_rejection(connection: *mut Connection, status: *mut u16) -> u8;
     pub fn typed_headers_connection_planned(connection: *mut Connection, status: *mut u16, length: *mut u64) -> u8;
+    pub fn typed_headers_pass_free(pass: *mut Pass) -> u8;
+    pub fn typed_headers_pass_begin(
+        cache: *mut Cache,
+        pass: *mut Pass,
+        request: *const CacheRequest,
+        now: u64,
+        facts: *mut PassFacts,
+    ) -> u8;
+    pub fn typed_headers_pass_came(
+        cache: *mut Cache,
+        pass: *mut Pass,
+        status: u16,
+        section: *const u8,
+        section_length: usize,
+        now: u64,
+        facts: *mut PassFacts,
+    ) -> u8;
+    pub fn typed_headers_pass_failed(cache: *mut Cache, pass: *mut Pass, now: u64, facts: *mut PassFacts) -> u8;
+    pub fn typed_headers_pass_fields(pass: *mut Pass, room: *mut u8, room_length: usize, written: *mut usize) -> u8;
+    pub fn typed_headers_pass_content(
+        cache: *mut Cache,
+        pass: *mut Pass,
+        from: usize,
+        room: *mut u8,
+        room_length: usize,
+        written: *mut usize,
+    ) -> u8;
+    pub fn typed_headers_pass_ended(
+        cache: *mut Cache,
+        pass: *mut Pass,
+        content: *const u8,
+        content_length: usize,
+        is_complete: bool,
+        now: u64,
+        number: *mut u64,
+    ) -> u8;
 }

@@ -63,7 +63,7 @@ pub use resource::{
     Method, Reason, Representation, RequestContent, Resource, ResourceAnswer, ResourceRequest, Sends, State,
 };
 pub use response::{respond, Content, Response};
-pub use store::{Cache, CacheOptions, CacheRequest, CacheResponse, Freshened, Lookup, Stored, StoredAnswer};
+pub use store::{Cache, CacheOptions, CacheRequest, Pass, Reply, Step};
 pub use text::{Fields, Section};
 pub use time::Timestamp;
 pub use typed::{
@@ -201,36 +201,32 @@ mod tests {
 
     #[test]
     fn a_cache_over_time() {
-        let mut cache = Cache::new(CacheOptions::shared(), KEYS).unwrap();
+        let cache = Cache::new(CacheOptions::shared(), KEYS).unwrap();
         let (none, stale) = (Section::new(), Section::from_bytes("Cache-Control: max-age=10\nETag: \"1\"\n"));
-        let request = CacheRequest { method: "GET", target: "/", fields: &none };
-        let response = CacheResponse {
-            status: 200,
-            fields: &stale,
-            content: b"hello",
-            is_complete: true,
-            requested: 1000,
-            received: 1000,
-        };
-        let stored = cache.store(&request, &response).unwrap().unwrap();
-        let found = cache.look_up(&request, 1020, 0).unwrap();
-        assert_eq!(
-            (found.decision, found.fields.as_bytes()),
-            (Decision::Revalidate, b"if-none-match: \"1\"\n".as_slice())
-        );
-        let Ok(Freshened::Updated(number)) = cache.freshen(&request, &stale, 1020, 1020) else {
-            panic!("the response isn't updated");
-        };
-        let asked = Section::from_bytes("Range: bytes=-2\n");
-        let ranged = CacheRequest { fields: &asked, ..request };
-        assert_eq!(cache.answer(&ranged, number, 1021, true), Ok(Some(StoredAnswer::Part(3, 4))));
-        assert_eq!(cache.content("/", number, 3, 2), Ok(Some(b"lo".to_vec())));
-        assert_eq!(cache.content("/", stored, 0, 9), Ok(None));
-        assert_eq!(cache.response("/", number, 1025).unwrap().unwrap().0.age, 5);
-        assert_eq!(cache.invalidate("/", "PUT", 204), Ok(()));
-        assert_eq!(cache.look_up(&request, 1021, 0).unwrap().decision, Decision::Fetch);
-        assert_eq!(cache.freshen_by_head(&CacheRequest { method: "HEAD", ..request }, &stale, 1, 1), Ok(()));
-        assert_eq!(cache.remove("/"), Ok(()));
+        let request = CacheRequest { method: "GET", target: "http://a.example/", fields: &none };
+        let (mut first, step) = cache.begin(&request, 1000).unwrap();
+        assert_eq!((step, first.ended(b"", true, 1000)), (Step::Ask, Ok(None)));
+        assert_eq!(first.came(200, &stale, 1000), Ok(Some(Step::PassOn { stores: true })));
+        assert_eq!((first.failed(1000), first.came(200, &stale, 1000)), (Ok(None), Ok(None)));
+        assert_eq!(first.ended(b"hello", true, 1000), Ok(Some(true)));
+        let (mut second, step) = cache.begin(&request, 1020).unwrap();
+        let Step::Validate(fields) = step else { panic!("it is stale") };
+        assert_eq!(fields.as_bytes(), b"if-none-match: \"1\"\n");
+        assert!(matches!(second.came(304, &stale, 1020), Ok(Some(Step::Reply(_)))));
+        let ranged = Section::from_bytes("Range: bytes=-2\n");
+        let (_, step) = cache.begin(&CacheRequest { fields: &ranged, ..request }, 1021).unwrap();
+        let Step::Reply(part) = step else { panic!("it is fresh") };
+        assert_eq!((part.status, part.content.as_slice(), part.validates), (206, b"lo".as_slice(), false));
+        let (mut third, _) = cache.begin(&CacheRequest { method: "PUT", ..request }, 1021).unwrap();
+        assert_eq!(third.came(204, &none, 1021), Ok(Some(Step::PassOn { stores: false })));
+        assert_eq!(cache.begin(&request, 1021).unwrap().1, Step::Ask);
+        assert_eq!(cache.remove("http://a.example/"), Ok(()));
+        let asked = Section::from_bytes("Cache-Control: only-if-cached\n");
+        assert_eq!(cache.begin(&CacheRequest { fields: &asked, ..request }, 1).unwrap().1, Step::Unavailable);
+        let (mut fourth, _) = cache.begin(&request, 1021).unwrap();
+        assert_eq!(fourth.failed(1021), Ok(Some(Step::NoResponse)));
+        drop(fourth);
+        drop((first, second, third));
         let cache = std::thread::spawn(move || cache).join();
         assert!(cache.is_ok());
     }
@@ -292,18 +288,12 @@ mod tests {
             fields: &text,
             content: RequestContent::Absent,
         };
-        let mut cache = Cache::new(CacheOptions::shared(), KEYS).unwrap();
+        let cache = Cache::new(CacheOptions::shared(), KEYS).unwrap();
         let (asked, stored) = (Section::new(), Section::parse("Cache-Control: max-age=10\n").unwrap());
-        let asked = CacheRequest { method: "GET", target: "/", fields: &asked };
-        let response = CacheResponse {
-            status: 200,
-            fields: &stored,
-            content: b"hello",
-            is_complete: true,
-            requested: 1,
-            received: 1,
-        };
-        let number = cache.store(&asked, &response).unwrap().unwrap();
+        let asked = CacheRequest { method: "GET", target: "http://a.example/", fields: &asked };
+        let (mut pass, _) = cache.begin(&asked, 1).unwrap();
+        pass.came(200, &stored, 1).unwrap();
+        pass.ended(b"hello", true, 1).unwrap();
         let shared = rules.answer("GET", &text, &Section::new(), KEYS);
         let answer = given.answer(&request, NOW, KEYS);
         std::thread::scope(|scope| {
@@ -314,8 +304,8 @@ mod tests {
                         assert_eq!(fields.choose_type(["a/b"]), Ok(Some(0)));
                         assert_eq!(policy.answer("GET", &fields, &Section::new(), KEYS), shared);
                         assert_eq!(resource.answer(&request, &fields, NOW), answer);
-                        assert_eq!(cache.content("/", number, 0, 9), Ok(Some(b"hello".to_vec())));
-                        assert_eq!(cache.response("/", number, 5).unwrap().unwrap().0.age, 4);
+                        let (_, Step::Reply(reply)) = cache.begin(&asked, 5).unwrap() else { panic!("it is fresh") };
+                        assert_eq!(reply.content, b"hello");
                     }
                 });
             }

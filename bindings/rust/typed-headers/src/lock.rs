@@ -31,6 +31,7 @@ macro_rules! handles {
 handles! {
     Cache = typed_headers_cache_free;
     CorsPolicy = typed_headers_cors_policy_free;
+    Pass = typed_headers_pass_free;
     ResourceHandle = typed_headers_resource_handle_free;
     Section = typed_headers_section_free;
 }

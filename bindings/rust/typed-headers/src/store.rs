@@ -1,13 +1,11 @@
 use alloc::vec::Vec;
-use core::cell::Cell;
-use core::num::NonZeroU64;
 
 use typed_headers_sys as sys;
 
 use crate::error::{check, Error};
 use crate::lock::Locked;
 use crate::text::{text, written, Section};
-use crate::{Decision, Keys};
+use crate::Keys;
 
 /// How much a cache stores, and for whom.
 #[derive(Clone, Copy, Debug, PartialEq, Eq, Hash)]
@@ -18,6 +16,8 @@ pub struct CacheOptions {
     pub responses: usize,
     /// How many bytes of content there may be in all.
     pub content: usize,
+    /// For how many seconds a response is guessed to be fresh at most, if it states no lifetime; 0 for none.
+    pub guess: u64,
     /// Whether it serves several users.
     pub is_shared: bool,
 }
@@ -25,7 +25,7 @@ pub struct CacheOptions {
 impl CacheOptions {
     /// A cache of several users, as a proxy's, with 64 MiB of content.
     pub const fn shared() -> CacheOptions {
-        CacheOptions { variants: 16, responses: 4096, content: 64 * 1024 * 1024, is_shared: true }
+        CacheOptions { variants: 16, responses: 4096, content: 64 * 1024 * 1024, guess: 0, is_shared: true }
     }
 
     /// A cache of one user, as a browser's, with 64 MiB of content.
@@ -45,331 +45,181 @@ pub struct CacheRequest<'a> {
     pub fields: &'a Section,
 }
 
-/// A response that came from the origin.
-#[derive(Clone, Copy, Debug)]
-pub struct CacheResponse<'a> {
-    /// Its status.
-    pub status: u16,
-    /// Its fields.
-    pub fields: &'a Section,
-    /// Its content, without framing.
-    pub content: &'a [u8],
-    /// Whether all of its content came.
-    pub is_complete: bool,
-    /// When the request was made.
-    pub requested: u64,
-    /// When the response came.
-    pub received: u64,
-}
-
-/// A stored response, but for its content, which [`Cache::content`] copies.
-#[derive(Clone, Copy, Debug, PartialEq, Eq, Hash)]
-#[non_exhaustive]
-pub struct Stored {
-    /// Its number, which no other response of the cache ever has.
-    pub number: NonZeroU64,
-    /// Its status.
-    pub status: u16,
-    /// How many seconds old it is.
-    pub age: u64,
-    /// When the request was made that it answered, or that validated it last.
-    pub requested: u64,
-    /// When the response to that came.
-    pub received: u64,
-    /// How many bytes of content it has.
-    pub length: usize,
-}
-
-impl Stored {
-    fn of(number: NonZeroU64, found: sys::Stored) -> Stored {
-        let sys::Stored { age, requested, received, length, status } = found;
-        Stored { number, status, age, requested, received, length }
-    }
-}
-
-/// What a cache does with a request.
+/// A stored response that a client gets.
 #[derive(Clone, Debug, PartialEq, Eq, Hash)]
 #[non_exhaustive]
-pub struct Lookup {
-    /// What is done. A response that is served stale, but needs no validation after that, is [`Decision::Serve`] too.
-    pub decision: Decision,
-    /// The stored response, if it is served or validated.
-    pub stored: Option<Stored>,
-    /// The fields to send with the stored content, or those that replace the request's own conditions.
+pub struct Reply {
+    /// Its status.
+    pub status: u16,
+    /// Its fields, with its present Age.
     pub fields: Section,
+    /// Its content, or the part of it that is sent: nothing to HEAD.
+    pub content: Vec<u8>,
+    /// Whether it is then validated for nobody: by a new pass for the same request with `cache-control: no-cache`.
+    pub validates: bool,
 }
 
-/// How a stored response answers a client's own conditions and ranges.
-#[derive(Clone, Copy, Debug, PartialEq, Eq, Hash)]
+/// What is done after a step of a pass.
+#[derive(Clone, Debug, PartialEq, Eq, Hash)]
 #[non_exhaustive]
-pub enum StoredAnswer {
-    /// As it is.
-    Whole,
-    /// By 206, with the content from the first to the last position, both included.
-    Part(u64, u64),
-    /// By 304, without content.
-    NotModified,
-    /// By 416: no byte that is asked for is there.
-    Unsatisfiable,
-    /// Not at all: the origin has to evaluate a condition of the request.
-    Forward,
+pub enum Step {
+    /// The client gets this stored response. The pass has ended.
+    Reply(Reply),
+    /// The origin is asked by the request as it is.
+    Ask,
+    /// The origin is asked by the request with these fields in place of its If-None-Match and If-Modified-Since.
+    Validate(Section),
+    /// The client gets 504: the request forbids to ask the origin. The pass has ended.
+    Unavailable,
+    /// The client gets what the origin answered. If `stores` is true, [`Pass::ended`] is the next step.
+    PassOn {
+        /// Whether the pass goes on.
+        stores: bool,
+    },
+    /// The client gets 502 or 504: no response came, and no stored one may be sent. The pass has ended.
+    NoResponse,
 }
 
-/// What a 304 makes of stored responses.
-#[derive(Clone, Copy, Debug, PartialEq, Eq, Hash)]
-#[non_exhaustive]
-pub enum Freshened {
-    /// No stored response may answer the request. It is sent again without conditions.
-    NoneStored,
-    /// The 304 is about none of those that may. The request is sent again without conditions.
-    NoneUpdated,
-    /// A stored response is updated, and is the answer, under this new number.
-    Updated(NonZeroU64),
-    /// The same, but it is stored no longer: it is gone after the next change of the cache.
-    UpdatedOnce(NonZeroU64),
-}
-
-/// A store of responses in bounded memory, and what a cache does by it (RFC 9111). Times are those of one clock, in
-/// seconds since 1970.
-///
-/// Calls that only read take `&self`: several threads may make them, and one waits for another. A response that is
-/// named by a number stays as long as the cache is borrowed, since calls that change what is stored take `&mut self`.
+/// What is stored of responses in bounded memory (RFC 9111). Requests go through it as passes, in any threads. Times are
+/// those of one clock, in seconds since 1970.
 ///
 /// ```
-/// use typed_headers::{Cache, CacheOptions, CacheRequest, CacheResponse, Decision, Keys, Section};
+/// use typed_headers::{Cache, CacheOptions, CacheRequest, Keys, Section, Step};
 ///
-/// let mut cache = Cache::new(CacheOptions::shared(), Keys::random())?;
+/// let cache = Cache::new(CacheOptions::shared(), Keys::random())?;
 /// let fields = Section::new();
 /// let request = CacheRequest { method: "GET", target: "http://a.example/", fields: &fields };
-/// assert_eq!(cache.look_up(&request, 1000, 0)?.decision, Decision::Fetch);
-/// let told = Section::parse("Cache-Control: max-age=60\n")?;
-/// let response = CacheResponse {
-///     status: 200,
-///     fields: &told,
-///     content: b"hello",
-///     is_complete: true,
-///     requested: 1000,
-///     received: 1000,
-/// };
-/// let number = cache.store(&request, &response)?.unwrap();
-/// let found = cache.look_up(&request, 1010, 0)?;
-/// assert_eq!((found.decision, found.stored.unwrap().age), (Decision::Serve, 10));
-/// assert_eq!(cache.content(request.target, number, 1, 3)?, Some(b"ell".to_vec()));
+/// let (mut first, step) = cache.begin(&request, 1000)?;
+/// assert_eq!(step, Step::Ask);
+/// let came = Section::parse("Cache-Control: max-age=60\n")?;
+/// assert_eq!(first.came(200, &came, 1000)?, Some(Step::PassOn { stores: true }));
+/// assert_eq!(first.ended(b"hello", true, 1000)?, Some(true));
+/// let (_, Step::Reply(reply)) = cache.begin(&request, 1010)? else { panic!("it is fresh") };
+/// assert_eq!((reply.status, reply.content.as_slice()), (200, b"hello".as_slice()));
 /// # Ok::<(), typed_headers::Error>(())
 /// ```
 #[derive(Debug)]
 pub struct Cache(Locked<sys::Cache>);
 
-fn given(request: &CacheRequest<'_>) -> sys::CacheRequest {
-    sys::CacheRequest {
-        target: text(request.target.as_bytes()),
-        method: text(request.method.as_bytes()),
-        section: text(request.fields.as_bytes()),
-    }
-}
-
 impl Cache {
-    /// A cache with an empty store.
+    /// An empty cache.
     pub fn new(options: CacheOptions, keys: Keys) -> Result<Cache, Error> {
         let mut cache = Cache(Locked::closed());
-        let CacheOptions { variants, responses, content: bytes, is_shared } = options;
-        let options = sys::CacheOptions { variants, responses, bytes, is_shared };
+        let CacheOptions { variants, responses, content: bytes, guess, is_shared } = options;
+        let options = sys::CacheOptions { variants, responses, bytes, guess, is_shared };
         // SAFETY: the handle is closed, and doesn't move while a call is made.
-        check(unsafe { sys::typed_headers_cache_new(cache.handle(), &options, &keys.0) })?;
+        check(unsafe { sys::typed_headers_cache_new(cache.0.alone(), &options, &keys.0) })?;
         Ok(cache)
     }
 
-    // The handle, for calls that change what is stored.
-    fn handle(&mut self) -> *mut sys::Cache {
-        self.0.alone()
+    /// Begins a pass for a request, and says what is done first (section 4).
+    pub fn begin(&self, request: &CacheRequest<'_>, now: u64) -> Result<(Pass<'_>, Step), Error> {
+        let mut pass = Pass { cache: self, handle: Locked::closed() };
+        let asked = sys::CacheRequest {
+            target: text(request.target.as_bytes()),
+            method: text(request.method.as_bytes()),
+            section: text(request.fields.as_bytes()),
+        };
+        // SAFETY: here and below the handles are in this call alone, and the others are pointers and counts of slices
+        // and of values, which don't overlap.
+        let step = pass.step(|cache, pass, facts| unsafe {
+            sys::typed_headers_pass_begin(cache, pass, &asked, now, facts)
+        })?;
+        Ok((pass, step.unwrap_or(Step::Ask)))
     }
 
-    /// What the cache does with a request (section 4). The target becomes the most recently used. If the origin states no
-    /// lifetime, at most `guess` seconds are guessed (section 4.2.2).
-    pub fn look_up(&mut self, request: &CacheRequest<'_>, now: u64, guess: u64) -> Result<Lookup, Error> {
-        let (asked, facts, handle) = (given(request), Cell::new(sys::LookedUp::default()), self.handle());
-        // SAFETY: here and below the handle is open and in this call alone, and the others are pointers and counts of
-        // slices and of values, which don't overlap.
-        let found = written(512, |room: *mut u8, length, count| unsafe {
-            sys::typed_headers_cache_lookup(handle, &asked, now, guess, facts.as_ptr(), room, length, count)
-        })?;
-        let facts = facts.get();
-        let decision = Decision::of(facts.action);
-        let is_found = !matches!(decision, Decision::Unavailable | Decision::Fetch);
-        Ok(Lookup {
-            decision,
-            stored: NonZeroU64::new(facts.number).filter(|_| is_found).map(|it| Stored::of(it, facts.stored)),
-            fields: Section::from_bytes(found.map_or(Vec::new(), |(lines, _)| lines)),
+    /// Removes what is stored under a target. What was asked for it before isn't stored any more either.
+    pub fn remove(&self, target: &str) -> Result<(), Error> {
+        // SAFETY: as above.
+        check(self.0.with(|cache| unsafe { sys::typed_headers_cache_remove(cache, target.as_ptr(), target.len()) }))?;
+        Ok(())
+    }
+}
+
+/// One client's request through a cache. Steps of several passes may interleave in any way: each holds the cache for
+/// itself. A step that the pass isn't at gives `None`, and changes nothing.
+#[derive(Debug)]
+pub struct Pass<'a> {
+    cache: &'a Cache,
+    handle: Locked<sys::Pass>,
+}
+
+impl Pass<'_> {
+    /// Says what is done with the status and the fields of the origin's response.
+    pub fn came(&mut self, status: u16, response: &Section, now: u64) -> Result<Option<Step>, Error> {
+        let section = response.as_bytes();
+        // SAFETY: as above.
+        self.step(|cache, pass, facts| unsafe {
+            sys::typed_headers_pass_came(cache, pass, status, section.as_ptr(), section.len(), now, facts)
         })
     }
 
-    /// The stored response with a number, and its fields with its present Age. `None` once it is gone.
-    pub fn response(&self, target: &str, number: NonZeroU64, now: u64) -> Result<Option<(Stored, Section)>, Error> {
-        let facts = Cell::new(sys::Stored::default());
-        let found = self.0.with(|handle| {
-            // SAFETY: as above.
-            written(512, |room: *mut u8, length, count| unsafe {
-                sys::typed_headers_cache_response(
-                    handle,
-                    target.as_ptr(),
-                    target.len(),
-                    number.get(),
-                    now,
-                    facts.as_ptr(),
-                    room,
-                    length,
-                    count,
-                )
-            })
-        })?;
-        Ok(found.map(|(lines, _)| (Stored::of(number, facts.get()), Section::from_bytes(lines))))
+    /// Says what is done if no response of the origin came.
+    pub fn failed(&mut self, now: u64) -> Result<Option<Step>, Error> {
+        // SAFETY: as above.
+        self.step(|cache, pass, facts| unsafe { sys::typed_headers_pass_failed(cache, pass, now, facts) })
     }
 
-    /// A copy of the content of the stored response with a number, from a position on, and at most so many bytes. `None`
-    /// once the response is gone.
-    pub fn content(
-        &self,
-        target: &str,
-        number: NonZeroU64,
-        from: usize,
-        most: usize,
-    ) -> Result<Option<Vec<u8>>, Error> {
-        let mut room = alloc::vec![0; most.max(1)];
-        let mut count = 0;
+    /// Stores the response that passed on, if all of its content came and it may be stored, and returns whether it is.
+    pub fn ended(&mut self, content: &[u8], is_complete: bool, now: u64) -> Result<Option<bool>, Error> {
+        let (pass, mut number) = (self.handle.alone(), 0);
         // SAFETY: as above.
-        let is_there = check(self.0.with(|handle| unsafe {
-            sys::typed_headers_cache_content(
-                handle,
-                target.as_ptr(),
-                target.len(),
-                number.get(),
-                from,
-                room.as_mut_ptr(),
-                most,
-                &mut count,
+        let is_done = check(self.cache.0.with(|cache| unsafe {
+            sys::typed_headers_pass_ended(
+                cache,
+                pass,
+                content.as_ptr(),
+                content.len(),
+                is_complete,
+                now,
+                &mut number,
             )
         }))?;
-        room.truncate(count);
-        Ok(is_there.then_some(room))
+        Ok(is_done.then_some(number != 0))
     }
 
-    /// How the stored response with a number answers the conditions and, if `ranges` says so, the ranges of a request
-    /// that it may answer (section 4.3.2). `None` once the response is gone.
-    pub fn answer(
-        &self,
-        request: &CacheRequest<'_>,
-        number: NonZeroU64,
-        now: u64,
-        ranges: bool,
-    ) -> Result<Option<StoredAnswer>, Error> {
-        let (asked, mut facts) = (given(request), sys::StoredAnswer::default());
-        // SAFETY: as above.
-        let call = self.0.with(|handle| unsafe {
-            sys::typed_headers_cache_answer(handle, &asked, number.get(), now, ranges, &mut facts)
-        });
-        Ok(check(call)?.then_some(match facts.kind {
-            0 => StoredAnswer::Whole,
-            1 => StoredAnswer::Part(facts.first, facts.last),
-            2 => StoredAnswer::NotModified,
-            3 => StoredAnswer::Unsatisfiable,
-            _ => StoredAnswer::Forward,
-        }))
-    }
-
-    /// Stores the response to a request, if a cache may (section 3), and returns its number, or `None`. Older responses go
-    /// if there is too little room.
-    pub fn store(
+    // Makes a step, and reads what it names while the cache is held.
+    fn step(
         &mut self,
-        request: &CacheRequest<'_>,
-        response: &CacheResponse<'_>,
-    ) -> Result<Option<NonZeroU64>, Error> {
-        let (asked, mut number) = (given(request), 0);
-        let came = sys::CacheResponse {
-            section: text(response.fields.as_bytes()),
-            content: text(response.content),
-            requested: response.requested,
-            received: response.received,
-            status: response.status,
-            is_complete: response.is_complete,
-        };
-        // SAFETY: as above.
-        check(unsafe { sys::typed_headers_cache_store(self.handle(), &asked, &came, &mut number) })?;
-        Ok(NonZeroU64::new(number))
-    }
-
-    /// Updates stored responses by the fields of a 304 to a request (section 4.3.4).
-    pub fn freshen(
-        &mut self,
-        request: &CacheRequest<'_>,
-        update: &Section,
-        requested: u64,
-        received: u64,
-    ) -> Result<Freshened, Error> {
-        let (asked, section, mut facts) = (given(request), update.as_bytes(), sys::Freshened::default());
-        // SAFETY: as above.
-        check(unsafe {
-            sys::typed_headers_cache_freshen(
-                self.handle(),
-                &asked,
-                section.as_ptr(),
-                section.len(),
-                requested,
-                received,
-                &mut facts,
-            )
-        })?;
-        Ok(match (facts.outcome, NonZeroU64::new(facts.number)) {
-            (2, Some(number)) => Freshened::Updated(number),
-            (3, Some(number)) => Freshened::UpdatedOnce(number),
-            (1, _) => Freshened::NoneUpdated,
-            _ => Freshened::NoneStored,
+        call: impl FnOnce(*mut sys::Cache, *mut sys::Pass, *mut sys::PassFacts) -> u8,
+    ) -> Result<Option<Step>, Error> {
+        let pass: *mut sys::Pass = self.handle.alone();
+        self.cache.0.with(|cache| {
+            let mut facts = sys::PassFacts::default();
+            if !check(call(cache, pass, &mut facts))? {
+                return Ok(None);
+            }
+            // SAFETY: as above.
+            let fields = || {
+                written(512, |room: *mut u8, length, count| unsafe {
+                    sys::typed_headers_pass_fields(pass, room, length, count)
+                })
+                .map(|found| Section::from_bytes(found.map_or(Vec::new(), |(lines, _)| lines)))
+            };
+            Ok(Some(match facts.action {
+                0 | 1 => {
+                    let most = facts.count as usize;
+                    let (mut content, mut count) = (alloc::vec![0; most.max(1)], 0);
+                    // SAFETY: as above.
+                    check(unsafe {
+                        sys::typed_headers_pass_content(
+                            cache,
+                            pass,
+                            facts.first as usize,
+                            content.as_mut_ptr(),
+                            most,
+                            &mut count,
+                        )
+                    })?;
+                    content.truncate(count);
+                    Step::Reply(Reply { status: facts.status, fields: fields()?, content, validates: facts.action == 1 })
+                }
+                2 => Step::Ask,
+                3 => Step::Validate(fields()?),
+                4 => Step::Unavailable,
+                5 | 6 => Step::PassOn { stores: facts.action == 5 },
+                _ => Step::NoResponse,
+            }))
         })
-    }
-
-    /// Updates stored responses to GET by the fields of a 200 to a HEAD (section 4.3.5).
-    pub fn freshen_by_head(
-        &mut self,
-        request: &CacheRequest<'_>,
-        head: &Section,
-        requested: u64,
-        received: u64,
-    ) -> Result<(), Error> {
-        let (asked, section) = (given(request), head.as_bytes());
-        // SAFETY: as above.
-        check(unsafe {
-            sys::typed_headers_cache_freshen_by_head(
-                self.handle(),
-                &asked,
-                section.as_ptr(),
-                section.len(),
-                requested,
-                received,
-            )
-        })?;
-        Ok(())
-    }
-
-    /// Removes what is stored under a target, if the response to a request invalidates it (section 4.4): the method isn't
-    /// safe, and the status is 2xx or 3xx.
-    pub fn invalidate(&mut self, target: &str, method: &str, status: u16) -> Result<(), Error> {
-        // SAFETY: as above.
-        check(unsafe {
-            sys::typed_headers_cache_invalidate(
-                self.handle(),
-                target.as_ptr(),
-                target.len(),
-                method.as_ptr(),
-                method.len(),
-                status,
-            )
-        })?;
-        Ok(())
-    }
-
-    /// Removes what is stored under a target, as one that Location or Content-Location names (section 4.4).
-    pub fn remove(&mut self, target: &str) -> Result<(), Error> {
-        // SAFETY: as above.
-        check(unsafe { sys::typed_headers_cache_remove(self.handle(), target.as_ptr(), target.len()) })?;
-        Ok(())
     }
 }

@@ -1,2 +1,0 @@
-pub mod LookupLemmas
-pub mod NameLemmas

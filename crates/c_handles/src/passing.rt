@@ -1,0 +1,282 @@
+//! The handles of a cache and of its passes.
+ghost use Rattle.std.specs.Prelude.{◌≡◌, IsErr, Some};
+ghost use Rattle.c_parts.specs.Endings.{Writes, done};
+ghost use Rattle.c_pass.{specs.Caches.Removes, specs.Steps.{Begins, Comes, Ends, Fails}};
+ghost use Rattle.c_handles.{specs.Handles.{cache_in, pass_in}, specs.Passes.{BeginsThrough, CopiesContent, OnBoth}};
+ghost use Rattle.c_handles.specs.Passes.{OnCache, ShowsFields};
+
+use crate::handle::Handle;
+use crate::held::Held;
+use c_parts::{DONE, Failure, copy_into};
+use c_pass::{CacheRequest, PassFacts, Stepped, copy_content};
+use std::alloc::Global;
+
+fn begin_in(
+    alloc: Global,
+    cache: &mut Held,
+    request: &CacheRequest<'_>,
+    now: u64,
+) -> Result<(Stepped, PassFacts), Failure>
+    ensures { OnCache (Begins request.entry.now now) (Some cache.old) (Some cache.new)
+        result }
+{
+    match cache {
+        Held::Cache(shared) => c_pass::begin(alloc, shared, request, now),
+        _ => Err(Failure::Absent),
+    }
+}
+
+fn came_in(
+    alloc: Global,
+    cache: &mut Held,
+    pass: &mut Held,
+    status: u16,
+    section: &[u8],
+    now: u64,
+) -> Result<PassFacts, Failure>
+    ensures { OnBoth (λ old before new after. Comes now old before new after status section.now)
+        (Some cache.old) (Some cache.new)
+        (Some pass.old) (Some pass.new) result }
+{
+    match (cache, pass) {
+        (Held::Cache(shared), Held::Pass(stepped)) => {
+            c_pass::came(alloc, shared, stepped, status, section, now)
+        }
+        _ => Err(Failure::Absent),
+    }
+}
+
+fn failed_in(
+    alloc: Global,
+    cache: &mut Held,
+    pass: &mut Held,
+    now: u64,
+) -> Result<PassFacts, Failure>
+    ensures { OnBoth (Fails now) (Some cache.old) (Some cache.new) (Some pass.old) (Some pass.new) result }
+{
+    match (cache, pass) {
+        (Held::Cache(shared), Held::Pass(stepped)) => c_pass::failed(alloc, shared, stepped, now),
+        _ => Err(Failure::Absent),
+    }
+}
+
+fn ended_in(
+    alloc: Global,
+    cache: &mut Held,
+    pass: &mut Held,
+    content: &[u8],
+    is_complete: bool,
+    now: u64,
+) -> Result<Option<u64>, Failure>
+    ensures { OnBoth (λ old before new after. Ends now old before new after content.now is_complete)
+        (Some cache.old) (Some cache.new)
+        (Some pass.old) (Some pass.new) result }
+{
+    match (cache, pass) {
+        (Held::Cache(shared), Held::Pass(stepped)) => {
+            c_pass::ended(alloc, shared, stepped, content, is_complete, now)
+        }
+        _ => Err(Failure::Absent),
+    }
+}
+
+/// Opens a closed handle with a pass for a request, and makes its first step.
+pub fn begin_pass(
+    alloc: Global,
+    cache: &mut Handle,
+    pass: &mut Handle,
+    request: &CacheRequest<'_>,
+    now: u64,
+) -> Result<PassFacts, Failure>
+    ensures { BeginsThrough request.entry.now now cache.old.held cache.new.held pass.old.held pass.new.held result }
+{
+    if let Some(held) = pass.take(alloc) {
+        pass.put(held);
+        return Err(Failure::Refused);
+    }
+    let Some(mut held) = cache.take(alloc) else {
+        return Err(Failure::Absent);
+    };
+    let begun = begin_in(alloc, &mut held, request, now);
+    cache.put(held);
+    let (stepped, facts) = begun?;
+    match Box::new(alloc, Held::Pass(stepped)) {
+        Ok(held) => {
+            pass.put(held);
+            Ok(facts)
+        }
+        Err(_) => Err(Failure::Memory),
+    }
+}
+
+/// Makes the step of a pass at which the status and the fields of the origin's response came.
+pub fn pass_came(
+    alloc: Global,
+    cache: &mut Handle,
+    pass: &mut Handle,
+    status: u16,
+    section: &[u8],
+    now: u64,
+) -> Result<PassFacts, Failure>
+    ensures { OnBoth (λ old before new after. Comes now old before new after status section.now)
+        cache.old.held cache.new.held
+        pass.old.held pass.new.held result }
+{
+    let Some(mut shared) = cache.take(alloc) else {
+        return Err(Failure::Absent);
+    };
+    let Some(mut stepped) = pass.take(alloc) else {
+        cache.put(shared);
+        return Err(Failure::Absent);
+    };
+    let facts = came_in(alloc, &mut shared, &mut stepped, status, section, now);
+    cache.put(shared);
+    pass.put(stepped);
+    facts
+}
+
+/// Makes the step of a pass at which no response of the origin came.
+pub fn pass_failed(
+    alloc: Global,
+    cache: &mut Handle,
+    pass: &mut Handle,
+    now: u64,
+) -> Result<PassFacts, Failure>
+    ensures { OnBoth (Fails now) cache.old.held cache.new.held pass.old.held pass.new.held result }
+{
+    let Some(mut shared) = cache.take(alloc) else {
+        return Err(Failure::Absent);
+    };
+    let Some(mut stepped) = pass.take(alloc) else {
+        cache.put(shared);
+        return Err(Failure::Absent);
+    };
+    let facts = failed_in(alloc, &mut shared, &mut stepped, now);
+    cache.put(shared);
+    pass.put(stepped);
+    facts
+}
+
+/// Makes the last step of a pass, with the content of the response that passed on.
+pub fn pass_ended(
+    alloc: Global,
+    cache: &mut Handle,
+    pass: &mut Handle,
+    content: &[u8],
+    is_complete: bool,
+    now: u64,
+) -> Result<Option<u64>, Failure>
+    ensures { OnBoth (λ old before new after. Ends now old before new after content.now is_complete)
+        cache.old.held cache.new.held
+        pass.old.held pass.new.held result }
+{
+    let Some(mut shared) = cache.take(alloc) else {
+        return Err(Failure::Absent);
+    };
+    let Some(mut stepped) = pass.take(alloc) else {
+        cache.put(shared);
+        return Err(Failure::Absent);
+    };
+    let number = ended_in(alloc, &mut shared, &mut stepped, content, is_complete, now);
+    cache.put(shared);
+    pass.put(stepped);
+    number
+}
+
+fn copy_in(
+    cache: &Held,
+    pass: &Held,
+    from: usize,
+    room: &mut [u8],
+    written: &mut usize,
+) -> Result<(), Failure>
+    ensures copies { CopiesContent from room.old room.new written.new
+        (cache_in (Some cache.now)) (pass_in (Some pass.now)) result }
+    ensures failed { IsErr result → (room.new ≡ room.old) × (written.new ≡ written.old) }
+{
+    match (cache, pass) {
+        (Held::Cache(shared), Held::Pass(stepped)) => {
+            copy_content(shared, stepped, from, room, written)
+        }
+        _ => Err(Failure::Absent),
+    }
+}
+
+/// Copies the content of the stored response that the last step of a pass named to the front of the room: from a
+/// position on, and as much as fits.
+pub fn copy_pass_content(
+    alloc: Global,
+    cache: &mut Handle,
+    pass: &mut Handle,
+    from: usize,
+    room: &mut [u8],
+    written: &mut usize,
+) -> Result<(), Failure>
+    ensures copies { CopiesContent from room.old room.new written.new
+        (cache_in cache.old.held) (pass_in pass.old.held) result }
+    ensures cache { cache.new.held ≡ cache.old.held }
+    ensures pass { pass.new.held ≡ pass.old.held }
+    ensures failed { IsErr result → (room.new ≡ room.old) × (written.new ≡ written.old) }
+{
+    let Some(shared) = cache.take(alloc) else {
+        return Err(Failure::Absent);
+    };
+    let Some(stepped) = pass.take(alloc) else {
+        cache.put(shared);
+        return Err(Failure::Absent);
+    };
+    let copied = copy_in(&shared, &stepped, from, room, written);
+    cache.put(shared);
+    pass.put(stepped);
+    copied
+}
+
+fn write_in(pass: &Held, room: &mut [u8], written: &mut usize) -> u8
+    ensures { Writes (λ text. text) (λ _. done) (ShowsFields (pass_in (Some pass.now)))
+        room.old room.new written.old written.new result }
+{
+    match pass {
+        Held::Pass(stepped) => copy_into(stepped.text.as_slice(), DONE, room, written),
+        _ => Failure::Absent.status(),
+    }
+}
+
+/// Writes the field lines that the last step of a pass takes.
+pub fn write_pass_fields(
+    alloc: Global,
+    pass: &mut Handle,
+    room: &mut [u8],
+    written: &mut usize,
+) -> u8
+    ensures fields { Writes (λ text. text) (λ _. done) (ShowsFields (pass_in pass.old.held))
+        room.old room.new written.old written.new result }
+    ensures pass { pass.new.held ≡ pass.old.held }
+{
+    let Some(held) = pass.take(alloc) else {
+        return Failure::Absent.status();
+    };
+    let status = write_in(&held, room, written);
+    pass.put(held);
+    status
+}
+
+fn remove_in(alloc: Global, cache: &mut Held, target: &[u8]) -> Result<(), Failure>
+    ensures { OnCache (Removes target.now) (Some cache.old) (Some cache.new) result }
+{
+    match cache {
+        Held::Cache(shared) => c_pass::remove(alloc, shared, target),
+        _ => Err(Failure::Absent),
+    }
+}
+
+/// Removes what is stored under a target.
+pub fn remove_stored(alloc: Global, cache: &mut Handle, target: &[u8]) -> Result<(), Failure>
+    ensures { OnCache (Removes target.now) cache.old.held cache.new.held result }
+{
+    let Some(mut held) = cache.take(alloc) else {
+        return Err(Failure::Absent);
+    };
+    let removed = remove_in(alloc, &mut held, target);
+    cache.put(held);
+    removed
+}

@@ -1,0 +1,154 @@
+-- The steps of passes, by what a caller hands in: each is the step of `cache_pass` and tells of it.
+use Rattle.std.specs.Prelude.{◌≡◌, ◌⊎◌, ℕ, ◌<◌, Bool, true, false, List, [], length, take, drop, Option, Some, None}
+use Rattle.std.specs.Prelude.{IsSomeAnd, Result, Ok, Err}
+use Rattle.http.specs.StatusCode.{IsStatusCode}
+use Rattle.http_header.{specs.FieldValue.FieldValue, specs.HeaderMap.Entries}
+use Rattle.headers_section.specs.Section.{Holds}
+use Rattle.cache_rules.specs.declared.storing.Reception.{Reception}
+use Rattle.cache_rules.specs.declared.storing.Reception.TheVariants.{Complete, Incomplete}
+use Rattle.cache_rules.specs.declared.stored.StoredResponse.{StoredResponse}
+use Rattle.cache_store.{specs.History.Call.Looked, specs.Numbers.numbered}
+use Rattle.cache_pass.{specs.Effects.{Does, kept_of, settings_of, stored_at}, specs.declared.pass.Pass.Pass}
+use Rattle.cache_pass.specs.Passes.{IsNotPassing, asked_of, key_of, request_of_pass}
+use Rattle.cache_pass.{specs.Steps.{HasBegun, HasCome, HasEnded, HasFailed}, specs.declared.replying.First.First}
+use Rattle.cache_pass.{specs.declared.replying.Reply.Reply, specs.declared.revalidating.Next.Next}
+use Rattle.c_decisions.specs.StatusCodes.{IsStatusOf}
+use Rattle.c_parts.{specs.Endings.{IsWritten, done}, specs.SectionMap.IsMapOf, specs.declared.status.Failure.Failure}
+use Rattle.c_parts.specs.declared.status.Failure.TheVariants.{Memory, Absent}
+use Rattle.c_pass.specs.Outcomes.{failed_outcome, first_outcome, named_by, next_outcome}
+use Rattle.c_pass.{specs.Reading.{FailsRequest, IsRequest, asked_by}, specs.Telling.{is_head, outcome_told}}
+use Rattle.c_pass.{specs.declared.held.Shared.Shared, specs.declared.held.Stepped.Stepped}
+use Rattle.c_pass.{specs.declared.outcome.Named.Named, specs.declared.outcome.Outcome.Outcome}
+use Rattle.c_pass.specs.declared.outcome.Named.TheVariants as named
+use Rattle.c_pass.{specs.declared.reading.CacheRequest.CacheRequest, specs.declared.telling.PassFacts.PassFacts}
+
+-- the outcome is told, and the pass names the stored response that it sends
+pub record Tells (now : ℕ) (shared : Shared) (stepped : Stepped) (outcome : Outcome) (facts : PassFacts) : Type 0 where
+  pub named : stepped.named ≡ named_by outcome.by
+  pub told : (facts, stepped.text.items)
+      ≡ outcome_told (stored_at (key_of stepped.pass) shared.cache) (is_head stepped.pass) now outcome
+
+-- the pass names nothing, and takes no field lines
+pub record IsSilent (stepped : Stepped) : Type 0 where
+  pub named : stepped.named ≡ named.Nothing
+  pub text : stepped.text.items ≡ []
+
+-- a pass begins
+
+module _ (request : CacheRequest) (now : ℕ) (old new : Shared) where
+  -- a new pass for the request begins
+  pub record IsBegun (stepped : Stepped) (facts : PassFacts) : Type 0 where
+    pub fields : Entries FieldValue
+    pub is_request : IsRequest request fields
+    pub pass : Pass
+    pub key : key_of pass ≡ request.target.now
+    pub asks : request_of_pass pass ≡ asked_by request fields
+    pub first : First
+    pub begun : HasBegun pass old.cache now stepped.pass new.cache first
+    pub tells : Tells now new stepped (first_outcome first) facts
+    pub keys : new.keys ≡ old.keys
+
+  -- what is stored was looked up, and that is all
+  pub record IsLookedUp : Type 0 where
+    pub does : Does (settings_of old.cache) (Looked request.target.now) (kept_of old.cache) (kept_of new.cache)
+    pub settings : settings_of new.cache ≡ settings_of old.cache
+    pub keys : new.keys ≡ old.keys
+
+  -- the request can't be parsed, or memory ran out, at the latest after a lookup
+  abbrev pub FailsBegin : Failure → Type 0
+  FailsBegin failure =
+      (FailsRequest request failure × (new ≡ old)) ⊎ ((failure ≡ Memory) × ((new ≡ old) ⊎ IsLookedUp))
+
+  abbrev pub Begins : Result (Stepped × PassFacts) Failure → Type 0
+  Begins (Ok begun) = IsBegun begun.0 begun.1
+  Begins (Err failure) = FailsBegin failure
+
+-- it goes on
+
+abbrev pub reception_of : Bool → Reception
+reception_of true = Complete
+reception_of false = Incomplete
+
+-- a failed call has changed nothing
+abbrev pub IsUnchanged : Shared → Stepped → Shared → Stepped → Type 0
+IsUnchanged old before new after = (new ≡ old) × (after ≡ before)
+
+module _ (now : ℕ) (old : Shared) (before : Stepped) (new : Shared) (after : Stepped) where
+  -- the origin isn't asked
+  abbrev pub IsNotAsking : Failure → Type 0
+  IsNotAsking failure = (failure ≡ Absent) × (asked_of before.pass.phase ≡ None)
+
+  -- the step is done, and memory ran out for what is told of it
+  abbrev pub IsUntold : Failure → Type 0
+  IsUntold failure = (failure ≡ Memory) × IsSilent after
+
+  module _ (status : ℕ) (section : List ℕ) where
+    -- `came`, with the response
+    pub record IsCame (next : Next) : Type 0 where
+      pub response : Entries FieldValue
+      pub is_status : IsStatusCode status
+      pub holds : Holds section response
+      pub come : HasCome before.pass old.cache status response now after.pass new.cache next
+      pub keys : new.keys ≡ old.keys
+
+    -- the failure of parsing it
+    abbrev pub FailsResponse : Failure → Type 0
+    FailsResponse failure = IsStatusOf status (Err failure) ⊎ IsMapOf section (Err failure)
+
+    abbrev pub Comes : Result PassFacts Failure → Type 0
+    Comes (Ok facts) = (next : Next) × IsCame next × Tells now new after (next_outcome next) facts
+    Comes (Err failure) =
+        ((FailsResponse failure ⊎ IsNotAsking failure) × IsUnchanged old before new after)
+        ⊎ ((next : Next) × IsCame next × IsUntold failure)
+
+  -- `failed`
+  pub record IsFailed (found : Option Reply) : Type 0 where
+    pub failed : HasFailed before.pass old.cache now after.pass new.cache found
+    pub keys : new.keys ≡ old.keys
+
+  abbrev pub Fails : Result PassFacts Failure → Type 0
+  Fails (Ok facts) = (found : Option Reply) × IsFailed found × Tells now new after (failed_outcome found) facts
+  Fails (Err failure) =
+      (IsNotAsking failure × IsUnchanged old before new after)
+      ⊎ ((found : Option Reply) × IsFailed found × IsUntold failure)
+
+  -- it ends
+
+  module _ (content : List ℕ) (is_complete : Bool) where
+    -- `ended`, with the content
+    pub record IsEnded (number : Option ℕ) : Type 0 where
+      pub ended : HasEnded before.pass old.cache content (reception_of is_complete) now after.pass new.cache number
+      pub named : after.named ≡ before.named
+      pub text : after.text ≡ before.text
+      pub keys : new.keys ≡ old.keys
+
+    -- No response passes on that is to be stored, or there is no memory for its content.
+    abbrev pub FailsEnd : Failure → Type 0
+    FailsEnd failure =
+        ((failure ≡ Absent) × IsNotPassing before.pass.phase) ⊎ ((failure ≡ Memory) × (0 < length content))
+
+    abbrev pub Ends : Result (Option ℕ) Failure → Type 0
+    Ends (Ok number) = IsEnded number
+    Ends (Err failure) = FailsEnd failure × IsUnchanged old before new after
+
+-- what is sent
+
+-- the response that the pass names, if it is still stored or was never
+abbrev pub response_of : Shared → Stepped → Option StoredResponse
+response_of shared stepped = response_named stepped.named
+  where
+    response_named : Named → Option StoredResponse
+    response_named named.Nothing = None
+    response_named (named.Stored number) = numbered number (stored_at (key_of stepped.pass) shared.cache)
+    response_named (named.Once stored) = Some stored
+
+-- the bytes from a position on, at most so many
+abbrev pub part_from : List ℕ → (from most : ℕ) → List ℕ
+part_from bytes from most = take most (drop from bytes)
+
+-- its content is at the front of the room, or there is none
+abbrev pub Copies : (from : ℕ) (old new : List ℕ) (written : ℕ) → Option StoredResponse
+    → Result (Unit {0}) Failure → Type 0
+Copies from old new written found (Ok one) =
+    IsSomeAnd found (λ stored. IsWritten (part_from stored.content.items from (length old)) done old new written done)
+Copies from old new written found (Err failure) = (failure ≡ Absent) × (found ≡ None)

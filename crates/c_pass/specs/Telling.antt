@@ -1,0 +1,55 @@
+-- What is told of a step.
+use Rattle.std.{specs.Prelude.{◌≡◌, ⊤, ℕ, Bool, List, [], bytes_eq, codes}, specs.Option.option_map_or}
+use Rattle.headers.specs.LineMap.{fields_of}
+use Rattle.cache_rules.specs.declared.conditions.StoredAnswer.{StoredAnswer}
+use Rattle.cache_rules.specs.declared.stored.StoredResponse.{StoredResponse}
+use Rattle.cache_store.specs.Numbers.{numbered}
+use Rattle.cache_pass.specs.declared.pass.Pass.{Pass}
+use Rattle.c_decisions.specs.FieldLines.{fields_text}
+use Rattle.c_pass.{specs.Sending.{part_sent, status_sent, text_sent}, specs.declared.outcome.By.By}
+use Rattle.c_pass.specs.declared.outcome.By.TheVariants.{Nothing, Fields, Stored, Once}
+use Rattle.c_pass.{specs.declared.outcome.Outcome.Outcome, specs.declared.telling.PassFacts.PassFacts}
+use Rattle.c_pass.specs.declared.telling.Told.{Told}
+
+-- the client asks by HEAD, so no content is sent
+abbrev pub is_head : Pass → Bool
+is_head pass = bytes_eq pass.method (codes "HEAD")
+
+abbrev pub facts_of : (action status : ℕ) → ℕ × ℕ → PassFacts
+facts_of action status part = record { first = part.0; count = part.1; status = status; action = action }
+
+-- these facts, and this text
+abbrev pub IsTold : Told → PassFacts × List ℕ → Type 0
+IsTold told is = (told.facts ≡ is.0) × (told.text.items ≡ is.1)
+
+-- what is told of a stored response that is sent
+abbrev pub told_of : ℕ → StoredResponse → StoredAnswer → Bool → ℕ → PassFacts × List ℕ
+told_of action stored answer head now =
+    (facts_of action (status_sent stored answer) (part_sent stored answer head), text_sent stored answer now)
+
+-- what is told of an outcome if no stored response is sent
+abbrev pub told_alone : ℕ → List ℕ → PassFacts × List ℕ
+told_alone action text = (facts_of action 0 (0, 0), text)
+
+module _ (responses : List StoredResponse) (head : Bool) (now action : ℕ) where
+  -- by what something is done; a response that a step names is stored
+  abbrev pub by_told : By → PassFacts × List ℕ
+  by_told Nothing = told_alone action []
+  by_told (Fields fields) = told_alone action (fields_text (fields_of fields.items))
+  by_told (Stored number answer) =
+      option_map_or (λ stored. told_of action stored answer head now) (numbered number responses) (told_alone action [])
+  by_told (Once stored answer) = told_of action stored answer head now
+
+-- what is told of an outcome, by what is stored under the target of the pass
+abbrev pub outcome_told : List StoredResponse → Bool → ℕ → Outcome → PassFacts × List ℕ
+outcome_told responses head now outcome = by_told responses head now outcome.action outcome.by
+
+-- fields are told, or those of a stored response
+abbrev pub TakesMemory : Outcome → Type 0
+TakesMemory outcome = TakesMemoryBy outcome.by
+  where
+    TakesMemoryBy : By → Type 0
+    TakesMemoryBy Nothing = ⊥
+    TakesMemoryBy (Fields fields) = ⊤
+    TakesMemoryBy (Stored number answer) = ⊤
+    TakesMemoryBy (Once stored answer) = ⊤
