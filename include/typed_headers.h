@@ -809,6 +809,45 @@ enum typed_headers_event {
     TYPED_HEADERS_ABORTED = 5
 };
 
+/* A service of the files below a folder, which opens none: a handle as the ones above. */
+struct typed_headers_files {
+    void *place;
+    bool is_open;
+};
+
+/* What there is at a path. Any other number stands for the last. */
+enum typed_headers_entry_kind {
+    /* Nothing, or what leads out of the folder: 404. */
+    TYPED_HEADERS_ENTRY_MISSING = 0,
+    /* A file, which the program has open. */
+    TYPED_HEADERS_ENTRY_FILE = 1,
+    /* A folder: 301, to the path with a slash after it. */
+    TYPED_HEADERS_ENTRY_FOLDER = 2,
+    /* What may not be read, or is neither: 403. */
+    TYPED_HEADERS_ENTRY_FORBIDDEN = 3,
+    /* What can't be read now: 503. */
+    TYPED_HEADERS_ENTRY_UNAVAILABLE = 4
+};
+
+/* What the program found at a path. The numbers count for a file alone: they are those that fstat gave once it was
+   open. */
+struct typed_headers_entry {
+    /* How many bytes it has. */
+    uint64_t length;
+    /* When it was last modified (`st_mtime`), in seconds since the start of 1970. A time from the year 10000 on isn't
+       told, nor is one before 1970, converted to this type. */
+    uint64_t modified;
+    /* Its device, and its number there (`st_dev`, `st_ino`). */
+    uint64_t device;
+    uint64_t inode;
+    /* When it last changed (`st_ctim`), in seconds and in nanoseconds of the last one. A file that changed in the last
+       two seconds has no entity tag. */
+    uint64_t changed;
+    uint64_t changed_nanosecond;
+    /* One of `typed_headers_entry_kind`. */
+    uint8_t kind;
+};
+
 /* ---- Written by tools/c_calls from calls.txt. ---- */
 
 /*
@@ -1628,6 +1667,55 @@ uint8_t typed_headers_pass_content(struct typed_headers_cache *cache, struct typ
 uint8_t typed_headers_pass_ended(struct typed_headers_cache *cache, struct typed_headers_pass *pass,
                                  const uint8_t *content, size_t content_length, bool is_complete, uint64_t now,
                                  uint64_t *number);
+
+/* ---- Files that the program opens, and a service that decides on them. Since 1.1. ---- */
+
+/* Closes a handle, and gives its memory back. It may be closed before, or null. The status is TYPED_HEADERS_DONE. */
+uint8_t typed_headers_files_free(struct typed_headers_files *files);
+
+/*
+ * Opens the handle of a service of files below a folder. It serves many connections, one call at a time.
+ * `cache_control` is what Cache-Control says of the answers that a cache may use again, 200, 206 and 304, or empty if
+ * they shall have none. `hosts` are the hosts that are served, in any case and at any port, or empty for all; a request
+ * for another one is answered by 421. With `negotiates` a client may get the precompressed copy of a file, by its
+ * Accept-Encoding. `boundary` stands between several parts of a response: take digits that nobody can foresee, so that
+ * no file can be made to hold them. Entity tags are hashed with the keys, so that they don't show what they are made
+ * of: take the same for all that serve the folder.
+ *
+ * Refused: the handle is open, `cache_control` is no field value, or the boundary is none (RFC 2046, section 5.1.1).
+ * Memory: the handle is closed.
+ */
+uint8_t typed_headers_files_new(struct typed_headers_files *files, const uint8_t *cache_control,
+                                size_t cache_control_length, const uint8_t *hosts, size_t hosts_length,
+                                bool negotiates, const uint8_t *boundary, size_t boundary_length,
+                                const struct typed_headers_keys *keys);
+
+/*
+ * The path to open next for the request that waits. `found` tells what it found at those before, in the order in which
+ * it was asked: at first there are none. The path is relative to the folder, and consists of names with a slash between
+ * each two. None is empty, none begins with a dot, but for `.well-known` as the first, and none has a NUL or a
+ * backslash. Open it so that no link leads out of the folder: by openat2 with RESOLVE_BENEATH.
+ *
+ * Absent: nothing is left to open, so call `typed_headers_files_plan`; or a handle is closed. Refused: no request
+ * waits. Memory: a request waits, and both handles are open.
+ */
+uint8_t typed_headers_files_path(struct typed_headers_files *files, struct typed_headers_connection *connection,
+                                 const struct typed_headers_entry *found, size_t found_length, uint8_t *room,
+                                 size_t room_length, size_t *written);
+
+/*
+ * Makes the plan of the response, by what the program found at the paths (RFC 9110). Then call
+ * `typed_headers_connection_respond`. `now` is the time in seconds since the start of 1970. With `is_last` the response
+ * says that the connection ends. `*source` is the place in `found` of the file that the response is about: the ranges
+ * of the plan are of this file, which stays open until they are sent. If it is about none, that is how many entries
+ * there are.
+ *
+ * Refused: no request waits, or `typed_headers_files_path` still gives a path. Absent: a handle is closed. Memory:
+ * nothing is rejected; the plan has no meaning then.
+ */
+uint8_t typed_headers_files_plan(struct typed_headers_files *files, struct typed_headers_connection *connection,
+                                 const struct typed_headers_entry *found, size_t found_length, uint64_t now,
+                                 bool is_last, size_t *source);
 
 /* ---- The end of what it writes. ---- */
 

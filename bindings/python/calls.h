@@ -21,6 +21,7 @@ union slot {
         struct typed_headers_transport_security transport_security;
         struct typed_headers_retry_time retry_time;
         struct typed_headers_stale_directives stale_directives;
+        struct typed_headers_entry entry;
         struct typed_headers_cache_directives cache_directives;
         struct typed_headers_cors_rules cors_rules;
         struct typed_headers_cache_extensions cache_extensions;
@@ -65,6 +66,9 @@ SHAPE(transport_security, MEMBER(transport_security, max_age, U64),
 SHAPE(retry_time, MEMBER(retry_time, seconds, U64), MEMBER(retry_time, is_date, U8))
 SHAPE(stale_directives, FLAGGED(stale_directives, while_revalidate, U64, has_while_revalidate),
       FLAGGED(stale_directives, if_error, U64, has_if_error))
+SHAPE(entry, MEMBER(entry, length, U64), MEMBER(entry, modified, U64), MEMBER(entry, device, U64),
+      MEMBER(entry, inode, U64), MEMBER(entry, changed, U64), MEMBER(entry, changed_nanosecond, U64),
+      MEMBER(entry, kind, U8))
 SHAPE(cache_directives, INNER(cache_directives, max_age, directive_seconds),
       INNER(cache_directives, max_stale, directive_seconds), INNER(cache_directives, min_fresh, directive_seconds),
       INNER(cache_directives, s_maxage, directive_seconds), MEMBER(cache_directives, no_cache, U8),
@@ -112,6 +116,7 @@ HANDLE(cors_policy)
 HANDLE(resource_handle)
 HANDLE(connection)
 HANDLE(pass)
+HANDLE(files)
 
 CALL(canonical, MAY(REFUSED) | MAY(TOO_LARGE) | MAY(MARKED) | MAY(NO_MEMORY), (TEXT_OF(at[0]), &keys, ROOM(at[1])),
      PLAIN(GIVEN_TEXT), PLAIN(ROOM_OF_BYTES))
@@ -344,6 +349,16 @@ CALL(pass_content, MAY(ABSENT), (at[0].handle.at, at[1].handle.at, at[2].size, R
 CALL(pass_ended, MAY(ABSENT) | MAY(NO_MEMORY), (at[0].handle.at, at[1].handle.at, TEXT_OF(at[2]), at[3].flag,
      at[4].u64, &at[5].u64), OF_HANDLE(OPENED, cache), OF_HANDLE(OPENED, pass), PLAIN(GIVEN_TEXT),
      OF_KIND(NUMBER, BOOL), OF_KIND(NUMBER, U64), OF_KIND(OUT_NUMBER, U64))
+CALL(files_free, 0, (at[0].handle.at), OF_HANDLE(OPENED, files))
+CALL(files_new, MAY(REFUSED) | MAY(NO_MEMORY), (at[0].handle.at, TEXT_OF(at[1]), TEXT_OF(at[2]), at[3].flag,
+     TEXT_OF(at[4]), &keys), OF_HANDLE(NEW, files), PLAIN(GIVEN_TEXT), PLAIN(GIVEN_TEXT), OF_KIND(NUMBER, BOOL),
+     PLAIN(GIVEN_TEXT))
+CALL(files_path, MAY(REFUSED) | MAY(ABSENT) | MAY(NO_MEMORY), (at[0].handle.at, at[1].handle.at, at[2].list.at,
+     at[2].list.length, ROOM(at[3])), OF_HANDLE(OPENED, files), OF_HANDLE(OPENED, connection),
+     OF_SHAPE(LIST_STRUCT, entry), PLAIN(ROOM_OF_BYTES))
+CALL(files_plan, MAY(REFUSED) | MAY(ABSENT) | MAY(NO_MEMORY), (at[0].handle.at, at[1].handle.at, at[2].list.at,
+     at[2].list.length, at[3].u64, at[4].flag, &at[5].size), OF_HANDLE(OPENED, files), OF_HANDLE(OPENED, connection),
+     OF_SHAPE(LIST_STRUCT, entry), OF_KIND(NUMBER, U64), OF_KIND(NUMBER, BOOL), OF_KIND(OUT_NUMBER, SIZE))
 
 enum { MOST_SLOTS = 10 };
 #define CALLS \
@@ -370,4 +385,4 @@ enum { MOST_SLOTS = 10 };
     METHOD(connection_respond), METHOD(connection_output), METHOD(connection_range), METHOD(connection_sent), \
     METHOD(connection_time_out), METHOD(connection_rejection), METHOD(connection_planned), METHOD(pass_free), \
     METHOD(pass_begin), METHOD(pass_came), METHOD(pass_failed), METHOD(pass_fields), METHOD(pass_content), \
-    METHOD(pass_ended)
+    METHOD(pass_ended), METHOD(files_free), METHOD(files_new), METHOD(files_path), METHOD(files_plan)

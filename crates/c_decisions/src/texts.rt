@@ -19,11 +19,7 @@ pub fn values_of(alloc: Global, text: &[u8]) -> Result<Vec<HeaderValue>, Failure
 }
 
 /// A request that has these field lines under the name, and no others.
-pub fn request_with(
-    alloc: Global,
-    name: &HeaderName,
-    lines: &[u8],
-) -> Result<HeaderMap, Failure>
+pub fn request_with(alloc: Global, name: &HeaderName, lines: &[u8]) -> Result<HeaderMap, Failure>
     ensures { IsFieldOf name.now lines.now result }
 {
     let values = values_of(alloc, lines)?;

@@ -9,6 +9,7 @@ mod connection;
 mod cors;
 mod field;
 mod fields;
+mod files;
 mod formats;
 mod gateway;
 mod giving;

@@ -13,7 +13,7 @@ use http::{Request, StatusCode};
 use server_connection::Plan as Response;
 use server_log::{log_line, rejection_line};
 use server_service::{
-    Coding, Entry, File, Kept, Listing, Opened, Source, Store, folder_of, media_type_of,
+    Coding, Entry, File, Kept, Listing, Opened, Reader, Source, Store, folder_of, media_type_at,
 };
 use std::alloc::{AllocError, Global};
 use std::io::{ErrorKind, Read, Write};
@@ -60,16 +60,6 @@ fn entry_of(error: &io::Error) -> Result<Entry, AllocError>
         ErrorKind::OutOfMemory => Err(AllocError),
         _ => Ok(Entry::Unavailable),
     }
-}
-
-// The media type of a file, by its extension in any case.
-fn media_type_at(alloc: Global, name: &str) -> Result<HeaderValue, AllocError> {
-    let mut extension = match name.rsplit_once('.') {
-        Some((_, extension)) => String::from_str(alloc, extension)?,
-        None => String::new(alloc),
-    };
-    extension.make_ascii_lowercase();
-    Ok(media_type_of(extension.as_str()))
 }
 
 // The tag of a file that isn't read whole: its stamp.
@@ -127,7 +117,7 @@ impl Folder<'_> {
             None
         };
         Ok(Opened {
-            file,
+            reader: Reader::System(file),
             len: stamp.len,
             tag,
         })

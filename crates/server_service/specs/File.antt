@@ -1,6 +1,7 @@
 -- What a file gives: its bytes, and its validators.
 use Rattle.std.specs.Prelude.{◌≡◌, ℕ, ◌+◌, ◌-◌, min, nat_le, Bool, false, if◌then◌else◌, List, [], ◌++◌, length, take}
-use Rattle.std.{specs.Prelude.{drop, Option, Some, None, Result, Ok, IsOkAnd, ⊤}, specs.Io.ReadsAtMost}
+use Rattle.std.{specs.Prelude.{drop, map, Option, Some, None, Result, Ok, IsOkAnd, ⊤}, specs.Io.ReadsAtMost}
+use Rattle.std.{specs.Char.to_ascii_lowercase, specs.Option.unwrap_or, specs.Path.path_extension}
 use Rattle.http_header.specs.FieldValue.{FieldValue, plain_value}
 use Rattle.server_connection.specs.Pieces.{Gives}
 use Rattle.decide_preconditions.{specs.Limits.usual_limits, specs.declared.content.Content.Content}
@@ -9,10 +10,15 @@ use Rattle.decide_preconditions.specs.declared.resource.Resource.{Resource}
 use Rattle.decide_preconditions.specs.declared.resource.Resource.TheVariants.{Current}
 use Rattle.decide_preconditions.specs.declared.resource.Validators.{Validators}
 use Rattle.decide_resource.specs.declared.representation.Representation.{Representation}
-use Rattle.server_files.{specs.Codings.{coding_name, is_encoded}, specs.Tags.{content_digest, strong_tag}}
+use Rattle.server_files.{specs.Codings.{coding_name, is_encoded}, specs.MediaTypes.media_type_of}
+use Rattle.server_files.specs.Tags.{content_digest, strong_tag}
 use Rattle.server_files.specs.declared.coding.Coding.{Coding}
 use Rattle.server_service.{specs.declared.file.File.File, specs.declared.source.Source.Source}
 use Rattle.server_service.specs.declared.source.Source.TheVariants.{Kept, Opened}
+
+-- the media type of the file at a path, by the extension of its name in any case
+abbrev pub media_type_at : List ℕ → List ℕ
+media_type_at path = media_type_of (map to_ascii_lowercase (unwrap_or (path_extension path) []))
 
 -- how many bytes there are; of an open file, how many there were when it was opened
 abbrev pub len_of : Source → ℕ

@@ -1,8 +1,22 @@
 //! What a store has at a path.
+ghost use Rattle.std.specs.Prelude.{◌≡◌, IfOk};
+ghost use Rattle.http_header.specs.FieldValue.{plain_value};
+ghost use Rattle.server_service.specs.File.{media_type_at};
 
 use crate::source::Source;
 use headers::{HeaderValue, LastModified};
-use server_files::{Coding, Listing};
+use server_files::{Coding, Listing, media_type_of};
+use std::alloc::{AllocError, Global};
+use std::path::Path;
+
+/// The media type of the file at a path, by the extension of its name in any case.
+pub fn media_type_at(alloc: Global, path: &str) -> Result<HeaderValue, AllocError>
+    ensures { IfOk result (λ value. value ≡ plain_value (media_type_at path.now)) }
+{
+    let extension = Path::new(path).extension().unwrap_or("");
+    let lower = extension.to_ascii_lowercase(alloc)?;
+    Ok(media_type_of(lower.as_str()))
+}
 
 /// A file's current content.
 #[derive(Debug, Drop)]

@@ -21,13 +21,13 @@ mod source;
 mod store;
 
 pub use crate::connection::serve_store;
-pub use crate::file::{Entry, File};
+pub use crate::file::{Entry, File, media_type_at};
 pub use crate::memory::Memory;
 pub use crate::service::FileService;
 pub use crate::settings::{Divider, Page, Settings, Site};
-pub use crate::source::{Opened, Source};
+pub use crate::source::{Opened, Reader, Source};
 pub use crate::store::Store;
 pub use server_files::{
-    Coding, Kept, Listing, ends_in_slash, folder_of, index_location, is_plain, media_type_of,
-    status_page, store_path,
+    Coding, Kept, Listing, ends_in_slash, folder_of, index_location, is_plain, status_page,
+    store_path,
 };

@@ -1,5 +1,5 @@
 //! Where the bytes of a file come from.
-ghost use Rattle.std.specs.Prelude.{◌≡◌, true};
+ghost use Rattle.std.{specs.Prelude.{◌≡◌, true}, specs.Io.ReadsAtMost};
 ghost use Rattle.server_service.{specs.File.{Reads, len_of, tag_of}, specs.Response.is_bare_tag};
 
 use headers::ETag;
@@ -7,11 +7,20 @@ use server_files::Kept;
 use std::os::unix::fs::FileExt;
 use std::{fs, io};
 
-/// A file that the system has open.
+/// Who reads an open file.
+#[derive(Debug, Drop)]
+pub enum Reader {
+    /// The service.
+    System(fs::File),
+    /// The caller, who has it under this number. The service reads nothing.
+    Caller(usize),
+}
+
+/// An open file.
 #[derive(Debug, Drop)]
 pub struct Opened {
-    /// Reads it.
-    pub file: fs::File,
+    /// Who reads it.
+    pub reader: Reader,
     /// How many bytes it had when it was opened.
     pub len: u64,
     /// Its entity tag. A strong one is for the caller to vouch for.
@@ -23,7 +32,7 @@ pub struct Opened {
 pub enum Source {
     /// Memory.
     Kept(Kept),
-    /// The system. It is read while it is sent.
+    /// An open file. It is read while it is sent.
     Opened(Opened),
 }
 
@@ -55,7 +64,18 @@ impl Source {
     {
         match self {
             Source::Kept(kept) => Ok(kept.read(start, buffer)),
-            Source::Opened(opened) => opened.file.read_at(buffer, start),
+            Source::Opened(opened) => opened.reader.read(start, buffer),
+        }
+    }
+}
+
+impl Reader {
+    fn read(&self, start: u64, buffer: &mut [u8]) -> io::Result<usize>
+        ensures { ReadsAtMost result buffer.new }
+    {
+        match self {
+            Reader::System(file) => file.read_at(buffer, start),
+            Reader::Caller(_) => Ok(0),
         }
     }
 }

@@ -253,14 +253,6 @@ pub struct Cache {
     pub is_open: bool,
 }
 
-/// The handle of a server connection. Zero bytes are a closed one.
-#[repr(C)]
-#[derive(Debug)]
-pub struct Connection {
-    pub place: *mut core::ffi::c_void,
-    pub is_open: bool,
-}
-
 /// The handle of a section. Zero bytes are a closed one.
 #[repr(C)]
 #[derive(Debug)]
@@ -299,6 +291,27 @@ pub struct Connection {
 pub struct Pass {
     pub place: *mut core::ffi::c_void,
     pub is_open: bool,
+}
+
+/// The handle of a service of files. Zero bytes are a closed one.
+#[repr(C)]
+#[derive(Debug)]
+pub struct Files {
+    pub place: *mut core::ffi::c_void,
+    pub is_open: bool,
+}
+
+/// What a program found at a path that a service of files told it.
+#[repr(C)]
+#[derive(Clone, Copy, Debug)]
+pub struct Entry {
+    pub length: u64,
+    pub modified: u64,
+    pub device: u64,
+    pub inode: u64,
+    pub changed: u64,
+    pub changed_nanosecond: u64,
+    pub kind: u8,
 }
 
 /// How much a cache stores, and for whom.
@@ -1048,5 +1061,35 @@ extern "C" {
         is_complete: bool,
         now: u64,
         number: *mut u64,
+    ) -> u8;
+    pub fn typed_headers_files_free(files: *mut Files) -> u8;
+    pub fn typed_headers_files_new(
+        files: *mut Files,
+        cache_control: *const u8,
+        cache_control_length: usize,
+        hosts: *const u8,
+        hosts_length: usize,
+        negotiates: bool,
+        boundary: *const u8,
+        boundary_length: usize,
+        keys: *const Keys,
+    ) -> u8;
+    pub fn typed_headers_files_path(
+        files: *mut Files,
+        connection: *mut Connection,
+        found: *const Entry,
+        found_length: usize,
+        room: *mut u8,
+        room_length: usize,
+        written: *mut usize,
+    ) -> u8;
+    pub fn typed_headers_files_plan(
+        files: *mut Files,
+        connection: *mut Connection,
+        found: *const Entry,
+        found_length: usize,
+        now: u64,
+        is_last: bool,
+        source: *mut usize,
     ) -> u8;
 }

@@ -1,0 +1,15 @@
+-- A handle may go to another thread.
+use denote.Struct.Struct.{exits_of}
+use denote.Struct.Owning.{shape, fields, to}
+use denote.Param.Send.{IsSend, AllSend, owning_send, struct_send, sendable}
+use Rattle.std_alloc.proofs.SendSync.{quiet}
+use Rattle.c_boxes.proofs.Crossing.{handle_keyless}
+use Rattle.c_files.specs.contracts.held.HeldFiles as HeldFiles
+use Rattle.c_files.proofs.held.HeldFiles.TheSendSync.{the_send as held}
+use Rattle.c_file_calls.specs.contracts.handle.Files.{the_row, the_type}
+
+pub send : IsSend the_row
+send =
+    let all : AllSend (fields the_type) = search sendable in
+    owning_send the_type all (λ d. handle_keyless HeldFiles.the_row held d.at d.held)
+    (λ k. quiet (to the_type) (exits_of k (fields the_type)) ((struct_send (shape the_type) all).leaving k))

@@ -1,0 +1,82 @@
+//! A service of a folder's files, behind a handle.
+ghost use Rattle.std.specs.Prelude.{◌≡◌, None};
+ghost use Rattle.c_parts.specs.Endings.{Gives, Writes, done};
+ghost use Rattle.c_file_calls.specs.Calls.{IsPathNext, Opens, Plans};
+ghost use Rattle.c_library.specs.CacheStore.{Ends};
+
+use crate::giving::give;
+use crate::store::ended;
+use c_connection::Connection;
+use c_file_calls::{Files, close, open, plan, write_path};
+use c_files::Facts;
+use c_parts::{DONE, HashKeys};
+use std::alloc::Global;
+
+/// Opens a closed handle with a service of files.
+#[unsafe(no_mangle)]
+pub extern "C" fn typed_headers_files_new(
+    alloc: Global,
+    files: &mut Files,
+    cache_control: &[u8],
+    hosts: &[u8],
+    negotiates: bool,
+    boundary: &[u8],
+    keys: &HashKeys,
+) -> u8
+    ensures { Ends (Opens cache_control.now hosts.now negotiates boundary.now keys.now files.old.held files.new.held)
+        result }
+{
+    ended(open(
+        alloc,
+        files,
+        cache_control,
+        hosts,
+        negotiates,
+        boundary,
+        keys,
+    ))
+}
+
+/// Closes a handle, and frees what it has.
+#[unsafe(no_mangle)]
+pub extern "C" fn typed_headers_files_free(alloc: Global, files: &mut Files) -> u8
+    ensures { (result ≡ 0) × (files.new.held ≡ None) }
+{
+    close(alloc, files);
+    DONE
+}
+
+/// Writes the path that is to be opened next for the request that waits.
+#[unsafe(no_mangle)]
+pub extern "C" fn typed_headers_files_path(
+    alloc: Global,
+    files: &mut Files,
+    connection: &mut Connection,
+    found: &[Facts],
+    room: &mut [u8],
+    written: &mut usize,
+) -> u8
+    ensures same_files { files.new.held ≡ files.old.held }
+    ensures same_connection { connection.new.held ≡ connection.old.held }
+    ensures path { Writes (λ bytes. bytes) (λ _. done) (IsPathNext found.now files.old.held connection.old.held)
+        room.old room.new written.old written.new result }
+{
+    write_path(alloc, files, connection, found, room, written)
+}
+
+/// Makes the plan of the response to the request that waits.
+#[unsafe(no_mangle)]
+pub extern "C" fn typed_headers_files_plan(
+    alloc: Global,
+    files: &mut Files,
+    connection: &mut Connection,
+    found: &[Facts],
+    now: u64,
+    is_last: bool,
+    source: &mut usize,
+) -> u8
+    ensures { Gives (Plans found.now now is_last files.old.held files.new.held connection.old.held connection.new.held)
+        source.old source.new result }
+{
+    give(plan(alloc, files, connection, found, now, is_last), source)
+}
