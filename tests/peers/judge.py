@@ -1,7 +1,7 @@
 """Runs the parts, and writes what they show into docs/measured/BESIDE_PEERS.md. `run` calls it, and says what is built and
 installed.
 
-    judge.py [--inputs N] [--seed N] [--jobs N] [--table FILE] WORK PART..
+    judge.py [--inputs N] [--passes N] [--seed N] [--jobs N] [--table FILE] WORK PART..
 
 A part's section of the table is replaced if all its peers are here. The last lines are one for each part; the status
 is 0 exactly if nothing was wrong.
@@ -42,6 +42,7 @@ def run_part(name: str, context: Context) -> Part:
 def main() -> int:
     words = argparse.ArgumentParser()
     words.add_argument("--inputs", type=int, default=100_000, help="how many inputs each model is given")
+    words.add_argument("--passes", type=int, default=1000, help="how many histories are of passes")
     words.add_argument("--seed", type=int, default=1)
     words.add_argument("--jobs", type=int, help="in how many processes histories are played")
     page = Path(__file__).resolve().parents[2] / "docs/measured/BESIDE_PEERS.md"
@@ -55,7 +56,7 @@ def main() -> int:
         work = given.work / name
         work.mkdir()
         work.chmod(0o755)
-        part = run_part(name, Context(work, given.inputs, given.seed, given.jobs))
+        part = run_part(name, Context(work, given.inputs, given.seed, given.jobs, given.passes))
         parts.append(part)
         for fault in part.faults:
             print(f"{name}: {fault}", flush=True)

@@ -37,9 +37,11 @@ def code(text: object) -> str:
 
 @dataclass
 class Context:
-    """Where a part works, what it is to ask, and in how many processes (`None`: as many as there are processors)."""
+    """Where a part works, what it is to ask, in how many processes (`None`: as many as there are processors), and how
+    many histories are of passes."""
 
     work: Path
     inputs: int
     seed: int
     jobs: int | None = None
+    passes: int = 1000

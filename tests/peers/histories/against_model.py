@@ -8,9 +8,11 @@ from pathlib import Path
 
 from common import products
 from common.comparison import Comparison
-from histories import generate
+from histories import generate, passes
 
 BATCH = 1000
+# The calls of a store, and the steps of passes.
+PLAYERS = {"calls": generate.history, "passes": passes.history}
 OTHERWISE = re.compile(r"(\S+):(\d+): .*: wanted (.*), given (.*)")
 
 
@@ -26,9 +28,9 @@ def given_answers(program: Path, text: str) -> dict[int, str]:
     return found
 
 
-def compare_batch(program: Path, seed: int, option: str, indices: range) -> Comparison:
+def compare_batch(program: Path, mode: str, seed: int, option: str, indices: range) -> Comparison:
     comparison = Comparison()
-    histories = [generate.history(seed, option, index) for index in indices]
+    histories = [PLAYERS[mode](seed, option, index) for index in indices]
     text = "".join(f"{line}\n" for history in histories for line in history.lines())
     otherwise = given_answers(program, text)
     number = 0
@@ -45,11 +47,12 @@ def compare_batch(program: Path, seed: int, option: str, indices: range) -> Comp
     return comparison
 
 
-def compare(seed: int, option: str, count: int, jobs: int | None) -> Comparison:
+def compare(mode: str, seed: int, option: str, count: int, jobs: int | None) -> Comparison:
     comparison = Comparison()
     program = products.program()
     batches = [range(first, min(first + BATCH, count)) for first in range(0, count, BATCH)]
     with ProcessPoolExecutor(jobs) as pool:
-        for found in pool.map(compare_batch, repeat(program), repeat(seed), repeat(option), batches):
+        for found in pool.map(compare_batch, repeat(program), repeat(mode), repeat(seed), repeat(option),
+                              batches):
             comparison.merge(found)
     return comparison

@@ -236,6 +236,28 @@ def updated(stored: Stored, update: Fields, requested: int, received: int) -> St
     return replace(stored, fields=with_date(fields, received), requested=requested, received=received)
 
 
+def is_for_cache(request: Request) -> bool:
+    """"A cache MUST NOT evaluate conditional header fields that only apply to an origin server" (section 4.3.2)."""
+    return (request.method in ("GET", "HEAD") and not lines_of(request.fields, "if-match")
+            and not lines_of(request.fields, "if-unmodified-since"))
+
+
+def answers(stored: Stored, request: Request, now: int, ranges: bool) -> set[str]:
+    """How a stored response may answer the client's conditions and ranges (section 4.3.2)."""
+    if not is_for_cache(request):
+        return {"forward"}
+    # Preconditions are about a 200 (RFC 9110, section 13.2.1).
+    if stored.status != 200:
+        return {"whole"}
+    tags = lines_of(stored.fields, "etag")
+    asked = conditional.Request(
+        request.method, request.fields, tags[0] if len(tags) == 1 else None, stored.modified(), len(stored.content),
+        False, now)
+    return {ANSWERS[status] + "".join(f" {first}-{last}" for first, last in parts)
+            for status, parts in (asked.wanted() if ranges else asked.permitted())
+            if ranges or status in (200, 304)}
+
+
 class Cache:
     """The stored responses by target, the most recently used target last. Those of a target are in the order in which
     they were stored."""
@@ -371,21 +393,7 @@ class Cache:
         """How the stored response at a place may answer the client's conditions and ranges (section 4.3.2)."""
         if place >= len(self.at(target)):
             return {"(none)"}
-        stored, fields = self.at(target)[place], request.fields
-        # "A cache MUST NOT evaluate conditional header fields that only apply to an origin server"
-        if (request.method not in ("GET", "HEAD") or lines_of(fields, "if-match")
-                or lines_of(fields, "if-unmodified-since")):
-            return {"forward"}
-        # Preconditions are about a 200 (RFC 9110, section 13.2.1).
-        if stored.status != 200:
-            return {"whole"}
-        tags = lines_of(stored.fields, "etag")
-        asked = conditional.Request(
-            request.method, fields, tags[0] if len(tags) == 1 else None, stored.modified(), len(stored.content), False,
-            now)
-        return {ANSWERS[status] + "".join(f" {first}-{last}" for first, last in parts)
-                for status, parts in (asked.wanted() if ranges else asked.permitted())
-                if ranges or status in (200, 304)}
+        return answers(self.at(target)[place], request, now, ranges)
 
     def invalidate(self, target: str, method: str, status: int) -> Answer:
         """Section 4.4."""

@@ -10,6 +10,10 @@ validates by 304 or HEAD, with strong, weak and no validators, and invalidates. 
 are small, so responses are evicted. Each answer is compared, and at the end all that is stored. A history ends with its
 first answer that is otherwise.
 """
+PASSES = """
+{total:,} more histories are of passes (`cache_pass`). Up to eight requests are open at a time, and their steps
+interleave: responses come late, in another order than they were asked for, cut short, or never; a PUT comes between.
+"""
 OPTIONS = """
 A cache has no [options](../../crates/cache_policy/README.md#options), or `immutable` (RFC 8246), or targeted fields (RFC 9213), or it may
 guess lifetimes by `lookup_guessing` (RFC 9111, section 4.2.2), or it has all of these. Its origin makes use of them.
@@ -18,18 +22,21 @@ guess lifetimes by `lookup_guessing` (RFC 9111, section 4.2.2), or it has all of
 
 def run(context: Context) -> Part:
     part = Part("A cache over time")
-    count = max(1, context.inputs // len(generate.OPTIONS))
-    found = {it: against_model.compare(context.seed, it, count, context.jobs) for it in generate.OPTIONS}
     every = Comparison()
-    for comparison in found.values():
-        every.merge(comparison)
-    total = count * len(found)
-    part.section += INTRODUCTION.strip().format(total=total).split("\n") + [""]
+    totals, table = {}, []
+    for mode, inputs in (("calls", context.inputs), ("passes", context.passes)):
+        count = max(1, inputs // len(generate.OPTIONS))
+        totals[mode] = count * len(generate.OPTIONS)
+        for option in generate.OPTIONS:
+            found = against_model.compare(mode, context.seed, option, count, context.jobs)
+            every.merge(found)
+            table.append([mode, option, count, found.agree.total() + found.differences, found.differences])
+    part.section += INTRODUCTION.strip().format(total=totals["calls"]).split("\n") + [""]
+    part.section += PASSES.strip().format(total=totals["passes"]).split("\n") + [""]
     part.section += OPTIONS.strip().split("\n") + [""]
-    part.table(["Options", "histories", "answers", "otherwise"],
-               [[option, count, it.agree.total() + it.differences, it.differences] for option, it in found.items()])
+    part.table(["Of", "Options", "histories", "answers", "otherwise"], table)
     part.section += ["The same answers by call:", ""]
     part.table(["Call", "as the model", "otherwise"], [it[:3] for it in every.rows()])
-    part.want(f"differences from the model in {total:,} histories", every.differences, 0)
+    part.want(f"differences from the model in {sum(totals.values()):,} histories", every.differences, 0)
     part.faults += every.faults()
     return part
