@@ -57,13 +57,14 @@ fn answer_by(
     let method = read_method(alloc, method)?;
     let authority = read_authority(alloc, target)?;
     let fields = read_map(alloc, section, keys)?;
+    let denied = None;
     let request = RequestHead {
         protocol,
         method: &method,
         authority: authority.as_ref(),
         content: content_of(parts),
         fields: &fields,
-        denied: None,
+        denied,
     };
     let answer = answer_request(alloc, resource, &request, parts.present)?;
     Ok(show_answer(alloc, &answer)?)
