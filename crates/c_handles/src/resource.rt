@@ -25,13 +25,14 @@ fn answer_of(
     let method = read_method(alloc, method)?;
     let authority = read_authority(alloc, target)?;
     let host = authority.as_ref();
+    let denied = None;
     let request = RequestHead {
         protocol,
         method: &method,
         authority: host,
         content: content_of(parts),
         fields,
-        denied: None,
+        denied,
     };
     let answer = answer_request(alloc, resource, &request, parts.present)?;
     Ok(show_answer(alloc, &answer)?)

@@ -1,0 +1,54 @@
+-- A pass that has begun, and for which memory ran out then.
+use Rattle.std.proofs.Common.{◌≡◌, ℕ, List, Option, Some, None, Ok, Err, inr, refl, subst, sym}
+use Rattle.cache_store.specs.History.Call.{Looked}
+use Rattle.cache_pass.specs.Effects.{Does, kept_of, settings_of}
+use Rattle.c_parts.specs.declared.status.Failure.TheVariants.{Memory}
+use Rattle.c_pass.{specs.Steps.{Begins, FailsBegin, IsBegun}, specs.declared.held.Shared.Shared}
+use Rattle.c_pass.{specs.declared.held.Stepped.Stepped, specs.declared.reading.CacheRequest.CacheRequest}
+use Rattle.c_pass.specs.declared.telling.PassFacts.{PassFacts}
+use Rattle.c_handles.{specs.Passes.{BeginsThrough, OnCache}, specs.declared.held.Held.Held}
+use Rattle.c_handles.specs.declared.held.Held.TheVariants as held
+
+-- its target was looked up
+pub lost_begin : (request : CacheRequest) (now : ℕ) (old new : Shared) (stepped : Stepped) (facts : PassFacts)
+    → IsBegun request now old new stepped facts → FailsBegin request now old new Memory
+lost_begin request now old new stepped facts begun =
+    inr (
+      refl,
+      inr
+          record {
+            does =
+                subst (λ (key : List ℕ). Does (settings_of old.cache) (Looked key) (kept_of old.cache) (kept_of new.cache))
+                begun.key begun.begun.does;
+            settings = begun.begun.settings;
+            keys = begun.keys;
+          },
+    )
+
+lost_in : (request : CacheRequest) (now : ℕ) (old new : Held) (stepped : Stepped) (facts : PassFacts)
+    → OnCache (Begins request now) (Some old) (Some new) (Ok (stepped, facts))
+    → BeginsThrough request now (Some old) (Some new) None None (Err Memory)
+lost_in request now (held.Cache shared) (held.Cache kept) stepped facts is =
+    lost_begin request now shared kept stepped facts is
+lost_in request now (held.Cache shared) (held.Section map) stepped facts is = is
+lost_in request now (held.Cache shared) (held.Policy policy) stepped facts is = is
+lost_in request now (held.Cache shared) (held.Resource resource) stepped facts is = is
+lost_in request now (held.Cache shared) (held.Pass passed) stepped facts is = is
+lost_in request now (held.Section map) new stepped facts is = absurd (cc is.0)
+lost_in request now (held.Policy policy) new stepped facts is = absurd (cc is.0)
+lost_in request now (held.Resource resource) new stepped facts is = absurd (cc is.0)
+lost_in request now (held.Pass passed) new stepped facts is = absurd (cc is.0)
+
+-- through the handles
+pub lost_through : (request : CacheRequest) (now : ℕ) (old new before after : Option Held) (had has : Held)
+    (stepped : Stepped) (facts : PassFacts)
+    → old ≡ Some had → new ≡ Some has → before ≡ None → after ≡ None
+    → OnCache (Begins request now) (Some had) (Some has) (Ok (stepped, facts))
+    → BeginsThrough request now old new before after (Err Memory)
+lost_through request now old new before after had has stepped facts old_is new_is before_is after_is is =
+    subst (λ (it : Option Held). BeginsThrough request now it new before after (Err Memory)) (sym old_is)
+    (subst (λ (it : Option Held). BeginsThrough request now (Some had) it before after (Err Memory)) (sym new_is)
+    (subst (λ (it : Option Held). BeginsThrough request now (Some had) (Some has) it after (Err Memory))
+    (sym before_is)
+    (subst (λ (it : Option Held). BeginsThrough request now (Some had) (Some has) None it (Err Memory)) (sym after_is)
+    (lost_in request now had has stepped facts is))))
