@@ -1,7 +1,7 @@
 -- Calls on handles.
-use Rattle.std.specs.Prelude.{◌≡◌, ◌⊎◌, ℕ, Bool, List, Option, Some, None, Result, Ok, Err}
+use Rattle.std.specs.Prelude.{◌≡◌, ℕ, Bool, List, Option, Some, None, Result, Ok, Err}
 use Rattle.c_parts.{specs.declared.keys.HashKeys.HashKeys, specs.declared.status.Failure.Failure}
-use Rattle.c_parts.specs.declared.status.Failure.TheVariants.{Refused, Memory, Absent}
+use Rattle.c_parts.specs.declared.status.Failure.TheVariants.{Refused, Absent}
 use Rattle.server_service.specs.declared.settings.Settings.{Settings}
 use Rattle.c_connection.specs.Plans.{KeepsConnection}
 use Rattle.c_connection.specs.declared.held.Held.{Held as HeldConnection}
