@@ -104,7 +104,7 @@ int main(void) {
     has(respond("GET / HTTP/1.1\r\nHost: a.example\r\n\r\n", "index.html ", all, 1), "HTTP/1.1 503 ");
     all[0] = file;
     has(respond("GET /x HTTP/1.1\r\nHost: b.example\r\n\r\n", "x x.br x.gz ", all, 3), "HTTP/1.1 421 ");
-    has(respond("PUT /x HTTP/1.1\r\nHost: a.example\r\n\r\n", "x x.br x.gz ", all, 3), "HTTP/1.1 405 ");
+    has(respond("PUT /x HTTP/1.1\r\nHost: a.example\r\n\r\n", "x x.br x.gz ", all, 3), "HTTP/1.1 501 ");
     /* Paths that name nothing below the folder, or what is hidden. */
     has(respond("GET /../x HTTP/1.1\r\nHost: a.example\r\n\r\n", "", NULL, 0), "HTTP/1.1 404 ");
     has(respond("GET /a/%2e%2e/x HTTP/1.1\r\nHost: a.example\r\n\r\n", "", NULL, 0), "HTTP/1.1 404 ");

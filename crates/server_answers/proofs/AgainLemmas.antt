@@ -16,12 +16,13 @@ use Rattle.decide_preconditions.specs.declared.resource.Resource.{Resource as Ta
 use Rattle.decide_preconditions.specs.declared.resource.Resource.TheVariants.{Current}
 use Rattle.decide_preconditions.specs.declared.resource.Validators.{Validators}
 use Rattle.decide_resource.{specs.Answers.{IsSelected, at_place, bare, place_in, target_of}, specs.Applies.applies}
-use Rattle.decide_resource.{specs.Applies.{host_named, is_own, is_unacceptable, rule_for}, specs.Reasons.IsFirst}
+use Rattle.decide_resource.specs.Applies.{host_named, is_missing, is_own, is_unacceptable, rule_for}
+use Rattle.decide_resource.{specs.Reasons.IsFirst, specs.declared.resource.MethodRule.MethodRule}
 use Rattle.decide_resource.specs.Representations.{are_unacceptable, joined, rank_by, score}
 use Rattle.decide_resource.specs.Requests.{Request as Asked}
 use Rattle.decide_resource.{specs.declared.reason.Reason.Reason, specs.declared.reason.Reason.TheVariants.InvalidHost}
 use Rattle.decide_resource.specs.declared.reason.Reason.TheVariants.{Misdirected, Preflight, Denied, UnmetExpectation}
-use Rattle.decide_resource.specs.declared.reason.Reason.TheVariants.{PartialContent}
+use Rattle.decide_resource.specs.declared.reason.Reason.TheVariants.{NotFound, PartialContent}
 use Rattle.decide_resource.specs.declared.reason.Reason.TheVariants.{UnsupportedMediaType, UnsupportedCoding}
 use Rattle.decide_resource.specs.declared.reason.Reason.TheVariants.{NotAcceptable, PreconditionRequired, Admitted}
 use Rattle.decide_resource.specs.declared.representation.Negotiation.{Negotiation}
@@ -47,6 +48,16 @@ reading protocol authority method fields =
       denied = None;
     }
 
+missing_as_get : (s : State) (rules : List MethodRule)
+    → is_missing s rules (rule_for rules (codes "HEAD")) (codes "HEAD")
+    ≡ is_missing s rules (rule_for rules (codes "GET")) (codes "GET")
+unfolding rule_for
+missing_as_get state.Absent rules = refl
+missing_as_get state.Server rules = refl
+missing_as_get state.Current rules = refl
+missing_as_get state.Gone rules = refl
+missing_as_get (state.Moved redirect location) rules = refl
+
 module _ (resource : Resource) (protocol : Protocol) (authority : Option Line) (fields : LineMap) where
   abbrev applies_to : List ℕ → Reason → Bool
   applies_to method = applies resource (reading protocol authority method fields)
@@ -55,6 +66,7 @@ module _ (resource : Resource) (protocol : Protocol) (authority : Option Line) (
   unfolding rule_for is_unacceptable
   head_as_get InvalidHost = refl
   head_as_get Preflight = refl
+  head_as_get NotFound = missing_as_get resource.state resource.rules.items
   head_as_get reason = refl
 
   read_as_get : (method : List ℕ) → IsGetOrHead method → (reason : Reason)
