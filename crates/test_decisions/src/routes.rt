@@ -47,6 +47,20 @@ fn plain_head<'a>(
     }
 }
 
+fn asked_by<'a>(
+    path: &'a str,
+    method: &'a Method,
+    fields: &'a HeaderMap,
+    denied: Option<&'a Denied>,
+) -> Asked<'a> {
+    let request = plain_head(method, fields, denied);
+    Asked {
+        path,
+        request,
+        present: PRESENT,
+    }
+}
+
 // `route PATH METHOD FIELDS`: the reason, the status or `(none)`, what is sent, and the fields, for a request of HTTP/1.1
 // without content by its path, among the routes of `resources.rt`.
 fn call_route(arguments: &mut Arguments<'_>, answer: &mut Answer) -> Result<(), Failure> {
@@ -68,23 +82,19 @@ fn denied_by(status: &str) -> Result<Denied, Failure> {
 // realm="a"`, by 403, by 429 for 120 seconds, or by 503.
 fn call_denied(arguments: &mut Arguments<'_>, answer: &mut Answer) -> Result<(), Failure> {
     let denied = denied_by(arguments.word()?)?;
-    answer_route(arguments, answer, Some(&denied))
+    answer_route(arguments, answer, Some(denied))
 }
 
 fn answer_route(
     arguments: &mut Arguments<'_>,
     answer: &mut Answer,
-    denied: Option<&Denied>,
+    denied: Option<Denied>,
 ) -> Result<(), Failure> {
     let alloc = arguments.alloc();
     let path = arguments.word()?;
     let method = method(arguments)?;
     let fields = arguments.map()?;
-    let asked = Asked {
-        path,
-        request: plain_head(&method, &fields, denied),
-        present: PRESENT,
-    };
+    let asked = asked_by(path, &method, &fields, denied.as_ref());
     let made = routes(alloc)?.answer_at(alloc, &asked, |name, _| resource_named(alloc, name))?;
     add_outcome(made, answer)
 }
