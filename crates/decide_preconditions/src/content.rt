@@ -2,6 +2,7 @@
 ghost use Rattle.std.specs.Prelude.{◌≡◌};
 ghost use Rattle.decide_preconditions.specs.Contents.{divisible_len, is_divisible, limits_of};
 
+use crate::boundary::Boundary;
 use crate::limits::RangeLimits;
 use headers::HeaderValue;
 
@@ -14,6 +15,17 @@ pub struct Content {
     pub media_type: Option<HeaderValue>,
     /// Which ranges are sent, if any. If the length isn't known, none are.
     pub ranges: Option<RangeLimits>,
+}
+
+/// What a server knows when it responds.
+#[derive(Clone, Copy)]
+pub struct Sending<'a> {
+    /// The time, in seconds since 1970.
+    pub present: u64,
+    /// The content of the current representation.
+    pub content: &'a Content,
+    /// The boundary between several parts of it.
+    pub boundary: &'a Boundary,
 }
 
 impl Content {

@@ -9,7 +9,7 @@ ghost use Rattle.decide_preconditions.specs.Fields.{fields_sent, IsSized, digest
 ghost use Rattle.decide_preconditions.{specs.Fields.{keeps_encoding, not_after, written}, specs.Contents.is_divisible};
 
 use crate::boundary::Boundary;
-use crate::content::Content;
+use crate::content::{Content, Sending};
 use crate::plan::Plan;
 use crate::resource::Resource;
 use headers::{
@@ -44,21 +44,24 @@ impl Plan {
     /// 15.4.5 and 15.5.17). They are ETag, Last-Modified, Accept-Ranges, Content-Range,
     /// Content-Length and Content-Type, and without field lines Content-Encoding, Content-Digest
     /// and Content-MD5 unless they stay. A client that knows the representation
-    /// isn't sent its date, its type and its coding again. Last-Modified isn't later than `present`
-    /// (section 8.8.2.1).
+    /// isn't sent its date, its type and its coding again. Last-Modified isn't later than
+    /// `sending.present` (section 8.8.2.1).
     pub(crate) fn fields(
         &self,
         alloc: Global,
-        present: u64,
         is_known: bool,
         resource: &Resource,
-        content: &Content,
-        boundary: &Boundary,
+        sending: &Sending<'_>,
     ) -> Result<Vec<Encoded>, AllocError>
         requires { IsSized self.now }
-        ensures { IfOk result (λ fields. fields_of fields.items
-            ≡ fields_sent present self.now is_known resource.now content.now boundary.now) }
+        ensures { IfOk result (λ fields. fields_of fields.items ≡ fields_sent sending.now.present self.now is_known
+            resource.now sending.now.content.now sending.now.boundary.now) }
     {
+        let Sending {
+            present,
+            content,
+            boundary,
+        } = *sending;
         let etag = self.etag(alloc, resource)?;
         let last_modified = self.last_modified(alloc, present, is_known, resource)?;
         let accept_ranges = self.accept_ranges(alloc, content)?;

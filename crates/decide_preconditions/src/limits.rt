@@ -15,6 +15,17 @@ pub struct RangeLimits {
     pub parts: u64,
 }
 
+/// What a server knows when it selects ranges.
+#[derive(Clone, Copy, Debug, PartialEq, Eq)]
+pub struct RangeFacts {
+    /// The time, in seconds since 1970.
+    pub present: u64,
+    /// The length of the current representation in bytes, or 0 if no ranges of it are sent.
+    pub len: u64,
+    /// Which ranges are sent.
+    pub limits: RangeLimits,
+}
+
 impl RangeLimits {
     /// Returns limits that suit most servers, so that no response is longer than twice the
     /// representation. The gap is 80 bytes, which is less than the cost of a part. A part costs 512

@@ -3,13 +3,13 @@ ghost use Rattle.std.specs.Prelude.{◌≡◌, IfOk, OnErr};
 ghost use Rattle.headers.specs.LineMap.{lines_at};
 ghost use Rattle.decide_preconditions.{specs.Plans.{IsPlanned, IsSentAs, ReadsSome}, specs.Fields.status_of};
 
-use crate::limits::RangeLimits;
+use crate::limits::RangeFacts;
 use crate::part::Part;
 use crate::precondition::{Precondition, evaluate, is_get_or_head};
+use crate::request::RequestHead;
 use crate::resource::Resource;
 use crate::selection::{Selection, select};
-use headers::HeaderMap;
-use http::{Method, StatusCode};
+use http::StatusCode;
 use std::alloc::{AllocError, Global};
 
 /// What the response to a request for a representation has: its status, and which parts are sent.
@@ -46,30 +46,28 @@ impl Plan {
 }
 
 /// Decides the response to a request by its preconditions and its ranges (RFC 9110, sections 13.2.2
-/// and 14.2). `present` is the time, in seconds since 1970. Ranges are taken of `len` bytes: the
-/// length of the current representation, or 0 if the server sends no ranges of it.
+/// and 14.2).
 ///
 /// `Ok(None)` if the preconditions let a request pass that isn't a GET or a HEAD of a current
 /// representation: the server performs its method, and answers as it does without preconditions.
 /// The call can run out of memory only if Range asks for some byte.
 pub fn plan_answer(
     alloc: Global,
-    method: &Method,
-    request: &HeaderMap,
+    request: &RequestHead<'_>,
     resource: &Resource,
-    present: u64,
-    len: u64,
-    limits: &RangeLimits,
+    facts: &RangeFacts,
 ) -> Result<Option<Plan>, AllocError>
-    ensures plan { IfOk result (IsPlanned present method.now (lines_at request.now) resource.now len limits.now) }
-    ensures memory { OnErr result (ReadsSome present method.now (lines_at request.now) resource.now len limits.now) }
+    ensures plan { IfOk result (IsPlanned facts.now.present request.now.method.now (lines_at request.now.fields.now)
+        resource.now facts.now.len facts.now.limits) }
+    ensures memory { OnErr result (ReadsSome facts.now.present request.now.method.now
+        (lines_at request.now.fields.now) resource.now facts.now.len facts.now.limits) }
 {
-    match evaluate(method, request, resource, present) {
+    match evaluate(request, resource, facts.present) {
         Precondition::Failed => Ok(Some(Plan::Failed)),
         Precondition::NotModified => Ok(Some(Plan::NotModified)),
         Precondition::Perform => match resource {
-            Resource::Current(current) if is_get_or_head(method) => {
-                let selection = select(alloc, method, request, current, present, len, limits)?;
+            Resource::Current(current) if is_get_or_head(request.method) => {
+                let selection = select(alloc, request, current, facts)?;
                 Ok(Some(sent_as(selection)))
             }
             _ => Ok(None),

@@ -7,6 +7,7 @@ ghost use Rattle.decide_preconditions.specs.Preconditions.{Answers, AreIgnored, 
 ghost use Rattle.decide_preconditions.specs.Preconditions.{IsStoredByTag, IsUnconditional, MayBeThere, ReadsMissing};
 ghost use Rattle.decide_preconditions.specs.Preconditions.{StateIsKept, StateIsLost, StepsAnswer};
 
+use crate::request::RequestHead;
 use crate::resource::Resource;
 use crate::tags::{Comparison, may_name, names, only_text};
 use headers::{HeaderMap, HeaderValue};
@@ -36,18 +37,13 @@ pub enum Precondition {
 /// HEAD of a resource without representation, which is answered by 404. A malformed
 /// If-Match is false. A malformed If-None-Match is true for GET and HEAD, so the representation is
 /// sent; for other methods it is false if there is a representation.
-pub fn evaluate(
-    method: &Method,
-    request: &HeaderMap,
-    resource: &Resource,
-    present: u64,
-) -> Precondition
-    ensures { Answers present (lines_at request.now) resource.now method.now result }
+pub fn evaluate(request: &RequestHead<'_>, resource: &Resource, present: u64) -> Precondition
+    ensures { Answers present (lines_at request.now.fields.now) resource.now request.now.method.now result }
 {
-    if are_ignored(method, resource) {
+    if are_ignored(request.method, resource) {
         return Precondition::Perform;
     }
-    evaluate_steps(method, request, resource, present)
+    evaluate_steps(request, resource, present)
 }
 
 // Whether preconditions don't count for a method of a resource.
@@ -75,24 +71,19 @@ fn is_unconditional(method: &Method) -> bool
 }
 
 // What the steps come to.
-fn evaluate_steps(
-    method: &Method,
-    request: &HeaderMap,
-    resource: &Resource,
-    present: u64,
-) -> Precondition
-    ensures { StepsAnswer present (lines_at request.now) resource.now method.now result }
+fn evaluate_steps(request: &RequestHead<'_>, resource: &Resource, present: u64) -> Precondition
+    ensures { StepsAnswer present (lines_at request.now.fields.now) resource.now request.now.method.now result }
 {
-    if !is_state_kept(request, resource, present) {
+    if !is_state_kept(request.fields, resource, present) {
         return Precondition::Failed;
     }
-    if is_get_or_head(method) {
-        if is_stored(request, resource, present) {
+    if is_get_or_head(request.method) {
+        if is_stored(request.fields, resource, present) {
             return Precondition::NotModified;
         }
         return Precondition::Perform;
     }
-    if may_be_there(request, resource) {
+    if may_be_there(request.fields, resource) {
         return Precondition::Failed;
     }
     Precondition::Perform

@@ -3,12 +3,13 @@ ghost use Rattle.std.specs.Prelude.{◌≡◌, IfOk, OnErr};
 ghost use Rattle.headers.specs.LineMap.{lines_at};
 ghost use Rattle.decide_preconditions.{specs.Fields.is_known_by, specs.Responses.{IsAnswered, IsPlannedAtAll}};
 
-use crate::boundary::Boundary;
-use crate::content::Content;
+use crate::content::Sending;
+use crate::limits::RangeFacts;
 use crate::plan::{Plan, plan_answer};
+use crate::request::RequestHead;
 use crate::resource::Resource;
 use headers::{Encoded, HeaderMap};
-use http::{Method, StatusCode};
+use http::StatusCode;
 use http_header::IF_RANGE;
 use rfc_fields::has_line;
 use std::alloc::{AllocError, Global};
@@ -29,11 +30,10 @@ pub struct Response {
 
 /// Responds to a GET or HEAD of a current representation, by its preconditions and ranges, and to
 /// any request whose preconditions are false (RFC 9110, sections 13.2.2 and 14.2). A HEAD is
-/// answered like a GET without `Range`, except for the content. `present` is the time, in seconds
-/// since 1970.
+/// answered like a GET without `Range`, except for the content.
 ///
 /// The fields are those that RFC 9110 requires (sections 14.3, 14.4, 15.3.7, 15.4.5 and 15.5.17).
-/// Last-Modified is `present` if the modification date is later (section 8.8.2.1).
+/// Last-Modified is `sending.present` if the modification date is later (section 8.8.2.1).
 /// After `set_all`, each of the six has exactly its own field lines, whatever the map had.
 /// Content-Encoding stays on a 200, and on a 206 with one part unless the request has If-Range;
 /// Content-Digest and Content-MD5 stay on a 200. All other fields stay.
@@ -43,30 +43,27 @@ pub struct Response {
 /// The call fails only if an allocation fails, and never if the result is `None`.
 pub fn respond(
     alloc: Global,
-    method: &Method,
-    request: &HeaderMap,
+    request: &RequestHead<'_>,
     resource: &Resource,
-    present: u64,
-    content: &Content,
-    boundary: &Boundary,
+    sending: &Sending<'_>,
 ) -> Result<Option<Response>, AllocError>
-    ensures answer { IfOk result
-        (IsAnswered present method.now (lines_at request.now) resource.now content.now boundary.now) }
-    ensures memory { OnErr result (IsPlannedAtAll present method.now (lines_at request.now) resource.now content.now) }
+    ensures answer { IfOk result (IsAnswered sending.now.present request.now.method.now
+        (lines_at request.now.fields.now) resource.now sending.now.content.now sending.now.boundary.now) }
+    ensures memory { OnErr result (IsPlannedAtAll sending.now.present request.now.method.now
+        (lines_at request.now.fields.now) resource.now sending.now.content.now) }
 {
-    let len = content.divisible_len();
-    let limits = content.limits();
-    let Some(plan) = plan_answer(alloc, method, request, resource, present, len, &limits)? else {
+    let len = sending.content.divisible_len();
+    let limits = sending.content.limits();
+    let facts = RangeFacts {
+        present: sending.present,
+        len,
+        limits,
+    };
+    let Some(plan) = plan_answer(alloc, request, resource, &facts)? else {
         return Ok(None);
     };
-    let fields = plan.fields(
-        alloc,
-        present,
-        is_known_by(request),
-        resource,
-        content,
-        boundary,
-    )?;
+    let is_known = is_known_by(request.fields);
+    let fields = plan.fields(alloc, is_known, resource, sending)?;
     Ok(Some(Response {
         status: plan.status(),
         plan,

@@ -7,9 +7,10 @@ ghost use Rattle.decide_preconditions.{specs.Limits.are_too_many, specs.Parts.{A
 ghost use Rattle.decide_preconditions.specs.Selection.{has_bytes_unit, if_range_lets, is_exactly, is_modified_at};
 ghost use Rattle.decide_preconditions.specs.Selection.{range_set_of, set_asked, Applies, AsksForSome, IsAsked, Selects};
 
-use crate::limits::RangeLimits;
+use crate::limits::{RangeFacts, RangeLimits};
 use crate::part::{Part, coalesce};
 use crate::range_set::{is_range_set, is_unsatisfiable, parts_in};
+use crate::request::RequestHead;
 use crate::resource::Validators;
 use crate::tags::{Comparison, is_tag, is_tag_of, only_text};
 use headers::HeaderMap;
@@ -32,32 +33,35 @@ pub enum Selection {
 }
 
 /// Selects the part of a representation that a request asks for in `Range` and `If-Range` (RFC
-/// 9110, sections 13.2.2, step 5, and 14.2). The representation has `len` bytes. A server calls
-/// this when `evaluate` returns `Perform`. `present` is the time, in seconds since 1970.
+/// 9110, sections 13.2.2, step 5, and 14.2). A server calls this when `evaluate` returns `Perform`.
 ///
 /// `Range` is ignored unless the method is GET, the field has one line, its unit is bytes, each of
 /// its ranges is valid, the representation has content, `If-Range` is absent or true, and the parts
 /// are within the limits. The call can run out of memory only if Range asks for some byte.
 pub fn select(
     alloc: Global,
-    method: &Method,
-    request: &HeaderMap,
+    request: &RequestHead<'_>,
     current: &Validators,
-    present: u64,
-    len: u64,
-    limits: &RangeLimits,
+    facts: &RangeFacts,
 ) -> Result<Selection, AllocError>
-    ensures selects { IfOk result (Selects present method.now (lines_at request.now) current.now len limits.now) }
-    ensures memory { OnErr result (AsksForSome present method.now (lines_at request.now) current.now len limits.now) }
+    ensures selects { IfOk result (Selects facts.now.present request.now.method.now (lines_at request.now.fields.now)
+        current.now facts.now.len facts.now.limits) }
+    ensures memory { OnErr result (AsksForSome facts.now.present request.now.method.now
+        (lines_at request.now.fields.now) current.now facts.now.len facts.now.limits) }
 {
-    let Some(set) = applying_set(method, request, current, present, len) else {
+    let RangeFacts {
+        present,
+        len,
+        limits,
+    } = *facts;
+    let Some(set) = applying_set(request, current, present, len) else {
         return Ok(Selection::Whole);
     };
     if is_unsatisfiable(len, set) {
         return Ok(Selection::Unsatisfiable);
     }
     let parts = parts_asked(alloc, set, len, limits.gap)?;
-    if are_too_many(limits, len, parts.as_slice()) {
+    if are_too_many(&limits, len, parts.as_slice()) {
         return Ok(Selection::Whole);
     }
     Ok(Selection::Parts(parts))
@@ -81,20 +85,21 @@ fn is_product_above(limit: u64, count: u64, size: u64) -> bool
 
 // The range-set of Range, if it applies to the request.
 fn applying_set<'a>(
-    method: &Method,
-    request: &'a HeaderMap,
+    request: &RequestHead<'a>,
     current: &Validators,
     present: u64,
     len: u64,
 ) -> Option<&'a [u8]>
     ensures { MatchOption result
-        ((set : List ℕ) → ¬ (Applies present method.now (lines_at request.now) current.now len set))
-        (λ set. Applies present method.now (lines_at request.now) current.now len set.now) }
+        ((set : List ℕ) → ¬ (Applies present request.now.method.now (lines_at request.now.fields.now) current.now
+        len set))
+        (λ set. Applies present request.now.method.now (lines_at request.now.fields.now) current.now len set.now) }
 {
-    if *method != Method::GET || len == 0 || !if_range_lets(request, current, present) {
+    let RequestHead { method, fields } = *request;
+    if *method != Method::GET || len == 0 || !if_range_lets(fields, current, present) {
         return None;
     }
-    set_asked(request)
+    set_asked(fields)
 }
 
 // The range-set of the only line of Range, if its unit is bytes and it is valid.

@@ -6,18 +6,20 @@ use Rattle.decide_preconditions.proofs.response.respond.Goals as goal
 
 pub fields-requires : goal.fields-requires
 fields-requires c =
-    sized-from_plan c.args.present c.args.method.now (lines_at c.args.request.now) c.args.resource.now
-    c.divisible_len-len.result c.limits-limits.result c.in-Some.plan (rw c.in-Some.is at c.in_ok-plan.ensures.plan)
-    (search rules)
+    sized-from_plan c.args.sending.now.present c.args.request.now.method.now
+    (lines_at c.args.request.now.fields.now) c.args.resource.now c.divisible_len-len.result c.limits-limits.result
+    c.in-Some.plan (rw c.in-Some.is at c.in_ok-plan.ensures.plan) (search rules)
 
 pub returns-in_err-fields-clause-memory : goal.returns-in_err-fields-clause-memory
 returns-in_err-fields-clause-memory c =
     let planned = rw c.in-Some.is at c.in_ok-plan.ensures.plan in
-    let own : IsPlan c.args.present c.args.method.now (lines_at c.args.request.now) c.args.resource.now
-    (divisible_len c.args.content.now) (limits_of c.args.content.now) c.in-Some.plan =
+    let content = c.args.sending.now.content.now in
+    let own : IsPlan c.args.sending.now.present c.args.request.now.method.now
+    (lines_at c.args.request.now.fields.now) c.args.resource.now (divisible_len content) (limits_of content)
+    c.in-Some.plan =
     rw (c.divisible_len-len.ensures, c.limits-limits.ensures) at planned in
-    let some : IsPlannedAtAll c.args.present c.args.method.now (lines_at c.args.request.now) c.args.resource.now
-    c.args.content.now = inl (c.in-Some.plan, own) in
+    let some : IsPlannedAtAll c.args.sending.now.present c.args.request.now.method.now
+    (lines_at c.args.request.now.fields.now) c.args.resource.now content = inl (c.in-Some.plan, own) in
     search (rules, some)
 
 pub returns-clause-answer : goal.returns-clause-answer
@@ -26,5 +28,5 @@ returns-clause-answer c =
     record {
       plan = rw (c.divisible_len-len.ensures, c.limits-limits.ensures) at planned;
       status = c.status.ensures;
-      fields = rw c.is_known_by.ensures at c.in_ok-fields.ensures;
+      fields = rw c.is_known_by-is_known.ensures at c.in_ok-fields.ensures;
     }

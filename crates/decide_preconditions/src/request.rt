@@ -1,0 +1,13 @@
+//! Requests.
+
+use headers::HeaderMap;
+use http::Method;
+
+/// The head of a request: its method and its fields.
+#[derive(Clone, Copy)]
+pub struct RequestHead<'a> {
+    /// The method.
+    pub method: &'a Method,
+    /// The fields.
+    pub fields: &'a HeaderMap,
+}
