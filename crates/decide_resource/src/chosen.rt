@@ -9,7 +9,7 @@ ghost use Rattle.decide_resource.specs.Requests.{request_of};
 use crate::representation::{Representation, preferred};
 use crate::request::RequestHead;
 use crate::resource::{Resource, State};
-use decide_preconditions::{Content, Resource as Target, Response, Validators, respond};
+use decide_preconditions::{Content, Resource as Target, Response, Sending, Validators, respond};
 use headers::HeaderMap;
 use std::alloc::{AllocError, Global};
 
@@ -103,7 +103,11 @@ pub(crate) fn responded(
         (target_of resource.now.state (option_copied representation.entry))
         (content_of (option_copied representation.entry)) resource.now.boundary) }
 {
-    let (method, fields, boundary) = (request.method, request.fields, &resource.boundary);
+    let boundary = &resource.boundary;
+    let head = decide_preconditions::RequestHead {
+        method: request.method,
+        fields: request.fields,
+    };
     match representation {
         Some(
             Representation {
@@ -113,16 +117,25 @@ pub(crate) fn responded(
             },
         ) => {
             let current = current_of(alloc, validators)?;
-            respond(alloc, method, fields, &current, present, content, boundary)
+            let sending = Sending {
+                present,
+                content,
+                boundary,
+            };
+            respond(alloc, &head, &current, &sending)
         }
         None => {
-            let current = bare(&resource.state);
             let content = Content {
                 len: None,
                 media_type: None,
                 ranges: None,
             };
-            respond(alloc, method, fields, &current, present, &content, boundary)
+            let sending = Sending {
+                present,
+                content: &content,
+                boundary,
+            };
+            respond(alloc, &head, &bare(&resource.state), &sending)
         }
     }
 }
