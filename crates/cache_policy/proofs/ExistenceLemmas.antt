@@ -5,9 +5,10 @@ use Rattle.http.specs.Method.{is_among, safe_methods}
 use Rattle.http_header.specs.Token.{IsToken, is_token_byte}
 use Rattle.headers.{specs.LineMap.LineMap, specs.Lines.Line}
 use Rattle.rfc_fields.{specs.Members.field_members, specs.Scan.Member, specs.Scan.Member.{Whole, Malformed}}
+use Rattle.decide_preconditions.specs.Preconditions.{IsGetOrHead}
 use Rattle.cache_policy.specs.Decisions.{Answers, AnswersUnstored, Decides, DecidesBy, IsFresh, IsGoodEnough}
 use Rattle.cache_policy.specs.Decisions.{IsServable, MayServeMeanwhile, MayServeOnError, MayServeStale, MustBeFresh}
-use Rattle.cache_policy.{specs.Decisions.{freshness_at, staleness}, specs.Requests.{AllowsMethod, IsGetOrHead, IsSafe}}
+use Rattle.cache_policy.{specs.Decisions.{freshness_at, staleness}, specs.Requests.{AllowsMethod, IsSafe}}
 use Rattle.cache_policy.{specs.Requests.Request, specs.Varying.{Agree, AreSame, HaveSameMembers, SayTheSame, Suits}}
 use Rattle.cache_policy.{specs.declared.decision.Decision.Decision, specs.declared.decision.Freshness.Freshness}
 use Rattle.cache_policy.specs.declared.decision.Decision.TheVariants.{Serve, ServeAndRevalidate, ServeStale, Revalidate}

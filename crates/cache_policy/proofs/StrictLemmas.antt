@@ -3,7 +3,8 @@ use Rattle.std.proofs.Common.{◌≡◌, ℕ, true, false, List, Option, Some, N
 use Rattle.std.specs.Prelude.{◌⊎◌}
 use Rattle.headers.specs.LineMap.{LineMap}
 use Rattle.cache_policy.specs.Decisions.{Answers, AnswersUnstored, DecidesBy, MayComeFromStore}
-use Rattle.cache_policy.{specs.Requests.{AllowsMethod, IsGetOrHead, IsSafe, Request}, specs.Storing.IsStorable}
+use Rattle.decide_preconditions.specs.Preconditions.{IsGetOrHead}
+use Rattle.cache_policy.{specs.Requests.{AllowsMethod, IsSafe, Request}, specs.Storing.IsStorable}
 use Rattle.cache_policy.{specs.Storing.MayStore, specs.declared.decision.Decision.Decision}
 use Rattle.cache_policy.specs.declared.decision.Freshness.{Freshness}
 use Rattle.cache_policy.specs.declared.decision.Decision.TheVariants.{Serve, ServeAndRevalidate, ServeStale, Revalidate}

@@ -2,7 +2,7 @@
 use Rattle.std.specs.Prelude.{◌≡◌, ◌⊎◌, ℕ, List, IsTrue, codes}
 use Rattle.http.specs.Method.{is_among, safe_methods}
 use Rattle.headers.specs.LineMap.{LineMap, lines_at}
-use Rattle.cache_policy.specs.declared.request.RequestHead.{RequestHead}
+use Rattle.decide_preconditions.{specs.Preconditions.IsGetOrHead, specs.declared.request.RequestHead.RequestHead}
 
 -- the method and the fields of a request
 pub record Request : Type 0 where
@@ -11,10 +11,6 @@ pub record Request : Type 0 where
 
 abbrev pub request_of : RequestHead → Request
 request_of request = record { method = request.method.now; fields = lines_at request.fields.now }
-
--- the methods whose responses are stored
-abbrev pub IsGetOrHead : List ℕ → Type 0
-IsGetOrHead method = (method ≡ codes "GET") ⊎ (method ≡ codes "HEAD")
 
 -- the method is safe (RFC 9110, section 9.2.1)
 abbrev pub IsSafe : List ℕ → Type 0

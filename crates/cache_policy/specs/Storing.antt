@@ -5,7 +5,8 @@ use Rattle.cache_fields.specs.{Directives.directed, Fields.IsPresent, declared.d
 use Rattle.cache_fields.specs.{declared.governing.Governing.Governing, declared.kind.Kind.Kind}
 use Rattle.cache_fields.specs.Freshness.{HasExpires, IsHeuristic, by_itself}
 use Rattle.cache_fields.specs.declared.kind.Kind.TheVariants.{Shared, Private}
-use Rattle.cache_policy.specs.Requests.{IsGetOrHead, Request}
+use Rattle.decide_preconditions.specs.Preconditions.{IsGetOrHead}
+use Rattle.cache_policy.specs.Requests.{Request}
 
 -- The status is final, the response is no part of another one, and the cache understands the status if
 -- `must-understand` is there. It understands those that are heuristically cacheable.

@@ -1,19 +1,15 @@
 -- How the origin is asked whether a stored response is still good (RFC 9111, section 4.3.1).
-use Rattle.std.specs.Prelude.{◌≡◌, ◌≢◌, ◌⊎◌, ℕ, List, [], ◌∷◌, ◌-◌, ◌&&◌, Option, Some, None, codes, option_and_then}
+use Rattle.std.specs.Prelude.{◌≡◌, ◌≢◌, ◌⊎◌, ℕ, List, [], ◌∷◌, ◌-◌, ◌&&◌, Option, codes, option_and_then}
 use Rattle.std.specs.Prelude.{option_map, nat_le, nat_lt, if◌then◌else◌}
 use Rattle.headers.specs.{Date.fixdate, LineMap.Field, LineMap.LineMap, Lines.Line, Lines.only_line, Shapes.only_tag}
 use Rattle.headers.specs.{Text.trim, Typed.ReadsNothing}
 use Rattle.rfc_dates.specs.{Calendar.unix_epoch, Date.timestamp}
-
--- one field line of a value, or none
-abbrev pub lines_of_option : {V : Type 0} → (V → Line) → Option V → List Line
-lines_of_option text None = []
-lines_of_option text (Some value) = text value ∷ []
+use Rattle.decide_preconditions.specs.Fields.{lines_sent}
 
 -- the entity tag of a response, if ETag is one
 abbrev pub tag_lines : LineMap → List Line
 tag_lines response =
-    lines_of_option (λ (tag : Line). tag) ((only_tag {V = Line} (λ tag. tag)).value_of (response (codes "etag")))
+    lines_sent (λ (tag : Line). tag) ((only_tag {V = Line} (λ tag. tag)).value_of (response (codes "etag")))
 
 -- the only field line of Last-Modified with the date that it is, if it is one (RFC 9110, section 5.6.7)
 abbrev pub dated_line : ℕ → LineMap → Option (Line × ℕ)
@@ -29,7 +25,7 @@ sent_date line second =
 
 abbrev pub since_lines : ℕ → LineMap → List Line
 since_lines received response =
-    lines_of_option (λ (dated : Line × ℕ). sent_date dated.0 dated.1) (dated_line received response)
+    lines_sent (λ (dated : Line × ℕ). sent_date dated.0 dated.1) (dated_line received response)
 
 -- The fields by which a request validates a response: If-None-Match has its entity tag, and If-Modified-Since the
 -- date of its Last-Modified. A validator that the response doesn't have isn't sent, nor is the request's own field.

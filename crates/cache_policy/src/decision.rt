@@ -9,9 +9,10 @@ ghost use Rattle.cache_policy.specs.Requests.{request_of};
 ghost use Rattle.cache_fields.specs.Directives.{directed};
 
 use crate::policy::Policy;
-use crate::request::{RequestHead, is_safe};
+use crate::request::is_safe;
 use crate::vary::matches;
 use cache_fields::{Directives, Kind, Times, current_age, lifetime_by, read_directives};
+use decide_preconditions::RequestHead;
 use headers::HeaderMap;
 
 /// What a cache does with a request that a stored response may answer.

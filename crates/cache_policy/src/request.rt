@@ -1,25 +1,9 @@
-//! Requests.
+//! The methods of requests.
 ghost use Rattle.std.specs.Bool.{MatchBool};
-ghost use Rattle.cache_policy.specs.Requests.{AllowsMethod, IsGetOrHead, IsSafe};
+ghost use Rattle.cache_policy.specs.Requests.{AllowsMethod, IsSafe};
 
-use headers::HeaderMap;
+use decide_preconditions::is_get_or_head;
 use http::Method;
-
-/// A request as a cache sees it: its method and its fields.
-#[derive(Clone, Copy)]
-pub struct RequestHead<'a> {
-    /// The method.
-    pub method: &'a Method,
-    /// The fields.
-    pub fields: &'a HeaderMap,
-}
-
-// Whether the method is one whose responses are stored.
-pub(crate) fn is_get_or_head(method: &Method) -> bool
-    ensures { MatchBool result (IsGetOrHead method.now) (¬ (IsGetOrHead method.now)) }
-{
-    *method == Method::GET || *method == Method::HEAD
-}
 
 // Whether a response to the stored method may answer a request with the other one.
 pub(crate) fn allows_method(stored: &Method, method: &Method) -> bool

@@ -6,8 +6,8 @@ ghost use Rattle.cache_policy.specs.{Policies.MayStoreUnder, Policies.policy_of,
 ghost use Rattle.cache_fields.specs.Directives.{directed};
 
 use crate::policy::Policy;
-use crate::request::{RequestHead, is_get_or_head};
 use cache_fields::{Directives, Governing, Kind, has_expires, is_heuristic, read_directives};
+use decide_preconditions::{RequestHead, is_get_or_head};
 use headers::HeaderMap;
 use http::StatusCode;
 use http_header::AUTHORIZATION;

@@ -7,7 +7,8 @@ ghost use Rattle.cache_policy.{specs.Requests.request_of, specs.Varying.{Agree, 
 ghost use Rattle.cache_policy.specs.Varying.{IsSame, SayTheSame, Suits, has_pairs, is_list_name};
 
 use crate::fields::have_same_lines;
-use crate::request::{RequestHead, allows_method};
+use crate::request::allows_method;
+use decide_preconditions::RequestHead;
 use headers::{HeaderMap, HeaderValue};
 use http_header::{GetAll, VARY, is_token};
 use rfc_fields::{FieldMembers, Malformed, has_line};

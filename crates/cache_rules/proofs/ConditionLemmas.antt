@@ -3,11 +3,11 @@ use Rattle.std.proofs.Common.{◌≡◌, ℕ, ◌<◌, Bool, true, false, List, 
 use Rattle.std.{proofs.Common.{sym, arith}, proofs.lemmas.Bool.lt-ltb, specs.Prelude.codes}
 use Rattle.http_header.specs.FieldValue.{FieldValue, plain_value}
 use Rattle.headers.{specs.Lines.Line, specs.Shapes.only_tag, specs.Typed.HasLine}
-use Rattle.cache_policy.specs.Requests.{IsGetOrHead, Request}
+use Rattle.cache_policy.specs.Requests.{Request}
 use Rattle.decide_preconditions.{proofs.HeadLemmas.never_unconditional, specs.Conditions.UnmodifiedSinceIsFalse}
 use Rattle.decide_preconditions.{specs.Limits.are_too_many, specs.Plans.IsPlanned, specs.declared.part.Part.Part}
 use Rattle.decide_preconditions.{specs.declared.plan.Plan.Plan, specs.declared.resource.Validators.Validators}
-use Rattle.decide_preconditions.specs.Preconditions.{Answers, AreIgnored}
+use Rattle.decide_preconditions.specs.Preconditions.{Answers, AreIgnored, IsGetOrHead}
 use Rattle.decide_preconditions.specs.declared.resource.Resource.TheVariants.{Missing, Current}
 use Rattle.cache_rules.specs.Conditions.{AreValidators, IsForCache, IsStoredAnswer, answer_of, divisible, one_part}
 use Rattle.cache_rules.specs.declared.stored.StoredResponse.{StoredResponse}

@@ -3,9 +3,9 @@ use Rattle.std.specs.Prelude.{◌≡◌, ◌≢◌, ◌⊎◌, ℕ, ◌-◌, Boo
 use Rattle.std.specs.Prelude.{None, option_and_then, option_map, codes, if◌then◌else◌}
 use Rattle.headers.specs.{Lines.Line, Shapes.only_tag, Typed.HasLine}
 use Rattle.rfc_dates.specs.Calendar.{unix_epoch}
-use Rattle.cache_policy.specs.{Fields.date_in, Requests.IsGetOrHead, Requests.Request}
+use Rattle.cache_policy.specs.{Fields.date_in, Requests.Request}
 use Rattle.decide_preconditions.specs.{Plans.IsPlan, declared.limits.RangeLimits.RangeLimits, declared.plan.Plan.Plan}
-use Rattle.decide_preconditions.specs.{declared.resource.Resource.TheVariants.Current}
+use Rattle.decide_preconditions.specs.{Preconditions.IsGetOrHead, declared.resource.Resource.TheVariants.Current}
 use Rattle.decide_preconditions.specs.{declared.resource.Validators.Validators}
 use Rattle.cache_rules.specs.{Stored.fields_of_stored, Stored.made_at, declared.conditions.StoredAnswer.StoredAnswer}
 use Rattle.cache_rules.specs.{declared.stored.StoredResponse.StoredResponse}

@@ -8,7 +8,7 @@ ghost use Rattle.cache_rules.specs.Conditions.{one_part, modified_second, unix_s
 use crate::stored::StoredResponse;
 use cache_policy::{END_OF_DATES, RequestHead, date};
 use decide_preconditions::{
-    Part, Plan, RangeLimits, Resource, Validators, is_get_or_head, plan_answer,
+    Part, Plan, RangeFacts, RangeLimits, Resource, Validators, is_get_or_head, plan_answer,
 };
 use headers::{ETag, HeaderMap, HeaderMapExt, LastModified, Refused};
 use http_header::{IF_MATCH, IF_UNMODIFIED_SINCE, LAST_MODIFIED};
@@ -59,15 +59,12 @@ pub fn answer_conditions(
     let resource = Resource::Current(current);
     let len = divisible(stored, ranges);
     let limits = one_part();
-    let plan = plan_answer(
-        alloc,
-        request.method,
-        request.fields,
-        &resource,
-        now,
+    let facts = RangeFacts {
+        present: now,
         len,
-        &limits,
-    )?;
+        limits,
+    };
+    let plan = plan_answer(alloc, request, &resource, &facts)?;
     Ok(answer_of(plan))
 }
 

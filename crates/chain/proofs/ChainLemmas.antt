@@ -5,7 +5,8 @@ use Rattle.std.{specs.Prelude.{bytes_eq, codes, if◌then◌else◌}, specs.List
 use Rattle.http_header.specs.Token.{lowercase}
 use Rattle.headers.{specs.LineMap.{fields_of, set_all}, specs.Lines.Line}
 use Rattle.cache_store.specs.Lookups.{freshness_of}
-use Rattle.cache_policy.{specs.Fields.{age_of, capped}, specs.Requests.{AllowsMethod, IsGetOrHead}}
+use Rattle.decide_preconditions.specs.Preconditions.{IsGetOrHead}
+use Rattle.cache_policy.{specs.Fields.{age_of, capped}, specs.Requests.AllowsMethod}
 use Rattle.chain.specs.Caches.{Caching, HasComeFrom, IsFromStore, IsPlain, Origin, Reply, unless_head}
 use Rattle.chain.specs.Chains.{Hop, IsForwardedBack, IsGoodAt, IsOwn, IsTold, behind, meant}
 use Rattle.chain.{specs.Chains.Hop.{Forwards, Stores}, specs.Ways.sent_directly, specs.Servers.IsCarried}

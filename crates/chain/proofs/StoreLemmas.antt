@@ -17,7 +17,8 @@ use Rattle.cache_store.specs.declared.lookup.Lookup.TheVariants.{Unavailable, Fo
 use Rattle.cache_store.{proofs.HistoryLemmas.HasUnder-responses_at, proofs.NumberLemmas.Has-numbered}
 use Rattle.cache_policy.{specs.Decisions.{IsGoodEnough, MayServeOnError}, specs.Age.{age_at, apparent_age}}
 use Rattle.cache_policy.{specs.Fields.{age_of, age_value, capped}, specs.Requests.AllowsMethod}
-use Rattle.cache_policy.specs.{Requests.IsGetOrHead, Requests.Request as Asked, Storing.IsShareable, Targets.governing}
+use Rattle.decide_preconditions.specs.Preconditions.{IsGetOrHead}
+use Rattle.cache_policy.specs.{Requests.Request as Asked, Storing.IsShareable, Targets.governing}
 use Rattle.cache_policy.specs.{declared.Governing.Governing, declared.Kind.Kind, declared.Kind.TheVariants.Private}
 use Rattle.cache_policy.specs.{declared.Kind.TheVariants.Shared, Varying.Agree, Varying.Suits}
 use Rattle.cache_policy.specs.Policies.{AnswersUnder, Policy, asks as counted_of, tells}

@@ -8,7 +8,8 @@ use Rattle.cache_store.{specs.Served.Serves, specs.declared.limits.Limits.Limits
 use Rattle.cache_store.{specs.declared.lookup.Lookup.Lookup, specs.declared.lookup.Lookup.TheVariants.Serve}
 use Rattle.cache_store.specs.declared.lookup.Lookup.TheVariants.{ServeAndRevalidate, Validate, ValidateOrServe}
 use Rattle.cache_store.specs.declared.lookup.Lookup.TheVariants.{Unavailable, Forward}
-use Rattle.cache_policy.specs.{Policies.Policy, Requests.IsGetOrHead, Requests.Request as Asked}
+use Rattle.decide_preconditions.specs.Preconditions.{IsGetOrHead}
+use Rattle.cache_policy.specs.{Policies.Policy, Requests.Request as Asked}
 use Rattle.cache_rules.specs.{Stored.fields_of_stored, declared.storing.Reception.Reception}
 use Rattle.cache_rules.specs.{declared.stored.StoredResponse.StoredResponse}
 use Rattle.gateway_messages.specs.declared.protocol.Protocol.TheVariants.{Http11}

@@ -3,7 +3,6 @@ ghost use Rattle.std.specs.Prelude.{◌≡◌, ◌==◌, ◌∷◌, [], ◌++◌
 ghost use Rattle.std.{specs.Prelude.{not, string_bytes}, specs.Bool.MatchBool, specs.List.list_all};
 ghost use Rattle.headers.{specs.LineMap.lines_at, specs.Lines.Line};
 ghost use Rattle.cache_store.{specs.Contents.used, specs.Kept.{contents_of, policy_of_store}};
-ghost use Rattle.cache_policy.specs.Requests.{IsGetOrHead};
 ghost use Rattle.cache_rules.{specs.Fields.IsTooSmallFor, specs.Storing.storing_fields};
 ghost use Rattle.chain.{specs.Caches.{IsBareRead, IsPlain, key_of}, specs.Serving.{HasBareHost, IsAction, IsActionOf}};
 ghost use Rattle.chain.specs.Serving.{IsPending, IsTaken, has_special, is_there, reply_of};
@@ -12,6 +11,7 @@ ghost use Rattle.decide_resource.specs.Requests.{Request, request_of};
 use cache_policy::RequestHead as AskedHead;
 use cache_rules::{Reception, StoredResponse};
 use cache_store::{Lookup, Store};
+use decide_preconditions::is_get_or_head;
 use decide_resource::{RequestContent, RequestHead};
 use gateway_messages::Protocol;
 use headers::{Encoded, HeaderMap, HeaderName, InsertError};
@@ -85,12 +85,6 @@ fn has_special(fields: &HeaderMap) -> bool
         || has(fields, IF_UNMODIFIED_SINCE)
         || has(fields, RANGE)
         || has(fields, IF_RANGE)
-}
-
-fn is_get_or_head(method: &Method) -> bool
-    ensures { MatchBool result (IsGetOrHead method.now) (¬ (IsGetOrHead method.now)) }
-{
-    *method == Method::GET || *method == Method::HEAD
 }
 
 fn is_bare_read(request: &RequestHead<'_>) -> bool

@@ -1,5 +1,7 @@
 //! Ranges within limits.
-use decide_preconditions::{Part, RangeLimits, Selection, Validators, select};
+use decide_preconditions::{
+    Part, RangeFacts, RangeLimits, RequestHead, Selection, Validators, select,
+};
 use headers::LastModified;
 use http::Method;
 use test_rows::{Answer, Arguments, Calls, Failure};
@@ -54,10 +56,19 @@ impl Calls for WithinLimits {
         let alloc = arguments.alloc();
         let limits = read_limits(arguments)?;
         let method = Method::from_bytes(alloc, &arguments.bytes()?)?;
-        let request = arguments.map()?;
+        let fields = arguments.map()?;
         let current = read_validators(arguments)?;
         let len = arguments.number()?;
-        let found = select(alloc, &method, &request, &current, PRESENT, len, &limits)?;
+        let request = RequestHead {
+            method: &method,
+            fields: &fields,
+        };
+        let facts = RangeFacts {
+            present: PRESENT,
+            len,
+            limits,
+        };
+        let found = select(alloc, &request, &current, &facts)?;
         show_selection(&found, answer)
     }
 }

@@ -9,7 +9,7 @@ use crate::parts::combining::held_extent;
 use crate::parts::extent::{Extent, strong_tag};
 use cache_policy::RequestHead;
 use cache_rules::{StoredResponse, is_for_cache, one_part, validators_of};
-use decide_preconditions::{Plan, Resource, plan_answer};
+use decide_preconditions::{Plan, RangeFacts, Resource, plan_answer};
 use headers::{ContentLength, Encoded, encoding};
 use std::alloc::{AllocError, Global};
 
@@ -68,15 +68,13 @@ pub fn answer_part(
     };
     let current = validators_of(alloc, stored)?;
     let resource = Resource::Current(current);
-    let plan = plan_answer(
-        alloc,
-        request.method,
-        request.fields,
-        &resource,
-        now,
-        extent.len,
-        &one_part(),
-    )?;
+    let limits = one_part();
+    let facts = RangeFacts {
+        present: now,
+        len: extent.len,
+        limits,
+    };
+    let plan = plan_answer(alloc, request, &resource, &facts)?;
     Ok(part_planned(&extent, plan))
 }
 
