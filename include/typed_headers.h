@@ -275,7 +275,8 @@ enum typed_headers_pass_action {
     /* Send the stored response: the status of the facts, the lines of `typed_headers_pass_fields`, and `count` bytes
        of `typed_headers_pass_content`. The pass has ended. */
     TYPED_HEADERS_REPLY = 0,
-    /* The same, and then validate it for nobody: by a new pass for the same request with `cache-control: no-cache`. */
+    /* The same, and then validate it for nobody: by a new pass for the same request with one more line
+       `cache-control: no-cache`. */
     TYPED_HEADERS_REPLY_AND_VALIDATE = 1,
     /* Forward the request as it is. */
     TYPED_HEADERS_ASK = 2,

@@ -118,6 +118,16 @@ class CacheTest(unittest.TestCase):
         self.assertEqual(got(cache, now=1025), b"hello")
         self.assertIsNone(served.validation(now=1025))
 
+    def test_validates_by_the_request_of_the_client(self) -> None:
+        # Nothing is stored for a request with `no-store`, whoever is answered (RFC 9111, section 5.2.1.5).
+        cache = Cache(shared=True)
+        store(cache, b"hello", {"Cache-Control": "max-age=10, stale-while-revalidate=60", "ETag": '"1"'})
+        served = cache.begin("GET", A, {"Cache-Control": "no-store"}, now=1020)
+        self.assertTrue(isinstance(served.step, Reply) and served.step.validates)
+        validating = served.validation(now=1020)
+        assert validating is not None
+        self.assertEqual(validating.came(200, FRESH, now=1020), PassOn(False))
+
     def test_stores_nothing_that_was_asked_before_a_removal(self) -> None:
         cache = Cache(shared=True)
         asking = cache.begin("GET", A, {}, now=1000)

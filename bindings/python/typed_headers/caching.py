@@ -325,12 +325,11 @@ class Pass:
         return number != 0
 
     def validation(self, *, now: Optional[Time] = None) -> Optional["Pass"]:
-        """A pass by which what was served stale is validated for nobody: the same request with `no-cache`.
+        """A pass by which what was served stale is validated for nobody: the same request with one more `no-cache`.
 
         `None` if what the request would get now needs no validation any more.
         """
-        fields = [it for it in self._request.pairs() if it[0] != "cache-control"]
-        request = Headers([*fields, ("cache-control", "no-cache")])
+        request = Headers([*self._request.pairs(), ("cache-control", "no-cache")])
         with self._cache._lock:
             step = Pass(self._cache, self._method, self._target, self._request, now).step
             if not isinstance(step, Reply) or not step.validates:

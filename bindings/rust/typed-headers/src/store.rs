@@ -55,7 +55,8 @@ pub struct Reply {
     pub fields: Section,
     /// Its content, or the part of it that is sent: nothing to HEAD.
     pub content: Vec<u8>,
-    /// Whether it is then validated for nobody: by a new pass for the same request with `cache-control: no-cache`.
+    /// Whether it is then validated for nobody: by a new pass for the same request with one more line `cache-control:
+    /// no-cache`.
     pub validates: bool,
 }
 
