@@ -3,27 +3,29 @@ ghost use Rattle.std.specs.Prelude.{◌≡◌};
 ghost use Rattle.c_decisions.specs.Evaluations.{Evaluates, code_of};
 
 use crate::method::read_method;
-use crate::target::{Target, read_resource};
+use crate::target::{MethodAndTarget, read_resource};
 use c_parts::{Failure, HashKeys, read_map};
-use decide_preconditions::{Precondition, evaluate};
+use decide_preconditions::{Precondition, RequestHead, evaluate};
 use std::alloc::Global;
 
 /// Evaluates the preconditions of a request (RFC 9110, section 13.2.2): 0 if the method is
 /// performed, 304 or 412.
 pub fn evaluate_request(
     alloc: Global,
-    method: &[u8],
     section: &[u8],
     keys: &HashKeys,
-    etag: &[u8],
-    target: &Target,
+    asked: &MethodAndTarget<'_>,
 ) -> Result<u16, Failure>
-    ensures { Evaluates method.now section.now etag.now target.now result }
+    ensures { Evaluates asked.now.method.now section.now asked.now.etag.now asked.now.target.now result }
 {
-    let method = read_method(alloc, method)?;
-    let resource = read_resource(alloc, etag, target)?;
+    let method = read_method(alloc, asked.method)?;
+    let resource = read_resource(alloc, asked.etag, asked.target)?;
     let request = read_map(alloc, section, keys)?;
-    let answer = evaluate(&method, &request, &resource, target.present);
+    let head = RequestHead {
+        method: &method,
+        fields: &request,
+    };
+    let answer = evaluate(&head, &resource, asked.target.present);
     Ok(code_of(answer))
 }
 

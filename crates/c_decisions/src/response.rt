@@ -8,9 +8,9 @@ use crate::field_lines::fields_text;
 use crate::flag::flag_of;
 use crate::method::read_method;
 use crate::selection::{BytesRange, range_of, ranges_of};
-use crate::target::{Target, read_resource};
+use crate::target::{MethodAndTarget, read_resource};
 use c_parts::{Failure, HashKeys, read_map};
-use decide_preconditions::{Plan, Response, is_known_by, respond};
+use decide_preconditions::{Plan, RequestHead, Response, Sending, is_known_by, respond};
 use std::alloc::{AllocError, Global};
 
 /// The response to a request for a representation, as numbers.
@@ -38,30 +38,30 @@ pub struct Responded {
 /// sections 13.2.2 and 14.2), within the usual limits.
 pub fn respond_to(
     alloc: Global,
-    method: &[u8],
     section: &[u8],
     keys: &HashKeys,
-    etag: &[u8],
-    target: &Target,
+    asked: &MethodAndTarget<'_>,
     content: &ContentParts<'_>,
     boundary: &[u8],
 ) -> Result<Responded, Failure>
-    ensures { Responds method.now section.now etag.now target.now content.entry.now boundary.now result }
+    ensures { Responds asked.now.method.now section.now asked.now.etag.now asked.now.target.now
+        content.entry.now boundary.now result }
 {
-    let method = read_method(alloc, method)?;
-    let resource = read_resource(alloc, etag, target)?;
+    let method = read_method(alloc, asked.method)?;
+    let resource = read_resource(alloc, asked.etag, asked.target)?;
     let content = content_of(alloc, content)?;
     let boundary = boundary_of(alloc, boundary)?;
     let request = read_map(alloc, section, keys)?;
-    let answer = respond(
-        alloc,
-        &method,
-        &request,
-        &resource,
-        target.present,
-        &content,
-        &boundary,
-    )?;
+    let head = RequestHead {
+        method: &method,
+        fields: &request,
+    };
+    let sending = Sending {
+        present: asked.target.present,
+        content: &content,
+        boundary: &boundary,
+    };
+    let answer = respond(alloc, &head, &resource, &sending)?;
     Ok(show_response(alloc, answer, is_known_by(&request))?)
 }
 

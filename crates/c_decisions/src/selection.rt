@@ -3,9 +3,11 @@ ghost use Rattle.std.specs.Prelude.{◌≡◌, IfOk, IsErr, map};
 ghost use Rattle.c_decisions.specs.Selection.{ArePartsOf, IsShown, Selects, range_of};
 
 use crate::method::read_method;
-use crate::target::{Target, read_resource};
+use crate::target::{MethodAndTarget, read_resource};
 use c_parts::{Failure, HashKeys, read_map};
-use decide_preconditions::{Part, RangeLimits, Resource, Selection, select};
+use decide_preconditions::{
+    Part, RangeFacts, RangeLimits, RequestHead, Resource, Selection, select,
+};
 use std::alloc::{AllocError, Global};
 
 /// A range of bytes: its first and its last position, both included.
@@ -27,30 +29,29 @@ pub struct Selected {
 /// 14.2): all of it (200), ranges of it (206) or none (416).
 pub fn select_ranges(
     alloc: Global,
-    method: &[u8],
     section: &[u8],
     keys: &HashKeys,
-    etag: &[u8],
-    target: &Target,
+    asked: &MethodAndTarget<'_>,
     length: u64,
 ) -> Result<Selected, Failure>
-    ensures { Selects method.now section.now etag.now target.now length result }
+    ensures { Selects asked.now.method.now section.now asked.now.etag.now asked.now.target.now length result }
 {
-    let method = read_method(alloc, method)?;
-    let Resource::Current(current) = read_resource(alloc, etag, target)? else {
+    let method = read_method(alloc, asked.method)?;
+    let Resource::Current(current) = read_resource(alloc, asked.etag, asked.target)? else {
         return Err(Failure::Absent);
     };
     let request = read_map(alloc, section, keys)?;
+    let head = RequestHead {
+        method: &method,
+        fields: &request,
+    };
     let limits = RangeLimits::usual();
-    let selection = select(
-        alloc,
-        &method,
-        &request,
-        &current,
-        target.present,
-        length,
-        &limits,
-    )?;
+    let facts = RangeFacts {
+        present: asked.target.present,
+        len: length,
+        limits,
+    };
+    let selection = select(alloc, &head, &current, &facts)?;
     Ok(show_selection(alloc, &selection)?)
 }
 

@@ -27,6 +27,17 @@ pub struct Target {
     pub is_date_strong: bool,
 }
 
+/// What a request asks for, beside its fields.
+#[derive(Clone, Copy)]
+pub struct MethodAndTarget<'a> {
+    /// Its method.
+    pub method: &'a [u8],
+    /// The entity tag of its target, or empty if that has none.
+    pub etag: &'a [u8],
+    /// What else a server knows about the target.
+    pub target: &'a Target,
+}
+
 fn read_tag(alloc: Global, text: &[u8]) -> Result<Option<ETag>, Failure>
     ensures { IsTagOf text.now result }
 {

@@ -7,41 +7,39 @@ ghost use Rattle.c_handles.specs.Sections.{SelectsOf, lines_under};
 use crate::handle::Handle;
 use crate::held::Held;
 use c_decisions::{
-    ContentParts, Responded, Selected, Target, boundary_of, code_of, content_of, given,
+    ContentParts, MethodAndTarget, Responded, Selected, boundary_of, code_of, content_of, given,
     read_method, read_resource, show_response, show_selection, values_of,
 };
 use c_parts::Failure;
 use decide_negotiation::{Dimension, negotiate};
-use decide_preconditions::{RangeLimits, Resource};
+use decide_preconditions::{RangeFacts, RangeLimits, RequestHead, Resource, Sending};
 use headers::HeaderMap;
 use std::alloc::Global;
 
 fn evaluate_of(
     alloc: Global,
     fields: &HeaderMap,
-    method: &[u8],
-    etag: &[u8],
-    target: &Target,
+    asked: &MethodAndTarget<'_>,
 ) -> Result<u16, Failure>
-    ensures { EvaluatesOf fields.now method.now etag.now target.now result }
+    ensures { EvaluatesOf fields.now asked.now.method.now asked.now.etag.now asked.now.target.now result }
 {
-    let method = read_method(alloc, method)?;
-    let resource = read_resource(alloc, etag, target)?;
-    let answer = decide_preconditions::evaluate(&method, fields, &resource, target.present);
+    let method = read_method(alloc, asked.method)?;
+    let resource = read_resource(alloc, asked.etag, asked.target)?;
+    let head = RequestHead {
+        method: &method,
+        fields,
+    };
+    let answer = decide_preconditions::evaluate(&head, &resource, asked.target.present);
     Ok(code_of(answer))
 }
 
-fn evaluate_in(
-    alloc: Global,
-    held: &Held,
-    method: &[u8],
-    etag: &[u8],
-    target: &Target,
-) -> Result<u16, Failure>
-    ensures { OnHeld (λ fields. EvaluatesOf fields method.now etag.now target.now) (section_in (Some held.now)) result }
+fn evaluate_in(alloc: Global, held: &Held, asked: &MethodAndTarget<'_>) -> Result<u16, Failure>
+    ensures { OnHeld
+        (λ fields. EvaluatesOf fields asked.now.method.now asked.now.etag.now asked.now.target.now)
+        (section_in (Some held.now)) result }
 {
     match held {
-        Held::Section(fields) => evaluate_of(alloc, fields, method, etag, target),
+        Held::Section(fields) => evaluate_of(alloc, fields, asked),
         _ => Err(Failure::Absent),
     }
 }
@@ -51,18 +49,17 @@ fn evaluate_in(
 pub fn evaluate(
     alloc: Global,
     section: &mut Handle,
-    method: &[u8],
-    etag: &[u8],
-    target: &Target,
+    asked: &MethodAndTarget<'_>,
 ) -> Result<u16, Failure>
     ensures same { section.new.held ≡ section.old.held }
-    ensures answer { OnHeld (λ fields. EvaluatesOf fields method.now etag.now target.now)
+    ensures answer { OnHeld
+        (λ fields. EvaluatesOf fields asked.now.method.now asked.now.etag.now asked.now.target.now)
         (section_in section.old.held) result }
 {
     let Some(held) = section.take(alloc) else {
         return Err(Failure::Absent);
     };
-    let answer = evaluate_in(alloc, &held, method, etag, target);
+    let answer = evaluate_in(alloc, &held, asked);
     section.put(held);
     answer
 }
@@ -70,43 +67,41 @@ pub fn evaluate(
 fn select_of(
     alloc: Global,
     fields: &HeaderMap,
-    method: &[u8],
-    etag: &[u8],
-    target: &Target,
+    asked: &MethodAndTarget<'_>,
     length: u64,
 ) -> Result<Selected, Failure>
-    ensures { SelectsOf fields.now method.now etag.now target.now length result }
+    ensures { SelectsOf fields.now asked.now.method.now asked.now.etag.now asked.now.target.now length result }
 {
-    let method = read_method(alloc, method)?;
-    let Resource::Current(current) = read_resource(alloc, etag, target)? else {
+    let method = read_method(alloc, asked.method)?;
+    let Resource::Current(current) = read_resource(alloc, asked.etag, asked.target)? else {
         return Err(Failure::Absent);
     };
-    let limits = RangeLimits::usual();
-    let selection = decide_preconditions::select(
-        alloc,
-        &method,
+    let head = RequestHead {
+        method: &method,
         fields,
-        &current,
-        target.present,
-        length,
-        &limits,
-    )?;
+    };
+    let limits = RangeLimits::usual();
+    let facts = RangeFacts {
+        present: asked.target.present,
+        len: length,
+        limits,
+    };
+    let selection = decide_preconditions::select(alloc, &head, &current, &facts)?;
     Ok(show_selection(alloc, &selection)?)
 }
 
 fn select_in(
     alloc: Global,
     held: &Held,
-    method: &[u8],
-    etag: &[u8],
-    target: &Target,
+    asked: &MethodAndTarget<'_>,
     length: u64,
 ) -> Result<Selected, Failure>
-    ensures { OnHeld (λ fields. SelectsOf fields method.now etag.now target.now length)
+    ensures { OnHeld
+        (λ fields. SelectsOf fields asked.now.method.now asked.now.etag.now asked.now.target.now length)
         (section_in (Some held.now)) result }
 {
     match held {
-        Held::Section(fields) => select_of(alloc, fields, method, etag, target, length),
+        Held::Section(fields) => select_of(alloc, fields, asked, length),
         _ => Err(Failure::Absent),
     }
 }
@@ -116,19 +111,18 @@ fn select_in(
 pub fn select(
     alloc: Global,
     section: &mut Handle,
-    method: &[u8],
-    etag: &[u8],
-    target: &Target,
+    asked: &MethodAndTarget<'_>,
     length: u64,
 ) -> Result<Selected, Failure>
     ensures same { section.new.held ≡ section.old.held }
-    ensures answer { OnHeld (λ fields. SelectsOf fields method.now etag.now target.now length)
+    ensures answer { OnHeld
+        (λ fields. SelectsOf fields asked.now.method.now asked.now.etag.now asked.now.target.now length)
         (section_in section.old.held) result }
 {
     let Some(held) = section.take(alloc) else {
         return Err(Failure::Absent);
     };
-    let answer = select_in(alloc, &held, method, etag, target, length);
+    let answer = select_in(alloc, &held, asked, length);
     section.put(held);
     answer
 }
@@ -136,45 +130,44 @@ pub fn select(
 fn respond_of(
     alloc: Global,
     fields: &HeaderMap,
-    method: &[u8],
-    etag: &[u8],
-    target: &Target,
+    asked: &MethodAndTarget<'_>,
     content: &ContentParts<'_>,
     boundary: &[u8],
 ) -> Result<Responded, Failure>
-    ensures { RespondsOf fields.now method.now etag.now target.now content.entry.now boundary.now result }
+    ensures { RespondsOf fields.now asked.now.method.now asked.now.etag.now asked.now.target.now
+        content.entry.now boundary.now result }
 {
-    let method = read_method(alloc, method)?;
-    let resource = read_resource(alloc, etag, target)?;
+    let method = read_method(alloc, asked.method)?;
+    let resource = read_resource(alloc, asked.etag, asked.target)?;
     let content = content_of(alloc, content)?;
     let boundary = boundary_of(alloc, boundary)?;
-    let answer = decide_preconditions::respond(
-        alloc,
-        &method,
+    let head = RequestHead {
+        method: &method,
         fields,
-        &resource,
-        target.present,
-        &content,
-        &boundary,
-    )?;
+    };
+    let sending = Sending {
+        present: asked.target.present,
+        content: &content,
+        boundary: &boundary,
+    };
+    let answer = decide_preconditions::respond(alloc, &head, &resource, &sending)?;
     Ok(show_response(alloc, answer, decide_preconditions::is_known_by(fields))?)
 }
 
 fn respond_in(
     alloc: Global,
     held: &Held,
-    method: &[u8],
-    etag: &[u8],
-    target: &Target,
+    asked: &MethodAndTarget<'_>,
     content: &ContentParts<'_>,
     boundary: &[u8],
 ) -> Result<Responded, Failure>
     ensures { OnHeld
-        (λ fields. RespondsOf fields method.now etag.now target.now content.entry.now boundary.now)
+        (λ fields. RespondsOf fields asked.now.method.now asked.now.etag.now asked.now.target.now
+        content.entry.now boundary.now)
         (section_in (Some held.now)) result }
 {
     match held {
-        Held::Section(fields) => respond_of(alloc, fields, method, etag, target, content, boundary),
+        Held::Section(fields) => respond_of(alloc, fields, asked, content, boundary),
         _ => Err(Failure::Absent),
     }
 }
@@ -184,21 +177,20 @@ fn respond_in(
 pub fn respond(
     alloc: Global,
     section: &mut Handle,
-    method: &[u8],
-    etag: &[u8],
-    target: &Target,
+    asked: &MethodAndTarget<'_>,
     content: &ContentParts<'_>,
     boundary: &[u8],
 ) -> Result<Responded, Failure>
     ensures same { section.new.held ≡ section.old.held }
     ensures answer { OnHeld
-        (λ fields. RespondsOf fields method.now etag.now target.now content.entry.now boundary.now)
+        (λ fields. RespondsOf fields asked.now.method.now asked.now.etag.now asked.now.target.now
+        content.entry.now boundary.now)
         (section_in section.old.held) result }
 {
     let Some(held) = section.take(alloc) else {
         return Err(Failure::Absent);
     };
-    let answer = respond_in(alloc, &held, method, etag, target, content, boundary);
+    let answer = respond_in(alloc, &held, asked, content, boundary);
     section.put(held);
     answer
 }

@@ -3,7 +3,7 @@ ghost use Rattle.c_parts.specs.Endings.{Gives};
 ghost use Rattle.c_decisions.specs.Evaluations.{Evaluates};
 
 use crate::giving::give;
-use c_decisions::{Target, evaluate_request};
+use c_decisions::{MethodAndTarget, Target, evaluate_request};
 use c_parts::HashKeys;
 use std::alloc::Global;
 
@@ -21,8 +21,10 @@ pub extern "C" fn typed_headers_evaluate(
 ) -> u8
     ensures { Gives (Evaluates method.now section.now etag.now target.now) answer.old answer.new result }
 {
-    give(
-        evaluate_request(alloc, method, section, keys, etag, target),
-        answer,
-    )
+    let asked = MethodAndTarget {
+        method,
+        etag,
+        target,
+    };
+    give(evaluate_request(alloc, section, keys, &asked), answer)
 }

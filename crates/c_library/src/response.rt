@@ -3,7 +3,7 @@ ghost use Rattle.std.specs.Prelude.{◌≡◌};
 ghost use Rattle.c_library.specs.Responses.{WritesResponse, worse};
 ghost use Rattle.c_decisions.specs.Responses.{Responds};
 
-use c_decisions::{BytesRange, ContentParts, ResponseFacts, Target, respond_to};
+use c_decisions::{BytesRange, ContentParts, MethodAndTarget, ResponseFacts, Target, respond_to};
 use c_parts::{DONE, HashKeys, copy_into};
 use std::alloc::Global;
 
@@ -29,9 +29,12 @@ pub extern "C" fn typed_headers_respond(
         facts.old facts.new parts.old parts.new parts_written.old parts_written.new
         room.old room.new written.old written.new result }
 {
-    match respond_to(
-        alloc, method, section, keys, etag, target, content, boundary,
-    ) {
+    let asked = MethodAndTarget {
+        method,
+        etag,
+        target,
+    };
+    match respond_to(alloc, section, keys, &asked, content, boundary) {
         Ok(responded) => {
             *facts = responded.facts;
             let one = copy_into(responded.parts.as_slice(), DONE, parts, parts_written);

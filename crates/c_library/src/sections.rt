@@ -14,7 +14,7 @@ ghost use Rattle.c_library.{specs.CacheStore.Ends, specs.Responses.WritesRespons
 use crate::giving::give;
 use crate::response::worse;
 use crate::store::ended;
-use c_decisions::{BytesRange, ContentParts, ResponseFacts, Target};
+use c_decisions::{BytesRange, ContentParts, MethodAndTarget, ResponseFacts, Target};
 use c_fields::lines_text;
 use c_handles::{Handle, choose, close, evaluate, open_section, respond, select, written_field};
 use c_parts::{DONE, Failure, HashKeys, copy_into};
@@ -81,7 +81,12 @@ pub extern "C" fn typed_headers_section_evaluate(
     ensures answer { Gives (OnHeld (λ held. EvaluatesOf held method.now etag.now target.now)
         (section_in fields.old.held)) answer.old answer.new result }
 {
-    give(evaluate(alloc, fields, method, etag, target), answer)
+    let asked = MethodAndTarget {
+        method,
+        etag,
+        target,
+    };
+    give(evaluate(alloc, fields, &asked), answer)
 }
 
 /// Which part of a representation of `length` bytes a request with these fields selects (RFC 9110,
@@ -103,7 +108,12 @@ pub extern "C" fn typed_headers_section_select(
         (OnHeld (λ held. SelectsOf held method.now etag.now target.now length) (section_in fields.old.held))
         answer.old answer.new room.old room.new written.old written.new result }
 {
-    match select(alloc, fields, method, etag, target, length) {
+    let asked = MethodAndTarget {
+        method,
+        etag,
+        target,
+    };
+    match select(alloc, fields, &asked, length) {
         Ok(selected) => {
             *answer = selected.code;
             copy_into(selected.ranges.as_slice(), DONE, room, written)
@@ -136,7 +146,12 @@ pub extern "C" fn typed_headers_section_respond(
         facts.old facts.new parts.old parts.new parts_written.old parts_written.new
         room.old room.new written.old written.new result }
 {
-    match respond(alloc, fields, method, etag, target, content, boundary) {
+    let asked = MethodAndTarget {
+        method,
+        etag,
+        target,
+    };
+    match respond(alloc, fields, &asked, content, boundary) {
         Ok(responded) => {
             *facts = responded.facts;
             let one = copy_into(responded.parts.as_slice(), DONE, parts, parts_written);

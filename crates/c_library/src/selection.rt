@@ -1,7 +1,7 @@
 //! Which part of a representation a request selects.
 ghost use Rattle.c_decisions.specs.Selection.{Selects, WritesSelection};
 
-use c_decisions::{BytesRange, Target, select_ranges};
+use c_decisions::{BytesRange, MethodAndTarget, Target, select_ranges};
 use c_parts::{DONE, HashKeys, copy_into};
 use std::alloc::Global;
 
@@ -23,7 +23,12 @@ pub extern "C" fn typed_headers_select(
     ensures { WritesSelection (Selects method.now section.now etag.now target.now length)
         answer.old answer.new room.old room.new written.old written.new result }
 {
-    match select_ranges(alloc, method, section, keys, etag, target, length) {
+    let asked = MethodAndTarget {
+        method,
+        etag,
+        target,
+    };
+    match select_ranges(alloc, section, keys, &asked, length) {
         Ok(selected) => {
             *answer = selected.code;
             copy_into(selected.ranges.as_slice(), DONE, room, written)

@@ -11,8 +11,9 @@ returns c =
       is_method = method.0;
       current = c.in-Current.current;
       is_resource =
-          subst (λ (resource : Resource). IsResourceOf c.args.etag.now c.args.target.now (Ok resource)) c.in-Current.is
-          c.in_ok-current.ensures;
+          subst
+          (λ (resource : Resource). IsResourceOf c.args.asked.now.etag.now c.args.asked.now.target.now (Ok resource))
+          c.in-Current.is c.in_ok-current.ensures;
       request = request;
       holds = c.in_ok-request.ensures;
       selection = c.in_ok-selection.selection;

@@ -10,8 +10,9 @@ returns c input holds =
       is_method = method.0;
       current = c.in-Current.current;
       is_resource =
-          subst (λ (resource : Resource). IsResourceOf c.args.etag.now c.args.target.now (Ok resource)) c.in-Current.is
-          c.in_ok-current.ensures;
+          subst
+          (λ (resource : Resource). IsResourceOf c.args.asked.now.etag.now c.args.asked.now.target.now (Ok resource))
+          c.in-Current.is c.in_ok-current.ensures;
       request = c.args.fields.now;
       holds = holds;
       selection = c.in_ok-selection.selection;
