@@ -52,7 +52,7 @@ module _ (settings : Settings) (world : World) (ran : HasRun settings world) (pa
 
     of-shown : (decision : Decision) → (s : Shown decision)
         → IsOfStored settings world pass now reply s.found.selected.response
-    of-shown decision s = of-stored s.found.selected.response s.named s.found.selected.is s.replies
+    of-shown decision s = of-stored s.found.selected.response s.named s.found.selected.is.0 s.replies
 
     abbrev Good : StoredResponse → Type 0
     Good stored = IsGood settings (request_of_pass pass) now stored

@@ -4,7 +4,9 @@ use Rattle.std.proofs.Common.{None, inl, inr, refl, sym, ◌∙◌, ap, subst, a
 use Rattle.std.proofs.lemmas.Bool.{cases_order, ltb-false, ltb-true}
 use Rattle.std.proofs.lemmas.Option.{same_Some, slice_get_read, slice_get_within}
 use Rattle.std.specs.{Prelude.option_map, Prelude.nat_lt, Prelude.if◌then◌else◌, List.slice_get}
+use Rattle.cache_policy.specs.Requests.{Request}
 use Rattle.cache_rules.specs.{Selection.IsMostRecent, Selection.IsSelected, Selection.renewed, Stored.made_at}
+use Rattle.cache_rules.specs.Selection.{IsCandidate, IsChoice, IsPreferred, IsVarying}
 use Rattle.cache_rules.specs.{declared.selection.Newest.Newest, declared.stored.StoredResponse.StoredResponse}
 
 module _ (Is : StoredResponse → Type 0) (all : List StoredResponse) where
@@ -169,3 +171,49 @@ module _ (Is : StoredResponse → Type 0) (all : List StoredResponse) where
               | inr higher ↦ absurd (not_later b a k h higher)
             ]
       ]
+
+-- ---- what is chosen for a request
+
+-- a request has one choice
+pub one_choice : (request : Request) (all : List StoredResponse) (a b : Option ℕ) → IsChoice request all a
+    → IsChoice request all b → a ≡ b
+one_choice request all None None h k = refl
+one_choice request all None (Some b) h k = absurd (h b k.response k.at k.is.0)
+one_choice request all (Some a) None h k = absurd (k a h.response h.at h.is.0)
+one_choice request all (Some a) (Some b) h k = selects_one (IsPreferred request all) all (Some a) (Some b) h k
+
+module _ (request : Request) (all : List StoredResponse) where
+  abbrev IsVaryingCandidate : StoredResponse → Type 0
+  IsVaryingCandidate stored = IsCandidate request stored × IsVarying stored
+
+  -- the most recent one with Vary is chosen
+  pub varying_chosen : (place : ℕ) → IsSelected IsVaryingCandidate all (Some place) → IsChoice request all (Some place)
+  varying_chosen place h =
+      let has_vary : (other : StoredResponse) → IsPreferred request all other → IsVaryingCandidate other =
+      λ other has. (
+        has.0,
+        elim has.1 [
+          | inl varying ↦ varying
+          | inr none ↦ absurd (none place h.response h.at h.is.0 h.is.1)
+        ],
+      ) in
+      record {
+        response = h.response;
+        at = h.at;
+        is = (h.is.0, inl h.is.1);
+        newest = λ k other here has. h.newest k other here (has_vary other has);
+        last = λ k other here has later. h.last k other here (has_vary other has) later;
+      }
+
+  -- if there is none, the most recent one of all is
+  pub any_chosen : IsSelected IsVaryingCandidate all None → (found : Option ℕ)
+      → IsSelected (IsCandidate request) all found → IsChoice request all found
+  any_chosen none None h = h
+  any_chosen none (Some place) h =
+      record {
+        response = h.response;
+        at = h.at;
+        is = (h.is, inr (λ k other here candidate varying. none k other here (candidate, varying)));
+        newest = λ k other here has. h.newest k other here has.0;
+        last = λ k other here has later. h.last k other here has.0 later;
+      }

@@ -1,9 +1,10 @@
 -- What a response that validates a stored one makes of it (RFC 9111, sections 3.2, 4.3.4 and 4.3.5).
-use Rattle.std.specs.Prelude.{◌≡◌, ℕ, List, [], ◌∷◌, ◌++◌, bytes_eq, codes, if◌then◌else◌}
+use Rattle.std.specs.Prelude.{◌≡◌, ◌⊎◌, ℕ, List, [], ◌∷◌, ◌++◌, bytes_eq, codes, if◌then◌else◌}
 use Rattle.http_header.specs.{FieldValue.FieldValue, HeaderMap.Entries}
 use Rattle.headers.specs.{LineMap.Field, LineMap.LineMap, Lines.Line, Typed.HasLine}
 use Rattle.cache_policy.specs.{Dating.date_lines, Freshening.freshened, Freshening.freshening_fields}
 use Rattle.cache_policy.specs.{Policies.MayStoreUnder, Policies.Policy, Requests.Request, Updating.IsUpdated}
+use Rattle.cache_policy.specs.{Updating.HasStrongTag, declared.Kind.TheVariants.Shared}
 use Rattle.cache_rules.specs.{Selection.IsCandidate, Storing.HasFairOptions, declared.freshening.Exchange.Exchange}
 use Rattle.cache_rules.specs.{declared.freshening.Freshened.Freshened, declared.stored.StoredResponse.StoredResponse}
 use Rattle.cache_rules.specs.Stored.{fields_of_stored, request_of_stored}
@@ -45,14 +46,30 @@ abbrev pub IsFreshened : StoredResponse → LineMap → Exchange → StoredRespo
 IsFreshened old update exchange new =
     IsRenewed old (freshened (aged_anew exchange.received (fields_of_stored old)) update) exchange new
 
+-- the field lines of the new message, if it has some, are those that are stored
+abbrev pub SaysAsBefore : List Line → List Line → Type 0
+SaysAsBefore own other = HasLine other → own ≡ other
+
+-- The validating response is about what other clients get, too. Without a strong entity tag it may be about another
+-- representation than the stored one: so it leaves Vary as it is, which says for whom that is. In a shared cache it
+-- sets no cookie.
+pub record IsForOthers (policy : Policy) (stored update : LineMap) : Type 0 where
+  pub vary : HasStrongTag update ⊎ SaysAsBefore (stored (codes "vary")) (update (codes "vary"))
+  pub cookie : policy.kind ≡ Shared → ¬ (HasLine (update (codes "set-cookie")))
+
 -- The response may be stored and reused, with its new fields: section 3 allows it for the request that it answered
 -- first and for the one that validated it, it suits the latter, and it is known which fields of the validating response
 -- are those of the connection.
-pub record IsReusable (policy : Policy) (request : Request) (update : LineMap) (new : StoredResponse) : Type 0 where
+pub record MayBeReused (policy : Policy) (request : Request) (update : LineMap) (new : StoredResponse) : Type 0 where
   pub first : MayStoreUnder policy (request_of_stored new) new.status (fields_of_stored new)
   pub validating : MayStoreUnder policy request new.status (fields_of_stored new)
   pub suits : IsCandidate request new
   pub fair : HasFairOptions policy.targets update
+
+-- ... and by others than the client whose request validated the one with these fields
+abbrev pub IsReusable : Policy → LineMap → Request → LineMap → StoredResponse → Type 0
+IsReusable policy stored request update new =
+    IsForOthers policy stored update × MayBeReused policy request update new
 
 -- What becomes of a stored response: the validating one isn't about it; or it is updated, and stays stored if it may be
 -- reused.
@@ -61,16 +78,12 @@ IsFreshenedAs policy old request update exchange (Unchanged new) =
     (¬ (IsUpdated (fields_of_stored old) update)) × (new ≡ old)
 IsFreshenedAs policy old request update exchange (Stored new) =
     IsUpdated (fields_of_stored old) update × IsFreshened old update exchange new
-    × IsReusable policy request update new
+    × IsReusable policy (fields_of_stored old) request update new
 IsFreshenedAs policy old request update exchange (Once new) =
     IsUpdated (fields_of_stored old) update × IsFreshened old update exchange new
-    × ¬ (IsReusable policy request update new)
+    × ¬ (IsReusable policy (fields_of_stored old) request update new)
 
 -- ---- HEAD
-
--- the field lines of the new message, if it has some, are those that are stored
-abbrev pub SaysAsBefore : List Line → List Line → Type 0
-SaysAsBefore own other = HasLine other → own ≡ other
 
 -- A 200 to HEAD is about the stored response (section 4.3.5): a 304 with its fields would be, and the date of the last
 -- modification and the length of the content, if it has them, are those that are stored.

@@ -1,11 +1,13 @@
 -- Which of several stored responses is chosen (RFC 9111, sections 4 and 4.1).
-use Rattle.std.specs.Prelude.{◌≡◌, ◌↔◌, ℕ, ◌<◌, ◌≤◌, List, Option, Some, None, nat_lt, if◌then◌else◌}
+use Rattle.std.specs.Prelude.{◌≡◌, ◌↔◌, ◌⊎◌, ℕ, ◌<◌, ◌≤◌, List, Option, Some, None, codes, nat_lt, if◌then◌else◌}
 use Rattle.std.specs.List.{AllPairs, Contains, slice_get}
 use denote.Ref.{Bor}
-use Rattle.headers.specs.LineMap.{LineMap}
+use Rattle.headers.specs.LineMap.{LineMap, lines_at}
+use Rattle.headers.specs.Typed.{HasLine}
 use Rattle.cache_policy.specs.{Requests.Request, Updating.IsUpdated, Varying.Suits}
 use Rattle.cache_rules.specs.Stored.{fields_of_stored, made_at, request_of_stored}
 use Rattle.cache_rules.specs.{declared.selection.Newest.Newest, declared.stored.StoredResponse.StoredResponse}
+use Rattle.cache_rules.specs.declared.selection.{Search.Search, Search.TheVariants.{All, Varying, Updated}}
 
 -- the stored response may answer the request, as far as method and Vary go
 abbrev pub IsCandidate : Request → StoredResponse → Type 0
@@ -36,6 +38,28 @@ module _ (Is : StoredResponse → Type 0) (all : List StoredResponse) where
   abbrev pub IsOnly : ℕ → Type 0
   IsOnly place = (k : ℕ) (other : StoredResponse) → slice_get all k ≡ Some other → Is other → k ≡ place
 
+-- the response has a field Vary
+abbrev pub IsVarying : StoredResponse → Type 0
+IsVarying stored = HasLine (fields_of_stored stored (codes "vary"))
+
+module _ (request : Request) (all : List StoredResponse) where
+  -- The response may answer the request. It has a field Vary, or none of these responses that may answer the request has
+  -- one: a default response that omits it gives way to one that doesn't (section 4.1).
+  abbrev pub IsPreferred : StoredResponse → Type 0
+  IsPreferred stored =
+      IsCandidate request stored
+      × (IsVarying stored ⊎ ((k : ℕ) (other : StoredResponse) → slice_get all k ≡ Some other
+      → IsCandidate request other → ¬ (IsVarying other)))
+
+  -- the response at the place is the most recent one of those
+  abbrev pub IsChosen : ℕ → Type 0
+  IsChosen place = IsMostRecent IsPreferred all place
+
+  -- it is chosen for the request, or none may answer that
+  abbrev pub IsChoice : Option ℕ → Type 0
+  IsChoice None = IsSelected (IsCandidate request) all None
+  IsChoice (Some place) = IsChosen place
+
 -- the places of which something holds, in order
 pub record ArePlaces (At : ℕ → Type 0) (places : List ℕ) : Type 0 where
   pub each : (place : ℕ) → Contains places place ↔ At place
@@ -63,3 +87,9 @@ renewed (Some newest) place response =
 abbrev pub IsSought : Request → Option LineMap → StoredResponse → Type 0
 IsSought request None stored = IsCandidate request stored
 IsSought request (Some update) stored = IsCandidate request stored × IsUpdated (fields_of_stored stored) update
+
+-- the same of a search for the most recent one
+abbrev pub IsInSearch : Request → Search → StoredResponse → Type 0
+IsInSearch request All = IsCandidate request
+IsInSearch request Varying = λ stored. IsCandidate request stored × IsVarying stored
+IsInSearch request (Updated update) = IsSought request (Some (lines_at update.now))

@@ -4,16 +4,18 @@ ghost use Rattle.headers.{specs.LineMap.{fields_of, lines_at, set_all}, specs.Li
 ghost use Rattle.cache_policy.{specs.Policies.{MayStoreUnder, policy_of}, specs.Requests.request_of};
 ghost use Rattle.cache_policy.specs.Updating.{IsUpdated};
 ghost use Rattle.cache_rules.{specs.Fields.IsTooSmallFor, specs.Stored.{fields_of_stored, request_of_stored}};
-ghost use Rattle.cache_rules.specs.Freshening.{IsFreshenedAs, IsHeadOf, IsRenewed, IsReusable, SaysAsBefore, aged_anew};
-ghost use Rattle.cache_rules.specs.Freshening.{aging_fields, renewing_fields};
+ghost use Rattle.cache_rules.specs.Freshening.{IsForOthers, IsFreshenedAs, IsHeadOf, IsRenewed, MayBeReused};
+ghost use Rattle.cache_rules.specs.Freshening.{SaysAsBefore, aged_anew, aging_fields, renewing_fields};
 
 use crate::fields::set_fields;
 use crate::selection::is_sought;
 use crate::stored::StoredResponse;
 use crate::storing::has_fair_options;
-use cache_policy::{Policy, RequestHead, date_field, freshening_fields, is_updated};
+use cache_policy::{
+    Kind, Policy, RequestHead, date_field, freshening_fields, has_strong_tag, is_updated,
+};
 use headers::{Encoded, HeaderMap, HeaderValue, InsertError};
-use http_header::{AGE, CONTENT_LENGTH, GetAll, LAST_MODIFIED};
+use http_header::{AGE, CONTENT_LENGTH, GetAll, LAST_MODIFIED, SET_COOKIE, VARY};
 use rfc_fields::has_line;
 use std::alloc::{AllocError, Global};
 
@@ -35,7 +37,8 @@ pub enum Freshened {
     /// The stored response, updated, which stays stored.
     Stored(StoredResponse),
     /// The stored response, updated, which is no longer stored: its new fields forbid that, or the
-    /// reuse for this request. It may answer the request that validated it.
+    /// reuse for this request, or the validating response is for its client alone. It may answer the
+    /// request that validated it.
     Once(StoredResponse),
 }
 
@@ -45,6 +48,9 @@ pub enum Freshened {
 /// The fields of the 304 replace those that are stored, but for those of the connection, and
 /// Content-Length, Content-Encoding and Content-Range, which describe the stored content. A 304 without
 /// Date was made when it came, and the stored Age goes. The age counts from the exchange.
+///
+/// A 304 without a strong entity tag may be about another representation. If it changes Vary, the
+/// result is `Once`, and so it is in a shared cache if the 304 sets a cookie.
 ///
 /// The stored response is taken, so after an error there is nothing to serve. An error needs a 304
 /// that is about it. It is `InsertError::Full` only if the map of the stored response has no room for
@@ -68,12 +74,27 @@ pub fn freshen(
     let Some(fields) = freshening_fields(alloc, &stored.response, update)? else {
         return Ok(Freshened::Unchanged(stored));
     };
+    let others = is_for_others(&stored.response, update, policy);
     let fresh = updated(alloc, stored, fields, exchange)?;
+    if !others {
+        return Ok(Freshened::Once(fresh));
+    }
     if is_reusable(&fresh, request, update, policy) {
         Ok(Freshened::Stored(fresh))
     } else {
         Ok(Freshened::Once(fresh))
     }
+}
+
+// Whether a validating response is about what other clients get, too.
+fn is_for_others(stored: &HeaderMap, update: &HeaderMap, policy: &Policy<'_>) -> bool
+    ensures { MatchBool result (IsForOthers (policy_of policy.now) (lines_at stored.now) (lines_at update.now))
+        (¬ (IsForOthers (policy_of policy.now) (lines_at stored.now) (lines_at update.now))) }
+{
+    if policy.kind == Kind::Shared && has_line(&update.get_all(SET_COOKIE)) {
+        return false;
+    }
+    has_strong_tag(update) || says_as_before(&stored.get_all(VARY), &update.get_all(VARY))
 }
 
 // The stored response with these fields in place of its own, as old as the exchange says.
@@ -128,8 +149,8 @@ fn is_reusable(
     policy: &Policy<'_>,
 ) -> bool
     ensures { MatchBool result
-        (IsReusable (policy_of policy.now) (request_of request.now) (lines_at update.now) fresh.now)
-        (¬ (IsReusable (policy_of policy.now) (request_of request.now) (lines_at update.now) fresh.now)) }
+        (MayBeReused (policy_of policy.now) (request_of request.now) (lines_at update.now) fresh.now)
+        (¬ (MayBeReused (policy_of policy.now) (request_of request.now) (lines_at update.now) fresh.now)) }
 {
     if !has_fair_options(update, policy.targets) || !may_keep(fresh, policy) {
         return false;

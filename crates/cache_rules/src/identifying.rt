@@ -5,7 +5,7 @@ ghost use Rattle.cache_policy.specs.{Requests.request_of, Updating.HasValidator}
 ghost use Rattle.cache_rules.specs.Identifying.{IsIdentified, IsOnlyOne, IsUpdatedAnswer, one_more};
 ghost use Rattle.cache_rules.specs.Selection.{ArePlaces, IsAt, IsCandidate, IsOneAt, IsSomewhere, IsSought};
 
-use crate::selection::{is_sought, most_recent};
+use crate::selection::{Search, is_sought, most_recent};
 use crate::stored::StoredResponse;
 use cache_policy::{RequestHead, has_strong_tag, has_validator};
 use headers::HeaderMap;
@@ -47,7 +47,7 @@ pub fn select_updated(
     ensures { IsUpdatedAnswer (request_of request.now) (lines_at update.now) stored.now result }
 {
     if has_validator(update) {
-        most_recent(stored, request, Some(update))
+        most_recent(stored, request, Search::Updated(update))
     } else {
         only_updated(stored, request, update)
     }
@@ -84,7 +84,7 @@ fn only_updated(
     ensures { IsOneAt (IsIdentified (request_of request.now) (lines_at update.now) stored.now) result }
 {
     match only_candidate(stored, request) {
-        Some(_) => most_recent(stored, request, Some(update)),
+        Some(_) => most_recent(stored, request, Search::Updated(update)),
         None => None,
     }
 }

@@ -2,11 +2,13 @@
 ghost use Rattle.std.specs.{Prelude.◌≡◌, Prelude.option_map, Bool.MatchBool};
 ghost use Rattle.headers.specs.LineMap.{lines_at};
 ghost use Rattle.cache_policy.specs.Requests.{request_of};
-ghost use Rattle.cache_rules.specs.Selection.{IsCandidate, IsSelected, IsSought, renewed};
+ghost use Rattle.cache_rules.specs.Selection.{IsChoice, IsInSearch, IsSelected, IsSought, renewed};
 
 use crate::stored::StoredResponse;
 use cache_policy::{RequestHead, is_updated, matches};
 use headers::HeaderMap;
+use http_header::VARY;
+use rfc_fields::has_line;
 
 // The most recent stored response so far, and its place. Its Date is parsed only if another one may
 // be more recent.
@@ -16,13 +18,27 @@ struct Newest<'a> {
     response: &'a StoredResponse,
 }
 
+// Which stored responses a search is about, of those that match a request.
+#[derive(Clone, Copy)]
+pub(crate) enum Search<'a> {
+    // All of them.
+    All,
+    // Those with Vary.
+    Varying,
+    // Those that a 304 with these fields is about.
+    Updated(&'a HeaderMap),
+}
+
 /// Returns the place of the stored response that answers a request, by method and Vary (RFC 9111,
 /// sections 4 and 4.1): of those that match, the most recent by Date. Of several equally recent
-/// ones it is the last.
+/// ones it is the last. If some have Vary, those that omit it don't count.
 pub fn select(stored: &[StoredResponse], request: &RequestHead<'_>) -> Option<usize>
-    ensures { IsSelected (IsCandidate (request_of request.now)) stored.now result }
+    ensures { IsChoice (request_of request.now) stored.now result }
 {
-    most_recent(stored, request, None)
+    match most_recent(stored, request, Search::Varying) {
+        Some(place) => Some(place),
+        None => most_recent(stored, request, Search::All),
+    }
 }
 
 // Whether a search is about the stored response.
@@ -44,6 +60,20 @@ pub(crate) fn is_sought(
     }
 }
 
+// The same of a search for the most recent one.
+fn is_in_search(stored: &StoredResponse, request: &RequestHead<'_>, search: Search<'_>) -> bool
+    ensures { MatchBool result (IsInSearch (request_of request.now) search.entry stored.now)
+        (¬ (IsInSearch (request_of request.now) search.entry stored.now)) }
+{
+    match search {
+        Search::All => is_sought(stored, request, None),
+        Search::Varying => {
+            is_sought(stored, request, None) && has_line(&stored.response.get_all(VARY))
+        }
+        Search::Updated(update) => is_sought(stored, request, Some(update)),
+    }
+}
+
 // The most recent one, once one more is known.
 fn renewed<'a>(
     newest: Option<Newest<'a>>,
@@ -58,19 +88,17 @@ fn renewed<'a>(
     }
 }
 
-// The place of the most recent stored response that a search is about: all that may answer the
-// request, or of these those that a 304 is about.
+// The place of the most recent stored response that a search is about.
 pub(crate) fn most_recent(
     stored: &[StoredResponse],
     request: &RequestHead<'_>,
-    update: Option<&HeaderMap>,
+    search: Search<'_>,
 ) -> Option<usize>
-    ensures { IsSelected (IsSought (request_of request.now) (option_map (λ u. lines_at u.now) update.entry))
-        stored.now result }
+    ensures { IsSelected (IsInSearch (request_of request.now) search.entry) stored.now result }
 {
     let mut newest = None;
     for (place, response) in stored.iter().enumerate() {
-        if is_sought(response, request, update) {
+        if is_in_search(response, request, search) {
             newest = renewed(newest, place, response);
         }
     }

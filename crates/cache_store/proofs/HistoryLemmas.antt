@@ -223,7 +223,7 @@ module _ (policy : Policy) (limits : Limits) where
       -- the answer itself
       answered : (fresh : StoredResponse) (left : List StoredResponse)
           → (r : IsRefreshedTo policy target request update exchange old new fresh left)
-          → IsReusable policy request update fresh
+          → IsReusable policy (fields_of_stored r.selected.response) request update fresh
           → IsJustified policy target (Validated target request update exchange ∷ calls) fresh
       answered fresh left r reusable =
           let was = r.selected.response in
@@ -353,7 +353,7 @@ module _ (policy : Policy) (limits : Limits) (calls : History) (contents : Conte
         justified = run-justified policy limits calls contents ran target found.selected.response
             (HasUnder-responses_at target contents found.selected.response (Has-slice_get (responses_at target
             contents) place found.selected.response found.selected.at));
-        matches = found.selected.is;
+        matches = found.selected.is.0;
         lifetime = found.lifetime;
         fresh_for = found.fresh_for;
         good = good;

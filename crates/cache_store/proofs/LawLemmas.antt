@@ -72,10 +72,10 @@ module _ (policy : Policy) (target : List ℕ) where
   may-be (Validated other request update exchange ∷ calls) stored (inl is) = may-be calls stored is
   may-be (Validated other request update exchange ∷ calls) stored
       (inr (same, (old, was, fits, about, fresh, reusable))) =
-      reusable.first
+      reusable.1.first
   may-be (Described other request head exchange ∷ calls) stored (inl is) = may-be calls stored is
   may-be (Described other request head exchange ∷ calls) stored (inr (same, (old, was, get, about, fresh, reusable))) =
-      reusable.first
+      reusable.1.first
   may-be (Answered other method status ∷ calls) stored is = may-be calls stored is.1
   may-be (Removed other ∷ calls) stored is = may-be calls stored is.1
 

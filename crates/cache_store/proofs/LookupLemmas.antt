@@ -5,7 +5,7 @@ use Rattle.headers.specs.LineMap.{LineMap}
 use Rattle.cache_policy.specs.{Decisions.Answers, Decisions.counted, Age.age_at, Directives.directed, Fields.capped}
 use Rattle.cache_policy.specs.{Requests.Request, Targets.governing, declared.Governing.Governing}
 use Rattle.cache_policy.specs.{declared.decision.Decision.Decision, Policies.AnswersUnder, Policies.Policy}
-use Rattle.cache_rules.specs.{Selection.IsCandidate, Selection.IsMostRecent, Stored.fields_of_stored, Stored.times_of}
+use Rattle.cache_rules.specs.{Selection.IsChosen, Stored.fields_of_stored, Stored.times_of}
 use Rattle.cache_rules.specs.{declared.stored.StoredResponse.StoredResponse}
 use Rattle.cache_store.specs.Lookups.{HasFields, IsAnswer, IsDecisionOf, IsFound, IsFreshBy, IsFreshFor, IsLookupOf}
 use Rattle.cache_store.specs.Lookups.{freshness_of}
@@ -20,7 +20,7 @@ abbrev pub age_now : ℕ → StoredResponse → ℕ
 age_now now stored = capped (age_at (times_of stored now) (fields_of_stored stored))
 
 module _ (policy : Policy) (most : ℕ) (request : Request) (now : ℕ) (responses : List StoredResponse) (place : ℕ)
-    (selected : IsMostRecent (IsCandidate request) responses place) (decision : Decision)
+    (selected : IsChosen request responses place) (decision : Decision)
     (distinct : (number : ℕ) → times_in number responses ≤ 1) where
   -- the policy decides so about the selected response
   abbrev IsDecided : Decision → Type 0

@@ -6,7 +6,7 @@ use Rattle.std.{proofs.lemmas.List.Elements.Contains-get_or, proofs.lemmas.Optio
 use Rattle.std.{proofs.lemmas.Option.slice_get_within, specs.List.Contains}
 use Rattle.headers.specs.LineMap.{Field, LineMap}
 use Rattle.cache_policy.{specs.Requests.Request, specs.Policies.Policy}
-use Rattle.cache_rules.{specs.Fields.IsTooSmallFor, specs.Identifying.IsUpdatedAnswer}
+use Rattle.cache_rules.{specs.Fields.IsTooSmallFor, specs.Identifying.IsUpdatedAnswer, specs.Stored.fields_of_stored}
 use Rattle.cache_rules.specs.declared.freshening.Exchange.{Exchange}
 use Rattle.cache_rules.{specs.declared.stored.StoredResponse.StoredResponse, specs.Freshening.IsFreshened}
 use Rattle.cache_rules.specs.Freshening.{IsFreshenedAs, IsReusable}
@@ -73,14 +73,21 @@ freshened_numbered old update exchange n fresh is =
       fields = is.fields;
     }
 
-module _ (policy : Policy) (request : Request) (update : LineMap) (n : ℕ) (fresh : StoredResponse) where
-  reusable_numbered : IsReusable policy request update fresh → IsReusable policy request update (renumbered n fresh)
-  reusable_numbered is =
-      record { first = is.first; validating = is.validating; suits = is.suits; fair = is.fair }
+module _ (policy : Policy) (stored : LineMap) (request : Request) (update : LineMap) (n : ℕ) (fresh : StoredResponse)
+  where
+    reusable_numbered : IsReusable policy stored request update fresh
+        → IsReusable policy stored request update (renumbered n fresh)
+    reusable_numbered is = (
+      is.0,
+      record { first = is.1.first; validating = is.1.validating; suits = is.1.suits; fair = is.1.fair },
+    )
 
-  reusable_unnumbered : IsReusable policy request update (renumbered n fresh) → IsReusable policy request update fresh
-  reusable_unnumbered is =
-      record { first = is.first; validating = is.validating; suits = is.suits; fair = is.fair }
+    reusable_unnumbered : IsReusable policy stored request update (renumbered n fresh)
+        → IsReusable policy stored request update fresh
+    reusable_unnumbered is = (
+      is.0,
+      record { first = is.1.first; validating = is.1.validating; suits = is.1.suits; fair = is.1.fair },
+    )
 
 -- the names are those of the code
 module _ (policy own : Policy) (target : List ℕ) (request : Request) (update : LineMap) (exchange : Exchange) (old new
@@ -109,12 +116,13 @@ module _ (policy own : Policy) (target : List ℕ) (request : Request) (update :
     module _ (n : ℕ) (kept : StoredResponse) (is_kept : kept ≡ renumbered n fresh) where
       pub restored : IsFreshenedAs own d request update exchange (outcomes.Stored fresh)
           → new ≡ (target, left ++ kept ∷ []) ∷ other → IsRestored policy target request update exchange old new n
+      unfolding refreshed
       restored freshened put =
           record {
             fresh = renumbered n fresh;
             left = left;
             refreshed = refreshed (renumbered n fresh) (freshened_numbered d update exchange n fresh freshened.1);
-            reusable = reusable_numbered policy request update n fresh (rw is_own at freshened.2);
+            reusable = reusable_numbered policy _ request update n fresh (rw is_d at (rw is_own at freshened.2));
             at = refl;
             put = put ∙ ap (λ c. (target, left ++ kept ∷ []) ∷ c) is_other
                 ∙ ap (λ s. (target, left ++ s ∷ []) ∷ without target old) is_kept;
@@ -122,11 +130,13 @@ module _ (policy own : Policy) (target : List ℕ) (request : Request) (update :
 
       pub let_go : IsFreshenedAs own d request update exchange (outcomes.Once fresh)
           → new ≡ with_target target left other → IsLetGo policy target request update exchange old new kept
+      unfolding refreshed
       let_go freshened put =
           subst (IsLetGo policy target request update exchange old new) (sym is_kept) (record {
             left = left;
             refreshed = refreshed (renumbered n fresh) (freshened_numbered d update exchange n fresh freshened.1);
-            unusable = λ is. freshened.2 (rw (← is_own) at (reusable_unnumbered policy request update n fresh is));
+            unusable = λ is. freshened.2 (subst (λ one. IsReusable own (fields_of_stored one) request update fresh)
+                (sym is_d) (rw (← is_own) at (reusable_unnumbered policy _ request update n fresh is)));
             put = put ∙ ap (λ c. with_target target left c) is_other;
           })
 

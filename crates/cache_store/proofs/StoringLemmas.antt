@@ -3,7 +3,7 @@ use Rattle.std.proofs.Common.{◌≡◌, ◌≢◌, ℕ, ◌+◌, ◌-◌, ◌<�
 use Rattle.std.{proofs.Common.{Some, refl, sym, ap, subst, arith, remove, inl, inr, ◌∙◌}, proofs.lemmas.List.drop-drop}
 use Rattle.std.{proofs.lemmas.List.Sums.sum_by-remove, proofs.lemmas.Option.get_or_from_slice_get}
 use Rattle.cache_policy.specs.Requests.{Request}
-use Rattle.cache_rules.{specs.Selection.{IsCandidate, IsMostRecent}, specs.Stored.request_of_stored}
+use Rattle.cache_rules.{specs.Selection.IsChosen, specs.Stored.request_of_stored}
 use Rattle.cache_rules.specs.declared.stored.StoredResponse.{StoredResponse}
 use Rattle.cache_store.{specs.Changes.{FitsAlone, IsInserted, IsRest, IsTrimmed}, specs.Contents.{Contents, IsAbsent}}
 use Rattle.cache_store.{specs.Contents.{bytes_of, responses_at, size_of, without}, specs.Room.IsLongestWithRoom}
@@ -61,7 +61,7 @@ module _ (limits : Limits) (size : ℕ) where
 
 -- ---- those that a new one supersedes
 
-module _ (request : Request) (all : List StoredResponse) (place : ℕ) (found : IsMostRecent (IsCandidate request) all
+module _ (request : Request) (all : List StoredResponse) (place : ℕ) (found : IsChosen request all
     place)
     (d : StoredResponse) (at : d ≡ get_or all place d) where
   is_found : found.response.method ≡ d.method

@@ -6,7 +6,7 @@ use Rattle.cache_policy.specs.{Requests.Request, Policies.Policy}
 use Rattle.cache_rules.specs.{Fields.IsTooSmallFor, Identifying.IsIdentified, declared.freshening.Exchange.Exchange}
 use Rattle.cache_rules.specs.{declared.storing.Reception.Reception, declared.stored.StoredResponse.StoredResponse}
 use Rattle.cache_rules.specs.Freshening.{IsFreshened, IsReusable}
-use Rattle.cache_rules.specs.Selection.{IsCandidate, IsMostRecent, IsSelected, IsSought}
+use Rattle.cache_rules.specs.Selection.{IsCandidate, IsChosen, IsMostRecent, IsSelected, IsSought}
 use Rattle.cache_rules.specs.Stored.{fields_of_stored, request_of_stored}
 use Rattle.cache_rules.specs.Storing.{IsAsStored, IsStored, storing_fields}
 use Rattle.cache_store.specs.Contents.{Contents, bytes_of, responses_at, size_of, with_target, without}
@@ -51,7 +51,7 @@ pub record FitsAlone (limits : Limits) (responses bytes : ℕ) : Type 0 where
 abbrev pub IsRest : Request → List StoredResponse → List StoredResponse → Type 0
 IsRest request all rest =
     (IsSelected (IsCandidate request) all None × (rest ≡ all))
-    ⊎ ((place : ℕ) × (found : IsMostRecent (IsCandidate request) all place)
+    ⊎ ((place : ℕ) × (found : IsChosen request all place)
     × (((found.response.method ≡ request.method) × (rest ≡ remove all place))
     ⊎ ((found.response.method ≢ request.method) × (rest ≡ all))))
 
@@ -80,7 +80,7 @@ pub record IsInserted (limits : Limits) (target : List ℕ) (new : StoredRespons
 -- what a 304 to the request makes of the responses, if it updates none
 abbrev pub IsUnrefreshed : Request → List StoredResponse → Refreshed → Type 0
 IsUnrefreshed request all Absent = IsSelected (IsCandidate request) all None
-IsUnrefreshed request all Unchanged = (place : ℕ) × IsMostRecent (IsCandidate request) all place
+IsUnrefreshed request all Unchanged = (place : ℕ) × IsChosen request all place
 IsUnrefreshed request all (Stored at) = ⊥
 IsUnrefreshed request all (Once fresh) = ⊥
 
@@ -101,7 +101,7 @@ module _ (policy : Policy) (target : List ℕ) (request : Request) (update : Lin
       pub fresh : StoredResponse
       pub left : List StoredResponse
       pub refreshed : IsRefreshedTo fresh left
-      pub reusable : IsReusable policy request update fresh
+      pub reusable : IsReusable policy (fields_of_stored refreshed.selected.response) request update fresh
       pub at : stored_at ≡ fresh.number
       pub put : new ≡ (target, left ++ fresh ∷ []) ∷ without target old
 
@@ -109,7 +109,7 @@ module _ (policy : Policy) (target : List ℕ) (request : Request) (update : Lin
     pub record IsLetGo (fresh : StoredResponse) : Type 0 where
       pub left : List StoredResponse
       pub refreshed : IsRefreshedTo fresh left
-      pub unusable : ¬ (IsReusable policy request update fresh)
+      pub unusable : ¬ (IsReusable policy (fields_of_stored refreshed.selected.response) request update fresh)
       pub put : new ≡ with_target target left (without target old)
 
     -- a 304 to the request updates none of the responses
@@ -120,7 +120,7 @@ module _ (policy : Policy) (target : List ℕ) (request : Request) (update : Lin
     abbrev pub IsRefreshed : Refreshed → Type 0
     IsRefreshed Absent = IsSelected (IsCandidate request) (responses_at target old) None × (new ≡ old)
     IsRefreshed Unchanged =
-        IsAboutNone × ((place : ℕ) × IsMostRecent (IsCandidate request) (responses_at target old) place) × (new ≡ old)
+        IsAboutNone × ((place : ℕ) × IsChosen request (responses_at target old) place) × (new ≡ old)
     IsRefreshed (Stored at) = IsRestored at
     IsRefreshed (Once fresh) = IsLetGo fresh
 

@@ -97,12 +97,12 @@ module _ (policy : Policy) (target : List ℕ) where
       IsJustified calls stored
       ⊎ ((other ≡ target) × ((old : StoredResponse) × IsJustified calls old × IsCandidate request old
       × IsUpdated (fields_of_stored old) update × IsFreshened old update exchange stored
-      × IsReusable policy request update stored))
+      × IsReusable policy (fields_of_stored old) request update stored))
   IsJustified (Described other request head exchange ∷ calls) stored =
       IsJustified calls stored
       ⊎ ((other ≡ target) × ((old : StoredResponse) × IsJustified calls old × IsGetFor request old
       × IsHeadOf (fields_of_stored old) head × IsFreshened old head exchange stored
-      × IsReusable policy request head stored))
+      × IsReusable policy (fields_of_stored old) request head stored))
   IsJustified (Answered other method status ∷ calls) stored =
       (Invalidates method status → other ≢ target) × IsJustified calls stored
   IsJustified (Removed other ∷ calls) stored = (other ≢ target) × IsJustified calls stored

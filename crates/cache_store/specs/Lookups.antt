@@ -6,7 +6,7 @@ use Rattle.cache_policy.specs.{Freshness.HasLifetimeBy, Policies.AnswersUnder, P
 use Rattle.cache_policy.specs.{Targets.governing, Validating.validation_fields, declared.Governing.Governing}
 use Rattle.cache_policy.specs.{declared.Kind.Kind, declared.decision.Decision.Decision}
 use Rattle.cache_policy.specs.{declared.decision.Freshness.Freshness}
-use Rattle.cache_rules.specs.Selection.{IsCandidate, IsMostRecent, IsSelected}
+use Rattle.cache_rules.specs.Selection.{IsCandidate, IsChosen, IsSelected}
 use Rattle.cache_rules.specs.{Stored.fields_of_stored, Stored.times_of, declared.stored.StoredResponse.StoredResponse}
 use Rattle.cache_store.specs.{Numbers.numbered, declared.lookup.Lookup.Lookup}
 use Rattle.cache_store.specs.declared.lookup.Lookup.TheVariants.{Serve, ServeAndRevalidate, Validate, ValidateOrServe}
@@ -69,7 +69,7 @@ module _ (policy : Policy) (most : ℕ) (request : Request) (now : ℕ) (respons
   -- The response at the place is the one that is selected for the request (section 4.1), and the policy decides so
   -- about it.
   pub record IsFound (decision : Decision) (place : ℕ) : Type 0 where
-    pub selected : IsMostRecent (IsCandidate request) responses place
+    pub selected : IsChosen request responses place
     pub lifetime : ℕ
     pub fresh_for : IsFreshFor policy most selected.response lifetime
     pub decided : AnswersUnder policy request.fields (fields_of_stored selected.response)

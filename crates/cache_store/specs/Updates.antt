@@ -37,9 +37,11 @@ pub record IsGetFor (request : Request) (stored : StoredResponse) : Type 0 where
 module _ (policy : Policy) (request : Request) (update : LineMap) (exchange : Exchange) (old : StoredResponse) where
   -- an updated response stays stored if it may be reused
   abbrev pub BecomesUpdated : Option StoredResponse → Type 0
-  BecomesUpdated (Some new) = IsFreshened old update exchange new × IsReusable policy request update new
+  BecomesUpdated (Some new) =
+      IsFreshened old update exchange new × IsReusable policy (fields_of_stored old) request update new
   BecomesUpdated None =
-      (new : StoredResponse) × IsFreshened old update exchange new × ¬ (IsReusable policy request update new)
+      (new : StoredResponse) × IsFreshened old update exchange new
+      × ¬ (IsReusable policy (fields_of_stored old) request update new)
 
   -- what a 304 makes of a stored response that isn't the answer
   abbrev pub BecomesBeside : Option StoredResponse → Type 0

@@ -279,7 +279,7 @@ module _ (law : StoreLaws) (caching : Caching) (origin : Origin) (now : ℕ) (ta
       = rw same at found.decided in
       record {
         justified = under;
-        matches = rw same at selected.is;
+        matches = rw same at selected.is.0;
         lifetime = found.lifetime;
         fresh_for = rw same at found.fresh_for;
         good = inr decided.2;

@@ -16,7 +16,7 @@ use Rattle.cache_store.specs.declared.parts.store_answering.PartLookup.TheVarian
 use Rattle.cache_store.specs.declared.parts.store_answering.PartLookup.TheVariants.{Forward}
 use Rattle.cache_store.specs.declared.parts.store_recording.Recorded.TheVariants.{Unstored, Stored, Whole, Once}
 use Rattle.cache_policy.specs.{Policies.Policy, Requests.Request, declared.decision.Decision.Decision}
-use Rattle.cache_rules.specs.Selection.{IsCandidate, IsMostRecent}
+use Rattle.cache_rules.specs.Selection.{IsChosen}
 use Rattle.cache_rules.specs.{declared.storing.Reception.Reception, declared.stored.StoredResponse.StoredResponse}
 use Rattle.cache_policy.specs.declared.decision.Decision.TheVariants as decisions
 use Rattle.cache_store.specs.declared.parts.combining.Combined.TheVariants as combined
@@ -28,7 +28,7 @@ bool_map false p q h = q h
 -- ---- the selected part
 
 pub selected_part : (given request : Request) (all parts : List StoredResponse) (place : ℕ) (one : StoredResponse)
-    → given ≡ request → all ≡ parts → one ≡ get_or all place one → IsMostRecent (IsCandidate given) all place
+    → given ≡ request → all ≡ parts → one ≡ get_or all place one → IsChosen given all place
     → IsSelectedPart request parts (Some one)
 selected_part given request all parts place one asked same is found =
     subst (λ (q : Request). IsSelectedPart q parts (Some one)) asked

@@ -1,9 +1,10 @@
 -- What updated fields and joined bytes make of a stored part.
-use Rattle.std.proofs.Common.{◌≡◌, ◌∙◌, ℕ, List, inr, refl, ap, subst}
+use Rattle.std.proofs.Common.{◌≡◌, ◌∙◌, ℕ, List, inr, refl, sym, ap, subst}
 use Rattle.http_header.specs.{FieldValue.FieldValue, HeaderMap.Entries}
 use Rattle.headers.specs.LineMap.{Field, LineMap, lines_at}
 use Rattle.cache_policy.specs.{Freshening.freshened, Policies.Policy, Requests.Request}
-use Rattle.cache_rules.specs.{Fields.IsTooSmallFor, Freshening.IsFreshened, Freshening.IsReusable, Freshening.aged_anew}
+use Rattle.cache_rules.specs.{Fields.IsTooSmallFor, Freshening.IsForOthers, Freshening.IsFreshened, Freshening.IsReusable}
+use Rattle.cache_rules.specs.Freshening.{MayBeReused, aged_anew}
 use Rattle.cache_rules.specs.{Stored.fields_of_stored, Stored.request_of_stored, declared.freshening.Exchange.Exchange}
 use Rattle.cache_rules.specs.{declared.storing.Reception.Reception, declared.stored.StoredResponse.StoredResponse}
 use Rattle.cache_store.specs.Parts.Combining.{AreCombinable, IsCombination, IsCombinedAs, IsExtended, IsHeadOfStored}
@@ -85,37 +86,37 @@ module _ (policy : Policy) (stored came head fresh combined : StoredResponse) (r
         };
       }
 
-  pub reusable : IsReusable policy request (fields_of_stored came) fresh
-      → IsCombinedAs policy stored came reception (Stored combined)
-  reusable fits =
-      let own_fits = subst (λ (r : Request). IsReusable policy r (fields_of_stored came) fresh) is_request fits in (
-        own,
-        other,
-        whole,
-        may,
-        is-combination,
+  -- the content of the stored part changes nothing
+  own-reusable : IsReusable policy (fields_of_stored head) request (fields_of_stored came) fresh
+      → IsReusable policy (fields_of_stored stored) (request_of_stored came) (fields_of_stored came) whole
+  own-reusable is =
+      let asked = subst (λ (r : Request). MayBeReused policy r (fields_of_stored came) fresh) is_request is.1 in (
+        subst (λ (r : Entries FieldValue). IsForOthers policy (lines_at r) (fields_of_stored came)) is_head.response is.0,
         record {
-          first = own_fits.first;
-          validating = own_fits.validating;
-          suits = own_fits.suits;
-          fair = own_fits.fair;
+          first = asked.first;
+          validating = asked.validating;
+          suits = asked.suits;
+          fair = asked.fair;
         },
       )
 
-  pub unusable : ¬ (IsReusable policy request (fields_of_stored came) fresh)
+  reusable-before : IsReusable policy (fields_of_stored stored) (request_of_stored came) (fields_of_stored came) whole
+      → IsReusable policy (fields_of_stored head) request (fields_of_stored came) fresh
+  reusable-before is = (
+    subst (λ (r : Entries FieldValue). IsForOthers policy (lines_at r) (fields_of_stored came)) (sym is_head.response)
+        is.0,
+    subst (λ (r : Request). MayBeReused policy r (fields_of_stored came) fresh) (sym is_request) (record {
+      first = is.1.first;
+      validating = is.1.validating;
+      suits = is.1.suits;
+      fair = is.1.fair;
+    }),
+  )
+
+  pub reusable : IsReusable policy (fields_of_stored head) request (fields_of_stored came) fresh
+      → IsCombinedAs policy stored came reception (Stored combined)
+  reusable fits = (own, other, whole, may, is-combination, own-reusable fits)
+
+  pub unusable : ¬ (IsReusable policy (fields_of_stored head) request (fields_of_stored came) fresh)
       → IsCombinedAs policy stored came reception (Once combined)
-  unusable unfit =
-      let own_unfit =
-      subst (λ (r : Request). ¬ (IsReusable policy r (fields_of_stored came) fresh)) is_request unfit in (
-        own,
-        other,
-        whole,
-        may,
-        is-combination,
-        λ fits. own_unfit (record {
-          first = fits.first;
-          validating = fits.validating;
-          suits = fits.suits;
-          fair = fits.fair;
-        }),
-      )
+  unusable unfit = (own, other, whole, may, is-combination, λ fits. unfit (reusable-before fits))

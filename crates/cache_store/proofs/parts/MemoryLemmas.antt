@@ -7,7 +7,7 @@ use Rattle.cache_store.{specs.declared.parts.store_recording.Recorded.Recorded, 
 use Rattle.cache_store.specs.Parts.Recording.{IsMerged, IsNotTaken, IsRecordedAs, IsSelectedPart, IsTaken, NeedsMemory}
 use Rattle.cache_store.specs.declared.parts.store_recording.Recorded.TheVariants.{Unstored, Stored, Whole, Once}
 use Rattle.cache_policy.{specs.Policies.Policy, specs.Requests.Request}
-use Rattle.cache_rules.{proofs.SelectionLemmas.selects_one, specs.Selection.IsCandidate}
+use Rattle.cache_rules.{proofs.SelectionLemmas.one_choice}
 use Rattle.cache_rules.{specs.declared.storing.Reception.Reception, specs.declared.stored.StoredResponse.StoredResponse}
 use Rattle.headers_map.proofs.InsertLemmas.{OnErr-from}
 use Rattle.cache_store.specs.declared.parts.combining.Combined.TheVariants as combined
@@ -17,7 +17,7 @@ selected_same : (request : Request) (parts : List StoredResponse) (one other : S
     → IsSelectedPart request parts (Some one) → IsSelectedPart request parts (Some other) → one ≡ other
 selected_same request parts one other (place, found, is) (place_too, found_too, is_too) =
     let places : place ≡ place_too =
-    same_Some place place_too (selects_one (IsCandidate request) parts (Some place) (Some place_too) found found_too) in
+    same_Some place place_too (one_choice request parts (Some place) (Some place_too) found found_too) in
     let responses : found.response ≡ found_too.response =
     same_Some found.response found_too.response (sym found.at ∙ ap (slice_get parts) places ∙ found_too.at) in
     sym is ∙ responses ∙ is_too
@@ -42,7 +42,7 @@ module _ (policy : Policy) (parts : List StoredResponse) (came : StoredResponse)
   -- one that isn't couldn't be
   apart_uncombinable : IsMerged policy parts came reception combined.Apart → ¬ (IsCombinable parts came reception)
   apart_uncombinable (inl (none, same)) (stored, (place, found, is), may) =
-      none place found.response found.at found.is
+      none place found.response found.at found.is.0
   apart_uncombinable (inr (one, selected, never)) (stored, selected_too, (own, other, may)) =
       let same = selected_same _ _ _ _ selected_too selected in
       never own other (rw same at may)

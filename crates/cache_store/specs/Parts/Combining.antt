@@ -87,6 +87,6 @@ module _ (policy : Policy) (stored came : StoredResponse) (reception : Reception
   abbrev pub IsCombinedAs : Combined → Type 0
   IsCombinedAs Apart = (own other : Extent) → ¬ (AreCombinable stored came reception own other)
   IsCombinedAs (Stored combined) =
-      IsCombinedTo (IsReusable policy (request_of_stored came) (fields_of_stored came)) combined
+      IsCombinedTo (IsReusable policy (fields_of_stored stored) (request_of_stored came) (fields_of_stored came)) combined
   IsCombinedAs (Once combined) =
-      IsCombinedTo (λ fresh. ¬ (IsReusable policy (request_of_stored came) (fields_of_stored came) fresh)) combined
+      IsCombinedTo (λ fresh. ¬ (IsReusable policy (fields_of_stored stored) (request_of_stored came) (fields_of_stored came) fresh)) combined

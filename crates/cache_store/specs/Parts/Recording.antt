@@ -13,14 +13,14 @@ use Rattle.cache_policy.specs.{Policies.Policy, Requests.Request}
 use Rattle.cache_rules.specs.{Fields.IsTooSmallFor, Stored.fields_of_stored, Stored.request_of_stored}
 use Rattle.cache_rules.specs.{declared.storing.Reception.Reception, declared.storing.Reception.TheVariants.Complete}
 use Rattle.cache_rules.specs.{declared.stored.StoredResponse.StoredResponse}
-use Rattle.cache_rules.specs.Selection.{IsCandidate, IsMostRecent, IsSelected}
+use Rattle.cache_rules.specs.Selection.{IsCandidate, IsChosen, IsSelected}
 use Rattle.cache_store.specs.declared.parts.combining.Combined.TheVariants as combined
 
 -- the stored part that a request selects (RFC 9111, section 4.1), or none
 abbrev pub IsSelectedPart : Request → List StoredResponse → Option StoredResponse → Type 0
 IsSelectedPart request parts None = IsSelected (IsCandidate request) parts None
 IsSelectedPart request parts (Some stored) =
-    (place : ℕ) × (found : IsMostRecent (IsCandidate request) parts place) × (found.response ≡ stored)
+    (place : ℕ) × (found : IsChosen request parts place) × (found.response ≡ stored)
 
 -- the received part and the one that its request selects may be combined
 abbrev pub IsCombinable : List StoredResponse → StoredResponse → Reception → Type 0
