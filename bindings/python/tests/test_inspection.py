@@ -74,6 +74,16 @@ class Reports(unittest.TestCase):
         self.assertEqual((report.selection.status, report.selection.ranges[0].last), (206, 2))
         self.assertIsNone(report.browser_cache)
 
+    def test_ports(self) -> None:
+        # RFC 3986, section 3.2: an authority's port is digits; RFC 9293, section 3.1: it has 16 bits. RFC 9110, section
+        # 4.2.4: a user is an error.
+        for name, start in (("Host", ""), ("Origin", "http://")):
+            for host, is_valid in (("a:65535", True), ("a:65536", False), ("[::1]:99999", False), ("u@a", False)):
+                report = inspect(f"GET / HTTP/1.1\n{name}: {start}{host}\n")
+                self.assertIs(report.is_valid, is_valid, host)
+                self.assertIs(report.fields[0].canonical is None, not is_valid, host)
+                self.assertEqual(f"not '{start}{host}'" in str(report.fields[0].error), not is_valid)
+
     def test_both(self) -> None:
         report = inspect(BOTH, length=10)
         self.assertIs(report.precondition, Precondition.NOT_MODIFIED)

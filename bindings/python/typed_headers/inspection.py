@@ -18,6 +18,7 @@ from .caching import Decision, Times, current_age, decide, lifetime, may_store, 
 from .conditions import Precondition, Selection, Target, evaluate, select
 from .errors import HeaderError, InvalidField, InvalidSection, TooLarge
 from .headers import Headers, canonical_field
+from .values import Host, Origin
 
 __all__ = [
     "CacheReport",
@@ -188,6 +189,10 @@ def parse_heads(text: Text) -> Tuple[Optional[Head], Optional[Head]]:
     return request, response
 
 
+# Their canonical lines have the port as it came, which may be no number of a port.
+_PARSED: Dict[str, Callable[..., object]] = {"host": Host.parse, "origin": Origin.parse}
+
+
 def _fields(headers: Headers) -> Tuple[FieldReport, ...]:
     lines_of: Dict[str, List[str]] = {}
     for name, value in headers.pairs():
@@ -197,6 +202,8 @@ def _fields(headers: Headers) -> Tuple[FieldReport, ...]:
         lines = tuple(given)
         try:
             report = FieldReport(name, lines, name in FIELDS, tuple(canonical_field(name, *lines)))
+            if name in _PARSED:
+                _PARSED[name](*lines)
         except InvalidField as error:
             report = FieldReport(name, lines, name in FIELDS, None, error.reason, error.line, error.byte)
         found.append(report)
