@@ -55,7 +55,7 @@ class Notes:
         if path == "/notes":
             listed = json.dumps([f"/notes/{place}" for place in self.by_id], separators=(",", ":")).encode()
             return served([GET, POST], (listed, self.changes), {"POST": self.add})
-        note = re.fullmatch("/notes/([0-9]+)", path)
+        note = re.fullmatch("/notes/([1-9][0-9]*)", path)
         if not note:
             return Served(Resource(EVERY, state=State.ABSENT, cors=CORS))
         place = int(note[1])
