@@ -15,17 +15,17 @@ const PRESENT: u64 = 1_767_225_600;
 /// The calls of routes.
 pub struct Routing;
 
-// Why, the status, what is sent, and the fields.
-fn add_outcome(made: Made, answer: &mut Answer) -> Result<(), Failure> {
+// Why, the status, what is sent, and the fields of a response that had these.
+fn add_outcome(made: Made, mut map: HeaderMap, answer: &mut Answer) -> Result<(), Failure> {
     let reason = made.reason;
     answer.word(format_args!("{reason:?}"))?;
     answer.option(made.status.map(|status| status.as_u16()))?;
     match made.sends {
         Sends::Nothing => answer.word("nothing")?,
         Sends::Planned(Some(place), Plan::Full) => answer.word(format_args!("{place} whole"))?,
+        Sends::Planned(Some(place), Plan::Single(_)) => answer.word(format_args!("{place} part"))?,
         _ => return Err(Failure::NoCall),
     }
-    let mut map = HeaderMap::new(answer.alloc());
     set_all(&mut map, made.fields).map_err(|_| Failure::Memory)?;
     answer.map(&map)
 }
@@ -64,7 +64,14 @@ fn asked_by<'a>(
 // `route PATH METHOD FIELDS`: the reason, the status or `(none)`, what is sent, and the fields, for a request of HTTP/1.1
 // without content by its path, among the routes of `resources.rt`.
 fn call_route(arguments: &mut Arguments<'_>, answer: &mut Answer) -> Result<(), Failure> {
-    answer_route(arguments, answer, None)
+    let set = HeaderMap::new(arguments.alloc());
+    answer_route(arguments, answer, None, set)
+}
+
+// `route_over SET (/) PATH METHOD FIELDS`: the same for a response that had the fields SET.
+fn call_route_over(arguments: &mut Arguments<'_>, answer: &mut Answer) -> Result<(), Failure> {
+    let set = arguments.map()?;
+    answer_route(arguments, answer, None, set)
 }
 
 // Why the server denies a request, by its status.
@@ -82,13 +89,15 @@ fn denied_by(status: &str) -> Result<Denied, Failure> {
 // realm="a"`, by 403, by 429 for 120 seconds, or by 503.
 fn call_denied(arguments: &mut Arguments<'_>, answer: &mut Answer) -> Result<(), Failure> {
     let denied = denied_by(arguments.word()?)?;
-    answer_route(arguments, answer, Some(denied))
+    let set = HeaderMap::new(arguments.alloc());
+    answer_route(arguments, answer, Some(denied), set)
 }
 
 fn answer_route(
     arguments: &mut Arguments<'_>,
     answer: &mut Answer,
     denied: Option<Denied>,
+    set: HeaderMap,
 ) -> Result<(), Failure> {
     let alloc = arguments.alloc();
     let path = arguments.word()?;
@@ -96,7 +105,7 @@ fn answer_route(
     let fields = arguments.map()?;
     let asked = asked_by(path, &method, &fields, denied.as_ref());
     let made = routes(alloc)?.answer_at(alloc, &asked, |name, _| resource_named(alloc, name))?;
-    add_outcome(made, answer)
+    add_outcome(made, set, answer)
 }
 
 fn read_reason(arguments: &mut Arguments<'_>) -> Result<Reason, Failure> {
@@ -128,6 +137,7 @@ impl Calls for Routing {
     fn make(name: &str, arguments: &mut Arguments<'_>, answer: &mut Answer) -> Result<(), Failure> {
         match name {
             "route" => call_route(arguments, answer),
+            "route_over" => call_route_over(arguments, answer),
             "denied" => call_denied(arguments, answer),
             // `stage REASON`: its stage.
             "stage" => Ok(answer.word(read_reason(arguments)?.stage())?),
