@@ -160,6 +160,16 @@ def dates(program, folder):
     expect(before <= date <= time.time() and fields["date"].endswith(" GMT"), f"the date {fields['date']}")
     changed = email.utils.parsedate_to_datetime(fields["last-modified"]).timestamp()
     expect(changed == int(os.stat(f"{folder}/hello.txt").st_mtime), "the time of a file")
+    # A file newer than now was last modified no later than its response (RFC 9110, section 8.8.2.1).
+    with tempfile.TemporaryDirectory() as room:
+        with open(f"{room}/new.txt", "w", encoding="ascii") as file:
+            file.write("new\n")
+        os.utime(file.name, (time.time() + 10**6,) * 2)
+        for method in ("GET", "HEAD"):
+            status, fields, _ = Server(program, room).answer(method, "/new.txt")
+            told = {name: email.utils.parsedate_to_datetime(value) for name, value in fields
+                    if name in ("date", "last-modified")}
+            expect(status == 200 and told["last-modified"] <= told["date"], f"{method} of a file newer than now: {told}")
 
 
 def without_length(lines):
