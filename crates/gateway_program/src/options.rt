@@ -65,7 +65,7 @@ fn with_name<'a>(alloc: Global, command: Command<'a>) -> Result<Command<'a>, All
     let name = Arg::new(alloc, "name")
         .long("name")
         .value_name("TOKEN")
-        .default_value("gate")
+        .required(true)
         .help("The name of this gateway in Via, by which it knows a loop");
     command.arg(name)
 }
