@@ -1,11 +1,12 @@
 """The gateway as it listens by itself: what each connection is started with, and what the origin server learns."""
 import contextlib
+import http.client
 import os
 import socket
 import subprocess
 import threading
 import time
-from collections.abc import Iterator
+from collections.abc import Callable, Iterator
 from pathlib import Path
 
 from common import processes
@@ -17,9 +18,14 @@ REQUEST = b"GET / HTTP/1.1\r\nHost: a\r\nConnection: close\r\n\r\n"
 TARGETS = [b"/a#b", b"http://b#/x", b"http://b/x#y", b"/\xc3\xa9", b"http://b/\xff"]
 
 
+# What an origin sends unasked, and how many bytes /long has.
+UNASKED = b"HTTP/1.1 200 OK\r\nContent-Length: 7\r\n\r\nunasked"
+LONG = 32_000
+
+
 class Origin(threading.Thread):
     """An origin that answers each request with the head that it received. Its connection ends after /last, and its
-    answer doesn't say so."""
+    answer doesn't say so. It sends another answer unasked, with that to /more and some time after that to /later."""
 
     def __init__(self, port: int) -> None:
         super().__init__(daemon=True)
@@ -33,7 +39,12 @@ class Origin(threading.Thread):
     def serve(self, connection: socket.socket) -> None:
         with connection, connection.makefile("rb") as lines:
             while head := b"".join(iter(lines.readline, b"\r\n")):
-                connection.sendall(b"HTTP/1.1 200 OK\r\nContent-Length: %d\r\n\r\n" % len(head) + head)
+                content = head.ljust(LONG) if b" /long " in head else head
+                answer = b"HTTP/1.1 200 OK\r\nContent-Length: %d\r\n\r\n" % len(content) + content
+                connection.sendall(answer + (UNASKED if b" /more " in head else b""))
+                if b" /later " in head:
+                    time.sleep(0.3)
+                    connection.sendall(UNASKED)
                 if b" /last " in head:
                     return
 
@@ -72,20 +83,35 @@ def field(name: str, text: str) -> list[str]:
     return [line.partition(":")[2].strip() for line in text.split("\r\n") if line.startswith(name + ":")]
 
 
-def after_last(port: int, request: bytes) -> bytes:
-    """What a client gets for a request that it sends once the origin has ended its connection."""
+def after(target: bytes, port: int, request: bytes, beside: Callable[[], None] = lambda: None) -> bytes:
+    """What a client gets for a request that it sends a second after it got the answer for a target. What is beside it
+    comes in between."""
     with socket.create_connection(("127.0.0.1", port), timeout=20) as connection:
-        connection.sendall(b"GET /last HTTP/1.1\r\nHost: a\r\n\r\n")
+        connection.sendall(b"GET %s HTTP/1.1\r\nHost: a\r\n\r\n" % target)
         found = b""
-        while b"get /last" not in found.lower() and (piece := connection.recv(65536)):
+        while b"get " + target not in found.lower() and (piece := connection.recv(65536)):
             found += piece
         time.sleep(1)
+        beside()
         found = b""
         with contextlib.suppress(ConnectionError):
             connection.sendall(request)
             while piece := connection.recv(65536):
                 found += piece
         return found
+
+
+def quickest(port: int, target: str) -> float:
+    """How many seconds the quickest answer over a connection takes, once twenty came. If the ends of answers wait for
+    acknowledgements, each takes 0.04: the first ones are acknowledged at once."""
+    connection, times = http.client.HTTPConnection("127.0.0.1", port, timeout=20), []
+    for _ in range(60):
+        begun = time.monotonic()
+        connection.request("GET", target)
+        connection.getresponse().read()
+        times.append(time.monotonic() - begun)
+    connection.close()
+    return min(times[20:])
 
 
 def run(context: Context) -> Part:
@@ -101,7 +127,10 @@ def run(context: Context) -> Part:
             text = answer(FIRST_PORT + 2, source=source)
             part.want(f"X-Forwarded-For of {source}", field("x-forwarded-for", text), [source])
             part.want(f"Forwarded of {source}", field("forwarded", text), [f"for={source};proto=http"])
-    # Two gateways in a row have names of their own, and one before itself knows its own.
+    # Two gateways in a row have names of their own, and one before itself knows its own. Without a name none starts.
+    nameless = subprocess.run([os.environ["GATE_PROGRAM"], "a", os.devnull, os.devnull], stdin=subprocess.DEVNULL,
+                              capture_output=True)
+    part.want("a gateway without a name", (nameless.returncode, b"--name" in nameless.stderr), (2, True))
     with listening(FIRST_PORT + 3, FIRST_PORT, context.work), listening(FIRST_PORT + 4, FIRST_PORT + 3, context.work):
         part.want("through two gateways", answer(FIRST_PORT + 4)[:12], "http/1.1 200")
     with listening(FIRST_PORT + 5, FIRST_PORT + 5, context.work):
@@ -113,6 +142,15 @@ def run(context: Context) -> Part:
         # (RFC 9112, section 9.3.1: the client may send it again, so it gets no 502)
         for request in (b"GET / HTTP/1.1\r\nHost: a\r\n\r\n",
                         b"POST / HTTP/1.1\r\nHost: a\r\nContent-Length: 5\r\n\r\nhello"):
-            found = after_last(FIRST_PORT + 6, request)
+            found = after(b"/last", FIRST_PORT + 6, request)
             part.want(f"{request[:4]!r} after the origin ended its connection", found, b"")
+        # (RFC 9112, section 9.2: what comes unasked is no response. What comes after a pause is seen too late for the
+        # next request of that client, as the page of the gateway says; no other client gets it.)
+        found = after(b"/more", FIRST_PORT + 6, REQUEST)
+        part.want("what comes unasked with an answer", found, b"")
+        others: list[str] = []
+        after(b"/later", FIRST_PORT + 6, REQUEST, lambda: others.append(answer(FIRST_PORT + 6)))
+        part.want("the answer of another client", ["get / http" in it and "unasked" not in it for it in others], [True])
+        for target in ("/", "/long"):
+            part.want(f"{target} over a kept connection doesn't wait", quickest(FIRST_PORT + 6, target) < 0.03, True)
     return part
