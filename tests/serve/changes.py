@@ -4,7 +4,8 @@
 
 The server keeps short files that it read. Each answer has to be that of the file as it stands: its content, and a tag
 that is the same exactly if the content is. At last another file of the same length and time takes the name of one that
-is kept, and a link to a file outside the folder takes it again and again while the file is asked for.
+is kept, and a link to a file outside the folder takes it again and again while the file is asked for. So does a link to
+a folder outside while a folder is listed.
 """
 import os
 import subprocess
@@ -15,9 +16,9 @@ import time
 REQUEST = b"GET /file.txt HTTP/1.1\r\nHost: a\r\n\r\n"
 
 
-def answer(server):
+def answer(server, request=REQUEST):
     """The status, the tag and the body of the next response."""
-    server.stdin.write(REQUEST)
+    server.stdin.write(request)
     server.stdin.flush()
     head = []
     while (line := server.stdout.readline().strip()):
@@ -71,6 +72,36 @@ def raced(server, path):
     return int(leaked > 0)
 
 
+def raced_listing(program, folder):
+    """How many listings have a name that a folder outside the folder has."""
+    moving, link, aside, outside = (f"{folder}{name}" for name in ("/moving", ".link", ".aside", ".others"))
+    for path, name in (moving, "inside"), (outside, "outside"):
+        os.makedirs(path)
+        with open(f"{path}/{name}", "wb"):
+            pass
+    os.symlink(os.path.abspath(outside), link)
+    is_done = threading.Event()
+
+    def swap():
+        while not is_done.is_set():
+            os.rename(moving, aside)
+            os.rename(link, moving)
+            os.rename(moving, link)
+            os.rename(aside, moving)
+
+    with subprocess.Popen([program, "--listing", folder], stdin=subprocess.PIPE, stdout=subprocess.PIPE) as server:
+        swapping = threading.Thread(target=swap)
+        swapping.start()
+        pages = [answer(server, REQUEST.replace(b"file.txt", b"moving/"))[2] for _ in range(4000)]
+        is_done.set()
+        swapping.join()
+        server.stdin.close()
+    leaked, right = (sum(name in page for page in pages) for name in (b"outside", b"inside"))
+    if leaked or not right:
+        print(f"raced: of {len(pages)} listings {leaked} are of a folder outside, and {right} of the one inside")
+    return int(leaked > 0 or not right)
+
+
 def main():
     program, folder = sys.argv[1:]
     os.makedirs(folder)
@@ -93,7 +124,7 @@ def main():
     if len(set(tags.values())) != len(tags):
         wrong += 1
         print(f"contents share a tag: {tags}")
-    wrong += replaced(server, path) + raced(server, path)
+    wrong += replaced(server, path) + raced(server, path) + raced_listing(program, folder)
     server.stdin.close()
     sys.exit(1 if wrong or server.wait() else 0)
 

@@ -1,6 +1,6 @@
 //! The names in a folder of the system.
 
-use crate::place::Place;
+use crate::place::{Place, read_dir};
 use std::fs::{DirEntry, Metadata};
 use std::io;
 use std::io::ErrorKind;
@@ -50,8 +50,11 @@ pub fn names_in(rt: &HostRuntime, root: &str, path: &str) -> io::Result<Option<V
     if !place.metadata(rt)?.is_dir() {
         return Ok(None);
     }
+    let Some(folder) = place.open(rt)? else {
+        return Ok(None);
+    };
     let mut names = Vec::new(rt.alloc());
-    for entry in place.read_dir(rt)? {
+    for entry in read_dir(rt, &folder)? {
         let entry = match entry {
             Ok(entry) => entry,
             Err(error) if error.kind() == ErrorKind::InvalidFilename => continue,

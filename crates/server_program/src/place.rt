@@ -52,18 +52,22 @@ impl<'a> Place<'a> {
         fs::metadata(rt, self.path.as_str())
     }
 
-    /// What it has, if it is a folder.
-    pub fn read_dir(&self, rt: &HostRuntime) -> io::Result<fs::ReadDir> {
-        fs::read_dir(rt, self.path.as_str())
-    }
-
-    /// Opens the file that stands there, to be read. `None` if the file that was opened isn't in the root, as if a
-    /// link took the place of a folder after the path was resolved. The system tells its path in
-    /// `/proc/self/fd`.
+    /// Opens the file or the folder that stands there, to be read. `None` if what was opened isn't in the
+    /// root, as if a link took the place of a folder after the path was resolved.
     pub fn open(&self, rt: &HostRuntime) -> io::Result<Option<fs::File>> {
         let file = fs::File::open(rt, self.path.as_str())?;
-        let link = format!(in rt.alloc(); "/proc/self/fd/{}", file.as_raw_fd())?;
-        let path = fs::read_link(rt, link.as_str())?;
+        let path = fs::read_link(rt, link_of(rt, &file)?.as_str())?;
         Ok(is_within(self.root, &path).then_some(file))
     }
+}
+
+// What the system resolves to an open file or folder, and tells its path by.
+fn link_of(rt: &HostRuntime, file: &fs::File) -> io::Result<String> {
+    Ok(format!(in rt.alloc(); "/proc/self/fd/{}", file.as_raw_fd())?)
+}
+
+/// What a folder that is open has, wherever its path leads by now. The paths of its entries lead to them
+/// as long as it is open.
+pub fn read_dir(rt: &HostRuntime, folder: &fs::File) -> io::Result<fs::ReadDir> {
+    fs::read_dir(rt, link_of(rt, folder)?.as_str())
 }
