@@ -8,6 +8,7 @@ from typing import Any
 
 from caching.proxy import Proxy, Server, ask_origin, headers
 from common.fields import section
+from common.passing import end
 
 # As long as a lifetime is guessed.
 DAY = 86400
@@ -37,7 +38,7 @@ class StoreProxy(Proxy):
             step = passing.came(fetched.status, section(fetched.came))
             if isinstance(step, headers.PassOn):
                 if step.stores:
-                    passing.ended(fetched.body, complete=fetched.is_whole)
+                    end(passing, fetched.body, fetched.is_whole)
                 return headers.Reply(fetched.status, tuple(fetched.fields), fetched.body)
         return step
 

@@ -1,19 +1,23 @@
-"""The program of histories beside the model of a cache, on random histories."""
+"""The program of histories, and the package for Python, beside the model of a cache, on random histories."""
 import re
 import subprocess
 import tempfile
+from collections.abc import Iterable, Iterator
 from concurrent.futures import ProcessPoolExecutor
 from itertools import repeat
 from pathlib import Path
 
 from common import products
 from common.comparison import Comparison
-from histories import generate, passes
+from histories import generate, package, passes
+from histories.generate import Player
+from histories.writing import Call
 
 BATCH = 1000
-# The calls of a store, and the steps of passes.
-PLAYERS = {"calls": generate.history, "passes": passes.history}
+# The calls of a store, and the steps of passes, by the program and by the package.
+PLAYERS = {"calls": generate.history, "passes": passes.history, "passes of the package": passes.history_for_package}
 OTHERWISE = re.compile(r"(\S+):(\d+): .*: wanted (.*), given (.*)")
+Answers = Iterable[tuple[Call, str]]
 
 
 def given_answers(program: Path, text: str) -> dict[int, str]:
@@ -28,31 +32,39 @@ def given_answers(program: Path, text: str) -> dict[int, str]:
     return found
 
 
-def compare_batch(program: Path, mode: str, seed: int, option: str, indices: range) -> Comparison:
-    comparison = Comparison()
-    histories = [PLAYERS[mode](seed, option, index) for index in indices]
-    text = "".join(f"{line}\n" for history in histories for line in history.lines())
-    otherwise = given_answers(program, text)
+def by_program(histories: list[Player]) -> Iterator[tuple[Player, Answers]]:
+    """The answers of the program to the calls of each history."""
+    otherwise = given_answers(products.program(), "".join(f"{line}\n" for it in histories for line in it.lines()))
     number = 0
     for history in histories:
         number += 1
-        lines = history.lines()
-        for count, call in enumerate(history.calls, 2):
-            given = otherwise.get(number + count - 1, min(call.permitted))
-            comparison.add(call.text.split()[0], call.permitted, given, lambda: "\n".join(lines[:count]))
-            if given not in call.permitted:
-                # What follows a difference says nothing more.
-                break
+        yield history, [(call, otherwise.get(number + count, min(call.permitted)))
+                        for count, call in enumerate(history.calls, 1)]
         number += len(history.calls)
+
+
+def by_package(histories: list[passes.PassPlayer]) -> Iterator[tuple[Player, Answers]]:
+    return ((history, package.play(history)) for history in histories)
+
+
+def compare_batch(mode: str, seed: int, option: str, indices: range) -> Comparison:
+    comparison = Comparison()
+    histories = [PLAYERS[mode](seed, option, index) for index in indices]
+    for (history, answers), index in zip(by_package(histories) if mode.endswith("package") else by_program(histories),
+                                         indices):
+        for count, (call, given) in enumerate(answers, 2):
+            comparison.add(call.text.split()[0], call.permitted, given,
+                           lambda: "\n".join([f"history {index}", *history.lines()[:count]]))
+            if given not in call.permitted or (call.goes_on_by and given.split(" ")[0] != call.goes_on_by):
+                # What follows a difference, or another choice than the model's, says nothing more.
+                break
     return comparison
 
 
 def compare(mode: str, seed: int, option: str, count: int, jobs: int | None) -> Comparison:
     comparison = Comparison()
-    program = products.program()
     batches = [range(first, min(first + BATCH, count)) for first in range(0, count, BATCH)]
     with ProcessPoolExecutor(jobs) as pool:
-        for found in pool.map(compare_batch, repeat(program), repeat(mode), repeat(seed), repeat(option),
-                              batches):
+        for found in pool.map(compare_batch, repeat(mode), repeat(seed), repeat(option), batches):
             comparison.merge(found)
     return comparison

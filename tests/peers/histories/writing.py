@@ -1,6 +1,7 @@
 """Calls of a cache and their answers, as lines of a history for the program `test_decisions`."""
 from collections.abc import Collection, Iterable
 from dataclasses import dataclass
+from typing import Any
 
 from common.fields import Fields
 from common.rows import map_words, word
@@ -17,11 +18,34 @@ def head(is_shared: bool, variants: int, responses: int, content: int, is_immuta
 
 
 @dataclass(frozen=True)
+class Told:
+    """What a step of a pass answers. With a stored response: how that answers the request, and at what age."""
+
+    word: str
+    way: str = ""
+    stored: Stored | None = None
+    age: int = 0
+    conditions: tuple[tuple[str, str | None], ...] = ()
+
+    def row(self) -> str:
+        if self.stored is None:
+            return words([self.word, *condition_words(self.conditions)])
+        if self.word == "once":
+            return words(["once", self.way, *stored_words(self.stored)])
+        return words([self.word, self.way, word(self.stored.content), "(age)", self.age])
+
+
+@dataclass(frozen=True)
 class Call:
     """A call, and the answers that the standard permits. Nearly always it is one."""
 
     text: str
     permitted: Collection[str]
+    # The word of the answer by which the history goes on, if another one is permitted that changes what is stored.
+    goes_on_by: str = ""
+    # What the package for Python gets, and what it may answer.
+    given: tuple[Any, ...] = ()
+    told: tuple[Told, ...] = ()
 
     def line(self) -> str:
         return f"  {self.text} = {min(self.permitted)}"
@@ -56,10 +80,12 @@ def answer_words(answer: Answer) -> list[object]:
         return [answer.word]
     if answer.word == "once":
         return ["once", *stored_words(answer.response)]
-    found: list[object] = [answer.word, word(answer.response.content)]
-    for name, value in answer.fields:
-        found += [f"({name})"] if value is None else [f"({name})", word(value)]
-    return found
+    return [answer.word, word(answer.response.content), *condition_words(answer.fields)]
+
+
+def condition_words(fields: Iterable[tuple[str, str | None]]) -> list[str]:
+    """Fields that are set; without a value there is none."""
+    return [it for name, value in fields for it in ((f"({name})",) if value is None else (f"({name})", word(value)))]
 
 
 def responses_words(found: list[Stored]) -> list[object]:
