@@ -4,7 +4,7 @@ import random
 
 from common.comparison import Comparison
 from conditional import cases, ours
-from conditional.model import Request
+from conditional.model import Request, plain
 
 NOW = 1795657000  # 25 Nov 2026
 
@@ -21,7 +21,17 @@ def compare(seed: int, count: int) -> Comparison:
         lines, is_date_strong = cases.filled_lines(case, etag, modified), draw.random() < 0.5
         facts = (case.method, lines, etag, modified, case.length, is_date_strong, NOW, draw.random() < 0.95)
         request = Request(*facts)
-        comparison.add("evaluate, select", request.wanted(), ours.answer(*facts), lambda: json.dumps(facts))
-        status, sent = ours.dated(*facts)
-        comparison.add("respond, Last-Modified", request.dates_sent(status), sent, lambda: json.dumps(facts))
+        selected = ours.answer(*facts)
+        answers = {"evaluate, select": (selected, None), "respond": ours.response(*facts),
+                   "Resource.answer": ours.of_resource(*facts)}
+        for name, found in answers.items():
+            if found is None:
+                continue
+            answer, sent = found
+            shown = lambda: json.dumps(facts)  # noqa: E731
+            comparison.add(name, request.wanted(), plain(answer), shown)
+            if name != "evaluate, select" and request.is_read:
+                comparison.add(f"{name}: Last-Modified", request.dates_sent(answer[0]), sent, shown)
+            if len(answer[1]) > 1:
+                comparison.add(f"{name}: order of parts", [True], request.is_in_order(answer[1]), shown)
     return comparison

@@ -1,8 +1,9 @@
 """RFC 9110, sections 13 and 14, as a second reading of their text: the answers that are permitted to a request for a
 representation.
 
-An answer is a status and the parts that are sent, as first and last positions, in order and joined where they touch.
-Where a field breaks its grammar and the RFC has no rule for that, several answers are permitted.
+An answer is a status and the parts that are sent, as first and last positions. Those that are permitted have them in
+order and joined where they touch: in which order they may be sent is judged apart. Where a field breaks its grammar and
+the RFC has no rule for that, several answers are permitted.
 """
 import re
 from collections.abc import Iterable, Sequence
@@ -60,8 +61,14 @@ def joined(parts: Iterable[Sequence[int]]) -> tuple[Part, ...]:
     return tuple(found)
 
 
+def plain(answer: Answer) -> Answer:
+    """An answer as those that are permitted are told."""
+    return answer[0], joined(answer[1])
+
+
 def asked_parts(specs: list[str], length: int) -> list[Part] | None:
-    """The positions that a ranges-specifier asks for, or `None` if it is invalid (sections 14.1.1 and 14.1.2)."""
+    """The positions that a ranges-specifier asks for, in its order, or `None` if it is invalid (sections 14.1.1 and
+    14.1.2)."""
     if not specs:
         return None
     parts = []
@@ -93,13 +100,16 @@ def may_be_joined(parts: Sequence[Part], gap: int) -> set[tuple[Part, ...]]:
 GAP = 80
 
 
+def specs_of(found: re.Match[str] | None) -> list[str]:
+    return [it for it in (it.strip(" \t") for it in found[2].split(",")) if it] if found else []
+
+
 def range_answers(text: str, length: int) -> set[Answer]:
     """The answers to Range. To ignore it is always permitted (section 14.2: MAY)."""
     found = RANGES_SPECIFIER.fullmatch(text)
     if found and found[1].lower() != "bytes":
         return {(200, ())}  # "MUST ignore a Range header field that contains a range unit it does not understand"
-    specs = [it for it in (it.strip(" \t") for it in found[2].split(",")) if it] if found else []
-    parts = asked_parts(specs, length)
+    parts = asked_parts(specs_of(found), length)
     if not parts:  # invalid: "MAY ignore or reject"; or unsatisfiable
         return {(200, ()), (416, ())}
     answers: set[Answer] = {(200, ()), *((206, it) for it in may_be_joined(parts, GAP))}
@@ -204,6 +214,23 @@ class Request:
         if status == 206 and "if-range" in self.fields:
             return {None}  # "SHOULD NOT generate other representation header fields" (section 15.3.7)
         return {200: {date}, 206: {date}, 304: {date, None}}.get(status, {None})
+
+    def is_in_order(self, parts: Sequence[Part]) -> bool:
+        """Whether parts come as they were asked for: "A server that generates a multipart response SHOULD send the parts
+        in the same order that the corresponding range-spec appeared in the received Range header field, excluding those
+        ranges that were deemed unsatisfiable or that were coalesced into other ranges" (section 15.3.7.2). A part of
+        several ranges may have the place of any of them."""
+        lines = self.fields.get("range", [])
+        if len(lines) != 1:
+            return True
+        asked = asked_parts(specs_of(RANGES_SPECIFIER.fullmatch(lines[0])), self.length) or []
+        place = 0
+        for first, last in parts:
+            places = [it for it, (one, other) in enumerate(asked) if it >= place and first <= one and other <= last]
+            if not places:
+                return False
+            place = places[0] + 1
+        return True
 
     def wanted(self) -> set[Answer]:
         """As `permitted`, where the RFC also says SHOULD: one satisfiable range is sent (section 14.2)."""

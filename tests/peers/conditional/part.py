@@ -6,7 +6,7 @@ from common import processes
 from common.part import Context, Part, code
 from common.processes import Missing
 from conditional import against_model, cases, ours, servers
-from conditional.model import Answer, Request, joined
+from conditional.model import Answer, Request, joined, plain
 from conditional.servers import Given
 
 COUNT, EXAMPLES = 1600, 3
@@ -16,7 +16,8 @@ own tests, or at random. Its answer counts as *not permitted* if RFC 9110, secti
 permits other answers alone.
 Where the RFC leaves a choice, as whether to answer a Range at all, each choice is permitted. `decide_preconditions`
 answers the same requests by the peer's own entity tag and date. *Parts* are the 206 among the requests for which one is
-permitted.
+permitted; *in another order* those of several parts that come otherwise than they were asked for (section 15.3.7.2:
+SHOULD).
 """
 
 
@@ -32,6 +33,8 @@ class Score:
     parts: int = 0
     own_parts: int = 0
     possible: int = 0
+    disordered: int = 0
+    own_disordered: int = 0
     wrongs: dict[tuple[object, ...], list[tuple[Given, set[Answer]]]] = field(default_factory=dict)
     faults: list[str] = field(default_factory=list)
 
@@ -46,25 +49,33 @@ def score(title: str, found: list[Given], now: int) -> Score:
     for given in found:
         facts = (given.case.method, given.lines, given.etag, given.modified, given.case.length)
         # (whether its date is a strong validator is the server's to know)
-        permitted = {strong: Request(*facts, strong, now).permitted() for strong in (False, True)}
-        own = {strong: ours.answer(*facts, strong, now) for strong in (False, True)}
-        is_strong = given.answer == own[True] != own[False]
-        result.alike += given.answer == own[is_strong]
+        requests = {strong: Request(*facts, strong, now) for strong in (False, True)}
+        permitted = {strong: it.permitted() for strong, it in requests.items()}
+        sent = {strong: ours.answer(*facts, strong, now) for strong in (False, True)}
+        own, theirs = {strong: plain(it) for strong, it in sent.items()}, plain(given.answer)
+        is_strong = theirs == own[True] != own[False]
+        result.alike += theirs == own[is_strong]
+        result.disordered += is_disordered(requests[is_strong], given.answer)
+        result.own_disordered += is_disordered(requests[is_strong], sent[is_strong])
         result.own_wrong += own[is_strong] not in permitted[is_strong]
         for strong, mine in own.items():
             if mine not in permitted[strong]:
                 result.faults.append(f"{facts}, strong date {strong}: {mine}, permitted {permitted[strong]}")
         either = permitted[False] | permitted[True]
-        if given.answer not in either:
+        if theirs not in either:
             result.wrong += 1
             names = tuple(sorted({name for name, _ in given.lines}))
-            kind = (given.case.method, names, given.answer[0], tuple(sorted({status for status, _ in either})))
+            kind = (given.case.method, names, theirs[0], tuple(sorted({status for status, _ in either})))
             result.wrongs.setdefault(kind, []).append((given, either))
         if any(status == 206 for status, _ in permitted[is_strong]):
             result.possible += 1
-            result.parts += given.answer[0] == 206
+            result.parts += theirs[0] == 206
             result.own_parts += own[is_strong][0] == 206
     return result
+
+
+def is_disordered(request: Request, answer: Answer) -> bool:
+    return answer[0] == 206 and len(answer[1]) > 1 and not request.is_in_order(answer[1])
 
 
 def shown(answer: Answer) -> str:
@@ -82,7 +93,7 @@ def table_of_examples(part: Part, scores: list[Score]) -> None:
             lines = "; ".join(f"{name}: {value}" for name, value in given.case.lines)
             tag = "no tag" if not given.etag else "weak tag" if given.etag.startswith("W/") else "strong tag"
             about = f"{tag}, {'no date' if given.modified is None else 'a date'}, {given.case.length} bytes"
-            rows.append([it.title, len(wrongs), code(f"{given.case.method} {lines}"), about, shown(given.answer),
+            rows.append([it.title, len(wrongs), code(f"{given.case.method} {lines}"), about, shown(plain(given.answer)),
                          " or ".join(sorted(map(shown, permitted)))])
     part.section += [
         f"The {EXAMPLES} most frequent kinds of answers that aren't permitted, each with its shortest request. `{{S}}`",
@@ -97,7 +108,7 @@ def hold_to_go(part: Part, now: int) -> None:
     for case in cases.of_go():
         etag = {"strong": '"v1-tag"', "weak": 'W/"v1-tag"'}.get(case.kind)
         lines = cases.filled_lines(case, etag, cases.MODIFIED)
-        answer = ours.answer(case.method, lines, etag, cases.MODIFIED, case.length, True, now)
+        answer = plain(ours.answer(case.method, lines, etag, cases.MODIFIED, case.length, True, now))
         status, parts = case.wanted or (0, None)
         if status and answer[0] != status or parts and answer[1] != joined(parts):
             otherwise += 1
@@ -124,12 +135,13 @@ def run(context: Context) -> Part:
             part.missing.append(f"{server.name}: {missing}")
     part.section += INTRODUCTION.strip().format(count=f"{len(every):,}").split("\n") + [""]
     part.table(["Server or library", "asked", "as ours", "not permitted", "not permitted: ours", "parts",
-                "parts: ours"], [
+                "parts: ours", "in another order", "in another order: ours"], [
         [it.title, it.asked, it.alike, it.wrong, it.own_wrong, f"{it.parts} of {it.possible}",
-         f"{it.own_parts} of {it.possible}"]
+         f"{it.own_parts} of {it.possible}", it.disordered, it.own_disordered]
         for it in scores])
     table_of_examples(part, scores)
     part.want("answers of ours that RFC 9110 doesn't permit", sum(it.own_wrong for it in scores), 0)
+    part.want("answers of ours with parts in another order", sum(it.own_disordered for it in scores), 0)
     part.faults += [fault for it in scores for fault in it.faults[:5]]
     hold_to_go(part, now)
     comparison = against_model.compare(context.seed, context.inputs)

@@ -10,7 +10,7 @@ from common.dates import valid_date
 from common.fields import Fields
 from common.processes import PYTHON, Missing
 from conditional.cases import KINDS, MODIFIED, Case, filled_lines
-from conditional.model import ENTITY_TAG, Answer, joined
+from conditional.model import ENTITY_TAG, Answer
 
 PEERS = Path(__file__).with_name("peers")
 FIRST_PORT = 18100
@@ -87,7 +87,7 @@ CONTENT_RANGE = re.compile(r"content-range: *bytes (\d+)-(\d+)/(\d+)", re.IGNORE
 
 
 def parts_of(response: Response) -> list[tuple[int, int]]:
-    """The positions that a 206 says it sends."""
+    """The positions that a 206 says it sends, in its order."""
     boundary = re.match(r'multipart/byteranges.*boundary="?([^";]+)', response.get("content-type") or "", re.IGNORECASE)
     if not boundary:
         texts = [f"content-range: {response.get('content-range') or ''}"]
@@ -104,7 +104,7 @@ def ask(port: int, case: Case, lines: Fields) -> Answer:
         response = client.ask(port, case.method, f"/{case.kind}/{case.length}", lines, body)
     except client.FAILURES:
         return 0, ()
-    return response.status, joined(parts_of(response)) if response.status == 206 else ()
+    return response.status, tuple(parts_of(response)) if response.status == 206 else ()
 
 
 def answers_of(server: Server, cases: list[Case], work: Path) -> list[Given]:
