@@ -24,9 +24,16 @@ LANGUAGES = ["en", "en-US", "en-GB", "de", "de-CH", "de-Latn-CH", "fr", "zh-Hant
 RANGES = ["en", "en-US", "en-us", "en-GB", "de", "de-CH", "de-DE", "fr", "fr-CA", "zh", "zh-Hant", "zh-Hans", "*", "EN",
           "sr", "en-GB-oed", "i-klingon", "i"]
 BAD_RANGES = ["en_US", "*-CH", "en-", "-en", "englishlanguage", "e n", "en;", "d*", "1en", "", "\xe9n"]
-# Malformed elements, beside which content without a coding stays acceptable.
-BROKEN = ["gzip;q=1.0000", "gzip, br;level=5", "gzip;q=2, *;q=0.5", "br;q=high, identity;q=0", "deflate;level=9;q=0",
-          "identity;q=2, *;q=0", "*;q=00"]
+# Malformed elements, which exclude nothing, with what is acceptable beside them. The first is what a client in Java sends.
+BROKEN = {
+    "accept": (["text/html, image/gif, image/jpeg, *; q=.2, */*; q=.2", "text/html;q=2", "text/*;q=high", "*/*;q=",
+                "text/html;level;q=1", "*/*;q=00", "text/html;q=1.001, text/plain;q=0"],
+               [["text/html"], ["application/json"], ["application/json", "text/html"]]),
+    "encoding": (["gzip;q=1.0000", "gzip, br;level=5", "gzip;q=2, *;q=0.5", "br;q=high, identity;q=0",
+                  "deflate;level=9;q=0", "identity;q=2, *;q=0", "*;q=00"], [["identity"], ["identity", "gzip"]]),
+    "language": (["en;q=2", "en;q=.5", "*;q=high", "en-GB;q=1.001, en;q=0", "en;level=1", "*;q=00", "de, en;q="],
+                 [["en"], ["de", "en-GB"]]),
+}
 WEIGHTS = ["", "", "", ";q=1", ";q=0.5", ";q=0", "; q=0.8", " ; q=0.3", ";q=0.001", ";q=0.9", ";q=1.0", ";q=1.000",
            ";q=0.0", ";q=0.000", ";q=0.5", ";q=0.7", ";Q=0.6", ";q=0."]
 BAD_WEIGHTS = [";q=2", ";q=1.5", ";q=-1", ";q=.5", ";q=0.0001", ";q=abc", ";q=", ";q", ';q="0.5"', ";q=0,5", ";q = 0.5",
@@ -90,5 +97,6 @@ def case(draw: random.Random) -> Case:
 
 def cases(seed: int, count: int) -> Iterator[Case]:
     draw = random.Random(seed)
-    broken = [Case("encoding", [line], offers) for line in BROKEN for offers in (["identity"], ["identity", "gzip"])]
+    broken = [Case(dimension, [line], offers) for dimension, (lines, some) in BROKEN.items() for line in lines
+              for offers in some]
     return islice(chain(broken, (case(draw) for _ in range(count))), count)

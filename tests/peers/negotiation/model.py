@@ -1,5 +1,7 @@
 """RFC 9110, section 12.5, and RFC 4647, sections 3.3.1 and 3.4, as a second reading of their text: the qualities that
 an offer may have by a field, in thousandths, over the readings that the text leaves open."""
+import itertools
+import math
 import re
 from collections.abc import Iterator
 
@@ -11,16 +13,23 @@ QUOTED = r'"(?:[\t !\x23-\x5b\x5d-\x7e\x80-\xff]|\\[\t \x21-\x7e\x80-\xff])*"'
 PARAMETER = re.compile(rf"[ \t]*;[ \t]*(?:({TOKEN})=({TOKEN}|{QUOTED}))?")
 QVALUE = re.compile(r"0(\.[0-9]{0,3})?|1(\.0{0,3})?")
 MEDIA_RANGE = re.compile(rf"(\*/\*|{TOKEN}/\*|{TOKEN}/{TOKEN})(?=[ \t]*(;|$))")
+# Quoted-strings, whatever bytes they have.
+QUOTES = re.compile(r'"(?:[^"\\]|\\.)*"', re.DOTALL)
 # An element is a name and a weight (section 12.4.2).
 WEIGHT = rf"(?:[ \t]*;[ \t]*[qQ]=({QVALUE.pattern}))?"
 CODING = re.compile(rf"({TOKEN}){WEIGHT}")
 LANGUAGE_RANGE = re.compile(rf"([A-Za-z]{{1,8}}(?:-[A-Za-z0-9]{{1,8}})*|\*){WEIGHT}")
-# An element of Accept-Encoding that names a coding and breaks its grammar behind the name.
-BROKEN_CODING = re.compile(rf"({TOKEN})[ \t]*;[^\"]*")
+# What an element begins with, also if the rest breaks its grammar.
+BEGINNINGS = {"accept": MEDIA_RANGE, "encoding": re.compile(rf"({TOKEN})(?=[ \t]*(;|$))"),
+              "language": re.compile(r"([A-Za-z]{1,8}(?:-[A-Za-z0-9]{1,8})*|\*)(?=[ \t]*(;|$))")}
 # Codings that a recipient SHOULD take for the same (sections 8.4.1.1 and 8.4.1.3).
 SAME = {"gzip": "x-gzip", "x-gzip": "gzip", "compress": "x-compress", "x-compress": "compress"}
 
 Parameters = list[tuple[str, str]]
+# A range, its parameters, and its weight.
+Element = tuple[str, Parameters, int]
+# As many combinations of the readings of malformed elements are tried.
+MOST_READINGS = 300
 
 
 class Malformed(Exception):
@@ -79,8 +88,45 @@ def named(pattern: re.Pattern[str], text: str) -> tuple[str, int]:
     return found[1].lower(), round(float(found[2] or 1) * 1000)
 
 
-def media_qualities(lines: list[str], offers: list[str]) -> Iterator[set[int]]:
-    ranges = [(name, *weighted(found)) for name, found in map(media, elements(lines))]
+def element_of(dimension: str, text: str) -> Element:
+    if dimension == "accept":
+        name, found = media(text)
+        return name, *weighted(found)
+    name, weight = named(CODING if dimension == "encoding" else LANGUAGE_RANGE, text)
+    return name, [], weight
+
+
+def readings(dimension: str, text: str) -> list[Element | None]:
+    """The readings of an element that may break its grammar; `None` if it counts for nothing.
+
+    The text has no rule for that, so this is the choice of the page of `decide_negotiation`: what is malformed accepts
+    less, and excludes nothing. With a malformed weight or parameter an element has some weight above 0, and its other
+    parameters; with a weight of 0 it counts for nothing. What is no range matches nothing.
+    """
+    try:
+        return [element_of(dimension, text)]
+    except Malformed:
+        pass
+    found = BEGINNINGS[dimension].match(text)
+    if not found or (dimension == "accept" and found[1] != "*/*" and "*" in found[1].removesuffix("/*")):
+        return [None]
+    good: Parameters = []
+    weights = []
+    for piece in re.findall(rf';((?:[^;"]|{QUOTES.pattern})*)', text[found.end(1):], re.DOTALL):
+        if piece.partition("=")[0].strip(" \t").lower() == "q":
+            weights.append(piece.strip(" \t").partition("=")[2])
+            continue
+        try:
+            good += parameters(";" + piece)
+        except Malformed:
+            pass
+    some: list[Element | None] = [(found[1].lower(), good if dimension == "accept" else [], it) for it in (1, 1000)]
+    if len(weights) > 1:
+        return [None, *some]
+    return [None] if weights and re.fullmatch(r"0(\.0{0,3})?", weights[0]) else some
+
+
+def media_qualities(ranges: list[Element], offers: list[str]) -> Iterator[set[int]]:
     for offer in offers:
         kind, owned = media(offer)
         said: dict[tuple[int, int], set[int]] = {}
@@ -93,9 +139,9 @@ def media_qualities(lines: list[str], offers: list[str]) -> Iterator[set[int]]:
         yield said[max(said)] if said else {0}
 
 
-def coding_qualities(lines: list[str], offers: list[str]) -> Iterator[set[int]]:
+def coding_qualities(elements: list[Element], offers: list[str]) -> Iterator[set[int]]:
     listed: dict[str, set[int]] = {}
-    for name, weight in (named(CODING, it) for it in elements(lines)):
+    for name, _, weight in elements:
         listed.setdefault(name, set()).add(weight)
     for offer in map(str.lower, offers):
         same = SAME.get(offer, "")
@@ -111,45 +157,21 @@ def coding_qualities(lines: list[str], offers: list[str]) -> Iterator[set[int]]:
             yield {1} if offer == "identity" else {0}
 
 
-def broken_coding_qualities(lines: list[str], offers: list[str]) -> Iterator[set[int]]:
-    """The same if elements may break their grammar. Only `identity` has a rule then: it is acceptable unless
-    `identity;q=0` or `*;q=0` excludes it."""
-    whole, broken = [], set()
-    for it in elements(lines):
-        if CODING.fullmatch(it):
-            whole.append(it)
-        elif found := BROKEN_CODING.fullmatch(it):
-            broken.add(found[1].lower())
-        else:
-            raise Malformed(it)
-    for offer, own in zip(offers, coding_qualities([", ".join(whole)], offers)):
-        if not broken:
-            yield own
-        elif offer.lower() != "identity":
-            yield {0, 1, 1000}
-        elif broken & {"identity", "*"}:
-            # (an element that breaks its grammar isn't `identity;q=0`, but may count)
-            yield own | {1, 1000}
-        else:
-            yield own
-
-
-def language_qualities(lines: list[str], offers: list[str]) -> Iterator[set[int]]:
+def language_qualities(ranges: list[Element], offers: list[str]) -> Iterator[set[int]]:
     """By basic filtering (RFC 4647, section 3.3.1), if the longest range that matches decides."""
-    return (said[max(said)] if said else {0} for said in said_of_languages(lines, offers))
+    return (said[max(said)] if said else {0} for said in said_of_languages(ranges, offers))
 
 
-def loose_language_qualities(lines: list[str], offers: list[str]) -> Iterator[set[int]]:
+def loose_language_qualities(ranges: list[Element], offers: list[str]) -> Iterator[set[int]]:
     """The same, if any range that matches may decide: RFC 9110 doesn't say which."""
-    return (set().union(*said.values()) or {0} for said in said_of_languages(lines, offers))
+    return (set().union(*said.values()) or {0} for said in said_of_languages(ranges, offers))
 
 
-def said_of_languages(lines: list[str], offers: list[str]) -> Iterator[dict[int, set[int]]]:
+def said_of_languages(ranges: list[Element], offers: list[str]) -> Iterator[dict[int, set[int]]]:
     """Of each offer the weights of the ranges that match, by the lengths of the ranges."""
-    ranges = [named(LANGUAGE_RANGE, it) for it in elements(lines)]
     for offer in map(str.lower, offers):
         said: dict[int, set[int]] = {}
-        for name, weight in ranges:
+        for name, _, weight in ranges:
             if name == "*":
                 said.setdefault(0, set()).add(weight)
             elif offer == name or offer.startswith(name + "-"):
@@ -157,19 +179,30 @@ def said_of_languages(lines: list[str], offers: list[str]) -> Iterator[dict[int,
         yield said
 
 
-BY_FIELD = {"accept": media_qualities, "encoding": broken_coding_qualities, "language": language_qualities}
-LOOSE = BY_FIELD | {"encoding": coding_qualities, "language": loose_language_qualities}
+BY_FIELD = {"accept": media_qualities, "encoding": coding_qualities, "language": language_qualities}
+LOOSE = BY_FIELD | {"language": loose_language_qualities}
 
 
 def qualities(dimension: str, lines: list[str], offers: list[str], is_loose: bool = False) -> list[set[int]] | None:
-    """Of each offer the set of its qualities, or `None` if an element breaks its grammar and the text has no rule. With
-    `is_loose` also by readings that ours doesn't take."""
+    """Of each offer the set of its qualities, or `None` if the text has no rule, and the page makes no choice, for an
+    element that breaks its grammar. With `is_loose` also by readings that ours doesn't take, and without its choice."""
     if not lines:
         return [{1000} for _ in offers]
     try:
-        return list((LOOSE if is_loose else BY_FIELD)[dimension](lines, offers))
+        if is_loose:
+            return list(LOOSE[dimension]([element_of(dimension, it) for it in elements(lines)], offers))
+        if any('"' in re.sub(QUOTES, "", line) for line in lines):
+            return None  # a quote without an end in its line: what it hides isn't said
+        every = [readings(dimension, it) for it in elements(lines)]
     except Malformed:
         return None
+    if math.prod(map(len, every)) > MOST_READINGS:
+        return None
+    found: list[set[int]] = [set() for _ in offers]
+    for chosen in itertools.product(*every):
+        for own, more in zip(found, BY_FIELD[dimension]([it for it in chosen if it is not None], offers)):
+            own |= more
+    return found
 
 
 def is_lookup(lines: list[str], offer: str) -> bool:
