@@ -1,6 +1,6 @@
 """Requests that overlap at one cache: each client gets what is its own.
 
-By itself it makes many requests for a short time. `TYPED_HEADERS_REQUESTS=1000000` makes as many in each test of many.
+`TYPED_HEADERS_REQUESTS=1000000` makes as many in the test of many, and not 20,000.
 """
 
 import asyncio
@@ -11,7 +11,8 @@ import threading
 import time
 import tracemalloc
 import unittest
-from typing import Any, Dict, Iterable, List, Optional, Tuple
+from concurrent.futures import ThreadPoolExecutor
+from typing import Any, Dict, Iterable, List, Tuple
 
 from typed_headers import Cache, Pass, asgi, wsgi
 
@@ -22,17 +23,6 @@ REQUESTS = int(os.environ.get("TYPED_HEADERS_REQUESTS", "20000"))
 def page_of(user: str, version: int) -> bytes:
     """A page that says whose it is in each part; its length depends on the version."""
     return f"{user} {version} ".encode() * (5 + version % 40)
-
-
-def wrong(user: str, fields: Dict[str, str], content: bytes) -> Optional[str]:
-    """What of a response isn't of one page of this user."""
-    if fields.get("x-user") != user:
-        return f"fields of {fields.get('x-user')} for {user}"
-    if content != page_of(user, int(fields["x-version"])):
-        return f"content {content[:20]!r} with the fields of {user} {fields['x-version']}"
-    if int(fields.get("content-length", len(content))) != len(content):
-        return "another length"
-    return None
 
 
 def ignore(content: bytes) -> None:
@@ -103,73 +93,81 @@ class Pages:
         await send({"type": "http.response.body", "body": content[7:]})
 
 
-def asked(chance: random.Random) -> Tuple[str, Dict[str, str]]:
-    user, fields = chance.choice(USERS), {}
-    if chance.random() < 0.3:
-        fields["cache-control"] = "no-cache"
-    return user, {"cookie": user, **fields}
+class Count:
+    """What clients got: pages of others, pages that are torn, and how many came from the store."""
+
+    def __init__(self) -> None:
+        self.requests = self.stored = 0
+        self.mixed: List[str] = []
+        self.torn: List[str] = []
+
+    def add(self, user: str, fields: Dict[str, str], content: bytes) -> None:
+        self.requests += 1
+        self.stored += "age" in fields
+        if fields.get("x-user") != user or not content.startswith(user.encode() + b" "):
+            self.mixed.append(f"{user} got fields of {fields.get('x-user')}, content {content[:20]!r}")
+        elif content != page_of(user, int(fields["x-version"])):
+            self.torn.append(f"fields of {user} {fields['x-version']}, content {content[:20]!r}")
+        elif int(fields.get("content-length", len(content))) != len(content):
+            self.torn.append(f"Content-Length {fields['content-length']} of {len(content)} bytes")
+
+
+def asked(chance: random.Random) -> Tuple[str, str, Dict[str, str]]:
+    """A user, a path, and the fields of a request."""
+    user, reload = chance.choice(USERS), {"cache-control": "no-cache"} if chance.random() < 0.3 else {}
+    return user, chance.choice(["/a", "/b"]), {"cookie": user, **reload}
 
 
 class Many(unittest.TestCase):
-    def judge(self, found: List[str], count: int, cache: Cache) -> None:
-        cache.close()
-        self.assertEqual(found, [], f"{len(found)} wrong answers")
-        self.assertGreaterEqual(count, REQUESTS)
+    """Users over `Vary: cookie`, at one cache that eight threads share: four of a WSGI server, and four with the tasks
+    of an ASGI server."""
 
-    def test_threads(self) -> None:
-        cache = Cache(shared=True, variants=4)
-        application, counts = wsgi.Cached(Pages().wsgi, cache), [0] * 8
-        found: List[str] = []
-        was = sys.getswitchinterval()
-        sys.setswitchinterval(0.0002)
+    def test_each_user_gets_a_page_of_their_own(self) -> None:
+        pages, cache, share = Pages(), Cache(shared=True, variants=4), -(-REQUESTS // 8)
+        by_wsgi, by_asgi = wsgi.Cached(pages.wsgi, cache), asgi.Cached(pages.asgi, cache)
 
-        def client(number: int) -> None:
-            chance = random.Random(number)
-            while counts[number] < -(-REQUESTS // 8):
-                counts[number] += 1
-                user, fields = asked(chance)
-                environ = {"REQUEST_METHOD": "GET", "HTTP_HOST": "a.example", "PATH_INFO": chance.choice(["/a", "/b"])}
+        def thread(number: int) -> Count:
+            chance, count = random.Random(number), Count()
+            for _ in range(share):
+                user, path, fields = asked(chance)
+                environ = {"REQUEST_METHOD": "GET", "HTTP_HOST": "a.example", "PATH_INFO": path, "wsgi.url_scheme": "http"}
                 environ.update({f"HTTP_{name.upper().replace('-', '_')}": value for name, value in fields.items()})
                 head = Head()
-                content = application(environ, head)
-                whole = b"".join(content)
+                content = by_wsgi(environ, head)
+                count.add(user, head.fields, b"".join(content))
                 close = getattr(content, "close", None)
                 if close is not None:
                     close()
-                fault = wrong(user, head.fields, whole)
-                if fault is not None:
-                    found.append(fault)
-                    return
+            return count
 
-        threads = [threading.Thread(target=client, args=(number,)) for number in range(8)]
-        for it in threads:
-            it.start()
-        for it in threads:
-            it.join()
-        sys.setswitchinterval(was)
-        self.judge(found, sum(counts), cache)
+        def loop(number: int) -> Count:
+            chance, count = random.Random(number), Count()
 
-    def test_tasks(self) -> None:
-        cache = Cache(shared=True, variants=4)
-        application, counts = asgi.Cached(Pages().asgi, cache), [0] * 8
-        found: List[str] = []
+            async def client(requests: int) -> None:
+                for _ in range(requests):
+                    user, path, fields = asked(chance)
+                    _, told, content = await get(by_asgi, path, fields)
+                    count.add(user, told, content)
 
-        async def client(number: int) -> None:
-            chance = random.Random(number)
-            while counts[number] < -(-REQUESTS // 8):
-                counts[number] += 1
-                user, fields = asked(chance)
-                sent = await get(application, chance.choice(["/a", "/b"]), fields)
-                fault = wrong(user, sent[1], sent[2])
-                if fault is not None:
-                    found.append(fault)
-                    return
+            async def clients() -> None:
+                await asyncio.gather(*[client(len(range(task, share, 8))) for task in range(8)])
 
-        async def clients() -> None:
-            await asyncio.gather(*map(client, range(8)))
+            asyncio.run(clients())
+            return count
 
-        asyncio.run(clients())
-        self.judge(found, sum(counts), cache)
+        was = sys.getswitchinterval()
+        sys.setswitchinterval(0.0002)
+        try:
+            with ThreadPoolExecutor(8) as pool:
+                counts = [*pool.map(lambda number: (thread, loop)[number % 2](number), range(8))]
+        finally:
+            sys.setswitchinterval(was)
+            cache.close()
+        for what in ("mixed", "torn"):
+            wrong = [it for count in counts for it in getattr(count, what)]
+            self.assertEqual(wrong[:5], [], f"{len(wrong)} {what}")
+        self.assertGreaterEqual(sum(it.requests for it in counts), REQUESTS)
+        self.assertGreater(sum(it.stored for it in counts), REQUESTS // 10)
 
 
 async def get(application: Any, path: str, fields: Dict[str, str], **more: Any) -> Tuple[int, Dict[str, str], bytes]:
@@ -349,4 +347,4 @@ class Content(unittest.TestCase):
 if __name__ == "__main__":
     began = time.time()
     unittest.main(exit=False)
-    print(f"{REQUESTS} requests a test, {time.time() - began:.0f} s")
+    print(f"{REQUESTS} requests, {time.time() - began:.0f} s")
