@@ -132,7 +132,8 @@ def response(draw: random.Random, received: int) -> Fields:
     if draw.random() < 0.3:
         fields += [("Age", draw.choice(AGES)) for _ in range(2 if draw.random() < 0.1 else 1)]
     if draw.random() < 0.3:
-        fields.append(("Last-Modified", date(draw, made - draw.choice([0, 10, 1000, 864000]))))
+        # (also after it was made, as of a file whose clock was wrong)
+        fields.append(("Last-Modified", date(draw, made - draw.choice([0, 10, 1000, 864000, 864000, -1, -3600, -864000]))))
     if draw.random() < 0.35:
         fields.append(("ETag", draw.choice(ENTITY_TAGS)))
     if draw.random() < 0.05:

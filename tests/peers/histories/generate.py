@@ -24,7 +24,8 @@ VARIED = {"accept-encoding": ["gzip", "gzip", "gzip, br", "gzip,br", "br, gzip",
 VARIES = ["accept-encoding"] * 3 + ["Accept-Language"] * 3 + ["x-a"] * 4
 VARIES += ["X-A", "User-Agent", "accept-encoding, x-a", "x-a,,accept-encoding", "*", "x-a, *", "", '"x-a"', "x a"]
 TAGS = ['"1"'] * 3 + ['"2"', 'W/"1"', 'W/"1"', 'W/"2"']
-DATES = [BEGIN - 1000, BEGIN - 1000, BEGIN - 2000]
+# (the last one is after now, until time has passed)
+DATES = [BEGIN - 1000, BEGIN - 1000, BEGIN - 1000, BEGIN - 2000, BEGIN + 30]
 LIFETIMES = ["max-age=60", "max-age=60", "max-age=600", "max-age=3600", "max-age=0", "s-maxage=60",
              "s-maxage=600, max-age=30", 'max-age="60"', 'max-age="\\6\\0"', "max-age=60, max-age=5"]
 EXTRAS = ["public", "public", "must-revalidate", "stale-while-revalidate=600", "stale-if-error=600", "x", "private",

@@ -75,7 +75,7 @@ class Package:
             return wanted[0].row() if wanted else f"validate {found.fields}"
         if isinstance(found, headers.PassOn):
             return "keep" if found.stores else "pass_on"
-        return found if isinstance(found, str) else WORDS[found]
+        return WORDS.get(found, str(found))
 
 
 def fault_of(reply: Any, told: Told, method: str) -> str | None:

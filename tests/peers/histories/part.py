@@ -11,8 +11,9 @@ are small, so responses are evicted. Each answer is compared, and at the end all
 first answer that is otherwise.
 """
 PASSES = """
-{total:,} more histories are of passes (`cache_pass`). Up to eight requests are open at a time, and their steps
-interleave: responses come late, in another order than they were asked for, cut short, or never; a PUT comes between.
+{total:,} more histories are of passes, half of them by `cache_pass` and half by the package for Python, whose replies are
+judged as messages: status, fields and content. Up to eight requests are open at a time, and their steps interleave:
+responses come late, in another order than they were asked for, cut short, or never; a PUT comes between.
 """
 OPTIONS = """
 A cache has no [options](../../crates/cache_policy/README.md#options), or `immutable` (RFC 8246), or targeted fields (RFC 9213), or it may
@@ -24,7 +25,8 @@ def run(context: Context) -> Part:
     part = Part("A cache over time")
     every = Comparison()
     totals, table = {}, []
-    for mode, inputs in (("calls", context.inputs), ("passes", context.passes)):
+    for mode in against_model.PLAYERS:
+        inputs = context.inputs if mode == "calls" else context.passes
         count = max(1, inputs // len(generate.OPTIONS))
         totals[mode] = count * len(generate.OPTIONS)
         for option in generate.OPTIONS:
@@ -32,7 +34,7 @@ def run(context: Context) -> Part:
             every.merge(found)
             table.append([mode, option, count, found.agree.total() + found.differences, found.differences])
     part.section += INTRODUCTION.strip().format(total=totals["calls"]).split("\n") + [""]
-    part.section += PASSES.strip().format(total=totals["passes"]).split("\n") + [""]
+    part.section += PASSES.strip().format(total=sum(totals.values()) - totals["calls"]).split("\n") + [""]
     part.section += OPTIONS.strip().split("\n") + [""]
     part.table(["Of", "Options", "histories", "answers", "otherwise"], table)
     part.section += ["The same answers by call:", ""]
