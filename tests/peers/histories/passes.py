@@ -159,9 +159,8 @@ class PassPlayer(Player):
         found = self.cache.lookup(it.key, it.request, self.now, GUESS)
         if found.word != "serve_and_revalidate" or not is_for_cache(it.request):
             return [Told("(none)")]
-        # Choice: the request of the client, with this Cache-Control in place of its own.
-        fields = self.without_control(it.request.fields, 1)
-        it.request = Request(it.request.method, [*fields, ("cache-control", "no-cache")])
+        # "A cache MUST NOT store any part of either this request or any response to it": no-store stays (section 5.2.1.5)
+        it.request = Request(it.request.method, [*it.request.fields, ("cache-control", "no-cache")])
         return self.begun(it)
 
     # What clients and the origin do
