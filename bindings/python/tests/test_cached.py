@@ -115,7 +115,8 @@ class Served:
         return Answer(head[0], head[1], body)
 
     def by_asgi(self, method: str, path: str, fields: Asked) -> Answer:
-        named = [(b"host", b"A.example"), *((name.lower().encode(), value.encode()) for name, value in fields.items())]
+        fields = {"Host": "A.example", **fields}
+        named = [(name.lower().encode(), value.encode()) for name, value in fields.items()]
         scope = {"type": "http", "method": method, "path": path, "query_string": b"", "headers": named, "scheme": "http"}
         messages: List[Any] = []
 
@@ -285,6 +286,24 @@ class CachedTest(unittest.TestCase):
             self.assertEqual((served.ask(at=1050).content, served.count), (b"one", 3))
             self.assertEqual((served.ask(at=1051).content, served.count), (b"two", 3))
 
+    def test_stores_nothing_of_a_request_with_no_store(self) -> None:
+        """Nor of the request that validates what this one was served (RFC 9111, section 5.2.1.5)."""
+        stale, other = [("Cache-Control", "max-age=1, stale-while-revalidate=60")], [("Cache-Control", "max-age=60")]
+        for served in self.each(lambda: in_turn(Given(200, stale, b"one"), *[Given(200, other, b"two")] * 2)):
+            served.ask()
+            self.assertEqual(served.ask(at=1010, Cache_Control="no-store").content, b"one")
+            self.assertEqual(served.ask(at=1011).content, b"one")
+
+    @unittest.expectedFailure
+    def test_hands_no_cookie_of_a_304_on(self) -> None:
+        """(what a 304 adds to a stored response is stored, and so is its cookie)"""
+        stored = [("Cache-Control", "max-age=10"), ("ETag", '"1"')]
+        again = [("Cache-Control", "max-age=60"), ("ETag", '"1"'), ("Set-Cookie", "session=alice")]
+        for served in self.each(lambda: in_turn(Given(200, stored, b"page"), Given(304, again), Given(200, stored, b"page"))):
+            served.ask()
+            served.ask(at=1100)
+            self.assertNotIn("set-cookie", served.ask(at=1110).fields)
+
     def test_asks_nobody_if_that_is_forbidden(self) -> None:
         for served in self.each(lambda: fresh(60)):
             self.assertEqual((served.ask(Cache_Control="only-if-cached").status, served.count), (504, 0))
@@ -330,6 +349,14 @@ class CachedTest(unittest.TestCase):
         for middleware in kinds:
             with self.assertRaises(ValueError):
                 middleware(None, Cache(shared=False))
+
+    def test_rejects_a_host_that_names_another_target(self) -> None:
+        """A Host that has a part of a path would store one page under the URI of another one."""
+        for served in self.each(lambda: lambda seen: Given(200, [("Cache-Control", "max-age=60")], seen.path.encode())):
+            for host in ("A.example/b", "A.example/b?c=", "A.example#", "A.example /b"):
+                head = served.ask(path="/c", Host=host)
+                self.assertEqual((head.status, served.count), (400, 0), host)
+            self.assertEqual(served.ask(path="/b/c").content, b"/b/c")
 
     def test_rejects_a_field_that_no_field_is(self) -> None:
         for served in self.each(lambda: fresh(60)):

@@ -5,15 +5,32 @@ request at a time validates what was served stale.
 """
 
 from threading import Lock
-from typing import Callable, Optional, Set, Union
+from typing import Callable, Optional, Sequence, Set, Union
 
 from ._exchange import Fields, length_of
 from .caching import Ask, Cache, Pass, PassOn, Reply
 from .errors import HeaderError
 from .headers import Headers
+from .values import Host
 
 #: What is next: `None` passes the application's response on.
 Step = Union[Ask, Reply]
+
+
+def target_of(scheme: str, hosts: Sequence[str], server: str, path: str, query: str) -> Optional[str]:
+    """The target URI, by the lines of Host, or without one by the name of the server.
+
+    `None` if the request names no target, or might name another one: the answer is 400 (RFC 9112, sections 3.2 and
+    3.2.1).
+    """
+    try:
+        for host in hosts:
+            Host.parse(host)
+    except HeaderError:
+        return None
+    if len(hosts) > 1 or not path.startswith(("/", "*")):
+        return None
+    return f"{scheme}://{hosts[0].lower() if hosts else server}{path}{'?' if query else ''}{query}"
 
 
 class Rules:

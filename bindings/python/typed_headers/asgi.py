@@ -39,7 +39,7 @@ from typing import (
 )
 from urllib.parse import quote
 
-from ._cached import Ask, Reply, Rules, Step, Turn
+from ._cached import Ask, Reply, Rules, Step, Turn, target_of
 from ._exchange import CONDITIONS, ORIGINS, Cutter, Fields, Response, length_of, respond, tagged
 from ._serving import DECIDING, Explanation, explained, list_alternatives, ranges
 from .caching import Cache
@@ -255,7 +255,11 @@ class Cached:
         except HeaderError:
             await _answer(send, 400, [("content-length", "0")])
             return
-        turn = Turn(self.rules, scope["method"], _uri(scope), request)
+        target = _uri(scope)
+        if target is None:
+            await _answer(send, 400, [("content-length", "0")])
+            return
+        turn = Turn(self.rules, scope["method"], target, request)
         step: Optional[Step] = turn.start()
         given = _Given(receive, scope["method"])
         while isinstance(step, Ask):
@@ -364,14 +368,13 @@ async def _reply(send: Send, method: str, reply: Reply) -> None:
     await send({"type": "http.response.body", "body": b"" if method == "HEAD" else content or b""})
 
 
-def _uri(scope: Scope) -> str:
-    """The target URI, with its host in lower case."""
+def _uri(scope: Scope) -> Optional[str]:
     hosts = [bytes(value).decode("latin-1") for name, value in scope["headers"] if bytes(name).lower() == b"host"]
-    host = hosts[0] if hosts else ":".join(map(str, scope.get("server") or ()))
+    server = ":".join(map(str, scope.get("server") or ()))
     raw = scope.get("raw_path")
     path = bytes(raw).partition(b"?")[0].decode("latin-1") if raw else quote(scope.get("path") or "/")
     query = bytes(scope.get("query_string") or b"").decode("latin-1")
-    return f"{scope.get('scheme', 'http')}://{host.lower()}{path}{'?' if query else ''}{query}"
+    return target_of(scope.get("scheme", "http"), hosts, server, path, query)
 
 
 def _asking(scope: Scope, ask: Ask) -> Scope:

@@ -39,7 +39,7 @@ from ._exchange import (
     respond,
     tagged,
 )
-from ._cached import Ask, Reply, Rules, Step, Turn
+from ._cached import Ask, Reply, Rules, Step, Turn, target_of
 from ._serving import DECIDING, Explanation, explained, list_alternatives, ranges
 from .caching import Cache
 from .cors import CorsKind, CorsPolicy
@@ -295,10 +295,10 @@ class Cached:
         self.application, self.rules = application, Rules(cache, largest, clock)
 
     def __call__(self, environ: Environ, start_response: StartResponse) -> Iterable[bytes]:
-        request = _whole_request(environ)
-        if request is None:
+        request, target = _whole_request(environ), _uri(environ)
+        if request is None or target is None:
             return _bad_request(start_response)
-        turn = Turn(self.rules, environ["REQUEST_METHOD"], _uri(environ), request)
+        turn = Turn(self.rules, environ["REQUEST_METHOD"], target, request)
         step: Optional[Step] = turn.start()
         while isinstance(step, Ask):
             started = _Started(start_response)
@@ -403,13 +403,11 @@ def _whole_request(environ: Environ) -> Optional[Headers]:
         return None
 
 
-def _uri(environ: Environ) -> str:
-    """The target URI, with its host in lower case."""
-    scheme = environ.get("wsgi.url_scheme", "http")
-    host = environ.get("HTTP_HOST") or f"{environ.get('SERVER_NAME', '')}:{environ.get('SERVER_PORT', '')}"
+def _uri(environ: Environ) -> Optional[str]:
+    hosts = [it for it in (environ.get("HTTP_HOST"),) if it]
+    server = f"{environ.get('SERVER_NAME', '')}:{environ.get('SERVER_PORT', '')}"
     path = quote(environ.get("SCRIPT_NAME", "") + environ.get("PATH_INFO", ""), "/;=,@:!$&'()*+~", "latin-1") or "/"
-    query = environ.get("QUERY_STRING", "")
-    return f"{scheme}://{host.lower()}{path}{'?' if query else ''}{query}"
+    return target_of(environ.get("wsgi.url_scheme", "http"), hosts, server, path, environ.get("QUERY_STRING", ""))
 
 
 def _asking(environ: Environ, ask: Ask) -> Environ:
