@@ -208,6 +208,9 @@ class Player:
         others = self.common_fields(self.now) if self.is_likely(0.5) else []
         return trimmed([*others, *(own if self.is_likely(0.75) else self.validators())])
 
+    def cookie(self) -> Fields:
+        return [("set-cookie", self.draw.choice(["a=1", "b=2"]))] if self.is_likely(0.05) else []
+
     def described(self, stored: Stored) -> Fields:
         """The fields of a 200 to HEAD, mostly about the stored response."""
         length = [it for it in stored.fields if it[0].lower() == "content-length"]
@@ -237,7 +240,7 @@ class Player:
     def validate(self, target: str, request: Request, stored: Stored) -> None:
         kind = self.draw.random()
         if kind < 0.6:
-            freshened = self.freshen(target, request, self.not_modified(stored))
+            freshened = self.freshen(target, request, self.not_modified(stored) + self.cookie())
             if freshened.word in ("absent", "unchanged"):
                 self.store(target, request)
             elif freshened.word == "stored" and self.is_likely(0.5):

@@ -352,8 +352,10 @@ class Cache:
             del self.targets[next(it for it in self.targets if it != target)]
 
     def is_reusable(self, new: Stored, request: Request, update: Fields) -> bool:
-        """Whether an updated response may be stored, for each request that it answered, and be reused for this one."""
+        """Whether an updated response may be stored, for each request that it answered, and be reused for this one. Choice:
+        one with a cookie isn't stored by a shared cache."""
         return (is_fair(update, self.targeted) and matches(new, request)
+                and not (self.is_shared and lines_of(update, "set-cookie"))
                 and all(self.may_store(it, new.status, new.fields) for it in (new.request, request)))
 
     def freshen(self, target: str, request: Request, update: Fields, requested: int, received: int) -> Answer:

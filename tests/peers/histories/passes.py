@@ -192,7 +192,7 @@ class PassPlayer(Player):
     def answer_of_origin(self, it: Pass) -> tuple[int, Fields]:
         kind, found = self.draw.random(), self.cache.at(it.key)
         if it.validates and kind < 0.5:
-            return 304, self.not_modified(self.draw.choice(found)) if found else trimmed(self.validators())
+            return 304, (self.not_modified(self.draw.choice(found)) if found else trimmed(self.validators())) + self.cookie()
         if kind > 0.87:
             return self.draw.choice(FAILURES), self.response(self.now)
         fields = self.response(self.now)
@@ -202,8 +202,7 @@ class PassPlayer(Player):
             # The origin answers in another order than it was asked.
             fields = [other for other in fields if other[0] != "date"]
             fields.append(("date", imf_fixdate(self.now - self.draw.choice([0, 0, 1, 2, 5, 30]))))
-        if self.is_likely(0.05):
-            fields.append(("set-cookie", "a=1"))
+        fields += self.cookie()
         if it.request.method not in SAFE:
             fields += [(name, self.draw.choice(list(NAMED))) for name in ("location", "content-location")
                        if self.is_likely(0.2)]
