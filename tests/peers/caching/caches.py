@@ -102,10 +102,11 @@ def by_proxy(cache: Cache, keys: dict[str, Case], work: Path) -> dict[str, list[
     words = [processes.filled(word, names) for word in cache.words]
     with processes.server(words, port, "/page/", work / f"{cache.name}.log", more):
         with concurrent.futures.ThreadPoolExecutor(32) as pool:
-            pending = {key: pool.submit(run_case, key, case, port) for key, case in keys.items()}
+            pending = {key: pool.submit(run_case, key, case, port) for key, case in keys.items() if not case.is_alone}
         # (a response that is served stale is revalidated after it)
         time.sleep(2)
-        return {key: it.result() for key, it in pending.items()}
+        answers = {key: it.result() for key, it in pending.items()}
+        return answers | {key: run_case(key, case, port) for key, case in keys.items() if case.is_alone}
 
 
 def title_of(cache: Cache) -> str:
@@ -114,7 +115,10 @@ def title_of(cache: Cache) -> str:
 
 def judge(cache: Cache, work: Path) -> Judged:
     keys = new_keys()
-    answers = by_proxy(cache, keys, work) if cache.words else chromium.answers_of(keys, ORIGIN, work)
+    if cache.words:
+        answers = by_proxy(cache, keys, work)
+    else:
+        answers = chromium.answers_of({key: case for key, case in keys.items() if not case.is_alone}, ORIGIN, work)
     results = {
         case.id: results_of(key, case, answers[key], origin.RECORD.asked[key])
         for key, case in keys.items()

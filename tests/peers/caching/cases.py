@@ -46,12 +46,14 @@ class Step:
     see: dict[str, str | None] = field(default_factory=dict)
     # Fields with which the origin has to be asked.
     sent: dict[str, str] = field(default_factory=dict)
-    # The origin closes the connection, waits first, ends the body early, answers a condition by 304, or a range by 206.
+    # The origin closes the connection, waits first, ends the body early, answers a condition by 304, or a range by 206, or
+    # sends a second response late, that nobody asked for.
     close: bool = False
     delay: float = 0
     truncate: bool = False
     same: bool = False
     partial: bool = False
+    late: bool = False
 
 
 @dataclass
@@ -68,6 +70,11 @@ class Case:
     @property
     def id(self) -> str:
         return f"{self.group}-{self.name}"
+
+    @property
+    def is_alone(self) -> bool:
+        """Whether no other case is asked meanwhile, as it could get what the origin sends unasked."""
+        return any(it.late for it in self.steps)
 
 
 ALL: list[Case] = []
@@ -462,3 +469,13 @@ for name in ("Keep-Alive", "Proxy-Connection", "Proxy-Authenticate"):
          step(FRESH, expect=REUSED | {"miss"}, see={name.lower(): "none if hit"}), cites="9111 3.1")
 case(G, "kept", "optimal", step(FRESH + [("X-A", "1"), ("Content-Language", "de")]),
      step(FRESH, expect=REUSED, see={"x-a": "1", "content-language": "de"}))
+
+# What comes late on a kept connection (9112, 6.3 and 9.2): it answers no request, of this client or another
+G = "late"
+NEVER, OWN = [DATE] + cc("no-store"), {"miss"} | ERROR
+AFTERWARDS = [step(NEVER, query=it, expect=OWN) for it in ("?1", "?2")]
+for name, fields in (("stored", FRESH), ("not-stored", NEVER)):
+    case(G, f"response-{name}", "required", step(fields, late=True, pause=1), *AFTERWARDS, cites="9112 9.2 SHOULD NOT")
+case(G, "response-to-head", "required", step(NEVER, method="HEAD", late=True, pause=1), *AFTERWARDS, cites="9112 6.3")
+case(G, "response-after-304", "required", step(cc("max-age=0") + [ETAG], same=True),
+     step(cc("max-age=0") + [ETAG], same=True, late=True, pause=1), *AFTERWARDS, cites="9112 6.3")

@@ -67,6 +67,11 @@ def filled(value: str, url: str) -> str:
     return re.sub(r"\{(url|now(?:[+-]\d+)?(?::\w+)?)\}", put, value)
 
 
+# What comes late. It says of no request that it answers it.
+UNASKED = (b"HTTP/1.1 200 OK\r\nCache-Control: max-age=3600\r\nReq-Num-Answered: 0\r\nContent-Length: 16\r\n\r\n"
+           b"unasked answer 0")
+
+
 def body_of(key: str, number: int) -> bytes:
     return f"{key} answer {number} ".encode() + b"." * 40
 
@@ -119,6 +124,9 @@ class Origin(BaseHTTPRequestHandler):
         if "content-type" not in given and status != 304:
             lines.append("Content-Type: text/plain")
         self.send(status, lines, body, 50 if step.truncate else 0)
+        if step.late:
+            time.sleep(0.3)
+            self.wfile.write(UNASKED)
 
     def representation(self, step: Step, key: str, number: int, is_conditional: bool) -> tuple[int, list[str], bytes]:
         body = body_of(key, 1 if step.same else number)

@@ -10,7 +10,7 @@ from common.processes import Missing
 INTRODUCTION = """
 Each cache is a proxy in front of one origin server. Chromium's own cache is used by a page of the origin. Each cache
 gets {count} cases of one to three requests. *Required* cases are those of a MUST, MUST NOT, SHOULD or SHOULD NOT of
-RFC 9110, 9111 and 5861. *Optional reuse* are cases in which a cache may answer with a stored response. In all other
+RFC 9110, 9111, 9112 and 5861. *Optional reuse* are cases in which a cache may answer with a stored response. In all other
 cases both answers conform; the table counts how often a cache gives the stricter one. A case isn't asked if it is about
 the other kind of cache, or if the cache asked the origin for more than its client did.
 
@@ -78,7 +78,7 @@ def want_all_kept(part: Part, ours: Judged) -> None:
     counts = counts_of(ours)
     kept, broken = counts["required", "kept"], counts["required", "broken"]
     # (one more isn't asked: the proxy hands on no response that was cut off)
-    part.want(f"required cases of a shared cache that {ours.title} keeps", f"{kept} of {kept + broken}", "97 of 97")
+    part.want(f"required cases of a shared cache that {ours.title} keeps", f"{kept} of {kept + broken}", "101 of 101")
     part.faults += [f"{case.id}: {[it.wrong for it in ours.results[case.id] if it.wrong]}" for case in cases.ALL
                     if case.kind == "required" and verdict(case, ours.results[case.id], True) == "broken"]
 
