@@ -89,7 +89,7 @@ static void start_listening(struct listener *listener, int socket, const char *t
     listener->sockets[listener->count++] = socket;
 }
 
-void say_where(const struct listener *listener) {
+void say_where(const struct listener *listener, const char *scheme) {
     union any_address address = {0};
     socklen_t length = sizeof address;
     char host[INET6_ADDRSTRLEN], port[8];
@@ -100,7 +100,7 @@ void say_where(const struct listener *listener) {
     else if (getnameinfo(&address.any, length, host, sizeof host, port, sizeof port, NI_NUMERICHOST | NI_NUMERICSERV))
         DIE("a socket has no address");
     else
-        complain(strchr(host, ':') ? "listening at http://[%s]:%s/" : "listening at http://%s:%s/", host, port);
+        complain(strchr(host, ':') ? "listening at %s://[%s]:%s/" : "listening at %s://%s:%s/", scheme, host, port);
 }
 
 /* Listens at an address: by a socket for each worker, among which the system divides the connections. The first one

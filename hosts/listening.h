@@ -17,7 +17,7 @@ struct listener {
 size_t listen_at_all(struct listener *listeners, const struct options *options);
 
 /* Says on standard error where it listens. */
-void say_where(const struct listener *listener);
+void say_where(const struct listener *listener, const char *scheme);
 
 /* Lets no more connections begin, while those that have begun are accepted. */
 void refuse_new(const struct listener *listener);

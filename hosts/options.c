@@ -31,10 +31,12 @@ static const struct row rows[] = {
     {"listen", "ADDRESS", "listen at PORT, HOST:PORT, [HOST]:PORT or unix:PATH; may be repeated", ADDRESS, 0, 0, 0},
     {"workers", "N", "so many processes (as many as processors)", NUMBER, AT(workers), 1, MOST_WORKERS},
     {"user", "USER[:GROUP]", "run as this user, once it listens", USER, 0, 0, 0},
+    {"certificate", "FILE", "speak TLS, by the chain of certificates in FILE (PEM)", TEXT, AT(certificate), 0, 0},
+    {"key", "FILE", "the private key of the certificate (the same file)", TEXT, AT(key), 0, 0},
     {"cache-control", "VALUE", "Cache-Control of the answers 200, 206 and 304", TEXT, AT(cache_control), 0, 0},
     {"host", "NAME", "answer 421 to requests for other hosts; may be repeated", HOST, 0, 0, 0},
     {"precompressed", NULL, "send FILE.br or FILE.gz to clients that accept them", FLAG, AT(is_precompressed), 0, 0},
-    {"key-file", "FILE", "hash entity tags by its 16 bytes, so that they outlive a restart", TEXT, AT(key_file), 0, 0},
+    {"tag-key", "FILE", "hash entity tags by its 16 bytes, so that they outlive a restart", TEXT, AT(tag_key), 0, 0},
     {"max-file", "BYTES", "answer 403 for a longer file", NUMBER, AT(most_file), 0, INT64_MAX},
     {"max-content", "BYTES", "answer 413 to a request with more content (65536)", NUMBER, AT(most_content), 0, 1 << 30},
     {"requests", "N", "close a connection after N requests (0: never)", NUMBER, AT(requests), 0, UINT32_MAX},
@@ -77,7 +79,7 @@ static void print_help(void) {
         snprintf(name, sizeof name, "--%s%s%s", row->name, row->value ? " " : "", row->value ? row->value : "");
         printf("  %-26s %s\n", name, row->help);
     }
-    puts("\nSIGTERM ends the server once responses are sent, SIGHUP opens the folder and the log anew.");
+    puts("\nSIGTERM ends the server once responses are sent. SIGHUP opens folder, log and certificate anew.");
 }
 
 static uint64_t number_of(const struct row *row, const char *text) {
@@ -188,6 +190,10 @@ void read_options(struct options *options, int count, char **words) {
     if (optind + 1 != count)
         mistake("there is %s FOLDER", optind == count ? "no" : "more than one");
     options->folder = words[optind];
+    if (!options->key)
+        options->key = options->certificate;
+    if (!options->certificate && options->key)
+        mistake("there is a --key, and no --certificate");
     if (options->log_file && !options->log)
         options->log = COMBINED_LOG;
 }

@@ -17,10 +17,11 @@ struct options {
     const char *addresses[MOST_ADDRESSES];
     size_t address_count;
     const char *user, *group;
+    const char *certificate, *key; /* NULL for plain connections */
     uint64_t workers;
 
     /* What the library decides by. */
-    const char *cache_control, *key_file;
+    const char *cache_control, *tag_key;
     char *hosts; /* a line for each host */
     bool is_precompressed;
     uint64_t requests; /* of a connection; 0 for any number */

@@ -3,12 +3,13 @@
  * The library reads the requests, names the paths to open, and gives each byte of a response that isn't a file's. This
  * program moves bytes, opens files and keeps time. It decides nothing about HTTP.
  *
- * The supervisor owns the listening sockets, the folder and the log, and starts and ends the workers. A worker is a
- * process with one epoll and no thread, and owns its peers. A peer is one connection: it owns its socket, its handle of
- * the library, and the file that is being sent. */
+ * The supervisor owns the listening sockets, the folder, the log and the certificate, and starts and ends the workers.
+ * A worker is a process with one epoll and no thread, and owns its peers. A peer is one connection: it owns its socket,
+ * its TLS, its handle of the library, and the file that is being sent. */
 #define _GNU_SOURCE
 #include "listening.h"
 #include "options.h"
+#include "tls.h"
 
 #include <arpa/inet.h>
 #include <errno.h>
@@ -91,6 +92,7 @@ static struct {
     struct listener listeners[MOST_ADDRESSES];
     size_t listener_count;
     int folder, log;
+    SSL_CTX *tls; /* NULL for plain connections */
     struct typed_headers_keys tag_keys, slot_keys;
     char boundary[33];
     struct child children[GENERATIONS * MOST_WORKERS];
@@ -117,6 +119,7 @@ struct address {
 
 struct peer {
     struct source source; /* the first field, so that an event leads to the peer */
+    SSL *tls;             /* NULL for a plain connection, and while it lingers */
     struct typed_headers_connection connection;
     struct peer *before, *after; /* in the list of those that wait for the same, the longest waiting first */
     uint64_t deadline;
@@ -355,8 +358,15 @@ static void close_file(struct peer *peer) {
     peer->file = -1;
 }
 
+static void end_tls(struct peer *peer) {
+    if (peer->tls)
+        tls_end(peer->tls);
+    peer->tls = NULL;
+}
+
 static void close_peer(struct peer *peer) {
     unlink_peer(peer);
+    end_tls(peer);
     typed_headers_connection_free(&peer->connection);
     close_file(peer);
     close_descriptor(peer->source.socket);
@@ -394,17 +404,21 @@ static bool watch(struct peer *peer, bool output) {
 static struct peer *new_peer(int socket, const struct address *address) {
     struct peer *peer = calloc(1, sizeof *peer);
     struct epoll_event event = {.events = EPOLLIN, .data.ptr = peer};
-    if (!peer || typed_headers_connection_new(&peer->connection, options.most_content, &worker.keys) ||
+    if (!peer || (server.tls && !(peer->tls = tls_begin(server.tls, socket))) ||
+        typed_headers_connection_new(&peer->connection, options.most_content, &worker.keys) ||
         epoll_ctl(worker.events, EPOLL_CTL_ADD, socket, &event)) {
         complain_seldom("no connection");
-        if (peer)
+        if (peer) {
+            end_tls(peer);
             typed_headers_connection_free(&peer->connection);
+        }
         free(peer);
         close_descriptor(socket);
         return NULL;
     }
     peer->source.socket = socket;
     peer->file = -1;
+    peer->begun = worker.now;
     peer->is_readable = true;
     peer->address = *address;
     count_peer(peer, 1);
@@ -428,6 +442,7 @@ static bool close_idle(const struct address *address) {
 /* Ends the output, and drops what the client still sends until it has read it: bytes that are unread when a socket is
  * closed would reset the connection (RFC 9112, section 9.6). */
 static void linger(struct peer *peer) {
+    end_tls(peer);
     typed_headers_connection_free(&peer->connection);
     close_file(peer);
     if (shutdown(peer->source.socket, SHUT_WR) || !watch(peer, false)) {
@@ -451,6 +466,12 @@ static void drop_input(struct peer *peer) {
     wait_for(peer, LINGERING);
 }
 
+/* Sends bytes as send(2) does. */
+static ssize_t send_bytes(const struct peer *peer, size_t length, int flags) {
+    return peer->tls ? tls_write(peer->tls, worker.buffer, length)
+                     : send(peer->source.socket, worker.buffer, length, MSG_NOSIGNAL | flags);
+}
+
 /* Whether the client took something of what the system has for it: that is much, and the system tells of room only once
  * a large part has gone. */
 static bool is_taking(struct peer *peer) {
@@ -470,7 +491,7 @@ static void end_slow(struct peer *peer) {
         return;
     }
     if (typed_headers_connection_time_out(&peer->connection, worker.buffer, BUFFER, &length) != TYPED_HEADERS_DONE ||
-        send(peer->source.socket, worker.buffer, length, MSG_NOSIGNAL) != (ssize_t)length) {
+        send_bytes(peer, length, 0) != (ssize_t)length) {
         close_peer(peer);
         return;
     }
@@ -547,7 +568,7 @@ static bool has_changed(const struct peer *peer) {
 
 /* ---- Answers ---- */
 
-enum step { ON, WAIT, SLOW, OVER };
+enum step { ON, WAIT, SLOW, REJECTED, OVER };
 
 /* Plans the response to a request for the path of --health, if that is what waits. */
 static bool plan_health(struct peer *peer) {
@@ -611,16 +632,34 @@ static enum step answer(struct peer *peer) {
 
 /* ---- Input and output ---- */
 
+static bool is_late(const struct peer *peer) {
+    return worker.now - peer->begun > options.request_time * 1000;
+}
+
+/* What follows if nothing was received. The handshake of TLS has the times of a request. */
+static enum step receive_nothing(struct peer *peer) {
+    if (errno == EPROTO) /* OpenSSL has sent an alert, which the client is to read */
+        return REJECTED;
+    if (errno != EAGAIN)
+        return OVER;
+    if (!peer->tls)
+        return WAIT;
+    peer->is_readable = tls_wants_output(peer->tls);
+    peer->has_moved |= tls_is_in_handshake(peer->tls);
+    return tls_is_in_handshake(peer->tls) && is_late(peer) ? SLOW : WAIT;
+}
+
 static enum step receive(struct peer *peer) {
     if (!peer->is_readable)
         return WAIT;
-    ssize_t count = recv(peer->source.socket, worker.buffer, BUFFER, 0);
+    ssize_t count = peer->tls ? tls_read(peer->tls, worker.buffer, BUFFER)
+                              : recv(peer->source.socket, worker.buffer, BUFFER, 0);
     if (count < 0 && errno == EINTR)
         return ON;
     /* What is shorter than the buffer was all that there is. */
     peer->is_readable = count == BUFFER;
     if (count < 0)
-        return errno == EAGAIN ? WAIT : OVER;
+        return receive_nothing(peer);
     peer->has_moved = true;
     if (count == 0) {
         peer->has_ended = true;
@@ -629,7 +668,7 @@ static enum step receive(struct peer *peer) {
     if (!peer->has_begun)
         peer->begun = worker.now;
     peer->has_begun = true;
-    if (worker.now - peer->begun > options.request_time * 1000)
+    if (is_late(peer))
         return SLOW;
     return typed_headers_connection_receive(&peer->connection, worker.buffer, (size_t)count) == TYPED_HEADERS_DONE
                ? ON
@@ -642,8 +681,7 @@ static ssize_t send_output(struct peer *peer, size_t length, uint64_t start, uin
     if (range > 0 && range <= SMALL && length + range <= BUFFER &&
         pread(peer->file, worker.buffer + length, (size_t)range, (off_t)start) == (ssize_t)range)
         extra = (size_t)range;
-    int flags = MSG_NOSIGNAL | (range > extra ? MSG_MORE : 0);
-    ssize_t count = send(peer->source.socket, worker.buffer, length + extra, flags);
+    ssize_t count = send_bytes(peer, length + extra, range > extra ? MSG_MORE : 0);
     if (count <= (ssize_t)length)
         return count;
     if (typed_headers_connection_sent(&peer->connection, length) != TYPED_HEADERS_DONE)
@@ -656,6 +694,10 @@ static ssize_t send_output(struct peer *peer, size_t length, uint64_t start, uin
 static ssize_t send_range(struct peer *peer, uint64_t start, uint64_t range) {
     if (peer->opened != worker.turn && has_changed(peer))
         return 0;
+    if (peer->tls) {
+        ssize_t count = pread(peer->file, worker.buffer, range < BUFFER ? (size_t)range : BUFFER, (off_t)start);
+        return count > 0 ? send_bytes(peer, (size_t)count, 0) : count;
+    }
     off_t at = (off_t)start;
     return sendfile(peer->source.socket, peer->file, &at, range < TURN_BYTES ? (size_t)range : TURN_BYTES);
 }
@@ -685,8 +727,9 @@ static enum step send_some(struct peer *peer) {
 static void take_turn(struct peer *peer) {
     uint8_t event = TYPED_HEADERS_BUSY;
     uint16_t status;
+    enum step step = ON;
     for (int i = 0; i < TURN_EVENTS; i++) {
-        enum step step = ON;
+        step = ON;
         if (typed_headers_connection_next(&peer->connection, &event) != TYPED_HEADERS_DONE)
             event = TYPED_HEADERS_ABORTED;
         if (worker.turn_bytes >= TURN_BYTES && (event == TYPED_HEADERS_REQUEST || event == TYPED_HEADERS_OUTPUT))
@@ -708,19 +751,22 @@ static void take_turn(struct peer *peer) {
             return;
         default: step = OVER;
         }
-        if (step == SLOW || step == OVER) {
-            step == SLOW ? end_slow(peer) : close_peer(peer);
-            return;
+        switch (step) {
+        case ON: continue;
+        case WAIT: break;
+        case SLOW: end_slow(peer); return;
+        case REJECTED: linger(peer); return;
+        case OVER: close_peer(peer); return;
         }
-        if (step == WAIT)
-            break;
+        break;
     }
     /* The events are told as long as they hold: so a peer that need not wait has its turn again. */
-    bool has_output = event != TYPED_HEADERS_NEEDS_INPUT;
-    if (!watch(peer, has_output) || (has_output && ioctl(peer->source.socket, SIOCOUTQ, &peer->unsent)))
+    bool has_output = event != TYPED_HEADERS_NEEDS_INPUT, is_in_handshake = peer->tls && tls_is_in_handshake(peer->tls);
+    bool wants_output = peer->tls && step == WAIT ? tls_wants_output(peer->tls) : has_output;
+    if (!watch(peer, wants_output) || (has_output && ioctl(peer->source.socket, SIOCOUTQ, &peer->unsent)))
         close_peer(peer);
     else
-        wait_for(peer, has_output ? SENDING : peer->has_begun ? RECEIVING : IDLE);
+        wait_for(peer, has_output ? SENDING : peer->has_begun || is_in_handshake ? RECEIVING : IDLE);
 }
 
 static void drive(struct peer *peer) {
@@ -1035,8 +1081,11 @@ static size_t reap(void) {
     return left;
 }
 
-/* Opens the folder and the log. Returns false, and keeps what was open, if one of them can't be. */
+/* Opens the folder, the log and the certificate. Returns false, and keeps what was open, if one of them can't be. */
 static bool open_all(void) {
+    SSL_CTX *tls = options.certificate ? tls_open(options.certificate, options.key) : NULL;
+    if (options.certificate && !tls)
+        return false;
     int folder = open(options.folder, O_PATH | O_DIRECTORY | O_CLOEXEC), log = STDOUT_FILENO;
     if (folder >= 0 && options.log_file)
         log = open(options.log_file, O_WRONLY | O_APPEND | O_CREAT | O_CLOEXEC, 0640);
@@ -1044,18 +1093,21 @@ static bool open_all(void) {
         complain("'%s': %s", folder < 0 ? options.folder : options.log_file, strerror(errno));
         if (folder >= 0)
             close_descriptor(folder);
+        tls_close(tls);
         return false;
     }
     if (server.folder >= 0)
         close_descriptor(server.folder);
     if (server.log > STDOUT_FILENO)
         close_descriptor(server.log);
+    tls_close(server.tls);
     server.folder = folder;
     server.log = log;
+    server.tls = tls;
     return true;
 }
 
-/* Opens the folder and the log anew, for new workers. The old ones end once their responses are sent. */
+/* Opens all anew, for new workers. The old ones end once their responses are sent. */
 static void reload(void) {
     if (reap() + options.workers > server.child_count) {
         complain("too many workers of former reloads still send responses");
@@ -1152,10 +1204,10 @@ static void make_keys(void) {
     snprintf(server.boundary, sizeof server.boundary, "%016llx%016llx", digits[0], digits[1]);
     fill_randomly(&server.slot_keys, sizeof server.slot_keys);
     fill_randomly(&server.tag_keys, sizeof server.tag_keys);
-    if (options.key_file) {
-        int file = open(options.key_file, O_RDONLY | O_CLOEXEC);
+    if (options.tag_key) {
+        int file = open(options.tag_key, O_RDONLY | O_CLOEXEC);
         if (file < 0 || read(file, &server.tag_keys, sizeof server.tag_keys) != sizeof server.tag_keys)
-            DIE("'%s' can't be read, or has fewer than 16 bytes", options.key_file);
+            DIE("'%s' can't be read, or has fewer than 16 bytes", options.tag_key);
         close_descriptor(file);
     }
 }
@@ -1180,7 +1232,7 @@ static void begin(void) {
         DIE("'%s': openat2: %s", options.folder, strerror(errno));
     close_descriptor(probe);
     for (size_t i = 0; i < server.listener_count; i++)
-        say_where(&server.listeners[i]);
+        say_where(&server.listeners[i], server.tls ? "https" : "http");
 }
 
 int main(int count, char **words) {

@@ -1,6 +1,7 @@
 /* Refuses one system call of a server and its workers. Preloaded, it counts the calls of the function that REFUSE_CALL
- * names, of all processes together, from 1 on: `malloc` stands for each allocation. That whose number is in REFUSE_AT fails with the error of REFUSE_ERROR,
- * and the file of REFUSE_MARK is made, so that runs that made fewer calls can be told. */
+ * names, of all processes together, from 1 on: `malloc` stands for each allocation. With REFUSE_FROM only those count
+ * that follow a call of that function. That whose number is in REFUSE_AT fails with the error of REFUSE_ERROR, and the
+ * file of REFUSE_MARK is made, so that runs that made fewer calls can be told. */
 #define _GNU_SOURCE
 #include <dlfcn.h>
 #include <errno.h>
@@ -17,20 +18,24 @@
 #include <time.h>
 #include <unistd.h>
 
-static atomic_ulong *count;
-static const char *call;
+static atomic_ulong *count, *begun;
+static const char *call, *from;
 static unsigned long at;
 static int error;
 
 __attribute__((constructor)) static void begin(void) {
-    count = mmap(NULL, sizeof *count, PROT_READ | PROT_WRITE, MAP_SHARED | MAP_ANONYMOUS, -1, 0);
+    count = mmap(NULL, 2 * sizeof *count, PROT_READ | PROT_WRITE, MAP_SHARED | MAP_ANONYMOUS, -1, 0);
+    begun = count + 1;
+    from = getenv("REFUSE_FROM");
     at = strtoul(getenv("REFUSE_AT"), NULL, 10);
     error = atoi(getenv("REFUSE_ERROR"));
     call = getenv("REFUSE_CALL");
 }
 
 static int is_refused(const char *name) {
-    if (!call || strcmp(name, call) || atomic_fetch_add(count, 1) + 1 != at)
+    if (call && from && !strcmp(name, from))
+        *begun = 1;
+    if (!call || (from && !*begun) || strcmp(name, call) || atomic_fetch_add(count, 1) + 1 != at)
         return 0;
     int mark = creat(getenv("REFUSE_MARK"), 0666);
     if (mark >= 0)
@@ -65,6 +70,7 @@ CALL(ssize_t, recv, (int s, void *b, size_t n, int f), s, b, n, f)
 CALL(ssize_t, send, (int s, const void *b, size_t n, int f), s, b, n, f)
 CALL(ssize_t, sendfile, (int o, int i, off_t *at, size_t n), o, i, at, n)
 CALL(ssize_t, pread, (int f, void *b, size_t n, off_t at), f, b, n, at)
+CALL(ssize_t, read, (int f, void *b, size_t n), f, b, n)
 CALL(ssize_t, write, (int f, const void *b, size_t n), f, b, n)
 CALL(ssize_t, getrandom, (void *b, size_t n, unsigned f), b, n, f)
 CALL(int, fstat, (int f, struct stat *s), f, s)
