@@ -1109,6 +1109,13 @@ uint8_t typed_headers_cors_answer(const struct typed_headers_cors_rules *rules, 
                                   uint8_t *room, size_t room_length, size_t *written);
 
 /*
+ * Which of a list of origins, one a line, is the first that no browser sends (HTML standard, "ASCII serialization of an
+ * origin"): `*place` counts from 0. A policy and a handshake refuse such lists, but that a policy takes the scheme in
+ * any case. Absent: browsers send each, or the only line is `*`. Refused: a line can't be one.
+ */
+uint8_t typed_headers_unsent_origin(const uint8_t *origins, size_t origins_length, size_t *place);
+
+/*
  * The whole answer of a resource to a request (RFC 9110, sections 7.4 to 15): by its host, its method, its content,
  * negotiation, preconditions, ranges, and the rules for other origins. `representations` are the current ones, the most
  * wanted first. `rules` count if `resource->has_cors`. `target` is that of the request line: if it is in absolute-form,

@@ -189,6 +189,8 @@ CALL(websocket_check, MAY(REFUSED) | MAY(TOO_LARGE) | MAY(NO_MEMORY), (TEXT_OF(a
 CALL(cors_answer, MAY(REFUSED) | MAY(TOO_LARGE) | MAY(NO_MEMORY), (&at[0].any.cors_rules, TEXT_OF(at[1]),
      TEXT_OF(at[2]), TEXT_OF(at[3]), &keys, &at[4].any.cors_facts, ROOM(at[5])), OF_SHAPE(IN_STRUCT, cors_rules),
      PLAIN(GIVEN_TEXT), PLAIN(GIVEN_TEXT), PLAIN(GIVEN_TEXT), OF_SHAPE(OUT_STRUCT, cors_facts), PLAIN(ROOM_OF_BYTES))
+CALL(unsent_origin, MAY(REFUSED) | MAY(ABSENT) | MAY(NO_MEMORY), (TEXT_OF(at[0]), &at[1].size), PLAIN(GIVEN_TEXT),
+     OF_KIND(OUT_NUMBER, SIZE))
 CALL(resource_answer, MAY(REFUSED) | MAY(TOO_LARGE) | MAY(NO_MEMORY), (&at[0].any.resource, at[1].list.at,
      at[1].list.length, &at[2].any.cors_rules, &at[3].any.resource_request, TEXT_OF(at[4]), TEXT_OF(at[5]),
      TEXT_OF(at[6]), &keys, &at[7].any.resource_facts, ROOM(at[8]), ROOM(at[9])), OF_SHAPE(IN_STRUCT, resource),
@@ -368,9 +370,9 @@ enum { MOST_SLOTS = 10 };
     METHOD(evaluate), METHOD(select), METHOD(respond), METHOD(choose_type), METHOD(choose_coding), \
     METHOD(choose_language), METHOD(look_up_language), METHOD(type_quality), METHOD(coding_quality), \
     METHOD(language_quality), METHOD(websocket_accept), METHOD(websocket_respond), METHOD(websocket_request), \
-    METHOD(websocket_check), METHOD(cors_answer), METHOD(resource_answer), METHOD(may_store), METHOD(lifetime), \
-    METHOD(heuristic_lifetime), METHOD(current_age), METHOD(decide), METHOD(validators), METHOD(cache_new), \
-    METHOD(cache_new_with), METHOD(cache_free), METHOD(cache_remove), METHOD(forward_request), \
+    METHOD(websocket_check), METHOD(cors_answer), METHOD(unsent_origin), METHOD(resource_answer), METHOD(may_store), \
+    METHOD(lifetime), METHOD(heuristic_lifetime), METHOD(current_age), METHOD(decide), METHOD(validators), \
+    METHOD(cache_new), METHOD(cache_new_with), METHOD(cache_free), METHOD(cache_remove), METHOD(forward_request), \
     METHOD(forward_response), METHOD(framing), METHOD(basic), METHOD(bearer), METHOD(cookie), METHOD(cookies), \
     METHOD(host), METHOD(origin), METHOD(strict_transport_security), METHOD(retry_after), METHOD(stale_directives), \
     METHOD(directive_arguments), METHOD(content_range), METHOD(content_disposition), METHOD(members), \

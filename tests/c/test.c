@@ -843,13 +843,40 @@ static size_t read_rules(const struct row *row, struct typed_headers_cors_rules 
     return i + 1;
 }
 
-/* `CorsPolicy.new RULES (/)` */
+static uint8_t call_unsent(const void *arguments, uint64_t *number, uint8_t *room, size_t room_length,
+                           size_t *written) {
+    const struct cors_call *call = arguments;
+    size_t place = FILL;
+    (void)room, (void)room_length, (void)written;
+    uint8_t status = typed_headers_unsent_origin(call->rules.origins.bytes, call->rules.origins.length, &place);
+    if (place != FILL) {
+        *number = place;
+    }
+    return status;
+}
+
+/* That no origin of this list is one that no browser sends, or that it is no list. */
+static void check_origins(const struct row *row, const char *origins, uint8_t status) {
+    struct cors_call call = {0};
+    struct text text = put(first_area, origins, strlen(origins));
+    call.rules.origins = (struct typed_headers_text){text.bytes, text.length};
+    check(row, call_unsent, &call, status, NO_NUMBER, NO_TEXT);
+}
+
+/* `CorsPolicy.new RULES (/)`: if an origin is why, its place follows. */
 static void check_rules(const struct row *row) {
+    static const char unsent[] = "UnsentOrigin ";
     struct cors_call call = {0};
     call.method = put(third_area, "GET", 3);
     call.request = put(first_area, "", 0);
     call.response = put(second_area, "", 0);
     read_rules(row, &call.rules);
+    if (strncmp(row->answer, unsent, strlen(unsent)) == 0) {
+        check(row, call_unsent, &call, TYPED_HEADERS_DONE, strtoull(row->answer + strlen(unsent), NULL, 10), NO_TEXT);
+        check_origins(row, "https://a.example\nnull", TYPED_HEADERS_ABSENT);
+        check_origins(row, "*", TYPED_HEADERS_ABSENT);
+        check_origins(row, "a\rb", TYPED_HEADERS_REFUSED);
+    }
     if (!is_answer(row, "made")) {
         check(row, call_cors, &call, TYPED_HEADERS_REFUSED, NO_NUMBER, NO_TEXT);
         return;

@@ -186,6 +186,11 @@ def rules(words):
 
 def cors_new(words, wanted):
     given, _ = rules(words)
+    if wanted[0] == "UnsentOrigin":
+        try:
+            headers.CorsPolicy(**given)
+        except headers.HeaderError as error:
+            return str(error).endswith(f"{given['origins'][int(wanted[1])]!r} (place {wanted[1]})")
     return (answer(headers.CorsPolicy, **given) == REFUSED) == (wanted[0] != "made")
 
 

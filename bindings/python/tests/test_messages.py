@@ -32,6 +32,7 @@ from typed_headers import (
     may_store,
     select,
     validators,
+    websocket_respond,
 )
 
 TIME = datetime(1994, 11, 6, 8, 49, 37, tzinfo=timezone.utc)
@@ -240,15 +241,19 @@ class OtherOrigins(unittest.TestCase):
     def test_policies_that_no_browser_reads(self) -> None:
         wrong: Any = (
             {"origins": "*", "credentials": True},
-            {"origins": "https://A.example"},
-            {"origins": "https://a.example:443"},
-            {"origins": "https://*.example"},
             {"origins": "https://a.example", "methods": ["PUT", "*"]},
             {"origins": "https://a.example", "headers": ["a b"]},
         )
         for rules in wrong:
             with self.assertRaisesRegex(HeaderError, "no browser reads this policy"):
                 CorsPolicy(**rules)
+        # Browsers serialize an origin as the URL standard does: in lower case, and without a default port.
+        for unsent in ("https://A.example", "https://a.example:443", "https://*.example", "wss://a.example"):
+            origins = ["null", "https://a.example", unsent, "http://127.1"]
+            for call in (lambda: CorsPolicy(origins), lambda: websocket_respond("GET", {}, origins=origins)):
+                with self.assertRaises(HeaderError) as caught:
+                    call()
+                self.assertEqual(str(caught.exception), f"origins: no browser sends {unsent!r} (place 2)")
         with self.assertRaisesRegex(HeaderError, "origins: byte 1 is 0x0A"):
             CorsPolicy(["a\n"])
         with self.assertRaisesRegex(HeaderError, "max_age: -1"):

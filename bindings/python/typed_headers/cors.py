@@ -125,9 +125,21 @@ class CorsPolicy:
         return CorsAnswer(CorsKind(kind), is_allowed == 1, tuple(Headers(text).pairs()))
 
     def _unreadable(self) -> HeaderError:
+        unsent = unsent_origin(self._rules[0])
+        if unsent:
+            return unsent
         shown = ", ".join(f"{name}={list(getattr(self, name))}" for name in _LISTS if getattr(self, name))
         shown += ", credentials=True" if self.credentials else ""
         return HeaderError(f"no browser reads this policy as it is meant: {shown}")
+
+
+def unsent_origin(origins: bytes) -> Optional[HeaderError]:
+    """That no browser sends one of these origins, one a line, if so: the first."""
+    status, place = _library.calls.unsent_origin(origins)
+    if status:
+        return None
+    shown = _library.to_str(origins.split(b"\n")[place])
+    return HeaderError(f"origins: no browser sends {shown!r} (place {place})")
 
 
 def _refused(method: bytes, request: bytes, response: bytes) -> HeaderError:

@@ -7,6 +7,7 @@ from typing import Optional, Sequence, Tuple, Union
 
 from . import _library
 from ._library import Text
+from .cors import unsent_origin
 from .errors import HeaderError
 from .headers import Headers, HeadersLike
 
@@ -77,8 +78,8 @@ def websocket_respond(
     """What a server answers to an opening handshake (RFC 6455, sections 4.2.1 and 4.2.2).
 
     `protocols` are the server's own subprotocols, the most wanted first. `origins` are those whose scripts may open a
-    connection, as browsers send them, or `"*"`; a server that relies on cookies lists its own. `version` is that of the request: 9, 10, 11,
-    20 or 30.
+    connection, as browsers send them, or `"*"`; a server that relies on cookies lists its own. `version` is that of the
+    request: 9, 10, 11, 20 or 30.
 
     >>> request = {"Host": "a", "Upgrade": "websocket", "Connection": "Upgrade", "Sec-WebSocket-Version": "13"}
     >>> websocket_respond("GET", {**request, "Sec-WebSocket-Key": "dGhlIHNhbXBsZSBub25jZQ=="}).status
@@ -90,9 +91,9 @@ def websocket_respond(
     number = _library.to_number(version, "version", 8)
     own, allowed = _values("protocols", protocols), _values("origins", origins)
     status, (code, fault), text = _library.calls.websocket_respond(verb, number, section, own, allowed)
-    _library.check(status, lambda: _wrong_sections(section) or HeaderError(
+    _library.check(status, lambda: _wrong_sections(section) or unsent_origin(allowed) or HeaderError(
         f"the request can't be answered: {_library.to_str(verb)!r} is no token, {version} no version of HTTP, "
-        "a byte of a protocol or an origin is none of a field value, or no browser sends one of the origins"
+        "or a byte of a protocol or an origin is none of a field value"
     ))
     return Handshake(code, Fault(fault) if fault else None, tuple(Headers(text).pairs()))
 

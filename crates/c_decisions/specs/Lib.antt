@@ -7,6 +7,7 @@ pub mod Flags
 pub mod Handshakes
 pub mod Methods
 pub mod Numbers
+pub mod Origins
 pub mod Ratings
 pub mod Responses
 pub mod Rules

@@ -11,6 +11,7 @@ mod flag;
 mod handshake;
 mod method;
 mod numbers;
+mod origins;
 mod quality;
 mod response;
 mod rules;
@@ -31,6 +32,7 @@ pub use crate::handshake::{
 };
 pub use crate::method::read_method;
 pub use crate::numbers::known;
+pub use crate::origins::find_unsent;
 pub use crate::quality::{OfferQuality, rate};
 pub use crate::response::{Responded, ResponseFacts, parts_sent, respond_to, show_response};
 pub use crate::rules::{Listed, Rules, read_line, read_policy};

@@ -1,7 +1,9 @@
 //! A server's answer to a cross-origin request.
-ghost use Rattle.c_decisions.specs.Cors.{Shares, WritesShared};
+ghost use Rattle.c_parts.specs.Endings.{Gives};
+ghost use Rattle.c_decisions.specs.{Cors.{Shares, WritesShared}, Origins.FindsUnsent};
 
-use c_decisions::{CorsFacts, Rules, answer_by_rules};
+use crate::giving::give;
+use c_decisions::{CorsFacts, Rules, answer_by_rules, find_unsent};
 use c_parts::{DONE, HashKeys, copy_into};
 use std::alloc::Global;
 
@@ -29,4 +31,16 @@ pub extern "C" fn typed_headers_cors_answer(
         }
         Err(failure) => failure.status(),
     }
+}
+
+/// Gives the place of the first origin of a text, one a line, that no browser sends.
+#[unsafe(no_mangle)]
+pub extern "C" fn typed_headers_unsent_origin(
+    alloc: Global,
+    origins: &[u8],
+    place: &mut usize,
+) -> u8
+    ensures { Gives (FindsUnsent origins.now) place.old place.new result }
+{
+    give(find_unsent(alloc, origins), place)
 }

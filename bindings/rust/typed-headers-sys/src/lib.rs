@@ -637,6 +637,7 @@ extern "C" {
         room_length: usize,
         written: *mut usize,
     ) -> u8;
+    pub fn typed_headers_unsent_origin(origins: *const u8, origins_length: usize, place: *mut usize) -> u8;
     pub fn typed_headers_resource_answer(
         resource: *const Resource,
         representations: *const Representation,

@@ -87,11 +87,12 @@ impl CorsRules<'_> {
             has_max_age: self.max_age.is_some(),
             credentials: self.credentials,
         })
+        .map_err(|error| error.of_origins(&lists[0]))
     }
 
     /// What a server with these rules answers a request (Fetch standard, section 3.3). `response` has the fields of the
     /// response as its handler left it, of which Vary counts. [`Error::Rejected`] also if no browser reads the rules as
-    /// they are meant, as any origin with credentials.
+    /// they are meant, as any origin with credentials, and [`Error::UnsentOrigin`] if none sends one of the origins.
     ///
     /// ```
     /// use typed_headers::{CorsRules, Keys, Section};

@@ -23,6 +23,11 @@ pub enum Error {
     },
     /// Another argument isn't what the call reads.
     Rejected,
+    /// No browser sends this one of the listed origins, the first such one.
+    UnsentOrigin {
+        /// Its place, from 0.
+        place: usize,
+    },
     /// This line of a header section is no field. The first line is 1.
     InvalidLine {
         /// Its number.
@@ -52,6 +57,19 @@ impl Error {
             other => other,
         }
     }
+
+    /// The same error, of a call with these origins, one a line.
+    pub(crate) fn of_origins(self, origins: &[u8]) -> Error {
+        let mut place = 0;
+        if self != Error::Rejected {
+            return self;
+        }
+        // SAFETY: these are the pointer and the count of a slice, and the place of a number.
+        match unsafe { sys::typed_headers_unsent_origin(origins.as_ptr(), origins.len(), &mut place) } {
+            status::DONE => Error::UnsentOrigin { place },
+            _ => self,
+        }
+    }
 }
 
 impl fmt::Display for Error {
@@ -59,6 +77,7 @@ impl fmt::Display for Error {
         let status = match self {
             Error::InvalidField { name } => return write!(formatter, "{name}: the field lines encode no value"),
             Error::Rejected => status::REFUSED,
+            Error::UnsentOrigin { place } => return write!(formatter, "no browser sends the origin at place {place}"),
             Error::OutOfMemory => status::NO_MEMORY,
             Error::TooLarge => status::TOO_LARGE,
             Error::InvalidLine { number } => return write!(formatter, "line {number} of the section is no field"),

@@ -103,6 +103,7 @@ pub struct HandshakeAnswer {
 
 /// What a server answers to a client's opening handshake (RFC 6455, sections 4.2.1 and 4.2.2). `protocols` are its
 /// subprotocols, the most wanted first. `origins` are those that it serves; the one origin `*` is any.
+/// [`Error::UnsentOrigin`] if no browser sends one of them.
 ///
 /// ```
 /// use typed_headers::{Keys, Section, Version, websocket_respond};
@@ -145,7 +146,8 @@ pub fn websocket_respond(
             length,
             count,
         )
-    })?;
+    })
+    .map_err(|error| error.of_origins(&origins))?;
     Ok(HandshakeAnswer {
         status: facts.get().status,
         fault: FAULTS.get(usize::from(facts.get().fault).wrapping_sub(1)).copied(),

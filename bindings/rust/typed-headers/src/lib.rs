@@ -569,6 +569,11 @@ mod tests {
         assert_eq!(answer.fields.as_bytes(), fields.as_bytes());
         let any = CorsRules { origins: &["*"], credentials: true, ..CorsRules::default() };
         assert_eq!(any.answer("GET", &Section::new(), &Section::new(), KEYS), Err(Error::Rejected));
+        // The URL standard serializes no default port, and HTML no origin of a WebSocket.
+        let origins = ["https://a.example", "https://b.example:443", "wss://a.example"];
+        let unsent = Some(Error::UnsentOrigin { place: 1 });
+        assert_eq!(CorsPolicy::new(&CorsRules { origins: &origins, ..CorsRules::default() }).err(), unsent);
+        assert_eq!(websocket_respond("GET", Version::Http11, &request, &[], &origins, KEYS).err(), unsent);
     }
 
     #[test]
