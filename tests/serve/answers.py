@@ -98,8 +98,25 @@ def faults(program, folder):
             os.chmod(f"{folder}/plain", 0o644)
 
 
+def chunked(length):
+    """A content of this length in chunks."""
+    chunk = b"10000\r\n" + bytes(1 << 16) + b"\r\n"
+    return chunk * (length >> 16) + b"0\r\n\r\n"
+
+
 def rejections(program, folder):
     """The rest of a content that is too long is read, and dropped (RFC 9112, section 9.6)."""
+    for content, fields in ((chunked(10_000_000), b""), (chunked(10_000_000), b"Expect: 100-continue\r\n"),
+                            (chunked(20_000_000), b"")):
+        head = b"PUT / HTTP/1.1\r\nHost: a\r\n" + fields + b"Transfer-Encoding: chunked\r\n\r\n"
+        with tempfile.TemporaryFile() as file:
+            file.write(head + content)
+            file.seek(0)
+            done = subprocess.run([program, folder], stdin=file, capture_output=True)
+            # (the first MiB was taken before the content proved too long)
+            left, rest = len(head + content) - file.tell(), max(0, len(content) - MIB - (16 << 20))
+        is_read = rest - 65_536 <= left <= rest
+        expect(b"HTTP/1.1 413 " in done.stdout and is_read, f"{left} of {len(content)} bytes in chunks are left")
     for length, fields, rest in ((10_000_000, b"", 0), (20_000_000, b"", 20_000_000 - (16 << 20)),
                                  (10_000_000, b"Expect: 100-continue\r\n", None)):
         head = b"PUT / HTTP/1.1\r\nHost: a\r\n" + fields + b"Content-Length: %d\r\n\r\n" % length

@@ -149,8 +149,10 @@ impl Machine {
         Ok(())
     }
 
-    // How many bytes of a content that was rejected for its length are still to be read and dropped. A client that
-    // waits for `100 Continue` sends none.
+    // How many bytes of a content that was rejected for its length are still to be read and dropped, at most. If its
+    // length was known, a client that waits for `100 Continue` sends none. Of chunks no end is looked for: the client
+    // ends the connection once it reads that the server does (RFC 9112, section 9.6). After other rejections it may send
+    // nothing, and wait.
     fn unwanted(&self) -> u64
         ensures { 0 < result → (self.now.state ≡ Closing (Refused BodyTooLarge)) × (self.now.phase ≡ Phase.Receiving) }
     {
@@ -158,16 +160,17 @@ impl Machine {
             self.state,
             State::Closing(Reason::Refused(Refusal::BodyTooLarge))
         );
-        if !is_too_large || !self.is_receiving() || self.ended || self.server.expects_continue() {
+        if !is_too_large || !self.is_receiving() || self.ended {
             return 0;
         }
-        match self.server.unread_size() {
-            BodySize::Known(len) => len
-                .min(MAX_DROPPED)
-                .saturating_sub(self.dropped)
-                .saturating_sub(self.input.len() as u64),
-            _ => 0,
-        }
+        let most = match self.server.unread_size() {
+            BodySize::Known(_) if self.server.expects_continue() => 0,
+            BodySize::Known(len) => len.min(MAX_DROPPED),
+            BodySize::Unknown => MAX_DROPPED,
+            BodySize::Empty => 0,
+        };
+        most.saturating_sub(self.dropped)
+            .saturating_sub(self.input.len() as u64)
     }
 
     /// Drops what was read of a content that was rejected for its length, and reads once more. Returns
