@@ -31,6 +31,10 @@ WAYS = [
 ]
 
 
+# What a client may get.
+RIGHT = {"its own", "none"}
+
+
 def own(number: int) -> bytes:
     return b"own %d" % number
 
@@ -112,7 +116,7 @@ class Client:
 def outcome(found: bytes, number: int) -> str:
     if b"unasked" in found:
         return "the unasked one"
-    return "its own" if own(number) in found else "that of another" if b"own " in found else "none"
+    return "its own" if own(number) in found else "that of another request" if b"own " in found else "none"
 
 
 @dataclass
@@ -157,15 +161,17 @@ def run(context: Context) -> Part:
             part.missing.append(f"{gateway.name}: {error}")
             continue
         rows.append([gateway.title(), *found])
-        wrong = [f"{way}: {it}" for (way, *_), it in zip(WAYS, found)
-                 if not {*it.same, it.other} <= {"its own", "none"}]
-        part.counts.append(f"{gateway.title()}: {len(wrong)} of {len(WAYS)} taken for an answer")
+        same = sum(not {*it.same} <= RIGHT for it in found)
+        other = [f"{way}: another client gets {it.other}" for (way, *_), it in zip(WAYS, found) if it.other not in RIGHT]
+        part.counts.append(f"{gateway.title()}: {same} of {len(WAYS)} taken for an answer to the same client (SHOULD NOT), "
+                           f"{len(other)} to another one")
         if gateway in gateways.ours():
-            part.faults += wrong
+            part.faults += other
     part.section += [
         "An origin server sends a second response that nobody asked for: late, or right behind the first; as the content",
         "of a HEAD, a 204 or a 304, which have none; or since it takes the content of a request for the next request. A",
-        "client then makes two more requests on its connection, and another client makes one. A gateway should close such",
-        "a connection to the origin (RFC 9112, sections 6.3 and 9.2).", ""]
+        "client then makes two more requests on its connection, and another client makes one: what each of the three",
+        "gets. A gateway should close such a connection to the origin (RFC 9112, sections 6.3 and 9.2). Of ours each",
+        "client has [one of its own](../../crates/gateway_program/README.md#what-this-doesnt-say).", ""]
     part.table(["Gateway", *(way for way, *_ in WAYS)], rows)
     return part
