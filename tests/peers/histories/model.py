@@ -226,6 +226,12 @@ def most_recent(found: list[Stored]) -> Stored:
     return max(reversed(found), key=Stored.made)
 
 
+def selected(found: list[Stored]) -> Stored:
+    """Section 4.1: "When a cache has multiple stored responses for a target URI and one or more omits the Vary header
+    field, the cache SHOULD choose the most recent .. stored response with a valid Vary field value." """
+    return most_recent([it for it in found if lines_of(it.fields, "vary")] or found)
+
+
 def updated(stored: Stored, update: Fields, requested: int, received: int) -> Stored:
     """Section 3.2. A 304 without Date was made when it came (RFC 9110, section 6.6.1). Choice: without Age it has none,
     so the stored one goes."""
@@ -297,7 +303,7 @@ class Cache:
             return Answer("forward")
         if not found:
             return Answer("unavailable" if has(asks, "only-if-cached") else "forward")
-        stored = most_recent(found)
+        stored = selected(found)
         governed = replace(stored, fields=effective(stored.fields, self.targeted))
         tells = read(governed.fields)
         [age] = current_ages(stored.fields, stored.requested, stored.received, now)
@@ -330,8 +336,8 @@ class Cache:
         new = replace(came, fields=with_date(without_connection(came.fields), came.received))
         kept = list(self.at(target))
         chosen = self.chosen(target, came.request)
-        if chosen and most_recent(chosen).request.method == came.request.method:
-            kept = [it for it in kept if it is not most_recent(chosen)]
+        if chosen and selected(chosen).request.method == came.request.method:
+            kept = [it for it in kept if it is not selected(chosen)]
         while not self.fits(kept, size):
             kept.pop(0)
         self.put(target, [*kept, new])
@@ -351,10 +357,14 @@ class Cache:
                 return
             del self.targets[next(it for it in self.targets if it != target)]
 
-    def is_reusable(self, new: Stored, request: Request, update: Fields) -> bool:
-        """Whether an updated response may be stored, for each request that it answered, and be reused for this one. Choice:
-        one with a cookie isn't stored by a shared cache."""
+    def is_reusable(self, stored: Stored, new: Stored, request: Request, update: Fields) -> bool:
+        """Whether an updated response may be stored, for each request that it answered, and be reused for this one and by
+        others. Choices: a validation without a strong tag changes no Vary, since it may be about another
+        representation, and in a shared cache none sets a cookie."""
+        tags, vary = lines_of(update, "etag"), lines_of(update, "vary")
+        is_strong = len(tags) == 1 and not is_weak(tags[0])
         return (is_fair(update, self.targeted) and matches(new, request)
+                and (is_strong or vary in ([], lines_of(stored.fields, "vary")))
                 and not (self.is_shared and lines_of(update, "set-cookie"))
                 and all(self.may_store(it, new.status, new.fields) for it in (new.request, request)))
 
@@ -372,10 +382,10 @@ class Cache:
                 continue
             if not any(stored is it for it in found):
                 left.append(stored)
-            elif self.is_reusable(new := updated(stored, update, requested, received), request, update):
+            elif self.is_reusable(stored, new := updated(stored, update, requested, received), request, update):
                 left.append(new)
         new = updated(first, update, requested, received)
-        is_kept = self.is_reusable(new, request, update)
+        is_kept = self.is_reusable(first, new, request, update)
         self.put(target, [*left, new] if is_kept else left)
         return Answer("stored" if is_kept else "once", new)
 
@@ -386,7 +396,7 @@ class Cache:
             if stored.request.method != "GET" or not matches(stored, request):
                 left.append(stored)
             elif (is_described(stored, head)
-                  and self.is_reusable(new := updated(stored, head, requested, received), request, head)):
+                  and self.is_reusable(stored, new := updated(stored, head, requested, received), request, head)):
                 left.append(new)
         self.put(target, left)
         return Answer(str(len(left)))
