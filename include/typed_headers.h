@@ -285,7 +285,7 @@ enum typed_headers_pass_action {
     TYPED_HEADERS_VALIDATE = 3,
     /* Send 504: the request forbids to ask the origin (`only-if-cached`). The pass has ended. */
     TYPED_HEADERS_SEND_504 = 4,
-    /* Pass on what came, and make the step `typed_headers_pass_ended` with its content. */
+    /* Pass on what came, its content also to `typed_headers_pass_received`, and then call `typed_headers_pass_ended`. */
     TYPED_HEADERS_PASS_ON_TO_END = 5,
     /* Pass on what came. The pass has ended. */
     TYPED_HEADERS_PASS_ON = 6,
@@ -1667,14 +1667,21 @@ uint8_t typed_headers_pass_content(struct typed_headers_cache *cache, struct typ
                                    uint8_t *room, size_t room_length, size_t *written);
 
 /*
- * Stores the response that passed on, if all of its content came and it may be stored (RFC 9111, section 3), and unless
- * its target was removed since the origin was asked: `*number` is its number, which the cache gives no other response,
- * or 0 if it isn't stored. Without memory for that it isn't stored. Absent: the cache or the pass is closed, or no
- * response passes on that is to be stored. Memory: the content isn't empty. On these two nothing changes.
+ * Keeps the next piece of the content that passes on, to be stored. If the pieces are more than the cache may have, the
+ * pass keeps none, and the response isn't stored. Absent: the cache or the pass is closed, or no response passes on
+ * that is to be stored; nothing changes then. Memory: the piece isn't empty. Then the pass keeps none, too.
+ */
+uint8_t typed_headers_pass_received(struct typed_headers_cache *cache, struct typed_headers_pass *pass,
+                                    const uint8_t *piece, size_t piece_length);
+
+/*
+ * Stores the response that passed on, with the pieces of its content, if all of them came and it may be stored (RFC
+ * 9111, section 3), and unless its target was removed since the origin was asked: `*number` is its number, which the
+ * cache gives no other response, or 0 if it isn't stored. Without memory for that it isn't stored. Absent: the cache or
+ * the pass is closed, or no response passes on that is to be stored. Nothing changes then.
  */
 uint8_t typed_headers_pass_ended(struct typed_headers_cache *cache, struct typed_headers_pass *pass,
-                                 const uint8_t *content, size_t content_length, bool is_complete, uint64_t now,
-                                 uint64_t *number);
+                                 bool is_complete, uint64_t now, uint64_t *number);
 
 /* ---- Files that the program opens, and a service that decides on them. Since 1.1. ---- */
 

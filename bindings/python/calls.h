@@ -348,9 +348,11 @@ CALL(pass_failed, MAY(ABSENT) | MAY(NO_MEMORY), (at[0].handle.at, at[1].handle.a
 CALL(pass_fields, MAY(ABSENT), (at[0].handle.at, ROOM(at[1])), OF_HANDLE(OPENED, pass), PLAIN(ROOM_OF_BYTES))
 CALL(pass_content, MAY(ABSENT), (at[0].handle.at, at[1].handle.at, at[2].size, ROOM(at[3])),
      OF_HANDLE(OPENED, cache), OF_HANDLE(OPENED, pass), OF_KIND(NUMBER, SIZE), PLAIN(PIECE))
-CALL(pass_ended, MAY(ABSENT) | MAY(NO_MEMORY), (at[0].handle.at, at[1].handle.at, TEXT_OF(at[2]), at[3].flag,
-     at[4].u64, &at[5].u64), OF_HANDLE(OPENED, cache), OF_HANDLE(OPENED, pass), PLAIN(GIVEN_TEXT),
-     OF_KIND(NUMBER, BOOL), OF_KIND(NUMBER, U64), OF_KIND(OUT_NUMBER, U64))
+CALL(pass_received, MAY(ABSENT) | MAY(NO_MEMORY), (at[0].handle.at, at[1].handle.at, TEXT_OF(at[2])),
+     OF_HANDLE(OPENED, cache), OF_HANDLE(OPENED, pass), PLAIN(GIVEN_TEXT))
+CALL(pass_ended, MAY(ABSENT), (at[0].handle.at, at[1].handle.at, at[2].flag, at[3].u64, &at[4].u64),
+     OF_HANDLE(OPENED, cache), OF_HANDLE(OPENED, pass), OF_KIND(NUMBER, BOOL), OF_KIND(NUMBER, U64),
+     OF_KIND(OUT_NUMBER, U64))
 CALL(files_free, 0, (at[0].handle.at), OF_HANDLE(OPENED, files))
 CALL(files_new, MAY(REFUSED) | MAY(NO_MEMORY), (at[0].handle.at, TEXT_OF(at[1]), TEXT_OF(at[2]), at[3].flag,
      TEXT_OF(at[4]), &keys), OF_HANDLE(NEW, files), PLAIN(GIVEN_TEXT), PLAIN(GIVEN_TEXT), OF_KIND(NUMBER, BOOL),
@@ -387,4 +389,5 @@ enum { MOST_SLOTS = 10 };
     METHOD(connection_respond), METHOD(connection_output), METHOD(connection_range), METHOD(connection_sent), \
     METHOD(connection_time_out), METHOD(connection_rejection), METHOD(connection_planned), METHOD(pass_free), \
     METHOD(pass_begin), METHOD(pass_came), METHOD(pass_failed), METHOD(pass_fields), METHOD(pass_content), \
-    METHOD(pass_ended), METHOD(files_free), METHOD(files_new), METHOD(files_path), METHOD(files_plan)
+    METHOD(pass_received), METHOD(pass_ended), METHOD(files_free), METHOD(files_new), METHOD(files_path), \
+    METHOD(files_plan)

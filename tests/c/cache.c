@@ -186,12 +186,21 @@ static bool comes(uint16_t code, const char *response, uint64_t now, uint8_t act
     return status_of_call == TYPED_HEADERS_DONE && facts.action == action;
 }
 
+/* A piece of the content comes. */
+static uint8_t receives(const char *bytes) {
+    const struct typed_headers_text piece = text(bytes);
+    return CALL(typed_headers_pass_received(&cache, &pass, piece.bytes, piece.length));
+}
+
+/* The content comes in two pieces, and one without a byte. */
 static bool ends(const char *bytes, bool is_complete, uint64_t now, bool is_stored) {
-    const struct typed_headers_text content = text(bytes);
+    const char first[2] = {bytes[0], 0};
     uint64_t number = ROOM;
-    CALL(typed_headers_pass_ended(&cache, &pass, content.bytes, content.length, is_complete, now, &number));
-    want(status_of_call == TYPED_HEADERS_DONE || number == ROOM, "an end that isn't made");
-    return status_of_call == TYPED_HEADERS_DONE && (number != 0) == is_stored;
+    const bool comes_whole = receives(first) == TYPED_HEADERS_DONE & receives("") == TYPED_HEADERS_DONE
+                             & receives(bytes + 1) == TYPED_HEADERS_DONE;
+    want(CALL(typed_headers_pass_ended(&cache, &pass, is_complete, now, &number)) == TYPED_HEADERS_DONE, "an end");
+    want(comes_whole || number == 0, "content that didn't come whole");
+    return (number != 0) == is_stored;
 }
 
 /* A client gets this of the cache. */
@@ -211,7 +220,8 @@ static bool is_out_of_order(void) {
     memset(&facts, FILL, sizeof facts);
     bool holds = CALL(typed_headers_pass_came(&cache, &pass, 200, NULL, 0, 0, &facts)) == TYPED_HEADERS_ABSENT;
     holds &= CALL(typed_headers_pass_failed(&cache, &pass, 0, &facts)) == TYPED_HEADERS_ABSENT;
-    holds &= CALL(typed_headers_pass_ended(&cache, &pass, NULL, 0, true, 0, &number)) == TYPED_HEADERS_ABSENT;
+    holds &= receives("") == TYPED_HEADERS_ABSENT && receives("h") == TYPED_HEADERS_ABSENT;
+    holds &= CALL(typed_headers_pass_ended(&cache, &pass, true, 0, &number)) == TYPED_HEADERS_ABSENT;
     return holds && number == ROOM && facts.action == FILL;
 }
 
@@ -307,6 +317,14 @@ static void play(void) {
     AGAIN(stores("/h", "", 1000, "cache-control: max-age=10, stale-while-revalidate=60\netag: \"1\"\n", "old"), "store");
     AGAIN(begins("/h", "GET", "", 1020, TYPED_HEADERS_REPLY_AND_VALIDATE) && has_content("old"), "stale");
     AGAIN(begins("/h", "GET", "cache-control: no-cache\n", 1020, TYPED_HEADERS_VALIDATE), "its validation");
+    /* As much as the cache may have, and a byte more. */
+    static char large[1002];
+    memset(large, 'a', 1000);
+    AGAIN(stores("/i", "", 1000, FRESH, large), "as much as may be");
+    large[1000] = 'a';
+    AGAIN(begins("/j", "GET", "", 1000, TYPED_HEADERS_ASK) && comes(200, FRESH, 1000, TYPED_HEADERS_PASS_ON_TO_END)
+          && ends(large, true, 1000, false) && begins("/i", "GET", "", 1010, TYPED_HEADERS_REPLY), "too much");
+    large[1000] = 0;
     close_all();
     /* RFC 8246, and RFC 9213, section 2.2: the first targeted field that is there, valid and not empty, counts. */
     AGAIN(opens("no name", TYPED_HEADERS_REFUSED), "a name that is none");

@@ -23,8 +23,14 @@ def store(
 ) -> bool:
     """Whether what the origin answers at the time 1000 is stored."""
     asking = cache.begin("GET", target, asked or {}, now=1000)
-    step = asking.came(200, fields, now=1000)
-    return step == PassOn(True) and asking.ended(content, complete=complete, now=1000)
+    return asking.came(200, fields, now=1000) == PassOn(True) and ended(asking, content, complete)
+
+
+def ended(asking: Pass, content: bytes, complete: bool = True) -> bool:
+    """Whether the response that passes on is stored, with content that comes in two pieces."""
+    asking.received(content[:3])
+    asking.received(content[3:])
+    return asking.ended(complete=complete, now=1000)
 
 
 def filled(content: bytes = b"hello", most: int = 1 << 20) -> Cache:
@@ -134,7 +140,7 @@ class CacheTest(unittest.TestCase):
         self.assertEqual(asking.came(200, FRESH, now=1000), PassOn(True))
         putting = cache.begin("PUT", A, {}, now=1000)
         self.assertEqual(putting.came(204, {}, now=1000), PassOn(False))
-        self.assertFalse(asking.ended(b"old", now=1000))
+        self.assertFalse(ended(asking, b"old"))
         self.assertIsNone(got(cache))
 
     def test_removes(self) -> None:
@@ -150,7 +156,9 @@ class CacheTest(unittest.TestCase):
         cache = Cache(shared=True)
         asking = cache.begin("GET", A, {}, now=1000)
         with self.assertRaisesRegex(OutOfOrder, "^ended: "):
-            asking.ended(b"", now=1000)
+            asking.ended(now=1000)
+        with self.assertRaisesRegex(OutOfOrder, "^received: "):
+            asking.received(b"h")
         asking.came(200, FRESH, now=1000)
         with self.assertRaises(OutOfOrder) as raised:
             asking.came(200, FRESH, now=1000)
@@ -158,11 +166,11 @@ class CacheTest(unittest.TestCase):
         self.assertEqual(str(pickle.loads(pickle.dumps(raised.exception))), str(raised.exception))
         with self.assertRaisesRegex(OutOfOrder, "^failed: "):
             asking.failed(now=1000)
-        self.assertTrue(asking.ended(b"hello", now=1000))
+        self.assertTrue(ended(asking, b"hello"))
         self.assertEqual(got(cache), b"hello")
         asking.close()
         with self.assertRaises(OutOfOrder):
-            asking.ended(b"hello", now=1000)
+            asking.ended(now=1000)
 
     def test_stays_within_its_limits(self) -> None:
         cache = filled(most=8)
@@ -223,7 +231,7 @@ class CacheTest(unittest.TestCase):
             for _ in range(200):
                 asking: Pass = cache.begin("GET", target, {"Cache-Control": "no-cache"}, now=1000)
                 if asking.came(200, FRESH, now=1000) == PassOn(True):
-                    asking.ended(content, now=1000)
+                    ended(asking, content)
                 if got(cache, target) not in (None, content):
                     wrong.append(target)
 

@@ -58,8 +58,9 @@ class Turn:
         self.rules, self.method, self.target, self.request = rules, method, target, request
         self.pass_: Optional[Pass] = None
         self.asked, self.validates, self.is_validation = Ask(), False, False
-        # The fields of the response that is being passed on, if it is to be stored.
+        # The fields of the response that is being passed on, if it is to be stored, and how much of its content came.
         self.came_as: Optional[Fields] = None
+        self.size = 0
 
     def start(self) -> Step:
         """What is done first."""
@@ -93,15 +94,24 @@ class Turn:
         finally:
             self.end()
 
-    def keep(self, content: Optional[bytes]) -> None:
-        """Stores the response that was passed on, with this content: `None` if not all of it came."""
-        if self.pass_ is not None and self.came_as is not None and content is not None:
+    def received(self, piece: bytes) -> None:
+        """A piece of the response that is being passed on. The pass keeps it, if it is to be stored."""
+        if self.pass_ is None or self.came_as is None:
+            return
+        self.size += len(piece)
+        try:
+            if self.size <= self.rules.largest:
+                self.pass_.received(piece)
+                return
+        except MemoryError:
+            pass
+        self.end()
+
+    def keep(self) -> None:
+        """Stores the response that was passed on, all of whose content came."""
+        if self.pass_ is not None and self.came_as is not None:
             stated = None if self.method == "HEAD" else length_of(self.came_as)
-            if len(content) <= self.rules.largest and stated in (None, len(content)):
-                try:
-                    self.pass_.ended(content, now=self.rules.now())
-                except MemoryError:
-                    pass
+            self.pass_.ended(complete=stated in (None, self.size), now=self.rules.now())
         self.end()
 
     def validation(self) -> Optional["Turn"]:

@@ -332,8 +332,6 @@ class _Passing:
         self.turn, self.send = turn, send
         self.step: Optional[Step] = None
         self.is_passed = False
-        self.pieces: List[bytes] = []
-        self.left = turn.rules.largest
 
     async def __call__(self, message: Message) -> None:
         if message["type"] == "http.response.start":
@@ -343,20 +341,12 @@ class _Passing:
                 self.turn.end()
         if not self.is_passed:
             return
-        if message["type"] == "http.response.body" and self.turn.came_as is not None:
-            self._take(bytes(message.get("body", b"")), bool(message.get("more_body", False)))
+        if message["type"] == "http.response.body":
+            self.turn.received(bytes(message.get("body", b"")))
+            if not message.get("more_body", False):
+                self.turn.keep()
         if self.send is not None:
             await self.send(message)
-
-    def _take(self, body: bytes, has_more: bool) -> None:
-        self.left -= len(body)
-        if self.left < 0:
-            self.pieces = []
-            self.turn.end()
-            return
-        self.pieces.append(body)
-        if not has_more:
-            self.turn.keep(b"".join(self.pieces))
 
 
 async def _reply(send: Send, method: str, reply: Reply) -> None:

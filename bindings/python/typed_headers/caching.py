@@ -245,7 +245,7 @@ class Reply:
 class PassOn:
     """The client gets what the origin answered."""
 
-    #: Whether the pass goes on: with `Pass.ended`, once its content came. Else the pass has ended.
+    #: Whether the pass goes on: with `Pass.received` as its content comes, and then `Pass.ended`. Else it has ended.
     stores: bool
 
 
@@ -280,7 +280,8 @@ class Pass:
     Ask(fields=None)
     >>> first.came(200, {"Cache-Control": "max-age=60"}, now=1000)
     PassOn(stores=True)
-    >>> first.ended(b"hello", now=1000)
+    >>> first.received(b"hello")
+    >>> first.ended(now=1000)
     True
     >>> cache.begin("GET", "http://a.example/", {"Range": "bytes=1-2"}, now=1010).step.content
     b'el'
@@ -313,15 +314,20 @@ class Pass:
         assert step is None or isinstance(step, Reply)
         return step
 
-    def ended(self, content: bytes, *, complete: bool = True, now: Optional[Time] = None) -> bool:
+    def received(self, piece: bytes) -> None:
+        """Keeps the next piece of the content that passes on, to be stored.
+
+        If the pieces are more than the cache may have, or on `MemoryError`, the pass keeps none: nothing is stored.
+        """
+        _check_passing("received", self._call(_library.calls.pass_received, bytes(piece)))
+
+    def ended(self, *, complete: bool = True, now: Optional[Time] = None) -> bool:
         """Stores the response that passed on, if it may be stored, and returns whether it is. The pass has ended.
 
         `complete` says whether all of its content came.
         """
-        ended, number = self._call(_library.calls.pass_ended, bytes(content), complete, _present(now))
-        if ended == _library.ABSENT:
-            raise OutOfOrder("ended", "no response passes on that is to be stored")
-        _check(ended)
+        ended, number = self._call(_library.calls.pass_ended, complete, _present(now))
+        _check_passing("ended", ended)
         return number != 0
 
     def validation(self, *, now: Optional[Time] = None) -> Optional["Pass"]:
@@ -393,9 +399,12 @@ class Cache:
 
     >>> with Cache(shared=True) as cache:
     ...     first = cache.begin("GET", "http://a.example/", {}, now=1000)
-    ...     first.came(200, {"Cache-Control": "max-age=60"}, now=1000), first.ended(b"hello", now=1000)
+    ...     first.came(200, {"Cache-Control": "max-age=60"}, now=1000)
+    ...     first.received(b"hello")
+    ...     first.ended(now=1000)
     ...     cache.begin("GET", "http://a.example/", {}, now=1010).step.content
-    (PassOn(stores=True), True)
+    PassOn(stores=True)
+    True
     b'hello'
     """
 
@@ -453,6 +462,12 @@ class Cache:
         What was asked for it before isn't stored any more either.
         """
         _check(self._call(_library.calls.cache_remove, target.encode()))
+
+
+def _check_passing(step: str, status: int) -> None:
+    if status == _library.ABSENT:
+        raise OutOfOrder(step, "no response passes on that is to be stored")
+    _check(status)
 
 
 def _check(status: int, *sections: bytes) -> None:

@@ -89,21 +89,19 @@ class CachedAdapter(HTTPAdapter):
             turn.end()
             return response
         pieces: List[bytes] = []
-        left = self.rules.largest
         try:
-            while left >= 0:
-                piece = raw.read(_PIECE, decode_content=False)
-                if not piece:
-                    break
-                pieces.append(piece)
-                left -= len(piece)
+            # (content that isn't stored ends the turn, and isn't read ahead)
+            while turn.came_as is not None:
+                pieces.append(raw.read(_PIECE, decode_content=False))
+                turn.received(pieces[-1])
+                if not pieces[-1]:
+                    turn.keep()
         except HTTPError as error:
             turn.end()
             raise requests.exceptions.ChunkedEncodingError(error, request=response.request) from error
         content = b"".join(pieces)
-        turn.keep(content if left >= 0 else None)
         response.raw = HTTPResponse(
-            body=BytesIO(content) if left >= 0 else _Chain(content, raw),
+            body=_Chain(content, raw) if pieces[-1] else BytesIO(content),
             headers=raw.headers,
             status=raw.status,
             version=raw.version,

@@ -329,7 +329,7 @@ class Cached:
         if turn.came_as is None:
             return content
         if isinstance(content, (list, tuple)):
-            turn.keep(b"".join(content))
+            _take(turn, content)
             return content
         return _Kept(turn, content)
 
@@ -348,12 +348,18 @@ class Cached:
         if started.is_sent or not started.is_called or turn.came(started.status, started.fields) is not None:
             turn.end()
         else:
-            turn.keep(b"".join(content))
+            _take(turn, content)
         _close(content)
 
 
 def _ignore(content: bytes) -> None:
     """Takes what nobody reads."""
+
+
+def _take(turn: Turn, content: Iterable[bytes]) -> None:
+    for piece in content:
+        turn.received(piece)
+    turn.keep()
 
 
 class _Kept:
@@ -363,15 +369,10 @@ class _Kept:
         self.turn, self.content = turn, content
 
     def __iter__(self) -> Iterator[bytes]:
-        pieces, left = [], self.turn.rules.largest
         for piece in self.content:
-            left -= len(piece)
-            if left >= 0:
-                pieces.append(piece)
-            else:
-                pieces = []
+            self.turn.received(piece)
             yield piece
-        self.turn.keep(b"".join(pieces) if left >= 0 else None)
+        self.turn.keep()
 
     def close(self) -> None:
         self.turn.end()

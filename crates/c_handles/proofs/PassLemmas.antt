@@ -21,7 +21,7 @@ lost_begin request now old new stepped facts begun =
                 subst (λ (key : List ℕ). Does (settings_of old.cache) (Looked key) (kept_of old.cache) (kept_of new.cache))
                 begun.key begun.begun.does;
             settings = begun.begun.settings;
-            keys = begun.keys;
+            beside = begun.beside;
           },
     )
 

@@ -18,8 +18,8 @@ pub use crate::opening::{
     close, open_cache, open_cache_with, open_policy, open_resource, open_section,
 };
 pub use crate::passing::{
-    begin_pass, copy_pass_content, pass_came, pass_ended, pass_failed, remove_stored,
-    write_pass_fields,
+    begin_pass, copy_pass_content, pass_came, pass_ended, pass_failed, pass_received,
+    remove_stored, write_pass_fields,
 };
 pub use crate::policy::answer_cross_origin;
 pub use crate::resource::answer_as_resource;

@@ -1,7 +1,7 @@
 //! The handles of a cache and of its passes.
 ghost use Rattle.std.specs.Prelude.{◌≡◌, IsErr, Some};
 ghost use Rattle.c_parts.specs.Endings.{Writes, done};
-ghost use Rattle.c_pass.{specs.Caches.Removes, specs.Steps.{Begins, Comes, Ends, Fails}};
+ghost use Rattle.c_pass.{specs.Caches.Removes, specs.Steps.{Begins, Comes, Ends, Fails, Receives}};
 ghost use Rattle.c_handles.{specs.Handles.{cache_in, pass_in}, specs.Passes.{BeginsThrough, CopiesContent, OnBoth}};
 ghost use Rattle.c_handles.specs.Passes.{OnCache, ShowsFields};
 
@@ -60,21 +60,31 @@ fn failed_in(
     }
 }
 
+fn received_in(cache: &mut Held, pass: &mut Held, piece: &[u8]) -> Result<(), Failure>
+    ensures { OnBoth (λ old before new after answer. (new ≡ old) × Receives old.most piece.now before after answer)
+        (Some cache.old) (Some cache.new)
+        (Some pass.old) (Some pass.new) result }
+{
+    match (cache, pass) {
+        (Held::Cache(shared), Held::Pass(stepped)) => c_pass::received(shared, stepped, piece),
+        _ => Err(Failure::Absent),
+    }
+}
+
 fn ended_in(
     alloc: Global,
     cache: &mut Held,
     pass: &mut Held,
-    content: &[u8],
     is_complete: bool,
     now: u64,
 ) -> Result<Option<u64>, Failure>
-    ensures { OnBoth (λ old before new after. Ends now old before new after content.now is_complete)
+    ensures { OnBoth (λ old before new after. Ends now old before new after is_complete)
         (Some cache.old) (Some cache.new)
         (Some pass.old) (Some pass.new) result }
 {
     match (cache, pass) {
         (Held::Cache(shared), Held::Pass(stepped)) => {
-            c_pass::ended(alloc, shared, stepped, content, is_complete, now)
+            c_pass::ended(alloc, shared, stepped, is_complete, now)
         }
         _ => Err(Failure::Absent),
     }
@@ -157,16 +167,14 @@ pub fn pass_failed(
     facts
 }
 
-/// Makes the last step of a pass, with the content of the response that passed on.
-pub fn pass_ended(
+/// Keeps a piece of the content of the response that passes on, for the store.
+pub fn pass_received(
     alloc: Global,
     cache: &mut Handle,
     pass: &mut Handle,
-    content: &[u8],
-    is_complete: bool,
-    now: u64,
-) -> Result<Option<u64>, Failure>
-    ensures { OnBoth (λ old before new after. Ends now old before new after content.now is_complete)
+    piece: &[u8],
+) -> Result<(), Failure>
+    ensures { OnBoth (λ old before new after answer. (new ≡ old) × Receives old.most piece.now before after answer)
         cache.old.held cache.new.held
         pass.old.held pass.new.held result }
 {
@@ -177,7 +185,32 @@ pub fn pass_ended(
         cache.put(shared);
         return Err(Failure::Absent);
     };
-    let number = ended_in(alloc, &mut shared, &mut stepped, content, is_complete, now);
+    let received = received_in(&mut shared, &mut stepped, piece);
+    cache.put(shared);
+    pass.put(stepped);
+    received
+}
+
+/// Makes the last step of a pass, with the content that came of the response that passed on.
+pub fn pass_ended(
+    alloc: Global,
+    cache: &mut Handle,
+    pass: &mut Handle,
+    is_complete: bool,
+    now: u64,
+) -> Result<Option<u64>, Failure>
+    ensures { OnBoth (λ old before new after. Ends now old before new after is_complete)
+        cache.old.held cache.new.held
+        pass.old.held pass.new.held result }
+{
+    let Some(mut shared) = cache.take(alloc) else {
+        return Err(Failure::Absent);
+    };
+    let Some(mut stepped) = pass.take(alloc) else {
+        cache.put(shared);
+        return Err(Failure::Absent);
+    };
+    let number = ended_in(alloc, &mut shared, &mut stepped, is_complete, now);
     cache.put(shared);
     pass.put(stepped);
     number

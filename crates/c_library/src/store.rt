@@ -2,6 +2,7 @@
 ghost use Rattle.std.specs.Prelude.{◌≡◌, ◌≢◌, None};
 ghost use Rattle.c_parts.specs.Endings.{Gives, Writes, done};
 ghost use Rattle.c_pass.{specs.Caches.{IsExtended, IsPlain, Removes}, specs.Steps.{Comes, Ends as EndsPass, Fails}};
+ghost use Rattle.c_pass.specs.Steps.{Receives};
 ghost use Rattle.c_handles.{specs.Handles.{Opens, cache_in, pass_in}, specs.Passes.{BeginsThrough, CopiesContent}};
 ghost use Rattle.c_handles.specs.Passes.{IsCacheHeld, OnBoth, OnCache, ShowsFields};
 ghost use Rattle.c_library.specs.CacheStore.{Ends, TellsNumber, ended};
@@ -9,7 +10,7 @@ ghost use Rattle.c_library.specs.CacheStore.{Ends, TellsNumber, ended};
 use crate::giving::give;
 use c_handles::{
     Handle, begin_pass, close, copy_pass_content, open_cache, open_cache_with, pass_came,
-    pass_ended, pass_failed, remove_stored, write_pass_fields,
+    pass_ended, pass_failed, pass_received, remove_stored, write_pass_fields,
 };
 use c_parts::{DONE, Failure, HashKeys};
 use c_pass::{CacheExtensions, CacheOptions, CacheRequest, PassFacts};
@@ -167,23 +168,39 @@ pub extern "C" fn typed_headers_pass_content(
     ended(copy_pass_content(alloc, cache, pass, from, room, written))
 }
 
-/// Stores the response that passed on, with its content, if it may be stored: its number, or 0 if it isn't stored.
+/// Keeps a piece of the content of the response that passes on, for the store.
+#[unsafe(no_mangle)]
+pub extern "C" fn typed_headers_pass_received(
+    alloc: Global,
+    cache: &mut Handle,
+    pass: &mut Handle,
+    piece: &[u8],
+) -> u8
+    ensures { Ends (OnBoth
+        (λ old before new after answer. (new ≡ old) × Receives old.most piece.now before after answer)
+        cache.old.held cache.new.held
+        pass.old.held pass.new.held) result }
+{
+    ended(pass_received(alloc, cache, pass, piece))
+}
+
+/// Stores the response that passed on, with the content that came, if it may be stored: its number, or 0 if it isn't
+/// stored.
 #[unsafe(no_mangle)]
 pub extern "C" fn typed_headers_pass_ended(
     alloc: Global,
     cache: &mut Handle,
     pass: &mut Handle,
-    content: &[u8],
     is_complete: bool,
     now: u64,
     number: &mut u64,
 ) -> u8
     ensures { TellsNumber
-        (OnBoth (λ old before new after. EndsPass now old before new after content.now is_complete)
+        (OnBoth (λ old before new after. EndsPass now old before new after is_complete)
         cache.old.held cache.new.held
         pass.old.held pass.new.held) number.old number.new result }
 {
-    match pass_ended(alloc, cache, pass, content, is_complete, now) {
+    match pass_ended(alloc, cache, pass, is_complete, now) {
         Ok(stored) => {
             *number = stored.unwrap_or(0);
             DONE

@@ -35,6 +35,7 @@ pub record IsNew (options : CacheOptions) (by : Policy) (keys : HashKeys) (share
   pub limits : shared.cache.store.limits ≡ limits_of options
   pub guess : shared.cache.guess ≡ options.guess
   pub keys_are : shared.keys ≡ keys
+  pub most_is : shared.most ≡ options.bytes
 
 -- it is made so, unless memory ran out
 abbrev pub IsMade : (Shared → Type 0) → Result Shared Failure → Type 0
@@ -53,12 +54,17 @@ IsExtended options extensions keys (Err Memory) = ⊤
 IsExtended options extensions keys (Err Absent) = ⊥
 IsExtended options extensions keys (Err TooLarge) = ⊥
 
+-- the keys and the limit stay as they were
+pub record IsSameBeside (old new : Shared) : Type 0 where
+  pub keys : new.keys ≡ old.keys
+  pub most : new.most ≡ old.most
+
 -- what is stored under the target is removed, and the removal is noted
 pub record IsRemoved (target : List ℕ) (old new : Shared) : Type 0 where
   pub text : IsUtf8 target
   pub does : Does (settings_of old.cache) (Removed target) (kept_of old.cache) (kept_of new.cache)
   pub settings : settings_of new.cache ≡ settings_of old.cache
-  pub keys : new.keys ≡ old.keys
+  pub beside : IsSameBeside old new
 
 abbrev pub Removes : List ℕ → (old new : Shared) → Result (Unit {0}) Failure → Type 0
 Removes target old new (Ok one) = IsRemoved target old new

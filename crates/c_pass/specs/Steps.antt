@@ -1,6 +1,6 @@
 -- The steps of passes, by what a caller hands in: each is the step of `cache_pass` and tells of it.
 use Rattle.std.specs.Prelude.{◌≡◌, ◌⊎◌, ℕ, ◌<◌, Bool, true, false, List, [], length, take, drop, Option, Some, None}
-use Rattle.std.specs.Prelude.{IsSomeAnd, Result, Ok, Err}
+use Rattle.std.specs.Prelude.{IsSomeAnd, Result, Ok, Err, ◌+◌, ◌++◌, ◌&&◌, if◌then◌else◌, is_some, nat_le, option_map, unwrap_or}
 use Rattle.http.specs.StatusCode.{IsStatusCode}
 use Rattle.http_header.{specs.FieldValue.FieldValue, specs.HeaderMap.Entries}
 use Rattle.headers_section.specs.Section.{Holds}
@@ -16,6 +16,7 @@ use Rattle.c_decisions.specs.StatusCodes.{IsStatusOf}
 use Rattle.c_parts.{specs.Endings.{IsWritten, done}, specs.SectionMap.IsMapOf, specs.declared.status.Failure.Failure}
 use Rattle.c_parts.specs.declared.status.Failure.TheVariants.{Memory, Absent}
 use Rattle.c_pass.specs.Outcomes.{failed_outcome, first_outcome, named_by, next_outcome}
+use Rattle.c_pass.specs.Caches.{IsSameBeside}
 use Rattle.c_pass.{specs.Reading.{FailsRequest, IsRequest, asked_by}, specs.Telling.{is_head, outcome_told}}
 use Rattle.c_pass.{specs.declared.held.Shared.Shared, specs.declared.held.Stepped.Stepped}
 use Rattle.c_pass.{specs.declared.outcome.Named.Named, specs.declared.outcome.Outcome.Outcome}
@@ -27,6 +28,10 @@ pub record Tells (now : ℕ) (shared : Shared) (stepped : Stepped) (outcome : Ou
   pub named : stepped.named ≡ named_by outcome.by
   pub told : (facts, stepped.text.items)
       ≡ outcome_told (stored_at (key_of stepped.pass) shared.cache) (is_head stepped.pass) now outcome
+
+-- what a pass has kept of the content that came, if it may still be stored
+abbrev pub content_of : Stepped → Option (List ℕ)
+content_of stepped = option_map (λ content. content.items) stepped.content
 
 -- the pass names nothing, and takes no field lines
 pub record IsSilent (stepped : Stepped) : Type 0 where
@@ -46,13 +51,14 @@ module _ (request : CacheRequest) (now : ℕ) (old new : Shared) where
     pub first : First
     pub begun : HasBegun pass old.cache now stepped.pass new.cache first
     pub tells : Tells now new stepped (first_outcome first) facts
-    pub keys : new.keys ≡ old.keys
+    pub content : stepped.content ≡ None
+    pub beside : IsSameBeside old new
 
   -- what is stored was looked up, and that is all
   pub record IsLookedUp : Type 0 where
     pub does : Does (settings_of old.cache) (Looked request.target.now) (kept_of old.cache) (kept_of new.cache)
     pub settings : settings_of new.cache ≡ settings_of old.cache
-    pub keys : new.keys ≡ old.keys
+    pub beside : IsSameBeside old new
 
   -- the request can't be parsed, or memory ran out, at the latest after a lookup
   abbrev pub FailsBegin : Failure → Type 0
@@ -89,7 +95,8 @@ module _ (now : ℕ) (old : Shared) (before : Stepped) (new : Shared) (after : S
       pub is_status : IsStatusCode status
       pub holds : Holds section response
       pub come : HasCome before.pass old.cache status response now after.pass new.cache next
-      pub keys : new.keys ≡ old.keys
+      pub content : content_of after ≡ Some []
+      pub beside : IsSameBeside old new
 
     -- the failure of parsing it
     abbrev pub FailsResponse : Failure → Type 0
@@ -104,7 +111,8 @@ module _ (now : ℕ) (old : Shared) (before : Stepped) (new : Shared) (after : S
   -- `failed`
   pub record IsFailed (found : Option Reply) : Type 0 where
     pub failed : HasFailed before.pass old.cache now after.pass new.cache found
-    pub keys : new.keys ≡ old.keys
+    pub content : after.content ≡ before.content
+    pub beside : IsSameBeside old new
 
   abbrev pub Fails : Result PassFacts Failure → Type 0
   Fails (Ok facts) = (found : Option Reply) × IsFailed found × Tells now new after (failed_outcome found) facts
@@ -114,22 +122,45 @@ module _ (now : ℕ) (old : Shared) (before : Stepped) (new : Shared) (after : S
 
   -- it ends
 
-  module _ (content : List ℕ) (is_complete : Bool) where
-    -- `ended`, with the content
+  module _ (is_complete : Bool) where
+    -- `ended`, with the content that was kept; if none was, as if not all of it came
     pub record IsEnded (number : Option ℕ) : Type 0 where
-      pub ended : HasEnded before.pass old.cache content (reception_of is_complete) now after.pass new.cache number
+      pub ended : HasEnded before.pass old.cache (unwrap_or (content_of before) [])
+          (reception_of (is_complete && is_some before.content)) now after.pass new.cache number
+      pub content : after.content ≡ None
       pub named : after.named ≡ before.named
       pub text : after.text ≡ before.text
-      pub keys : new.keys ≡ old.keys
+      pub beside : IsSameBeside old new
 
-    -- No response passes on that is to be stored, or there is no memory for its content.
-    abbrev pub FailsEnd : Failure → Type 0
-    FailsEnd failure =
-        ((failure ≡ Absent) × IsNotPassing before.pass.phase) ⊎ ((failure ≡ Memory) × (0 < length content))
-
+    -- `Absent` if no response passes on that is to be stored
     abbrev pub Ends : Result (Option ℕ) Failure → Type 0
     Ends (Ok number) = IsEnded number
-    Ends (Err failure) = FailsEnd failure × IsUnchanged old before new after
+    Ends (Err failure) = (failure ≡ Absent) × IsNotPassing before.pass.phase × IsUnchanged old before new after
+
+-- its content comes
+
+-- the content that is kept with a piece more: none if that is more than the store may have
+abbrev pub content_with : (most : ℕ) → (piece : List ℕ) → Option (List ℕ) → Option (List ℕ)
+content_with most piece None = None
+content_with most piece (Some content) =
+    if nat_le (length content + length piece) most then Some (content ++ piece) else None
+
+module _ (most : ℕ) (piece : List ℕ) (before after : Stepped) where
+  -- of a pass by which a response passes on that is to be stored, this content is kept
+  pub record IsKept (content : Option (List ℕ)) : Type 0 where
+    pub passing : ¬ (IsNotPassing before.pass.phase)
+    pub content_is : content_of after ≡ content
+    pub pass : after.pass ≡ before.pass
+    pub named : after.named ≡ before.named
+    pub text : after.text ≡ before.text
+
+  -- The piece is kept with those before it. `Absent` if no response passes on that is to be stored. If memory runs out,
+  -- nothing is kept from now on.
+  abbrev pub Receives : Result (Unit {0}) Failure → Type 0
+  Receives (Ok one) = IsKept (content_with most piece (content_of before))
+  Receives (Err failure) =
+      ((failure ≡ Absent) × IsNotPassing before.pass.phase × (after ≡ before))
+      ⊎ ((failure ≡ Memory) × (0 < length piece) × IsKept None)
 
 -- what is sent
 

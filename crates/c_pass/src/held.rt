@@ -11,6 +11,8 @@ pub struct Shared {
     pub cache: Cache,
     /// The keys of the maps of sections.
     pub keys: HashKeys,
+    /// How many bytes of content the store may have in all: a pass keeps no more of what comes.
+    pub most: usize,
 }
 
 /// A pass.
@@ -22,4 +24,6 @@ pub struct Stepped {
     pub named: Named,
     /// The field lines that its last step takes.
     pub text: Vec<u8>,
+    /// What came so far of the content of the response that passes on, if it may still be stored.
+    pub content: Option<Vec<u8>>,
 }

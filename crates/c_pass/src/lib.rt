@@ -20,5 +20,5 @@ pub use crate::opening::{CacheExtensions, CacheOptions, new_cache, new_cache_wit
 pub use crate::outcome::{By, Named, Outcome};
 pub use crate::reading::CacheRequest;
 pub use crate::removing::remove;
-pub use crate::stepping::{begin, came, ended, failed};
+pub use crate::stepping::{begin, came, ended, failed, received};
 pub use crate::telling::PassFacts;

@@ -75,6 +75,7 @@ fn cache_of(
     Ok(Shared {
         cache: Cache::new(alloc, store, options.guess)?,
         keys: *keys,
+        most: options.bytes,
     })
 }
 

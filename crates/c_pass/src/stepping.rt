@@ -1,8 +1,9 @@
 //! The steps of a pass.
-ghost use Rattle.std.specs.Prelude.{◌≡◌, ◌<◌, length, IfErr, IfOk, IsErr, Some, None};
+ghost use Rattle.std.{specs.Prelude.{◌≡◌, ◌<◌, length, IfErr, IfOk, IsErr, Some, None, option_map}, specs.Bool.MatchBool};
+ghost use Rattle.cache_pass.specs.Passes.{IsNotPassing};
 ghost use Rattle.c_parts.specs.declared.status.Failure.TheVariants.{Memory};
 ghost use Rattle.c_pass.{specs.Outcomes.named_by, specs.Steps.{Begins, Comes, Ends, Fails, IsSilent, Tells}};
-ghost use Rattle.c_pass.specs.Steps.{reception_of};
+ghost use Rattle.c_pass.specs.Steps.{Receives, content_with, reception_of};
 
 use crate::held::{Shared, Stepped};
 use crate::outcome::{Named, Outcome, failed_outcome, first_outcome, named_by, next_outcome};
@@ -10,9 +11,10 @@ use crate::reading::{CacheRequest, read_target};
 use crate::telling::{PassFacts, tell};
 use c_decisions::{read_method, read_status};
 use c_parts::{Failure, read_map};
-use cache_pass::Pass;
+use cache_pass::{Pass, Phase};
 use cache_rules::Reception;
 use std::alloc::{AllocError, Global};
+use std::mem::replace;
 
 // Tells an outcome, and names the stored response that is sent.
 fn tell_step(
@@ -23,6 +25,7 @@ fn tell_step(
     now: u64,
 ) -> Result<PassFacts, Failure>
     ensures pass { stepped.new.pass ≡ stepped.old.pass }
+    ensures content { stepped.new.content ≡ stepped.old.content }
     ensures ok { IfOk result (Tells now shared.now stepped.new outcome) }
     ensures err { IfErr result (λ failure. (failure ≡ Memory) × IsSilent stepped.new) }
 {
@@ -56,6 +59,7 @@ pub fn begin(
         pass,
         named: Named::Nothing,
         text: Vec::new(alloc),
+        content: None,
     };
     let facts = tell_step(alloc, shared, &mut stepped, first_outcome(first), now)?;
     Ok((stepped, facts))
@@ -78,7 +82,10 @@ pub fn came(
         .pass
         .came(&mut shared.cache, alloc, status, response, now)
     {
-        Ok(next) => tell_step(alloc, shared, stepped, next_outcome(next), now),
+        Ok(next) => {
+            stepped.content = Some(Vec::new(alloc));
+            tell_step(alloc, shared, stepped, next_outcome(next), now)
+        }
         Err(_) => Err(Failure::Absent),
     }
 }
@@ -108,36 +115,73 @@ fn reception_of(is_complete: bool) -> Reception
     }
 }
 
-// A copy of content. Out of memory only if it has a byte.
-fn copied(alloc: Global, content: &[u8]) -> Result<Vec<u8>, AllocError>
-    ensures copy { IfOk result (λ copy. copy.items ≡ content.now) }
-    ensures memory { IsErr result → 0 < length content.now }
+// Whether a response passes on that is to be stored.
+fn is_passing(pass: &Pass) -> bool
+    ensures { MatchBool result (¬ (IsNotPassing pass.now.phase)) (IsNotPassing pass.now.phase) }
 {
-    if content.is_empty() {
-        Ok(Vec::new(alloc))
-    } else {
-        Vec::from_slice(alloc, content)
+    match pass.phase() {
+        Phase::Passing(_, _, _) => true,
+        _ => false,
     }
 }
 
-/// Makes the last step of a pass, with the content of the response that passed on.
+// The content with a piece more, if that isn't more than so many bytes. Out of memory only if the piece has a byte.
+fn content_with(
+    mut content: Vec<u8>,
+    piece: &[u8],
+    most: usize,
+) -> Result<Option<Vec<u8>>, AllocError>
+    ensures kept { IfOk result (λ kept.
+        option_map (λ bytes. bytes.items) kept ≡ content_with most piece.now (Some content.items)) }
+    ensures memory { IsErr result → 0 < length piece.now }
+{
+    if most < content.len() || most - content.len() < piece.len() {
+        return Ok(None);
+    }
+    if !piece.is_empty() {
+        content.extend_from_slice(piece)?;
+    }
+    Ok(Some(content))
+}
+
+/// Keeps a piece of the content of the response that passes on, for the store.
+pub fn received(shared: &Shared, stepped: &mut Stepped, piece: &[u8]) -> Result<(), Failure>
+    ensures { Receives shared.now.most piece.now stepped.old stepped.new result }
+{
+    if !is_passing(&stepped.pass) {
+        return Err(Failure::Absent);
+    }
+    if let Some(content) = replace(&mut stepped.content, None) {
+        stepped.content = content_with(content, piece, shared.most)?;
+    }
+    Ok(())
+}
+
+/// Makes the last step of a pass, with the content that came of the response that passed on.
 pub fn ended(
     alloc: Global,
     shared: &mut Shared,
     stepped: &mut Stepped,
-    content: &[u8],
     is_complete: bool,
     now: u64,
 ) -> Result<Option<u64>, Failure>
-    ensures { Ends now shared.old stepped.old shared.new stepped.new content.now is_complete result }
+    ensures { Ends now shared.old stepped.old shared.new stepped.new is_complete result }
 {
-    let content = copied(alloc, content)?;
-    let reception = reception_of(is_complete);
+    if !is_passing(&stepped.pass) {
+        return Err(Failure::Absent);
+    }
+    let (content, reception) = match replace(&mut stepped.content, None) {
+        Some(mut content) => {
+            content.shrink_to_fit();
+            (content, reception_of(is_complete))
+        }
+        None => (Vec::new(alloc), Reception::Incomplete),
+    };
     match stepped
         .pass
         .ended(&mut shared.cache, alloc, content, reception, now)
     {
         Ok(number) => Ok(number),
-        Err(_) => Err(Failure::Absent),
+        Err(_) => unreachable!(),
     }
 }

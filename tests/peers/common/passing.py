@@ -3,10 +3,7 @@ from typing import Any
 
 
 def end(passing: Any, content: bytes, is_complete: bool, now: int | None = None) -> bool:
-    """Hands on the content of the response that passes on, in two pieces where the package takes pieces. Returns whether
-    it is stored."""
-    if not hasattr(passing, "received"):
-        return passing.ended(content, complete=is_complete, now=now)
+    """Hands on the content of the response that passes on, in two pieces. Returns whether it is stored."""
     half = len(content) // 2
     passing.received(content[:half])
     passing.received(content[half:])

@@ -1054,11 +1054,10 @@ extern "C" {
         room_length: usize,
         written: *mut usize,
     ) -> u8;
+    pub fn typed_headers_pass_received(cache: *mut Cache, pass: *mut Pass, piece: *const u8, piece_length: usize) -> u8;
     pub fn typed_headers_pass_ended(
         cache: *mut Cache,
         pass: *mut Pass,
-        content: *const u8,
-        content_length: usize,
         is_complete: bool,
         now: u64,
         number: *mut u64,

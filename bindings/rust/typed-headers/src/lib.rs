@@ -205,10 +205,11 @@ mod tests {
         let (none, stale) = (Section::new(), Section::from_bytes("Cache-Control: max-age=10\nETag: \"1\"\n"));
         let request = CacheRequest { method: "GET", target: "http://a.example/", fields: &none };
         let (mut first, step) = cache.begin(&request, 1000).unwrap();
-        assert_eq!((step, first.ended(b"", true, 1000)), (Step::Ask, Ok(None)));
+        assert_eq!((step, first.ended(true, 1000)), (Step::Ask, Ok(None)));
         assert_eq!(first.came(200, &stale, 1000), Ok(Some(Step::PassOn { stores: true })));
         assert_eq!((first.failed(1000), first.came(200, &stale, 1000)), (Ok(None), Ok(None)));
-        assert_eq!(first.ended(b"hello", true, 1000), Ok(Some(true)));
+        assert_eq!((first.received(b"hel"), first.received(b"lo")), (Ok(Some(())), Ok(Some(()))));
+        assert_eq!((first.ended(true, 1000), first.received(b"")), (Ok(Some(true)), Ok(None)));
         let (mut second, step) = cache.begin(&request, 1020).unwrap();
         let Step::Validate(fields) = step else { panic!("it is stale") };
         assert_eq!(fields.as_bytes(), b"if-none-match: \"1\"\n");
@@ -293,7 +294,8 @@ mod tests {
         let asked = CacheRequest { method: "GET", target: "http://a.example/", fields: &asked };
         let (mut pass, _) = cache.begin(&asked, 1).unwrap();
         pass.came(200, &stored, 1).unwrap();
-        pass.ended(b"hello", true, 1).unwrap();
+        pass.received(b"hello").unwrap();
+        pass.ended(true, 1).unwrap();
         let shared = rules.answer("GET", &text, &Section::new(), KEYS);
         let answer = given.answer(&request, NOW, KEYS);
         std::thread::scope(|scope| {

@@ -72,7 +72,8 @@ pub enum Step {
     Validate(Section),
     /// The client gets 504: the request forbids to ask the origin. The pass has ended.
     Unavailable,
-    /// The client gets what the origin answered. If `stores` is true, [`Pass::ended`] is the next step.
+    /// The client gets what the origin answered. If `stores` is true, [`Pass::received`] gets its content, too, and then
+    /// comes [`Pass::ended`].
     PassOn {
         /// Whether the pass goes on.
         stores: bool,
@@ -94,7 +95,8 @@ pub enum Step {
 /// assert_eq!(step, Step::Ask);
 /// let came = Section::parse("Cache-Control: max-age=60\n")?;
 /// assert_eq!(first.came(200, &came, 1000)?, Some(Step::PassOn { stores: true }));
-/// assert_eq!(first.ended(b"hello", true, 1000)?, Some(true));
+/// assert_eq!(first.received(b"hello")?, Some(()));
+/// assert_eq!(first.ended(true, 1000)?, Some(true));
 /// let (_, Step::Reply(reply)) = cache.begin(&request, 1010)? else { panic!("it is fresh") };
 /// assert_eq!((reply.status, reply.content.as_slice()), (200, b"hello".as_slice()));
 /// # Ok::<(), typed_headers::Error>(())
@@ -161,20 +163,23 @@ impl Pass<'_> {
         self.step(|cache, pass, facts| unsafe { sys::typed_headers_pass_failed(cache, pass, now, facts) })
     }
 
+    /// Keeps the next piece of the content that passes on, to be stored. If the pieces are more than the cache may have,
+    /// or on [`Error::OutOfMemory`], the pass keeps none: nothing is stored.
+    pub fn received(&mut self, piece: &[u8]) -> Result<Option<()>, Error> {
+        let pass = self.handle.alone();
+        // SAFETY: as above.
+        let is_done = check(self.cache.0.with(|cache| unsafe {
+            sys::typed_headers_pass_received(cache, pass, piece.as_ptr(), piece.len())
+        }))?;
+        Ok(is_done.then_some(()))
+    }
+
     /// Stores the response that passed on, if all of its content came and it may be stored, and returns whether it is.
-    pub fn ended(&mut self, content: &[u8], is_complete: bool, now: u64) -> Result<Option<bool>, Error> {
+    pub fn ended(&mut self, is_complete: bool, now: u64) -> Result<Option<bool>, Error> {
         let (pass, mut number) = (self.handle.alone(), 0);
         // SAFETY: as above.
         let is_done = check(self.cache.0.with(|cache| unsafe {
-            sys::typed_headers_pass_ended(
-                cache,
-                pass,
-                content.as_ptr(),
-                content.len(),
-                is_complete,
-                now,
-                &mut number,
-            )
+            sys::typed_headers_pass_ended(cache, pass, is_complete, now, &mut number)
         }))?;
         Ok(is_done.then_some(number != 0))
     }

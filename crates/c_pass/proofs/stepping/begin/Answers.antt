@@ -15,5 +15,6 @@ returns c =
           subst (λ (pass : Pass). HasBegun c.new-pass.result c.args.shared.now.cache c.args.now pass
           c.begin.new.cache c.in-Ok.first) (sym c.in_ok-facts.ensures.pass) c.in-Ok.ensures.ok;
       tells = search rules;
-      keys = refl;
+      content = search rules;
+      beside = record { keys = refl; most = refl };
     }
