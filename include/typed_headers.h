@@ -247,6 +247,9 @@ struct typed_headers_cache_extensions {
     /* Whether `immutable` of a response counts (RFC 8246): a reload by `max-age` of a request gets such a response from
        the store while it is fresh. */
     bool immutable;
+    /* For how many seconds a request waits at most for another that asks the origin for the same, or 0 for none (RFC
+       9111, section 4). */
+    uint64_t wait;
 };
 
 /* A request to a cache. */
@@ -290,7 +293,10 @@ enum typed_headers_pass_action {
     /* Pass on what came. The pass has ended. */
     TYPED_HEADERS_PASS_ON = 6,
     /* No response came, and no stored one may be sent: send 502 or 504. The pass has ended. */
-    TYPED_HEADERS_NO_RESPONSE = 7
+    TYPED_HEADERS_NO_RESPONSE = 7,
+    /* Another pass asks the origin for the same: call `typed_headers_pass_resume` once some pass through the cache has
+       ended, or after a moment. Only GET without Range waits, and only if the cache has a number of seconds to wait. */
+    TYPED_HEADERS_WAIT = 8
 };
 
 /* What is told of a step. */
@@ -1627,6 +1633,15 @@ uint8_t typed_headers_pass_free(struct typed_headers_pass *pass);
 uint8_t typed_headers_pass_begin(struct typed_headers_cache *cache, struct typed_headers_pass *pass,
                                  const struct typed_headers_cache_request *request, uint64_t now,
                                  struct typed_headers_pass_facts *facts);
+
+/*
+ * Says what is done after WAIT. It is WAIT again while the other pass hasn't ended, and asked less than the seconds ago
+ * that the cache waits. A pass waits for one other alone. Absent: the cache or the pass is closed, or the pass doesn't
+ * wait; nothing changes then. Memory: the pass waits. Then a program forwards the request as it is, and passes on what
+ * comes.
+ */
+uint8_t typed_headers_pass_resume(struct typed_headers_cache *cache, struct typed_headers_pass *pass, uint64_t now,
+                                  struct typed_headers_pass_facts *facts);
 
 /*
  * Says what is done with the status and the fields of the origin's response, which came at the present `now`. A 304 to

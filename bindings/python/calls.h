@@ -80,7 +80,8 @@ SHAPE(cache_directives, INNER(cache_directives, max_age, directive_seconds),
 SHAPE(cors_rules, MEMBER(cors_rules, origins, A_TEXT), MEMBER(cors_rules, methods, A_TEXT),
       MEMBER(cors_rules, headers, A_TEXT), MEMBER(cors_rules, exposed, A_TEXT),
       FLAGGED(cors_rules, max_age, U64, has_max_age), MEMBER(cors_rules, credentials, BOOL))
-SHAPE(cache_extensions, MEMBER(cache_extensions, targets, A_TEXT), MEMBER(cache_extensions, immutable, BOOL))
+SHAPE(cache_extensions, MEMBER(cache_extensions, targets, A_TEXT), MEMBER(cache_extensions, immutable, BOOL),
+      MEMBER(cache_extensions, wait, U64))
 SHAPE(cache_request, MEMBER(cache_request, target, A_TEXT), MEMBER(cache_request, method, A_TEXT),
       MEMBER(cache_request, section, A_TEXT))
 SHAPE(content, MEMBER(content, media_type, A_TEXT), FLAGGED(content, length, U64, has_length),
@@ -340,6 +341,8 @@ CALL(pass_free, 0, (at[0].handle.at), OF_HANDLE(OPENED, pass))
 CALL(pass_begin, MAY(REFUSED) | MAY(ABSENT) | MAY(TOO_LARGE) | MAY(NO_MEMORY), (at[0].handle.at, at[1].handle.at,
      &at[2].any.cache_request, at[3].u64, &at[4].any.pass_facts), OF_HANDLE(OPENED, cache), OF_HANDLE(NEW, pass),
      OF_SHAPE(IN_STRUCT, cache_request), OF_KIND(NUMBER, U64), OF_SHAPE(OUT_STRUCT, pass_facts))
+CALL(pass_resume, MAY(ABSENT) | MAY(NO_MEMORY), (at[0].handle.at, at[1].handle.at, at[2].u64, &at[3].any.pass_facts),
+     OF_HANDLE(OPENED, cache), OF_HANDLE(OPENED, pass), OF_KIND(NUMBER, U64), OF_SHAPE(OUT_STRUCT, pass_facts))
 CALL(pass_came, MAY(REFUSED) | MAY(ABSENT) | MAY(TOO_LARGE) | MAY(NO_MEMORY), (at[0].handle.at, at[1].handle.at,
      at[2].u16, TEXT_OF(at[3]), at[4].u64, &at[5].any.pass_facts), OF_HANDLE(OPENED, cache), OF_HANDLE(OPENED, pass),
      OF_KIND(NUMBER, U16), PLAIN(GIVEN_TEXT), OF_KIND(NUMBER, U64), OF_SHAPE(OUT_STRUCT, pass_facts))
@@ -388,6 +391,6 @@ enum { MOST_SLOTS = 10 };
     METHOD(connection_plan_field), METHOD(connection_plan_bytes), METHOD(connection_plan_range), \
     METHOD(connection_respond), METHOD(connection_output), METHOD(connection_range), METHOD(connection_sent), \
     METHOD(connection_time_out), METHOD(connection_rejection), METHOD(connection_planned), METHOD(pass_free), \
-    METHOD(pass_begin), METHOD(pass_came), METHOD(pass_failed), METHOD(pass_fields), METHOD(pass_content), \
-    METHOD(pass_received), METHOD(pass_ended), METHOD(files_free), METHOD(files_new), METHOD(files_path), \
-    METHOD(files_plan)
+    METHOD(pass_begin), METHOD(pass_resume), METHOD(pass_came), METHOD(pass_failed), METHOD(pass_fields), \
+    METHOD(pass_content), METHOD(pass_received), METHOD(pass_ended), METHOD(files_free), METHOD(files_new), \
+    METHOD(files_path), METHOD(files_plan)

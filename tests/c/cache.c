@@ -74,7 +74,8 @@ static void want(bool holds, const char *what) {
 }
 
 static struct typed_headers_cache cache = TYPED_HEADERS_CLOSED_CACHE;
-static struct typed_headers_pass pass = TYPED_HEADERS_CLOSED_PASS;
+static struct typed_headers_pass passes[2] = {TYPED_HEADERS_CLOSED_PASS, TYPED_HEADERS_CLOSED_PASS};
+static struct typed_headers_pass *pass = passes;
 static struct typed_headers_pass_facts facts;
 static const struct typed_headers_keys KEYS = {1, 2};
 
@@ -101,16 +102,25 @@ static struct typed_headers_cache_request request_for(const char *target, const 
     return (struct typed_headers_cache_request){text(target), text(method), text(section)};
 }
 
-static bool opens(const char *targets, uint8_t wanted) {
+static bool opens(const char *targets, uint64_t wait, uint8_t wanted) {
     const struct typed_headers_cache_options options = {4, 16, 1000, 60, true};
-    const struct typed_headers_cache_extensions extensions = {text(targets ? targets : ""), true};
+    const struct typed_headers_cache_extensions extensions = {text(targets ? targets : ""), true, wait};
     CALL(targets ? typed_headers_cache_new_with(&cache, &options, &extensions, &KEYS)
                  : typed_headers_cache_new(&cache, &options, &KEYS));
     return status_of_call == wanted && cache.is_open == (wanted == TYPED_HEADERS_DONE);
 }
 
+/* The calls from here on are on this pass. */
+static bool on(size_t which) {
+    pass = &passes[which];
+    return true;
+}
+
 static void close_all(void) {
-    want(CALL(typed_headers_pass_free(&pass)) == TYPED_HEADERS_DONE && !pass.is_open, "free of a pass");
+    for (size_t i = 2; i-- > 0;) {
+        on(i);
+        want(CALL(typed_headers_pass_free(pass)) == TYPED_HEADERS_DONE && !pass->is_open, "free of a pass");
+    }
     want(CALL(typed_headers_cache_free(&cache)) == TYPED_HEADERS_DONE && !cache.is_open, "free");
     want(CALL(typed_headers_cache_free(&cache)) == TYPED_HEADERS_DONE, "free of a closed cache");
     want(blocks == 0, "a block is left");
@@ -133,7 +143,7 @@ static bool has_fields(const char *lines) {
         uint8_t *at = areas[7] - room;
         size_t written = ROOM;
         memset(at, FILL, room);
-        CALL(typed_headers_pass_fields(&pass, room ? at : NULL, room, &written));
+        CALL(typed_headers_pass_fields(pass, room ? at : NULL, room, &written));
         holds &= status_of_call == (room < length ? TYPED_HEADERS_NO_ROOM : TYPED_HEADERS_DONE) && written == length;
         holds &= room < length ? is_filled(at, at + room)
                                : memcmp(at, lines, length) == 0 && is_filled(at + length, at + room);
@@ -150,7 +160,7 @@ static bool has_content(const char *wanted) {
             uint8_t *at = areas[7] - room;
             size_t written = ROOM;
             memset(at, FILL, room);
-            CALL(typed_headers_pass_content(&cache, &pass, from, room ? at : NULL, room, &written));
+            CALL(typed_headers_pass_content(&cache, pass, from, room ? at : NULL, room, &written));
             const size_t left = from < length ? length - from : 0, copied = left < room ? left : room;
             holds &= status_of_call == TYPED_HEADERS_DONE && written == copied;
             holds &= memcmp(at, wanted + (from < length ? from : length), copied) == 0;
@@ -163,25 +173,33 @@ static bool has_content(const char *wanted) {
 static bool has_no_content(void) {
     uint8_t room[1] = {FILL};
     size_t written = ROOM;
-    CALL(typed_headers_pass_content(&cache, &pass, 0, room, sizeof room, &written));
+    CALL(typed_headers_pass_content(&cache, pass, 0, room, sizeof room, &written));
     return status_of_call == TYPED_HEADERS_ABSENT && written == ROOM && room[0] == FILL;
 }
 
 /* A new pass begins, and this is done first. */
 static bool begins(const char *target, const char *method, const char *asked, uint64_t now, uint8_t action) {
     const struct typed_headers_cache_request request = request_for(target, method, asked);
-    CALL(typed_headers_pass_free(&pass));
+    CALL(typed_headers_pass_free(pass));
     memset(&facts, FILL, sizeof facts);
-    CALL(typed_headers_pass_begin(&cache, &pass, &request, now, &facts));
-    want(pass.is_open == (status_of_call == TYPED_HEADERS_DONE), "a pass that is open");
-    want(pass.is_open || facts.action == FILL, "a pass that isn't begun");
-    return pass.is_open && facts.action == action;
+    CALL(typed_headers_pass_begin(&cache, pass, &request, now, &facts));
+    want(pass->is_open == (status_of_call == TYPED_HEADERS_DONE), "a pass that is open");
+    want(pass->is_open || facts.action == FILL, "a pass that isn't begun");
+    return pass->is_open && facts.action == action;
+}
+
+/* This is done after a wait. */
+static bool resumes(uint64_t now, uint8_t action) {
+    memset(&facts, FILL, sizeof facts);
+    CALL(typed_headers_pass_resume(&cache, pass, now, &facts));
+    want(status_of_call == TYPED_HEADERS_DONE || facts.action == FILL, "a wait that goes on");
+    return status_of_call == TYPED_HEADERS_DONE && facts.action == action;
 }
 
 static bool comes(uint16_t code, const char *response, uint64_t now, uint8_t action) {
     const struct typed_headers_text section = text(response);
     memset(&facts, FILL, sizeof facts);
-    CALL(typed_headers_pass_came(&cache, &pass, code, section.bytes, section.length, now, &facts));
+    CALL(typed_headers_pass_came(&cache, pass, code, section.bytes, section.length, now, &facts));
     want(status_of_call == TYPED_HEADERS_DONE || facts.action == FILL, "a step that isn't made");
     return status_of_call == TYPED_HEADERS_DONE && facts.action == action;
 }
@@ -189,16 +207,17 @@ static bool comes(uint16_t code, const char *response, uint64_t now, uint8_t act
 /* A piece of the content comes. */
 static uint8_t receives(const char *bytes) {
     const struct typed_headers_text piece = text(bytes);
-    return CALL(typed_headers_pass_received(&cache, &pass, piece.bytes, piece.length));
+    return CALL(typed_headers_pass_received(&cache, pass, piece.bytes, piece.length));
 }
 
 /* The content comes in two pieces, and one without a byte. */
 static bool ends(const char *bytes, bool is_complete, uint64_t now, bool is_stored) {
     const char first[2] = {bytes[0], 0};
     uint64_t number = ROOM;
-    const bool comes_whole = receives(first) == TYPED_HEADERS_DONE & receives("") == TYPED_HEADERS_DONE
-                             & receives(bytes + 1) == TYPED_HEADERS_DONE;
-    want(CALL(typed_headers_pass_ended(&cache, &pass, is_complete, now, &number)) == TYPED_HEADERS_DONE, "an end");
+    bool comes_whole = receives(first) == TYPED_HEADERS_DONE;
+    comes_whole &= receives("") == TYPED_HEADERS_DONE;
+    comes_whole &= receives(bytes + strlen(first)) == TYPED_HEADERS_DONE;
+    want(CALL(typed_headers_pass_ended(&cache, pass, is_complete, now, &number)) == TYPED_HEADERS_DONE, "an end");
     want(comes_whole || number == 0, "content that didn't come whole");
     return (number != 0) == is_stored;
 }
@@ -218,20 +237,21 @@ static bool stores(const char *target, const char *asked, uint64_t now, const ch
 static bool is_out_of_order(void) {
     uint64_t number = ROOM;
     memset(&facts, FILL, sizeof facts);
-    bool holds = CALL(typed_headers_pass_came(&cache, &pass, 200, NULL, 0, 0, &facts)) == TYPED_HEADERS_ABSENT;
-    holds &= CALL(typed_headers_pass_failed(&cache, &pass, 0, &facts)) == TYPED_HEADERS_ABSENT;
+    bool holds = CALL(typed_headers_pass_came(&cache, pass, 200, NULL, 0, 0, &facts)) == TYPED_HEADERS_ABSENT;
+    holds &= CALL(typed_headers_pass_failed(&cache, pass, 0, &facts)) == TYPED_HEADERS_ABSENT;
+    holds &= CALL(typed_headers_pass_resume(&cache, pass, 0, &facts)) == TYPED_HEADERS_ABSENT;
     holds &= receives("") == TYPED_HEADERS_ABSENT && receives("h") == TYPED_HEADERS_ABSENT;
-    holds &= CALL(typed_headers_pass_ended(&cache, &pass, true, 0, &number)) == TYPED_HEADERS_ABSENT;
+    holds &= CALL(typed_headers_pass_ended(&cache, pass, true, 0, &number)) == TYPED_HEADERS_ABSENT;
     return holds && number == ROOM && facts.action == FILL;
 }
 
 static void closed(void) {
     const struct typed_headers_cache_request request = request_for("/a", "GET", "");
     size_t written = ROOM;
-    want(CALL(typed_headers_pass_begin(&cache, &pass, &request, 0, &facts)) == TYPED_HEADERS_ABSENT && !pass.is_open,
+    want(CALL(typed_headers_pass_begin(&cache, pass, &request, 0, &facts)) == TYPED_HEADERS_ABSENT && !pass->is_open,
          "a pass through a closed cache");
     want(is_out_of_order() && has_no_content(), "steps of a closed pass");
-    want(CALL(typed_headers_pass_fields(&pass, NULL, 0, &written)) == TYPED_HEADERS_ABSENT && written == ROOM,
+    want(CALL(typed_headers_pass_fields(pass, NULL, 0, &written)) == TYPED_HEADERS_ABSENT && written == ROOM,
          "fields of a closed pass");
     want(CALL(typed_headers_cache_remove(&cache, (const uint8_t *)"/a", 2)) == TYPED_HEADERS_ABSENT,
          "remove in a closed cache");
@@ -243,11 +263,41 @@ static bool is_rejected(const char *target, const char *method, const char *sect
 
 #define FRESH "cache-control: max-age=60\ndate: Thu, 01 Jan 1970 00:16:40 GMT\netag: \"1\"\n"
 #define DIGESTED FRESH "content-length: 5\ncontent-md5: x\n"
+#define UNSTORED "cache-control: no-store\n"
+
+/* A second request comes while the origin is asked for the same. */
+static bool waits(const char *target) {
+    return on(0) && begins(target, "GET", "", 1000, TYPED_HEADERS_ASK) && on(1)
+           && begins(target, "GET", "", 1000, TYPED_HEADERS_WAIT) && has_fields("") && has_no_content()
+           && resumes(1009, TYPED_HEADERS_WAIT);
+}
+
+/* RFC 9111, section 4: requests are collapsed, for less than ten seconds. */
+static void wait_for_others(void) {
+    AGAIN(opens("", 10, TYPED_HEADERS_DONE), "new with a wait");
+    MAYBE(waits("/a") && on(0) && comes(200, FRESH, 1000, TYPED_HEADERS_PASS_ON_TO_END) && on(1)
+          && resumes(1009, TYPED_HEADERS_WAIT) && on(0) && ends("hello", true, 1000, true) && on(1)
+          && resumes(1009, TYPED_HEADERS_REPLY) && has_content("hello") && is_out_of_order(), "one asks for two");
+    MAYBE(waits("/b") && on(0) && comes(200, UNSTORED, 1000, TYPED_HEADERS_PASS_ON) && on(1)
+          && resumes(1000, TYPED_HEADERS_ASK) && comes(200, UNSTORED, 1000, TYPED_HEADERS_PASS_ON), "nothing stored");
+    MAYBE(waits("/c") && on(0) && CALL(typed_headers_pass_failed(&cache, pass, 1000, &facts)) == TYPED_HEADERS_DONE
+          && on(1) && resumes(1000, TYPED_HEADERS_ASK), "a failure");
+    MAYBE(waits("/d") && resumes(1010, TYPED_HEADERS_ASK) && on(0)
+          && begins("/d", "GET", "", 1010, TYPED_HEADERS_WAIT) && on(1)
+          && comes(200, FRESH, 1010, TYPED_HEADERS_PASS_ON_TO_END) && ends("h", false, 1010, false) && on(0)
+          && resumes(1010, TYPED_HEADERS_ASK), "the time is over");
+    MAYBE(on(0) && begins("/e", "GET", "", 1000, TYPED_HEADERS_ASK) && on(1)
+          && begins("/e", "HEAD", "", 1000, TYPED_HEADERS_ASK)
+          && begins("/e", "GET", "range: bytes=0-1\n", 1000, TYPED_HEADERS_ASK)
+          && begins("/e", "POST", "", 1000, TYPED_HEADERS_ASK) && begins("/f", "GET", "", 1000, TYPED_HEADERS_ASK),
+          "requests that don't wait");
+    close_all();
+}
 
 /* RFC 9111, sections 3, 4, 4.2, 4.3 and 4.4, and RFC 5861. */
 static void play(void) {
     closed();
-    AGAIN(opens(NULL, TYPED_HEADERS_DONE), "new");
+    AGAIN(opens(NULL, 0, TYPED_HEADERS_DONE), "new");
     const struct typed_headers_cache_options options = {0};
     want(CALL(typed_headers_cache_new(&cache, &options, &KEYS)) == TYPED_HEADERS_REFUSED, "new of an open cache");
     AGAIN(is_rejected("/\xFF", "GET", ""), "a target that is no UTF-8");
@@ -257,7 +307,7 @@ static void play(void) {
     want(is_out_of_order() && has_no_content(), "steps of a pass that has ended");
     AGAIN(begins("/a", "GET", "", 1000, TYPED_HEADERS_ASK), "ask");
     const struct typed_headers_cache_request again = request_for("/a", "GET", "");
-    want(CALL(typed_headers_pass_begin(&cache, &pass, &again, 0, &facts)) == TYPED_HEADERS_REFUSED,
+    want(CALL(typed_headers_pass_begin(&cache, pass, &again, 0, &facts)) == TYPED_HEADERS_REFUSED,
          "a second request of one pass");
     AGAIN(!comes(99, "", 1000, TYPED_HEADERS_PASS_ON) && status_of_call == TYPED_HEADERS_REFUSED, "a wrong status");
     AGAIN(begins("/a", "GET", "", 1000, TYPED_HEADERS_ASK)
@@ -297,10 +347,10 @@ static void play(void) {
     AGAIN(begins("/e", "GET", "", 1050, TYPED_HEADERS_VALIDATE) && comes(503, "", 1050, TYPED_HEADERS_REPLY)
           && has_content("hello"), "stale on an error");
     AGAIN(begins("/e", "GET", "", 1050, TYPED_HEADERS_VALIDATE)
-          && CALL(typed_headers_pass_failed(&cache, &pass, 1050, &facts)) == TYPED_HEADERS_DONE
+          && CALL(typed_headers_pass_failed(&cache, pass, 1050, &facts)) == TYPED_HEADERS_DONE
           && facts.action == TYPED_HEADERS_REPLY && has_content("hello"), "stale without a response");
     AGAIN(begins("/e", "GET", "", 1050, TYPED_HEADERS_VALIDATE)
-          && CALL(typed_headers_pass_failed(&cache, &pass, 2000, &facts)) == TYPED_HEADERS_DONE
+          && CALL(typed_headers_pass_failed(&cache, pass, 2000, &facts)) == TYPED_HEADERS_DONE
           && facts.action == TYPED_HEADERS_NO_RESPONSE && is_out_of_order(), "too stale");
     /* A request that isn't safe removes what is stored, and what is asked isn't stored any more. */
     AGAIN(stores("/f", "", 1000, FRESH, "old"), "store");
@@ -327,8 +377,8 @@ static void play(void) {
     large[1000] = 0;
     close_all();
     /* RFC 8246, and RFC 9213, section 2.2: the first targeted field that is there, valid and not empty, counts. */
-    AGAIN(opens("no name", TYPED_HEADERS_REFUSED), "a name that is none");
-    AGAIN(opens("X-CDN-Control\r\ncdn-cache-control", TYPED_HEADERS_DONE), "new_with");
+    AGAIN(opens("no name", 0, TYPED_HEADERS_REFUSED), "a name that is none");
+    AGAIN(opens("X-CDN-Control\r\ncdn-cache-control", 0, TYPED_HEADERS_DONE), "new_with");
     AGAIN(begins("/a", "GET", "", 1000, TYPED_HEADERS_ASK)
           && comes(200, "cache-control: max-age=60\ncdn-cache-control: no-store\n", 1000, TYPED_HEADERS_PASS_ON),
           "a targeted field");
@@ -337,6 +387,7 @@ static void play(void) {
     AGAIN(begins("/a", "GET", "cache-control: max-age=0\n", 1010, TYPED_HEADERS_REPLY) && has_content("kept"),
           "immutable");
     close_all();
+    wait_for_others();
 }
 
 int main(int count, char **words) {

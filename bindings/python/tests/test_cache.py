@@ -4,9 +4,9 @@ import pickle
 import threading
 import unittest
 from datetime import datetime, timezone
-from typing import Dict, Optional
+from typing import Dict, List, Optional
 
-from typed_headers import Ask, Cache, HeaderError, InvalidSection, OutOfOrder, Pass, PassOn, Reply
+from typed_headers import Ask, Cache, HeaderError, InvalidSection, OutOfOrder, Pass, PassOn, Reply, Wait
 
 FRESH = {"Cache-Control": "max-age=60", "ETag": '"a"'}
 A = "http://a.example/a"
@@ -171,6 +171,39 @@ class CacheTest(unittest.TestCase):
         asking.close()
         with self.assertRaises(OutOfOrder):
             asking.ended(now=1000)
+
+    def test_waits_for_another_that_asks(self) -> None:
+        woken: List[int] = []
+        cache = Cache(shared=True, wait=10)
+        first, second = (cache.begin("GET", A, {}, now=1000) for _ in range(2))
+        self.assertEqual((first.step, second.step), (Ask(), Wait()))
+        self.assertEqual(second.resume(now=1009, wake=lambda: woken.append(1)), Wait())
+        self.assertEqual(first.came(200, FRESH, now=1000), PassOn(True))
+        self.assertTrue(ended(first, b"hello"))
+        self.assertEqual(woken, [1])
+        reply = second.resume(now=1009)
+        self.assertEqual(reply.content if isinstance(reply, Reply) else None, b"hello")
+        with self.assertRaisesRegex(OutOfOrder, "^resume: "):
+            second.resume(now=1009)
+
+    def test_waits_no_longer_than_is_told(self) -> None:
+        cache = Cache(shared=True, wait=10)
+        first, second = (cache.begin("GET", A, {}, now=1000) for _ in range(2))
+        self.assertEqual(second.resume(now=1009), Wait())
+        self.assertEqual(second.resume(now=1010), Ask())
+        third = cache.begin("GET", A, {}, now=1010)
+        self.assertEqual(third.step, Wait())
+        second.close()
+        self.assertEqual(third.resume(now=1010), Ask())
+        first.close()
+
+    def test_only_a_get_for_the_whole_waits(self) -> None:
+        cache = Cache(shared=True, wait=10)
+        first = cache.begin("GET", A, {}, now=1000)
+        for method, target, fields in (("HEAD", A, {}), ("GET", A, {"Range": "bytes=0-1"}), ("POST", A, {}), ("GET", B, {})):
+            self.assertEqual(cache.begin(method, target, fields, now=1000).step, Ask())
+        self.assertIsNone(first.failed(now=1000))
+        self.assertEqual(cache.begin("GET", A, {}, now=1000).step, Ask())
 
     def test_stays_within_its_limits(self) -> None:
         cache = filled(most=8)

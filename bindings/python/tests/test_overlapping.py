@@ -253,6 +253,150 @@ class Waiting(unittest.TestCase):
         self.assertEqual(ask(), "503")
 
 
+class Slow:
+    """A WSGI application that gives its first response once it is told to, and all others at once."""
+
+    def __init__(self, *fields: Tuple[str, str], fails: bool = False) -> None:
+        self.fields, self.fails = list(fields), fails
+        self.count, self.lock = 0, threading.Lock()
+        self.asked, self.goes = threading.Event(), threading.Event()
+
+    def __call__(self, environ: Any, start_response: Any) -> Iterable[bytes]:
+        with self.lock:
+            self.count += 1
+            is_first = self.count == 1
+        self.asked.set()
+        assert self.goes.wait(30)
+        if is_first and self.fails:
+            start_response("502 X", [])
+        else:
+            start_response("200 X", self.fields)
+        return iter([b"he", b"llo"])
+
+
+class Collapsing(unittest.TestCase):
+    """Clients that ask for the same while the application answers the first of them."""
+
+    CLIENTS = 20
+    ENVIRON = {"REQUEST_METHOD": "GET", "HTTP_HOST": "a.example", "PATH_INFO": "/"}
+
+    def ask(self, slow: Slow, wait: int = 60, close_first: bool = False) -> List[Tuple[str, bytes]]:
+        """What each client gets; the first may go away before the content."""
+        cached, got = wsgi.Cached(slow, Cache(shared=True, wait=wait)), []
+
+        def work(is_first: bool) -> None:
+            head = Head()
+            content = cached(dict(self.ENVIRON), head)
+            pieces = iter(content)
+            body = next(pieces) if is_first and close_first else b"".join(pieces)
+            if hasattr(content, "close"):
+                content.close()
+            got.append((head.status[:3], body))
+
+        threads = [threading.Thread(target=work, args=(number == 0,)) for number in range(self.CLIENTS)]
+        threads[0].start()
+        self.assertTrue(slow.asked.wait(30))
+        for thread in threads[1:]:
+            thread.start()
+        # (those that don't wait ask the application meanwhile)
+        for _ in range(4 if wait else 600):
+            if slow.count < self.CLIENTS:
+                time.sleep(0.05)
+        self.assertEqual(slow.count, 1 if wait else self.CLIENTS)
+        slow.goes.set()
+        for thread in threads:
+            thread.join(30)
+        self.assertEqual(len(got), self.CLIENTS)
+        return got
+
+    def test_one_asks_for_all(self) -> None:
+        slow = Slow(("Cache-Control", "max-age=60"))
+        self.assertEqual(self.ask(slow), [("200", b"hello")] * self.CLIENTS)
+        self.assertEqual(slow.count, 1)
+
+    def test_nobody_waits_if_that_is_not_told(self) -> None:
+        slow = Slow(("Cache-Control", "max-age=60"))
+        self.assertEqual(self.ask(slow, wait=0), [("200", b"hello")] * self.CLIENTS)
+
+    def test_each_asks_for_what_is_not_stored(self) -> None:
+        slow = Slow(("Cache-Control", "no-store"))
+        self.assertEqual(self.ask(slow), [("200", b"hello")] * self.CLIENTS)
+        self.assertEqual(slow.count, self.CLIENTS)
+
+    def test_others_go_on_after_a_failure(self) -> None:
+        slow = Slow(("Cache-Control", "max-age=60"), fails=True)
+        got = self.ask(slow)
+        self.assertEqual(sorted(got), [("200", b"hello")] * (self.CLIENTS - 1) + [("502", b"hello")])
+
+    def test_others_go_on_if_the_first_client_goes_away(self) -> None:
+        slow = Slow(("Cache-Control", "max-age=60"))
+        got = self.ask(slow, close_first=True)
+        self.assertEqual(sorted(got), [("200", b"he")] + [("200", b"hello")] * (self.CLIENTS - 1))
+
+    def test_nobody_waits_for_longer_than_is_told(self) -> None:
+        now = [1000]
+        slow = Slow(("Cache-Control", "max-age=60"))
+        cached, got = wsgi.Cached(slow, Cache(shared=True, wait=5), clock=lambda: now[0]), []
+        threads = [
+            threading.Thread(target=lambda: got.append(b"".join(cached(dict(self.ENVIRON), Head())))) for _ in range(2)
+        ]
+        threads[0].start()
+        self.assertTrue(slow.asked.wait(30))
+        threads[1].start()
+        time.sleep(0.2)
+        self.assertEqual(slow.count, 1)
+        now[0] = 1005
+        while slow.count == 1 and threads[1].is_alive():
+            time.sleep(0.05)
+        self.assertEqual(slow.count, 2)
+        slow.goes.set()
+        for thread in threads:
+            thread.join(30)
+        self.assertEqual(got, [b"hello"] * 2)
+
+    def tasks(self, *fields: Tuple[bytes, bytes], status: int = 200, is_cancelled: bool = False) -> Tuple[int, List[Any]]:
+        """How often the application is asked, and what each client gets; the first may be cancelled."""
+        asked, goes, count = asyncio.Event(), asyncio.Event(), [0]
+
+        async def application(scope: Any, receive: Any, send: Any) -> None:
+            count[0] += 1
+            is_first = count[0] == 1
+            asked.set()
+            await goes.wait()
+            head = (status, []) if is_first and status != 200 else (200, list(fields))
+            await send({"type": "http.response.start", "status": head[0], "headers": head[1]})
+            await send({"type": "http.response.body", "body": b"he", "more_body": True})
+            await send({"type": "http.response.body", "body": b"llo"})
+
+        async def run() -> List[Any]:
+            cached = asgi.Cached(application, Cache(shared=True, wait=60))
+            tasks = [asyncio.create_task(get(cached, "/", {}))]
+            await asked.wait()
+            tasks += [asyncio.create_task(get(cached, "/", {})) for _ in range(1, self.CLIENTS)]
+            await asyncio.sleep(0.1)
+            self.assertEqual(count[0], 1)
+            if is_cancelled:
+                tasks[0].cancel()
+            goes.set()
+            return await asyncio.gather(*tasks, return_exceptions=True)
+
+        got = asyncio.run(run())
+        return count[0], [it[::2] if isinstance(it, tuple) else type(it) for it in got]
+
+    def test_one_task_asks_for_all(self) -> None:
+        self.assertEqual(self.tasks((b"cache-control", b"max-age=60")), (1, [(200, b"hello")] * self.CLIENTS))
+
+    def test_each_task_asks_for_what_is_not_stored(self) -> None:
+        found = self.tasks((b"cache-control", b"no-store"))
+        self.assertEqual(found, (self.CLIENTS, [(200, b"hello")] * self.CLIENTS))
+
+    def test_other_tasks_go_on(self) -> None:
+        count, got = self.tasks((b"cache-control", b"max-age=60"), status=502)
+        self.assertEqual(got, [(502, b"hello")] + [(200, b"hello")] * (self.CLIENTS - 1))
+        count, got = self.tasks((b"cache-control", b"max-age=60"), is_cancelled=True)
+        self.assertEqual(got, [asyncio.CancelledError] + [(200, b"hello")] * (self.CLIENTS - 1))
+
+
 class Changing(unittest.TestCase):
     def test_what_a_put_outdates_is_not_stored(self) -> None:
         """A PUT begins between the end of a response and the call that stores it."""

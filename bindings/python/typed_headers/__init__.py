@@ -27,6 +27,7 @@ from .caching import (
     PassOn,
     Reply,
     Times,
+    Wait,
     current_age,
     decide,
     heuristic_lifetime,

@@ -4,17 +4,19 @@ The pass decides what is done. A `Turn` adds what is a program's own: a clock, h
 request at a time validates what was served stale.
 """
 
-from threading import Lock
+from threading import Event, Lock
 from typing import Callable, Optional, Sequence, Set, Union
 
 from ._exchange import Fields, length_of
-from .caching import Ask, Cache, Pass, PassOn, Reply
+from .caching import Ask, Cache, Pass, PassOn, Reply, Wait
 from .errors import HeaderError
 from .headers import Headers
 from .values import Host
 
 #: What is next: `None` passes the application's response on.
-Step = Union[Ask, Reply]
+Step = Union[Ask, Reply, Wait]
+#: A request that waits tries again after so many seconds at the latest.
+MOMENT = 1.0
 
 
 def target_of(scheme: str, hosts: Sequence[str], server: str, path: str, query: str) -> Optional[str]:
@@ -69,6 +71,25 @@ class Turn:
         except (HeaderError, MemoryError):
             return self.asked
         return self._next(self.pass_.step)
+
+    def wait(self) -> Step:
+        """What is done once the request for which this one waits has ended."""
+        woken = Event()
+        step = self.resume(woken.set)
+        while isinstance(step, Wait):
+            woken.wait(MOMENT)
+            woken.clear()
+            step = self.resume(woken.set)
+        return step
+
+    def resume(self, wake: Callable[[], None]) -> Step:
+        """What is done after a wait. If that is to wait on, `wake` is called once some request has ended."""
+        assert self.pass_ is not None
+        try:
+            return self._next(self.pass_.resume(now=self.rules.now(), wake=wake))
+        except MemoryError:
+            self.end()
+            return self.asked
 
     def came(self, status: int, fields: Fields) -> Optional[Step]:
         """What is done with the response of the application: `None` passes it on."""
@@ -133,6 +154,8 @@ class Turn:
 
     def end(self) -> None:
         """Nothing more comes of the application."""
+        if self.pass_ is not None:
+            self.pass_.close()
         self.came_as = self.pass_ = None
         if self.is_validation:
             self.is_validation = False
@@ -142,6 +165,6 @@ class Turn:
     def _next(self, step: Step) -> Step:
         if isinstance(step, Ask):
             self.asked = step
-        else:
+        elif isinstance(step, Reply):
             self.validates = step.validates
         return step

@@ -18,8 +18,10 @@ application that answers for resources.
 b'01234'
 """
 
+import asyncio
 import secrets
 import time
+from contextlib import suppress
 from dataclasses import dataclass, field, replace
 from typing import (
     Any,
@@ -39,7 +41,7 @@ from typing import (
 )
 from urllib.parse import quote
 
-from ._cached import Ask, Reply, Rules, Step, Turn, target_of
+from ._cached import MOMENT, Ask, Reply, Rules, Step, Turn, Wait, target_of
 from ._exchange import CONDITIONS, ORIGINS, Cutter, Fields, Response, length_of, respond, tagged
 from ._serving import DECIDING, Explanation, explained, list_alternatives, ranges
 from .caching import Cache
@@ -233,6 +235,8 @@ class Cached:
     most `largest` bytes. One with Set-Cookie isn't stored. A request that isn't safe removes what is stored for its URI,
     and for the URIs of Location and Content-Location at the same host.
 
+    If the cache has `wait`, a GET waits for another that asks the application for the same, by asyncio.
+
     `clock` gives the seconds since 1970. Each request is a pass through the cache, which is held for a step of it alone.
     """
 
@@ -261,6 +265,8 @@ class Cached:
             return
         turn = Turn(self.rules, scope["method"], target, request)
         step: Optional[Step] = turn.start()
+        if isinstance(step, Wait):
+            step = await _waited(turn)
         given = _Given(receive, scope["method"])
         while isinstance(step, Ask):
             if not given.rewind():
@@ -289,9 +295,31 @@ class Cached:
             if step is None:
                 raise
             return step
+        except BaseException:
+            # (the client went away, perhaps: others wait no longer)
+            turn.end()
+            raise
         if not isinstance(passing.step, Ask):
             turn.end()
         return passing.step
+
+
+async def _waited(turn: Turn) -> Step:
+    """What is done once the request for which this one waits has ended."""
+    loop, woken = asyncio.get_running_loop(), asyncio.Event()
+
+    def wake() -> None:
+        # (a loop that is closed has nobody who waits)
+        with suppress(RuntimeError):
+            loop.call_soon_threadsafe(woken.set)
+
+    step = turn.resume(wake)
+    while isinstance(step, Wait):
+        with suppress(asyncio.TimeoutError):
+            await asyncio.wait_for(woken.wait(), MOMENT)
+        woken.clear()
+        step = turn.resume(wake)
+    return step
 
 
 class _Given:

@@ -7,7 +7,7 @@ import threading
 import time
 from dataclasses import dataclass
 from enum import IntEnum
-from typing import Any, Callable, Iterable, List, Optional, Sequence, Tuple, TypeVar, Union
+from typing import Any, Callable, Iterable, List, Optional, Sequence, Set, Tuple, TypeVar, Union
 
 from . import _library
 from ._library import Text, Time
@@ -23,6 +23,7 @@ __all__ = [
     "PassOn",
     "Reply",
     "Times",
+    "Wait",
     "current_age",
     "decide",
     "heuristic_lifetime",
@@ -242,6 +243,11 @@ class Reply:
 
 
 @dataclass(frozen=True)
+class Wait:
+    """Another pass asks the origin for the same: `Pass.resume` says what is done once that has ended, or its time is over."""
+
+
+@dataclass(frozen=True)
 class PassOn:
     """The client gets what the origin answered."""
 
@@ -258,6 +264,7 @@ class _Action(IntEnum):
     PASS_ON_TO_END = 5
     PASS_ON = 6
     NO_RESPONSE = 7
+    WAIT = 8
 
 
 Found = TypeVar("Found")
@@ -287,8 +294,8 @@ class Pass:
     b'el'
     """
 
-    #: What is done first.
-    step: Union[Ask, Reply]
+    #: What is done first. `Wait` comes only of a cache with `wait`.
+    step: Union[Ask, Reply, Wait]
 
     def __init__(self, cache: "Cache", method: str, target: str, request: Headers, now: Optional[Time] = None) -> None:
         self._cache, self._method, self._target, self._request = cache, method, target, request
@@ -298,14 +305,25 @@ class Pass:
             status, self._handle, facts = cache._call(_library.calls.pass_begin, given, _present(now))
             _library.check(status, lambda: _refused(asked))
             step = self._told(facts)
-        assert isinstance(step, (Ask, Reply))
+        assert isinstance(step, (Ask, Reply, Wait))
         self.step = step
+
+    def resume(
+        self, *, now: Optional[Time] = None, wake: Optional[Callable[[], None]] = None
+    ) -> Union[Ask, Reply, Wait]:
+        """What is done after `Wait`. If that is to wait on, `wake` is called once some pass through the cache has ended."""
+        with self._cache._lock:
+            step = self._step("resume", _library.calls.pass_resume, _present(now))
+            if wake is not None and isinstance(step, Wait):
+                self._cache._waking.add(wake)
+        assert isinstance(step, (Ask, Reply, Wait))
+        return step
 
     def came(self, status: int, response: HeadersLike, *, now: Optional[Time] = None) -> Union[Ask, Reply, PassOn]:
         """What is done with the status and the fields of the origin's response."""
         given, code = Headers(response).section, _library.to_number(status, "status", 16)
         step = self._step("came", _library.calls.pass_came, code, given, _present(now), sections=(given,))
-        assert step is not None
+        assert isinstance(step, (Ask, Reply, PassOn))
         return step
 
     def failed(self, *, now: Optional[Time] = None) -> Optional[Reply]:
@@ -328,6 +346,7 @@ class Pass:
         """
         ended, number = self._call(_library.calls.pass_ended, complete, _present(now))
         _check_passing("ended", ended)
+        self._cache._wake()
         return number != 0
 
     def validation(self, *, now: Optional[Time] = None) -> Optional["Pass"]:
@@ -337,29 +356,40 @@ class Pass:
         """
         request = Headers([*self._request.pairs(), ("cache-control", "no-cache")])
         with self._cache._lock:
-            step = Pass(self._cache, self._method, self._target, self._request, now).step
-            if not isinstance(step, Reply) or not step.validates:
+            served = Pass(self._cache, self._method, self._target, self._request, now)
+            if not isinstance(served.step, Reply) or not served.step.validates:
+                served.close()
                 return None
             return Pass(self._cache, self._method, self._target, request, now)
 
     def close(self) -> None:
-        """Ends the pass. Nothing more is stored of it."""
-        _library.calls.pass_free(self._handle)
+        """Ends the pass. Nothing more is stored of it, and no other waits for it."""
+        with self._cache._lock:
+            if self._cache._is_open:
+                self._call(_library.calls.pass_failed, 0)
+                self._call(_library.calls.pass_ended, False, 0)
+            _library.calls.pass_free(self._handle)
+        self._cache._wake()
 
     def _call(self, call: Callable[..., Found], *arguments: Any) -> Found:
         return self._cache._call(call, self._handle, *arguments)
 
     def _step(
         self, name: str, call: Callable[..., Tuple[int, Any]], *arguments: Any, sections: Sequence[bytes] = ()
-    ) -> Union[None, Ask, Reply, PassOn]:
-        with self._cache._lock:
-            ended, facts = self._call(call, *arguments)
-            if ended == _library.ABSENT:
-                raise OutOfOrder(name, "the origin isn't asked")
-            _check(ended, *sections)
-            return self._told(facts)
+    ) -> Union[None, Ask, Reply, PassOn, Wait]:
+        try:
+            with self._cache._lock:
+                ended, facts = self._call(call, *arguments)
+                if ended == _library.ABSENT:
+                    raise OutOfOrder(name, "it doesn't wait" if name == "resume" else "the origin isn't asked")
+                _check(ended, *sections)
+                return self._told(facts)
+        finally:
+            # (nobody waits for a pass that waits)
+            if name != "resume":
+                self._cache._wake()
 
-    def _told(self, facts: Tuple[int, int, int, int]) -> Union[None, Ask, Reply, PassOn]:
+    def _told(self, facts: Tuple[int, int, int, int]) -> Union[None, Ask, Reply, PassOn, Wait]:
         """What a step says. The cache is held since then, so the response that it names is still stored."""
         first, count, status, number = facts
         action = _Action(number)
@@ -373,6 +403,8 @@ class Pass:
             return PassOn(action is _Action.PASS_ON_TO_END)
         if action is _Action.NO_RESPONSE:
             return None
+        if action is _Action.WAIT:
+            return Wait()
         content: Optional[bytes] = None
         if count:
             ended, content = self._call(_library.calls.pass_content, first, count)
@@ -397,6 +429,9 @@ class Cache:
     `targets` are the names of targeted fields, as `CDN-Cache-Control`, the most applicable first: the first one that a
     response has, valid and not empty, counts in place of its Cache-Control and Expires (RFC 9213).
 
+    With `wait`, a GET without Range waits for another that asks the origin for the same, for at most so many seconds
+    (RFC 9111, section 4): a pass may say `Wait` first.
+
     >>> with Cache(shared=True) as cache:
     ...     first = cache.begin("GET", "http://a.example/", {}, now=1000)
     ...     first.came(200, {"Cache-Control": "max-age=60"}, now=1000)
@@ -418,17 +453,21 @@ class Cache:
         guess: int = 0,
         immutable: bool = False,
         targets: Sequence[Text] = (),
+        wait: int = 0,
     ) -> None:
         limits = (("variants", variants), ("responses", responses), ("content", content), ("guess", guess))
         first, second, third, fourth = (_library.to_number(number, what) for what, number in limits)
+        fifth = _library.to_number(wait, "wait")
         names = _library.joined(_library.to_lines("targets", targets))
         status, self._handle = _library.calls.cache_new_with(
-            (first, second, third, fourth, shared), (names, immutable)
+            (first, second, third, fourth, shared), (names, immutable, fifth)
         )
         _library.check(status, lambda: HeaderError(f"some of these is no field name: {list(targets)}"))
         #: Whether it serves several users.
         self.shared = shared
         self._lock, self._is_open = threading.RLock(), True
+        # What is called once some pass has ended.
+        self._waking: Set[Callable[[], None]] = set()
 
     def __enter__(self) -> "Cache":
         return self
@@ -447,6 +486,12 @@ class Cache:
             if not self._is_open:
                 raise ValueError("the cache is closed")
             return call(self._handle, *arguments)
+
+    def _wake(self) -> None:
+        with self._lock:
+            waking, self._waking = self._waking, set()
+        for wake in waking:
+            wake()
 
     def begin(self, method: str, target: str, request: HeadersLike, *, now: Optional[Time] = None) -> Pass:
         """Begins a pass for a request; its `step` says what is done first.

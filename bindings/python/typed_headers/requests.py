@@ -17,7 +17,7 @@ from requests.adapters import HTTPAdapter
 from urllib3 import HTTPHeaderDict, HTTPResponse
 from urllib3.exceptions import HTTPError
 
-from ._cached import Ask, Reply, Rules, Step, Turn
+from ._cached import Ask, Reply, Rules, Step, Turn, Wait
 from ._exchange import length_of
 from .caching import Cache
 from .errors import HeaderError
@@ -61,6 +61,8 @@ class CachedAdapter(HTTPAdapter):
             raise requests.exceptions.InvalidHeader(str(error), request=request) from error
         turn = Turn(self.rules, request.method or "GET", urldefrag(request.url or "").url, fields)
         step: Optional[Step] = turn.start()
+        if isinstance(step, Wait):
+            step = turn.wait()
         while isinstance(step, Ask):
             try:
                 response = super().send(_asking(request, step), stream, *given, **named)

@@ -39,7 +39,7 @@ from ._exchange import (
     respond,
     tagged,
 )
-from ._cached import Ask, Reply, Rules, Step, Turn, target_of
+from ._cached import Ask, Reply, Rules, Step, Turn, Wait, target_of
 from ._serving import DECIDING, Explanation, explained, list_alternatives, ranges
 from .caching import Cache
 from .cors import CorsKind, CorsPolicy
@@ -262,6 +262,8 @@ class Cached:
     has at most `largest` bytes. One with Set-Cookie isn't stored. A request that isn't safe removes what is stored for
     its URI, and for the URIs of Location and Content-Location at the same host.
 
+    If the cache has `wait`, a GET waits for another that asks the application for the same.
+
     `clock` gives the seconds since 1970. Each request is a pass through the cache, which is held for a step of it alone.
 
     >>> from typed_headers import Cache
@@ -300,6 +302,8 @@ class Cached:
             return _bad_request(start_response)
         turn = Turn(self.rules, environ["REQUEST_METHOD"], target, request)
         step: Optional[Step] = turn.start()
+        if isinstance(step, Wait):
+            step = turn.wait()
         while isinstance(step, Ask):
             started = _Started(start_response)
             try:

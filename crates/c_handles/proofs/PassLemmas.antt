@@ -1,29 +1,51 @@
 -- A pass that has begun, and for which memory ran out then.
-use Rattle.std.proofs.Common.{◌≡◌, ℕ, List, Option, Some, None, Ok, Err, inr, refl, subst, sym}
+use Rattle.std.proofs.Common.{◌≡◌, ◌⊎◌, ◌∙◌, ℕ, List, Option, Some, None, Ok, Err, ap, inl, inr, refl, subst, sym}
+use Rattle.std.specs.Prelude.{string_bytes}
 use Rattle.cache_store.specs.History.Call.{Looked}
-use Rattle.cache_pass.specs.Effects.{Does, kept_of, settings_of}
+use Rattle.cache_pass.{specs.Effects.{Does, kept_of, settings_of}, specs.Passes.key_of, specs.Queue.Enters}
 use Rattle.c_parts.specs.declared.status.Failure.TheVariants.{Memory}
-use Rattle.c_pass.{specs.Steps.{Begins, FailsBegin, IsBegun}, specs.declared.held.Shared.Shared}
+use Rattle.c_pass.{specs.Steps.{Begins, FailsBegin, IsBegun, IsLookedUp, IsStarted, IsWaiting}, specs.Telling.waiting}
+use Rattle.c_pass.{specs.Waiting.{IsAhead, IsPlaced}, specs.declared.held.Place.Place}
+use Rattle.c_pass.specs.declared.held.Shared.{Shared}
 use Rattle.c_pass.{specs.declared.held.Stepped.Stepped, specs.declared.reading.CacheRequest.CacheRequest}
 use Rattle.c_pass.specs.declared.telling.PassFacts.{PassFacts}
 use Rattle.c_handles.{specs.Passes.{BeginsThrough, OnCache}, specs.declared.held.Held.Held}
 use Rattle.c_handles.specs.declared.held.Held.TheVariants as held
 
 -- its target was looked up
-pub lost_begin : (request : CacheRequest) (now : ℕ) (old new : Shared) (stepped : Stepped) (facts : PassFacts)
+lost_begin : (request : CacheRequest) (now : ℕ) (old new : Shared) (stepped : Stepped) (facts : PassFacts)
     → IsBegun request now old new stepped facts → FailsBegin request now old new Memory
-lost_begin request now old new stepped facts begun =
-    inr (
-      refl,
-      inr
-          record {
-            does =
-                subst (λ (key : List ℕ). Does (settings_of old.cache) (Looked key) (kept_of old.cache) (kept_of new.cache))
-                begun.key begun.begun.does;
-            settings = begun.begun.settings;
-            beside = begun.beside;
-          },
-    )
+lost_begin request now old new stepped facts begun = inr (refl, inr (looked begun.begins))
+  where
+    entered : (place : Place) → key_of stepped.pass ≡ request.target.now
+        → IsPlaced stepped.pass now old.queue new.queue place
+        → (new.queue ≡ old.queue)
+        ⊎ ((number : Option ℕ) × Enters request.target.now now old.queue new.queue number)
+    entered place key (inl (apart, same, is)) = inl same
+    entered place key (inr (collapses, (number, enters, is))) =
+        inr (number, subst (λ (target : List ℕ). Enters target now old.queue new.queue number) key enters)
+
+    looked : (IsAhead old.queue stepped.pass now None × IsStarted now old new begun.pass stepped facts)
+        ⊎ (IsWaiting now old new begun.pass stepped × (facts ≡ waiting))
+        → IsLookedUp request now old new
+    looked (inl (alone, started)) =
+        record {
+          does =
+              subst (λ (key : List ℕ). Does (settings_of old.cache) (Looked key) (kept_of old.cache) (kept_of new.cache))
+              begun.key started.begun.does;
+          settings = started.begun.settings;
+          queue = entered stepped.place (ap string_bytes started.begun.same.key ∙ begun.key) started.place;
+          beside = started.beside;
+        }
+    looked (inr (waits, told)) =
+        record {
+          does =
+              subst (λ (key : List ℕ). Does (settings_of old.cache) (Looked key) (kept_of old.cache) (kept_of new.cache))
+              begun.key waits.begun.does;
+          settings = waits.begun.settings;
+          queue = inl waits.queue;
+          beside = waits.beside;
+        }
 
 lost_in : (request : CacheRequest) (now : ℕ) (old new : Held) (stepped : Stepped) (facts : PassFacts)
     → OnCache (Begins request now) (Some old) (Some new) (Ok (stepped, facts))

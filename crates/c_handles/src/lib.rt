@@ -18,7 +18,7 @@ pub use crate::opening::{
     close, open_cache, open_cache_with, open_policy, open_resource, open_section,
 };
 pub use crate::passing::{
-    begin_pass, copy_pass_content, pass_came, pass_ended, pass_failed, pass_received,
+    begin_pass, copy_pass_content, pass_came, pass_ended, pass_failed, pass_received, pass_resume,
     remove_stored, write_pass_fields,
 };
 pub use crate::policy::answer_cross_origin;

@@ -2,6 +2,7 @@
 ghost use Rattle.std.specs.Prelude.{◌≡◌, IsErr, Some};
 ghost use Rattle.c_parts.specs.Endings.{Writes, done};
 ghost use Rattle.c_pass.{specs.Caches.Removes, specs.Steps.{Begins, Comes, Ends, Fails, Receives}};
+ghost use Rattle.c_pass.specs.Steps.{Resumes};
 ghost use Rattle.c_handles.{specs.Handles.{cache_in, pass_in}, specs.Passes.{BeginsThrough, CopiesContent, OnBoth}};
 ghost use Rattle.c_handles.specs.Passes.{OnCache, ShowsFields};
 
@@ -22,6 +23,20 @@ fn begin_in(
 {
     match cache {
         Held::Cache(shared) => c_pass::begin(alloc, shared, request, now),
+        _ => Err(Failure::Absent),
+    }
+}
+
+fn resume_in(
+    alloc: Global,
+    cache: &mut Held,
+    pass: &mut Held,
+    now: u64,
+) -> Result<PassFacts, Failure>
+    ensures { OnBoth (Resumes now) (Some cache.old) (Some cache.new) (Some pass.old) (Some pass.new) result }
+{
+    match (cache, pass) {
+        (Held::Cache(shared), Held::Pass(stepped)) => c_pass::resume(alloc, shared, stepped, now),
         _ => Err(Failure::Absent),
     }
 }
@@ -117,6 +132,28 @@ pub fn begin_pass(
         }
         Err(_) => Err(Failure::Memory),
     }
+}
+
+/// Begins a pass that waits, if it need wait no longer.
+pub fn pass_resume(
+    alloc: Global,
+    cache: &mut Handle,
+    pass: &mut Handle,
+    now: u64,
+) -> Result<PassFacts, Failure>
+    ensures { OnBoth (Resumes now) cache.old.held cache.new.held pass.old.held pass.new.held result }
+{
+    let Some(mut shared) = cache.take(alloc) else {
+        return Err(Failure::Absent);
+    };
+    let Some(mut stepped) = pass.take(alloc) else {
+        cache.put(shared);
+        return Err(Failure::Absent);
+    };
+    let facts = resume_in(alloc, &mut shared, &mut stepped, now);
+    cache.put(shared);
+    pass.put(stepped);
+    facts
 }
 
 /// Makes the step of a pass at which the status and the fields of the origin's response came.

@@ -2,7 +2,7 @@
 ghost use Rattle.std.specs.Prelude.{◌≡◌, ◌≢◌, None};
 ghost use Rattle.c_parts.specs.Endings.{Gives, Writes, done};
 ghost use Rattle.c_pass.{specs.Caches.{IsExtended, IsPlain, Removes}, specs.Steps.{Comes, Ends as EndsPass, Fails}};
-ghost use Rattle.c_pass.specs.Steps.{Receives};
+ghost use Rattle.c_pass.specs.Steps.{Receives, Resumes};
 ghost use Rattle.c_handles.{specs.Handles.{Opens, cache_in, pass_in}, specs.Passes.{BeginsThrough, CopiesContent}};
 ghost use Rattle.c_handles.specs.Passes.{IsCacheHeld, OnBoth, OnCache, ShowsFields};
 ghost use Rattle.c_library.specs.CacheStore.{Ends, TellsNumber, ended};
@@ -10,7 +10,7 @@ ghost use Rattle.c_library.specs.CacheStore.{Ends, TellsNumber, ended};
 use crate::giving::give;
 use c_handles::{
     Handle, begin_pass, close, copy_pass_content, open_cache, open_cache_with, pass_came,
-    pass_ended, pass_failed, pass_received, remove_stored, write_pass_fields,
+    pass_ended, pass_failed, pass_received, pass_resume, remove_stored, write_pass_fields,
 };
 use c_parts::{DONE, Failure, HashKeys};
 use c_pass::{CacheExtensions, CacheOptions, CacheRequest, PassFacts};
@@ -96,6 +96,22 @@ pub extern "C" fn typed_headers_pass_begin(
         facts.old facts.new result }
 {
     give(begin_pass(alloc, cache, pass, request, now), facts)
+}
+
+/// Says what is done after a wait.
+#[unsafe(no_mangle)]
+pub extern "C" fn typed_headers_pass_resume(
+    alloc: Global,
+    cache: &mut Handle,
+    pass: &mut Handle,
+    now: u64,
+    facts: &mut PassFacts,
+) -> u8
+    ensures { Gives
+        (OnBoth (Resumes now) cache.old.held cache.new.held pass.old.held pass.new.held)
+        facts.old facts.new result }
+{
+    give(pass_resume(alloc, cache, pass, now), facts)
 }
 
 /// Says what is done once the status and the fields of the origin's response came.

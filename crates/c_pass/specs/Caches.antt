@@ -28,12 +28,14 @@ extended options extensions =
       targets = names_in extensions.targets.now;
     }
 
--- an empty cache, which decides by this policy
-pub record IsNew (options : CacheOptions) (by : Policy) (keys : HashKeys) (shared : Shared) : Type 0 where
+-- an empty cache, which decides by this policy; and for how many seconds requests wait
+pub record IsNew (options : CacheOptions) (by : Policy) (wait : ℕ) (keys : HashKeys) (shared : Shared) : Type 0 where
   pub contents : contents_of shared.cache.store ≡ []
   pub policy : policy_of_store shared.cache.store ≡ by
   pub limits : shared.cache.store.limits ≡ limits_of options
   pub guess : shared.cache.guess ≡ options.guess
+  pub limit : shared.queue.limit ≡ wait
+  pub nobody : shared.queue.entries.items ≡ []
   pub keys_are : shared.keys ≡ keys
   pub most_is : shared.most ≡ options.bytes
 
@@ -43,12 +45,12 @@ IsMade P (Ok shared) = P shared
 IsMade P (Err failure) = failure ≡ Memory
 
 abbrev pub IsPlain : CacheOptions → HashKeys → Result Shared Failure → Type 0
-IsPlain options keys = IsMade (IsNew options (plain (kind_of options.is_shared)) keys)
+IsPlain options keys = IsMade (IsNew options (plain (kind_of options.is_shared)) 0 keys)
 
 -- The same with extensions; `Refused` only if some line of theirs is no name of a field.
 abbrev pub IsExtended : CacheOptions → CacheExtensions → HashKeys → Result Shared Failure → Type 0
 IsExtended options extensions keys (Ok shared) =
-    AreNames extensions.targets.now × IsNew options (extended options extensions) keys shared
+    AreNames extensions.targets.now × IsNew options (extended options extensions) extensions.wait keys shared
 IsExtended options extensions keys (Err Refused) = ¬ (AreNames extensions.targets.now)
 IsExtended options extensions keys (Err Memory) = ⊤
 IsExtended options extensions keys (Err Absent) = ⊥
@@ -64,6 +66,7 @@ pub record IsRemoved (target : List ℕ) (old new : Shared) : Type 0 where
   pub text : IsUtf8 target
   pub does : Does (settings_of old.cache) (Removed target) (kept_of old.cache) (kept_of new.cache)
   pub settings : settings_of new.cache ≡ settings_of old.cache
+  pub queue : new.queue ≡ old.queue
   pub beside : IsSameBeside old new
 
 abbrev pub Removes : List ℕ → (old new : Shared) → Result (Unit {0}) Failure → Type 0

@@ -5,3 +5,4 @@ pub mod Reading
 pub mod Sending
 pub mod Steps
 pub mod Telling
+pub mod Waiting

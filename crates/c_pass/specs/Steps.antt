@@ -1,5 +1,5 @@
 -- The steps of passes, by what a caller hands in: each is the step of `cache_pass` and tells of it.
-use Rattle.std.specs.Prelude.{◌≡◌, ◌⊎◌, ℕ, ◌<◌, Bool, true, false, List, [], length, take, drop, Option, Some, None}
+use Rattle.std.specs.Prelude.{◌≡◌, ◌≢◌, ◌⊎◌, ℕ, ◌<◌, Bool, true, false, List, [], length, take, drop, Option, Some, None}
 use Rattle.std.specs.Prelude.{IsSomeAnd, Result, Ok, Err, ◌+◌, ◌++◌, ◌&&◌, if◌then◌else◌, is_some, nat_le, option_map, unwrap_or}
 use Rattle.http.specs.StatusCode.{IsStatusCode}
 use Rattle.http_header.{specs.FieldValue.FieldValue, specs.HeaderMap.Entries}
@@ -9,15 +9,17 @@ use Rattle.cache_rules.specs.declared.storing.Reception.TheVariants.{Complete, I
 use Rattle.cache_rules.specs.declared.stored.StoredResponse.{StoredResponse}
 use Rattle.cache_store.{specs.History.Call.Looked, specs.Numbers.numbered}
 use Rattle.cache_pass.{specs.Effects.{Does, kept_of, settings_of, stored_at}, specs.declared.pass.Pass.Pass}
-use Rattle.cache_pass.specs.Passes.{IsNotPassing, asked_of, key_of, request_of_pass}
+use Rattle.cache_pass.specs.Passes.{IsNotPassing, IsSameRequest, asked_of, key_of, request_of_pass}
+use Rattle.cache_pass.{specs.Queue.{Enters, is_open}, specs.declared.pass.Phase.TheVariants.Began}
 use Rattle.cache_pass.{specs.Steps.{HasBegun, HasCome, HasEnded, HasFailed}, specs.declared.replying.First.First}
 use Rattle.cache_pass.{specs.declared.replying.Reply.Reply, specs.declared.revalidating.Next.Next}
 use Rattle.c_decisions.specs.StatusCodes.{IsStatusOf}
 use Rattle.c_parts.{specs.Endings.{IsWritten, done}, specs.SectionMap.IsMapOf, specs.declared.status.Failure.Failure}
 use Rattle.c_parts.specs.declared.status.Failure.TheVariants.{Memory, Absent}
 use Rattle.c_pass.specs.Outcomes.{failed_outcome, first_outcome, named_by, next_outcome}
-use Rattle.c_pass.specs.Caches.{IsSameBeside}
-use Rattle.c_pass.{specs.Reading.{FailsRequest, IsRequest, asked_by}, specs.Telling.{is_head, outcome_told}}
+use Rattle.c_pass.{specs.Caches.IsSameBeside, specs.Waiting.{IsAhead, IsPlaced, IsSettled}}
+use Rattle.c_pass.specs.declared.held.Place.TheVariants.{Apart, Waiting}
+use Rattle.c_pass.{specs.Reading.{FailsRequest, IsRequest, asked_by}, specs.Telling.{is_head, outcome_told, waiting}}
 use Rattle.c_pass.{specs.declared.held.Shared.Shared, specs.declared.held.Stepped.Stepped}
 use Rattle.c_pass.{specs.declared.outcome.Named.Named, specs.declared.outcome.Outcome.Outcome}
 use Rattle.c_pass.specs.declared.outcome.Named.TheVariants as named
@@ -38,26 +40,53 @@ pub record IsSilent (stepped : Stepped) : Type 0 where
   pub named : stepped.named ≡ named.Nothing
   pub text : stepped.text.items ≡ []
 
+-- the first step of a pass
+
+module _ (now : ℕ) (old new : Shared) (pass : Pass) (stepped : Stepped) where
+  -- it is made, and told
+  pub record IsStarted (facts : PassFacts) : Type 0 where
+    pub first : First
+    pub begun : HasBegun pass old.cache now stepped.pass new.cache first
+    pub tells : Tells now new stepped (first_outcome first) facts
+    pub content : stepped.content ≡ None
+    pub place : IsPlaced stepped.pass now old.queue new.queue stepped.place
+    pub beside : IsSameBeside old new
+
+  -- The origin is asked for the same, so the pass that would ask is none yet: there is a new one for its request, which
+  -- waits. What is stored was looked up, and that is all.
+  pub record IsWaiting : Type 0 where
+    pub asking : Pass
+    pub first : First
+    pub begun : HasBegun pass old.cache now asking new.cache first
+    pub number : ℕ
+    pub ahead : IsAhead old.queue asking now (Some number)
+    pub place : stepped.place ≡ Waiting number
+    pub same : IsSameRequest asking stepped.pass
+    pub began : stepped.pass.phase ≡ Began
+    pub silent : IsSilent stepped
+    pub content : stepped.content ≡ None
+    pub queue : new.queue ≡ old.queue
+    pub beside : IsSameBeside old new
+
 -- a pass begins
 
 module _ (request : CacheRequest) (now : ℕ) (old new : Shared) where
-  -- a new pass for the request begins
+  -- a new pass for the request begins, or waits
   pub record IsBegun (stepped : Stepped) (facts : PassFacts) : Type 0 where
     pub fields : Entries FieldValue
     pub is_request : IsRequest request fields
     pub pass : Pass
     pub key : key_of pass ≡ request.target.now
     pub asks : request_of_pass pass ≡ asked_by request fields
-    pub first : First
-    pub begun : HasBegun pass old.cache now stepped.pass new.cache first
-    pub tells : Tells now new stepped (first_outcome first) facts
-    pub content : stepped.content ≡ None
-    pub beside : IsSameBeside old new
+    pub begins : (IsAhead old.queue stepped.pass now None × IsStarted now old new pass stepped facts)
+        ⊎ (IsWaiting now old new pass stepped × (facts ≡ waiting))
 
-  -- what is stored was looked up, and that is all
+  -- What is stored was looked up, and that is all. It may be that others wait for the request, until their time is over.
   pub record IsLookedUp : Type 0 where
     pub does : Does (settings_of old.cache) (Looked request.target.now) (kept_of old.cache) (kept_of new.cache)
     pub settings : settings_of new.cache ≡ settings_of old.cache
+    pub queue : (new.queue ≡ old.queue)
+        ⊎ ((number : Option ℕ) × Enters request.target.now now old.queue new.queue number)
     pub beside : IsSameBeside old new
 
   -- the request can't be parsed, or memory ran out, at the latest after a lookup
@@ -88,6 +117,34 @@ module _ (now : ℕ) (old : Shared) (before : Stepped) (new : Shared) (after : S
   abbrev pub IsUntold : Failure → Type 0
   IsUntold failure = (failure ≡ Memory) × IsSilent after
 
+  -- `begin`, after a wait
+
+  -- the pass waited for a request for which others may wait still, or may not
+  pub record HasWaited (may : Bool) : Type 0 where
+    pub number : ℕ
+    pub place : before.place ≡ Waiting number
+    pub may_wait : is_open old.queue number now ≡ may
+
+  abbrev pub IsNotWaiting : Type 0
+  IsNotWaiting = ((number : ℕ) → before.place ≢ Waiting number) ⊎ (before.pass.phase ≢ Began)
+
+  -- its first step is made, and memory ran out for what is told of it
+  pub record IsStartLost : Type 0 where
+    pub first : First
+    pub begun : HasBegun before.pass old.cache now after.pass new.cache first
+    pub silent : IsSilent after
+    pub place : after.place ≡ Apart
+    pub queue : new.queue ≡ old.queue
+    pub beside : IsSameBeside old new
+
+  abbrev pub Resumes : Result PassFacts Failure → Type 0
+  Resumes (Ok facts) =
+      (HasWaited true × (facts ≡ waiting) × IsUnchanged old before new after)
+      ⊎ (HasWaited false × IsStarted now old new before.pass after facts)
+  Resumes (Err failure) =
+      ((failure ≡ Absent) × IsNotWaiting × IsUnchanged old before new after)
+      ⊎ ((failure ≡ Memory) × HasWaited false × IsStartLost)
+
   module _ (status : ℕ) (section : List ℕ) where
     -- `came`, with the response
     pub record IsCame (next : Next) : Type 0 where
@@ -96,6 +153,7 @@ module _ (now : ℕ) (old : Shared) (before : Stepped) (new : Shared) (after : S
       pub holds : Holds section response
       pub come : HasCome before.pass old.cache status response now after.pass new.cache next
       pub content : content_of after ≡ Some []
+      pub place : IsSettled after.pass.phase before.place old.queue new.queue after.place
       pub beside : IsSameBeside old new
 
     -- the failure of parsing it
@@ -112,6 +170,7 @@ module _ (now : ℕ) (old : Shared) (before : Stepped) (new : Shared) (after : S
   pub record IsFailed (found : Option Reply) : Type 0 where
     pub failed : HasFailed before.pass old.cache now after.pass new.cache found
     pub content : after.content ≡ before.content
+    pub place : IsSettled after.pass.phase before.place old.queue new.queue after.place
     pub beside : IsSameBeside old new
 
   abbrev pub Fails : Result PassFacts Failure → Type 0
@@ -128,6 +187,7 @@ module _ (now : ℕ) (old : Shared) (before : Stepped) (new : Shared) (after : S
       pub ended : HasEnded before.pass old.cache (unwrap_or (content_of before) [])
           (reception_of (is_complete && is_some before.content)) now after.pass new.cache number
       pub content : after.content ≡ None
+      pub place : IsSettled after.pass.phase before.place old.queue new.queue after.place
       pub named : after.named ≡ before.named
       pub text : after.text ≡ before.text
       pub beside : IsSameBeside old new
@@ -153,6 +213,7 @@ module _ (most : ℕ) (piece : List ℕ) (before after : Stepped) where
     pub pass : after.pass ≡ before.pass
     pub named : after.named ≡ before.named
     pub text : after.text ≡ before.text
+    pub place : after.place ≡ before.place
 
   -- The piece is kept with those before it. `Absent` if no response passes on that is to be stored. If memory runs out,
   -- nothing is kept from now on.

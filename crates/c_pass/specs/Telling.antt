@@ -18,6 +18,10 @@ is_head pass = bytes_eq pass.method (codes "HEAD")
 abbrev pub facts_of : (action status : ℕ) → ℕ × ℕ → PassFacts
 facts_of action status part = record { first = part.0; count = part.1; status = status; action = action }
 
+-- what is told of a pass that waits
+abbrev pub waiting : PassFacts
+waiting = facts_of 8 0 (0, 0)
+
 -- these facts, and this text
 abbrev pub IsTold : Told → PassFacts × List ℕ → Type 0
 IsTold told is = (told.facts ≡ is.0) × (told.text.items ≡ is.1)

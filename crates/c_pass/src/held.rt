@@ -2,17 +2,30 @@
 
 use crate::outcome::Named;
 use c_parts::HashKeys;
-use cache_pass::{Cache, Pass};
+use cache_pass::{Cache, Pass, Queue};
 
 /// What passes share.
 #[derive(Drop)]
 pub struct Shared {
     /// The cache.
     pub cache: Cache,
+    /// The requests for which the origin is asked.
+    pub queue: Queue,
     /// The keys of the maps of sections.
     pub keys: HashKeys,
     /// How many bytes of content the store may have in all: a pass keeps no more of what comes.
     pub most: usize,
+}
+
+/// Where a pass is in the queue of its cache.
+#[derive(Clone, Copy)]
+pub enum Place {
+    /// Nobody waits for it, and it for nobody.
+    Apart,
+    /// It asks the origin: others may wait for it, by this number.
+    Ahead(u64),
+    /// It waits for the request with this number.
+    Waiting(u64),
 }
 
 /// A pass.
@@ -26,4 +39,6 @@ pub struct Stepped {
     pub text: Vec<u8>,
     /// What came so far of the content of the response that passes on, if it may still be stored.
     pub content: Option<Vec<u8>>,
+    /// Where it is in the queue.
+    pub place: Place,
 }

@@ -6,7 +6,7 @@ ghost use Rattle.c_pass.specs.Caches.{IsExtended, IsMade, IsNew, IsPlain, kind_o
 use crate::held::Shared;
 use crate::names::read_names;
 use c_parts::{Failure, HashKeys};
-use cache_pass::Cache;
+use cache_pass::{Cache, Queue};
 use cache_policy::Kind;
 use cache_store::{Limits, Options, Store};
 use std::alloc::Global;
@@ -36,6 +36,9 @@ pub struct CacheExtensions<'a> {
     pub targets: &'a [u8],
     /// Whether `immutable` of a response counts (RFC 8246).
     pub immutable: bool,
+    /// For how many seconds a request waits at most for another that asks the origin for the same, or 0 for none
+    /// (RFC 9111, section 4).
+    pub wait: u64,
 }
 
 fn kind_of(is_shared: bool) -> Kind
@@ -62,9 +65,10 @@ fn cache_of(
     alloc: Global,
     options: &CacheOptions,
     extended: Options,
+    wait: u64,
     keys: &HashKeys,
 ) -> Result<Shared, Failure>
-    ensures { IsMade (IsNew options.now (policy_with (kind_of options.now.is_shared) extended) keys.now) result }
+    ensures { IsMade (IsNew options.now (policy_with (kind_of options.now.is_shared) extended) wait keys.now) result }
 {
     // The keys are always given.
     let Ok(state) = RandomState::new(keys) else {
@@ -74,6 +78,7 @@ fn cache_of(
     let store = Store::with_options(alloc, kind, extended, limits_of(options), state)?;
     Ok(Shared {
         cache: Cache::new(alloc, store, options.guess)?,
+        queue: Queue::new(alloc, wait),
         keys: *keys,
         most: options.bytes,
     })
@@ -87,7 +92,7 @@ pub fn new_cache(alloc: Global, options: &CacheOptions, keys: &HashKeys) -> Resu
         immutable: false,
         targets: Vec::new(alloc),
     };
-    cache_of(alloc, options, extended, keys)
+    cache_of(alloc, options, extended, 0, keys)
 }
 
 /// An empty cache that does more than RFC 9111. Rejected if a line of its targeted fields is no name of a field.
@@ -103,5 +108,5 @@ pub fn new_cache_with(
         immutable: extensions.immutable,
         targets: read_names(alloc, extensions.targets)?,
     };
-    cache_of(alloc, options, extended, keys)
+    cache_of(alloc, options, extended, extensions.wait, keys)
 }

@@ -11,7 +11,7 @@ use headers::Encoded;
 pub struct Outcome {
     /// The number: 0 to send a stored response, 1 to do so and then validate it, 2 to ask the origin, 3 to ask it
     /// with these fields, 4 to send 504, 5 to pass on what came and then end the pass, 6 to pass it on, 7 to send
-    /// that no response came.
+    /// that no response came. A pass that waits has 8.
     pub action: u8,
     /// By what it is done.
     pub by: By,

@@ -3,15 +3,18 @@ ghost use Rattle.std.{specs.Prelude.{◌≡◌, ◌<◌, length, IfErr, IfOk, Is
 ghost use Rattle.cache_pass.specs.Passes.{IsNotPassing};
 ghost use Rattle.c_parts.specs.declared.status.Failure.TheVariants.{Memory};
 ghost use Rattle.c_pass.{specs.Outcomes.named_by, specs.Steps.{Begins, Comes, Ends, Fails, IsSilent, Tells}};
-ghost use Rattle.c_pass.specs.Steps.{Receives, content_with, reception_of};
+ghost use Rattle.c_pass.{specs.Caches.IsSameBeside, specs.Steps.{Receives, Resumes, content_with, reception_of}};
+ghost use Rattle.c_pass.{specs.Outcomes.first_outcome, specs.Waiting.IsPlaced};
+ghost use Rattle.c_pass.specs.declared.held.Place.TheVariants.{Apart};
 
-use crate::held::{Shared, Stepped};
+use crate::held::{Place, Shared, Stepped};
 use crate::outcome::{Named, Outcome, failed_outcome, first_outcome, named_by, next_outcome};
 use crate::reading::{CacheRequest, read_target};
-use crate::telling::{PassFacts, tell};
+use crate::telling::{PassFacts, tell, waiting};
+use crate::waiting::{ahead, enter, settle};
 use c_decisions::{read_method, read_status};
 use c_parts::{Failure, read_map};
-use cache_pass::{Pass, Phase};
+use cache_pass::{First, Pass, Phase};
 use cache_rules::Reception;
 use std::alloc::{AllocError, Global};
 use std::mem::replace;
@@ -26,6 +29,7 @@ fn tell_step(
 ) -> Result<PassFacts, Failure>
     ensures pass { stepped.new.pass ≡ stepped.old.pass }
     ensures content { stepped.new.content ≡ stepped.old.content }
+    ensures place { stepped.new.place ≡ stepped.old.place }
     ensures ok { IfOk result (Tells now shared.now stepped.new outcome) }
     ensures err { IfErr result (λ failure. (failure ≡ Memory) × IsSilent stepped.new) }
 {
@@ -37,7 +41,48 @@ fn tell_step(
     Ok(told.facts)
 }
 
-/// Begins a pass for a request.
+// A pass that nothing was told of.
+fn stepped_at(alloc: Global, pass: Pass, place: Place) -> Stepped
+    ensures pass { result.pass ≡ pass }
+    ensures place { result.place ≡ place }
+    ensures content { result.content ≡ None }
+    ensures silent { IsSilent result }
+{
+    let content = None;
+    Stepped {
+        pass,
+        named: Named::Nothing,
+        text: Vec::new(alloc),
+        content,
+        place,
+    }
+}
+
+// Tells the first step of a pass, which enters the queue if it asks the origin.
+fn tell_first(
+    alloc: Global,
+    shared: &mut Shared,
+    stepped: &mut Stepped,
+    first: First,
+    now: u64,
+) -> Result<PassFacts, Failure>
+    ensures pass { stepped.new.pass ≡ stepped.old.pass }
+    ensures content { stepped.new.content ≡ None }
+    ensures cache { shared.new.cache ≡ shared.old.cache }
+    ensures beside { IsSameBeside shared.old shared.new }
+    ensures ok { IfOk result (λ facts. Tells now shared.new stepped.new (first_outcome first) facts
+        × IsPlaced stepped.new.pass now shared.old.queue shared.new.queue stepped.new.place) }
+    ensures err { IfErr result (λ failure. (failure ≡ Memory) × IsSilent stepped.new
+        × (shared.new.queue ≡ shared.old.queue) × (stepped.new.place ≡ Apart)) }
+{
+    stepped.content = None;
+    stepped.place = Place::Apart;
+    let facts = tell_step(alloc, shared, stepped, first_outcome(first), now)?;
+    stepped.place = enter(alloc, &mut shared.queue, &stepped.pass, now);
+    Ok(facts)
+}
+
+/// Begins a pass for a request. It waits if another pass asks the origin for the same, and others may wait for it.
 pub fn begin(
     alloc: Global,
     shared: &mut Shared,
@@ -55,14 +100,37 @@ pub fn begin(
     let Ok(first) = pass.begin(&mut shared.cache, alloc, now) else {
         unreachable!()
     };
-    let mut stepped = Stepped {
-        pass,
-        named: Named::Nothing,
-        text: Vec::new(alloc),
-        content: None,
-    };
-    let facts = tell_step(alloc, shared, &mut stepped, first_outcome(first), now)?;
+    match ahead(&shared.queue, &pass, now) {
+        Some(number) => {
+            let stepped = stepped_at(alloc, pass.anew(), Place::Waiting(number));
+            return Ok((stepped, waiting()));
+        }
+        None => {}
+    }
+    let mut stepped = stepped_at(alloc, pass, Place::Apart);
+    let facts = tell_first(alloc, shared, &mut stepped, first, now)?;
     Ok((stepped, facts))
+}
+
+/// Begins a pass that waits, once others may wait no longer for the one that it waits for. It never waits again.
+pub fn resume(
+    alloc: Global,
+    shared: &mut Shared,
+    stepped: &mut Stepped,
+    now: u64,
+) -> Result<PassFacts, Failure>
+    ensures { Resumes now shared.old stepped.old shared.new stepped.new result }
+{
+    let Place::Waiting(number) = stepped.place else {
+        return Err(Failure::Absent);
+    };
+    if shared.queue.is_open(number, now) {
+        return Ok(waiting());
+    }
+    match stepped.pass.begin(&mut shared.cache, alloc, now) {
+        Ok(first) => tell_first(alloc, shared, stepped, first, now),
+        Err(_) => Err(Failure::Absent),
+    }
 }
 
 /// Makes the step of a pass at which the status and the fields of the origin's response came.
@@ -84,6 +152,7 @@ pub fn came(
     {
         Ok(next) => {
             stepped.content = Some(Vec::new(alloc));
+            stepped.place = settle(&mut shared.queue, stepped.pass.phase(), stepped.place);
             tell_step(alloc, shared, stepped, next_outcome(next), now)
         }
         Err(_) => Err(Failure::Absent),
@@ -100,7 +169,10 @@ pub fn failed(
     ensures { Fails now shared.old stepped.old shared.new stepped.new result }
 {
     match stepped.pass.failed(&mut shared.cache, alloc, now) {
-        Ok(found) => tell_step(alloc, shared, stepped, failed_outcome(found), now),
+        Ok(found) => {
+            stepped.place = settle(&mut shared.queue, stepped.pass.phase(), stepped.place);
+            tell_step(alloc, shared, stepped, failed_outcome(found), now)
+        }
         Err(_) => Err(Failure::Absent),
     }
 }
@@ -181,7 +253,10 @@ pub fn ended(
         .pass
         .ended(&mut shared.cache, alloc, content, reception, now)
     {
-        Ok(number) => Ok(number),
+        Ok(number) => {
+            stepped.place = settle(&mut shared.queue, stepped.pass.phase(), stepped.place);
+            Ok(number)
+        }
         Err(_) => unreachable!(),
     }
 }

@@ -1,7 +1,7 @@
 //! What is told of a step.
 ghost use Rattle.std.specs.Prelude.{◌≡◌, IfOk, IsErr};
 ghost use Rattle.cache_pass.specs.{Effects.stored_at, Passes.key_of};
-ghost use Rattle.c_pass.specs.Telling.{IsTold, TakesMemory, facts_of, is_head, outcome_told, told_of};
+ghost use Rattle.c_pass.specs.Telling.{IsTold, TakesMemory, facts_of, is_head, outcome_told, told_of, waiting};
 
 use crate::outcome::{By, Outcome};
 use crate::sending::{part_sent, status_sent, text_sent};
@@ -47,6 +47,13 @@ fn facts_of(action: u8, status: u16, part: (u64, u64)) -> PassFacts
         status,
         action,
     }
+}
+
+/// What is told of a pass that waits.
+pub(crate) fn waiting() -> PassFacts
+    ensures { result ≡ waiting }
+{
+    facts_of(8, 0, (0, 0))
 }
 
 fn tell_stored(

@@ -3,6 +3,7 @@ pub mod Effects
 pub mod Keeping
 pub mod Origin
 pub mod Passes
+pub mod Queue
 pub mod Removals
 pub mod Replies
 pub mod Right

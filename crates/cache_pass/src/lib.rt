@@ -11,6 +11,7 @@ mod keeping;
 pub mod laws;
 mod noting;
 mod pass;
+mod queue;
 mod removals;
 mod replying;
 mod revalidating;
@@ -18,6 +19,7 @@ mod steps;
 
 pub use crate::cache::Cache;
 pub use crate::pass::{Asked, Pass, Phase};
+pub use crate::queue::{Entry, Queue};
 pub use crate::removals::Removals;
 pub use crate::replying::{First, Reply};
 pub use crate::revalidating::Next;

@@ -2,7 +2,7 @@
 ghost use Rattle.std.specs.Prelude.{◌≡◌, string_bytes};
 ghost use Rattle.headers.specs.LineMap.{lines_at};
 ghost use Rattle.cache_policy.specs.Requests.{request_of};
-ghost use Rattle.cache_pass.{specs.Passes.request_of_pass, specs.declared.pass.Phase.TheVariants.Began};
+ghost use Rattle.cache_pass.{specs.Passes.{IsSameRequest, request_of_pass}, specs.declared.pass.Phase.TheVariants.Began};
 
 use cache_policy::RequestHead;
 use headers::HeaderMap;
@@ -54,6 +54,15 @@ impl Pass {
             request,
             phase: Phase::Began,
         }
+    }
+
+    /// A new pass for the same request.
+    pub fn anew(mut self) -> Pass
+        ensures request { IsSameRequest self result }
+        ensures phase { result.phase ≡ Began }
+    {
+        self.phase = Phase::Began;
+        self
     }
 
     /// The URI of the target.

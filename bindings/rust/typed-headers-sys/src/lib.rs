@@ -331,6 +331,7 @@ pub struct CacheOptions {
 pub struct CacheExtensions {
     pub targets: Text,
     pub immutable: bool,
+    pub wait: u64,
 }
 
 /// A request to a cache.
@@ -1035,6 +1036,7 @@ extern "C" {
         now: u64,
         facts: *mut PassFacts,
     ) -> u8;
+    pub fn typed_headers_pass_resume(cache: *mut Cache, pass: *mut Pass, now: u64, facts: *mut PassFacts) -> u8;
     pub fn typed_headers_pass_came(
         cache: *mut Cache,
         pass: *mut Pass,

@@ -233,6 +233,25 @@ mod tests {
     }
 
     #[test]
+    fn requests_that_wait() {
+        let cache = Cache::new(CacheOptions { wait: 10, ..CacheOptions::shared() }, KEYS).unwrap();
+        let (none, fresh) = (Section::new(), Section::from_bytes("Cache-Control: max-age=60\n"));
+        let request = CacheRequest { method: "GET", target: "http://a.example/", fields: &none };
+        let (mut first, asks) = cache.begin(&request, 1000).unwrap();
+        let (mut second, waits) = cache.begin(&request, 1000).unwrap();
+        assert_eq!((asks, waits, second.resume(1009)), (Step::Ask, Step::Wait, Ok(Some(Step::Wait))));
+        assert_eq!(first.came(200, &fresh, 1000), Ok(Some(Step::PassOn { stores: true })));
+        assert_eq!(first.ended(true, 1000), Ok(Some(true)));
+        assert!(matches!(second.resume(1009), Ok(Some(Step::Reply(_)))));
+        assert_eq!(second.resume(1009), Ok(None));
+        let other = CacheRequest { target: "http://a.example/b", ..request };
+        let (third, _) = cache.begin(&other, 1000).unwrap();
+        let (mut fourth, waits) = cache.begin(&other, 1000).unwrap();
+        drop(third);
+        assert_eq!((waits, fourth.resume(1000)), (Step::Wait, Ok(Some(Step::Ask))));
+    }
+
+    #[test]
     fn handles() {
         let text = Section::from_bytes("Host: a.example\nOrigin: https://b.example\nRange: bytes=5-\nETag: \"a\"\n");
         let fields = ParsedSection::new(&text, KEYS).unwrap();

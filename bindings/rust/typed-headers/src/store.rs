@@ -20,12 +20,14 @@ pub struct CacheOptions {
     pub guess: u64,
     /// Whether it serves several users.
     pub is_shared: bool,
+    /// For how many seconds a GET without Range waits at most for another that asks the origin for the same; 0 for none.
+    pub wait: u64,
 }
 
 impl CacheOptions {
     /// A cache of several users, as a proxy's, with 64 MiB of content.
     pub const fn shared() -> CacheOptions {
-        CacheOptions { variants: 16, responses: 4096, content: 64 * 1024 * 1024, guess: 0, is_shared: true }
+        CacheOptions { variants: 16, responses: 4096, content: 64 * 1024 * 1024, guess: 0, is_shared: true, wait: 0 }
     }
 
     /// A cache of one user, as a browser's, with 64 MiB of content.
@@ -80,6 +82,8 @@ pub enum Step {
     },
     /// The client gets 502 or 504: no response came, and no stored one may be sent. The pass has ended.
     NoResponse,
+    /// Another pass asks the origin for the same. Call [`Pass::resume`] once some pass has ended, or after a moment.
+    Wait,
 }
 
 /// What is stored of responses in bounded memory (RFC 9111). Requests go through it as passes, in any threads. Times are
@@ -108,10 +112,11 @@ impl Cache {
     /// An empty cache.
     pub fn new(options: CacheOptions, keys: Keys) -> Result<Cache, Error> {
         let mut cache = Cache(Locked::closed());
-        let CacheOptions { variants, responses, content: bytes, guess, is_shared } = options;
+        let CacheOptions { variants, responses, content: bytes, guess, is_shared, wait } = options;
         let options = sys::CacheOptions { variants, responses, bytes, guess, is_shared };
+        let extensions = sys::CacheExtensions { targets: text(b""), immutable: false, wait };
         // SAFETY: the handle is closed, and doesn't move while a call is made.
-        check(unsafe { sys::typed_headers_cache_new(cache.0.alone(), &options, &keys.0) })?;
+        check(unsafe { sys::typed_headers_cache_new_with(cache.0.alone(), &options, &extensions, &keys.0) })?;
         Ok(cache)
     }
 
@@ -140,14 +145,28 @@ impl Cache {
 }
 
 /// One client's request through a cache. Steps of several passes may interleave in any way: each holds the cache for
-/// itself. A step that the pass isn't at gives `None`, and changes nothing.
+/// itself. A step that the pass isn't at gives `None`, and changes nothing. Once a pass is dropped, no other waits for it.
 #[derive(Debug)]
 pub struct Pass<'a> {
     cache: &'a Cache,
     handle: Locked<sys::Pass>,
 }
 
+impl Drop for Pass<'_> {
+    fn drop(&mut self) {
+        // (the steps that it isn't at change nothing)
+        let _ = self.failed(0);
+        let _ = self.ended(false, 0);
+    }
+}
+
 impl Pass<'_> {
+    /// Says what is done after a wait.
+    pub fn resume(&mut self, now: u64) -> Result<Option<Step>, Error> {
+        // SAFETY: as above.
+        self.step(|cache, pass, facts| unsafe { sys::typed_headers_pass_resume(cache, pass, now, facts) })
+    }
+
     /// Says what is done with the status and the fields of the origin's response.
     pub fn came(&mut self, status: u16, response: &Section, now: u64) -> Result<Option<Step>, Error> {
         let section = response.as_bytes();
@@ -224,6 +243,7 @@ impl Pass<'_> {
                 3 => Step::Validate(fields()?),
                 4 => Step::Unavailable,
                 5 | 6 => Step::PassOn { stores: facts.action == 5 },
+                8 => Step::Wait,
                 _ => Step::NoResponse,
             }))
         })

@@ -1,0 +1,15 @@
+use Rattle.std.proofs.Common.{rules, refl}
+use Rattle.cache_pass.proofs.queue.Queue.enter.Goals as goal
+
+pub returns : goal.returns
+returns c =
+    record {
+      limit = refl;
+      number_is = refl;
+      next = refl;
+      entry = record { number = c.args.self.now.next; key = c.in-Ok.key; asked = c.args.now };
+      named = refl;
+      key_is = search rules;
+      asked = refl;
+      all = search rules;
+    }
