@@ -2,8 +2,8 @@
 use Rattle.std.proofs.Common.{◌≡◌, ℕ, List, [], ◌∷◌, ◌++◌, map, Option, Some, None, refl, sym, ap, subst, inl, inr, ◌∙◌}
 use Rattle.cache_store.{specs.History.{Call, History, Run}, specs.History.Call.Removed, specs.Kept.contents_of}
 use Rattle.cache_pass.specs.Effects.{DoAll, Does, Kept, Settings, kept_of, removals, settings_of}
-use Rattle.cache_pass.{specs.Steps.HasEnded, specs.Worlds.{Acts, Deed, IsStep, Log, Reaches, World, asks_of, calls_of}}
-use Rattle.cache_pass.{specs.Worlds.Deed.{Begins, Comes, Fails, Ends}, specs.Worlds.Event.Calls}
+use Rattle.cache_pass.{specs.Steps.HasEnded, specs.Worlds.{Acts, Deed, IsStep, Log, Reaches, World, asked_in, asks_of, calls_of}}
+use Rattle.cache_pass.{specs.Worlds.Deed.{Begins, Comes, Fails, Ends, Apart}, specs.Worlds.Event.Calls}
 use Rattle.cache_pass.{specs.declared.cache.Cache.Cache, specs.declared.pass.Pass.Pass, specs.declared.pass.Phase.Phase}
 use Rattle.cache_pass.specs.declared.pass.Phase.TheVariants.{Began, Asking, Passing, Ended}
 
@@ -55,6 +55,14 @@ calls-asked pass (Asking asked) log = refl
 calls-asked pass (Passing asked status response) log = refl
 calls-asked pass Ended log = refl
 
+calls-asked-in : (deed : Deed) (pass : ℕ) (phase : Phase) (log : Log)
+    → calls_of (asked_in deed pass phase ++ log) ≡ calls_of log
+calls-asked-in (Begins now first) pass phase log = calls-asked pass phase log
+calls-asked-in (Comes status response now next) pass phase log = calls-asked pass phase log
+calls-asked-in (Fails now found) pass phase log = calls-asked pass phase log
+calls-asked-in (Ends content reception now number) pass phase log = calls-asked pass phase log
+calls-asked-in (Apart call) pass phase log = refl
+
 -- ---- a step
 
 module _ (old : Pass) (before : Cache) (new : Pass) (after : Cache) (calls : History) where
@@ -64,6 +72,7 @@ module _ (old : Pass) (before : Cache) (new : Pass) (after : Cache) (calls : His
   step-settings (Comes status response now next) (h, same) = h.settings
   step-settings (Fails now found) (h, same) = h.settings
   step-settings (Ends content reception now number) (h, same) = h.settings
+  step-settings (Apart call) (apart, does, set, kept, same) = set
 
   abbrev Done : History → Type 0
   Done made = DoAll (settings_of before) made (kept_of before) (kept_of after)
@@ -85,6 +94,8 @@ module _ (old : Pass) (before : Cache) (new : Pass) (after : Cache) (calls : His
       subst Done (sym same) (do-one (settings_of before) _ (kept_of before) (kept_of after) h.does)
   step-does (Ends content reception now number) (h, same) =
       subst Done (sym same) (by-ended content reception now number h)
+  step-does (Apart call) (apart, does, set, kept, same) =
+      subst Done (sym same) (do-one (settings_of before) call (kept_of before) (kept_of after) does)
 
 -- ---- a run
 
@@ -92,7 +103,7 @@ pub acts-log : (pass : ℕ) (deed : Deed) (old new : World) (acts : Acts pass de
     → calls_of new.log ≡ acts.calls ++ calls_of old.log
 acts-log pass deed old new acts =
     ap calls_of acts.log
-    ∙ calls-asked pass (new.passes pass).phase (map (Calls pass) acts.calls ++ old.log)
+    ∙ calls-asked-in deed pass (new.passes pass).phase (map (Calls pass) acts.calls ++ old.log)
     ∙ calls-made pass acts.calls old.log
 
 -- what a world has stored comes of the calls that its log has

@@ -10,7 +10,7 @@ use Rattle.cache_store.specs.History.Call.{Described, Answered, Removed}
 use Rattle.cache_pass.specs.Effects.{DoAll, Does, Kept, Settings, kept_of, removals, settings_of}
 use Rattle.cache_pass.{specs.Passes.{asked_of, key_of, phase_after, phase_first}, specs.Removals.{IsNoted, IsOutdated}}
 use Rattle.cache_pass.{specs.Steps.{HasCome, HasEnded}, specs.Worlds.{Acts, AreCurrent, Deed, IsCurrent, IsStep, Log}}
-use Rattle.cache_pass.{specs.Worlds.{Reaches, StoresAt, World, asks_of}, specs.Worlds.Deed.{Begins, Comes, Fails, Ends}}
+use Rattle.cache_pass.{specs.Worlds.{Reaches, StoresAt, World, asked_in, asks_of}, specs.Worlds.Deed.{Begins, Comes, Fails, Ends, Apart}}
 use Rattle.cache_pass.{specs.Worlds.Event.{Asks, Calls}, specs.declared.cache.Cache.Cache}
 use Rattle.cache_pass.{specs.declared.pass.Asked.Asked, specs.declared.pass.Pass.Pass, specs.declared.pass.Phase.Phase}
 use Rattle.cache_pass.specs.declared.pass.Phase.TheVariants.{Began, Asking, Passing, Ended}
@@ -182,6 +182,8 @@ module _ (pass : ℕ) (old : Pass) (before : Cache) (new : Pass) (after : Cache)
   step-guarded calls (Fails now found) (h, same) = looked calls same
   step-guarded calls (Ends content reception now number) (h, same) =
       subst Guarded (sym same) (ended-guarded content reception now number h)
+  step-guarded calls (Apart call) (apart, does, set, kept, same) =
+      subst Guarded (sym same) ((λ target stores. absurd (apart target stores)), tt)
 
 -- ---- how far passes are
 
@@ -191,6 +193,13 @@ HasClock pass noted clock old new =
     clock_of new ≡ Some clock
     → ((asks_of pass new ≡ Asks pass ∷ []) × (clock ≡ noted))
     ⊎ ((asks_of pass new ≡ []) × (clock_of old ≡ Some clock))
+
+-- the same of a step
+abbrev HasClockIn : Deed → ℕ → ℕ → ℕ → Phase → Phase → Type 0
+HasClockIn deed pass noted clock old new =
+    clock_of new ≡ Some clock
+    → ((asked_in deed pass new ≡ Asks pass ∷ []) × (clock ≡ noted))
+    ⊎ ((asked_in deed pass new ≡ []) × (clock_of old ≡ Some clock))
 
 module _ (pass : ℕ) (noted clock : ℕ) where
   ended-clock : (old : Phase) → HasClock pass noted clock old Ended
@@ -220,7 +229,7 @@ module _ (pass : ℕ) (noted clock : ℕ) where
 
   step-clock : (old : Pass) (before : Cache) (new : Pass) (after : Cache) (calls : History) (deed : Deed)
       → after.removals.clock ≡ noted → IsStep deed old before new after calls
-      → HasClock pass noted clock old.phase new.phase
+      → HasClockIn deed pass noted clock old.phase new.phase
   step-clock old before new after calls (Begins now given) shows (h, same) =
       subst (λ (p : Phase). HasClock pass noted clock old.phase p) (sym h.phase)
       (subst (λ (n : ℕ). HasClock pass noted clock old.phase (phase_first given now n)) (sym shows)
@@ -234,6 +243,8 @@ module _ (pass : ℕ) (noted clock : ℕ) where
       subst (λ (p : Phase). HasClock pass noted clock old.phase p) (sym h.phase) (ended-clock old.phase)
   step-clock old before new after calls (Ends content reception now number) shows (h, same) =
       subst (λ (p : Phase). HasClock pass noted clock old.phase p) (sym h.phase) (ended-clock old.phase)
+  step-clock old before new after calls (Apart call) shows (apart, does, set, kept, same) =
+      λ is. inr (refl, ap (λ (p : Pass). clock_of p.phase) (sym kept) ∙ is)
 
 -- ---- what is asked
 
@@ -249,6 +260,24 @@ current-more other target pass Began log is = is
 current-more other target pass (Asking asked) log is = inr is
 current-more other target pass (Passing asked status response) log is = is
 current-more other target pass Ended log is = is
+
+current-asked : (deed : Deed) (pass : ℕ) (phase : Phase) (log : Log) → AreCurrent log
+    → AreCurrent (asked_in deed pass phase ++ log)
+current-asked (Begins now given) pass phase log are = current-asks pass phase log are
+current-asked (Comes status response now given) pass phase log are = current-asks pass phase log are
+current-asked (Fails now found) pass phase log are = current-asks pass phase log are
+current-asked (Ends content reception now number) pass phase log are = current-asks pass phase log are
+current-asked (Apart call) pass phase log are = are
+
+current-further : (deed : Deed) (other : ℕ) (target : List ℕ) (pass : ℕ) (phase : Phase) (log : Log)
+    → IsCurrent other target log → IsCurrent other target (asked_in deed pass phase ++ log)
+current-further (Begins now given) other target pass phase log is = current-more other target pass phase log is
+current-further (Comes status response now given) other target pass phase log is =
+    current-more other target pass phase log is
+current-further (Fails now found) other target pass phase log is = current-more other target pass phase log is
+current-further (Ends content reception now number) other target pass phase log is =
+    current-more other target pass phase log is
+current-further (Apart call) other target pass phase log is = is
 
 -- ---- a run
 
@@ -272,7 +301,7 @@ module _ (pass : ℕ) (deed : Deed) (old new : World) (acts : Acts pass deed old
       × ((target : List ℕ) → ¬ (IsOutdated new.cache.removals target clock) → IsCurrent p target log)
 
   own-dated : (clock : ℕ) → clocks_of new pass ≡ Some clock
-      → Holds pass clock (asks_of pass (new.passes pass).phase ++ made)
+      → Holds pass clock (asked_in deed pass (new.passes pass).phase ++ made)
   own-dated clock is = elim (step-clock pass new.cache.removals.clock clock (old.passes pass) old.cache
       (new.passes pass) new.cache acts.calls deed refl acts.step is) [
         | inl (asks, same) ↦ subst (λ (l : Log). Holds pass clock (l ++ made)) (sym asks)
@@ -282,13 +311,13 @@ module _ (pass : ℕ) (deed : Deed) (old new : World) (acts : Acts pass deed old
 
   acts-dated : IsDated new.log new.cache.removals (clocks_of new)
   acts-dated = record {
-    current = subst AreCurrent (sym acts.log) (current-asks pass (new.passes pass).phase made between.current);
+    current = subst AreCurrent (sym acts.log) (current-asked deed pass (new.passes pass).phase made between.current);
     dated = λ p clock is. subst (Holds p clock) (sym acts.log)
         (elim (acts.others p) [
-          | inl same ↦ subst (λ (q : ℕ). Holds q clock (asks_of pass (new.passes pass).phase ++ made)) (sym same)
+          | inl same ↦ subst (λ (q : ℕ). Holds q clock (asked_in deed pass (new.passes pass).phase ++ made)) (sym same)
               (own-dated clock (subst (λ (q : ℕ). clocks_of new q ≡ Some clock) same is))
           | inr same ↦ let was = between.dated p clock (ap (λ (q : Pass). clock_of q.phase) (sym same) ∙ is) in
-              (was.0, λ target fine. current-more p target pass (new.passes pass).phase made (was.1 target fine))
+              (was.0, λ target fine. current-further deed p target pass (new.passes pass).phase made (was.1 target fine))
         ]);
   }
 

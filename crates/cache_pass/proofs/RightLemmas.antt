@@ -19,7 +19,7 @@ use Rattle.cache_pass.{specs.Origin.IsNext, specs.Passes.{asked_of, key_of, requ
 use Rattle.cache_pass.{specs.Replies.{IsReplyTo, IsShown, IsShownOnError}, specs.Right.{IsGood, IsGoodOnError}}
 use Rattle.cache_pass.specs.Right.{IsOfStored, IsRight, IsRightOnError, IsRightReply, IsRightValidated}
 use Rattle.cache_pass.{specs.Steps.{HasBegun, HasCome, HasEnded, HasFailed}, specs.Worlds.{Acts, Deed, IsStep, Reaches}}
-use Rattle.cache_pass.{specs.Worlds.{World, calls_of}, specs.Worlds.Deed.{Begins, Comes, Fails, Ends}}
+use Rattle.cache_pass.{specs.Worlds.{World, calls_of}, specs.Worlds.Deed.{Begins, Comes, Fails, Ends, Apart}}
 use Rattle.cache_pass.{specs.declared.cache.Cache.Cache, specs.declared.pass.Asked.Asked, specs.declared.pass.Pass.Pass}
 use Rattle.cache_pass.specs.declared.replying.First.{First}
 use Rattle.cache_pass.specs.declared.replying.First.TheVariants as first
@@ -172,7 +172,7 @@ module _ (settings : Settings) (before world : World) (pass : Pass) (new : Pass)
         subst (λ (o : Option StoredResponse). IsSomeAnd o
         (λ stored. IsReplyTo (request_of_pass pass) now stored reply)) named is.replies in (
           fresh,
-          of-stored settings world ran pass now reply fresh named is.restored.reusable.suits shown,
+          of-stored settings world ran pass now reply fresh named is.restored.reusable.1.suits shown,
           (is.restored.refreshed.selected.response, is.restored.refreshed.freshened),
         )
 
@@ -249,6 +249,7 @@ module _ (settings : Settings) (before world : World) (pass : Pass) (new : Pass)
   step-right calls (Comes status response now given) (h, same) = come-right status response now given h
   step-right calls (Fails now found) (h, same) = failed-right now found h
   step-right calls (Ends content reception now number) (h, same) = ended-right content reception now number h
+  step-right calls (Apart call) is = tt
 
 pub answers-right : (settings : Settings) (deeds : List (ℕ × Deed)) (before : World) → Reaches settings deeds before
     → (pass : ℕ) (deed : Deed) (world : World) → Acts pass deed before world

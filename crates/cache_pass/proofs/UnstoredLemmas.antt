@@ -1,5 +1,6 @@
 -- Runs that differ only in what the origin answered, where that isn't to be stored.
-use Rattle.std.proofs.Common.{◌≡◌, ◌⊎◌, ◌↔◌, ℕ, List, [], ◌∷◌, true, false, refl, sym, ap, subst, inl, inr, ◌∙◌}
+use Rattle.std.proofs.Common.{◌≡◌, ◌⊎◌, ◌↔◌, ℕ, List, [], ◌∷◌, ◌++◌, map, true, false, refl, sym, ap, subst, inl, inr}
+use Rattle.std.proofs.Common.{◌∙◌}
 use Rattle.http_header.{specs.FieldValue.FieldValue, specs.HeaderMap.Entries}
 use Rattle.headers.specs.LineMap.{lines_at}
 use Rattle.cache_policy.specs.Requests.{Request}
@@ -7,8 +8,9 @@ use Rattle.cache_rules.specs.Errors.{IsFailure}
 use Rattle.cache_store.specs.History.{History}
 use Rattle.cache_pass.{specs.Effects.{Kept, Settings, kept_of, settings_of}, specs.Origin.{IsFailing, IsNext, IsPassedOn}}
 use Rattle.cache_pass.{specs.Passes.{IsSameRequest, key_of, phase_after, request_of_pass}, specs.Steps.HasCome}
-use Rattle.cache_pass.{specs.Unstored.{AreAlike, AreUnstored, IsUnstored}, specs.Worlds.{Acts, Deed, IsStep, Reaches}}
-use Rattle.cache_pass.{specs.Worlds.World, specs.Worlds.Deed.{Begins, Comes, Fails, Ends}}
+use Rattle.cache_pass.{specs.Unstored.{AreAlike, AreUnstored, IsUnstored}, specs.Worlds.{Acts, Deed, IsStep, Log, Reaches}}
+use Rattle.cache_pass.{specs.Worlds.{World, asked_in}, specs.Worlds.Deed.{Begins, Comes, Fails, Ends, Apart}}
+use Rattle.cache_pass.specs.Worlds.Event.{Calls}
 use Rattle.cache_pass.{specs.declared.cache.Cache.Cache, specs.declared.pass.Asked.Asked, specs.declared.pass.Pass.Pass}
 use Rattle.cache_pass.specs.declared.revalidating.Next.{Next}
 use Rattle.cache_pass.specs.declared.revalidating.Next.TheVariants as next
@@ -95,6 +97,8 @@ module _ (pass : Pass) (before : Cache) (new : Pass) (after : Cache) (calls : Hi
   step-same (Comes status response now given) (h, same) = h.same
   step-same (Fails now found) (h, same) = h.same
   step-same (Ends content reception now number) (h, same) = h.same
+  step-same (Apart call) (apart, does, set, kept, same) =
+      subst (IsSameRequest pass) (sym kept) (record { key = refl; method = refl; request = refl })
 
   step-request : (deed : Deed) → IsStep deed pass before new after calls → request_of_pass pass ≡ request_of_pass new
   step-request deed is =
@@ -147,7 +151,9 @@ module _ (settings : Settings) (requests : ℕ → Request) where
         (subst (λ (s : Settings). AreUnstored s (request_of_pass (old.passes pass)) one other) (sym set)
         (subst (λ (r : Request). AreUnstored settings r one other) (sym (are pass)) alike)) acts.step;
     others = acts.others;
-    log = acts.log;
+    log = acts.log ∙ ap (λ (asked : Log). asked ++ (map (Calls pass) acts.calls ++ old.log))
+        (ap (λ (d : Deed). asked_in d pass (new.passes pass).phase) alike.comes
+        ∙ sym (ap (λ (d : Deed). asked_in d pass (new.passes pass).phase) alike.other_comes));
   }
 
   pub alike : (ones others : List (ℕ × Deed)) (world : World) → Reaches settings ones world → AreFor world

@@ -12,7 +12,7 @@ use Rattle.cache_store.{specs.Changes.IsStoredAs, specs.History.IsJustified, spe
 use Rattle.cache_store.specs.Lookups.{IsFreshFor, freshness_of}
 use Rattle.cache_pass.{specs.Effects.{Settings, stored_at}, specs.Keeping.IsLate, specs.Passes.{IsReceived, asked_of}}
 use Rattle.cache_pass.{specs.Passes.{key_of, request_of_pass}, specs.Replies.IsReplyTo, specs.Worlds.{Deed, World}}
-use Rattle.cache_pass.{specs.Worlds.calls_of, specs.Worlds.Deed.{Begins, Comes, Fails, Ends}}
+use Rattle.cache_pass.{specs.Worlds.calls_of, specs.Worlds.Deed.{Begins, Comes, Fails, Ends, Apart}}
 use Rattle.cache_pass.{specs.declared.cache.Cache.Cache, specs.declared.pass.Asked.Asked, specs.declared.pass.Pass.Pass}
 use Rattle.cache_pass.specs.declared.pass.Phase.TheVariants.{Passing}
 use Rattle.cache_pass.specs.declared.replying.First.TheVariants as first
@@ -110,3 +110,4 @@ IsRight settings before world pass (Fails now None) = ⊤
 IsRight settings before world pass (Ends content reception now (Some number)) =
     IsLatest pass before.cache world.cache content now number
 IsRight settings before world pass (Ends content reception now None) = ⊤
+IsRight settings before world pass (Apart call) = ⊤

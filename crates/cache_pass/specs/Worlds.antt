@@ -4,7 +4,7 @@ use Rattle.http_header.{specs.FieldValue.FieldValue, specs.HeaderMap.Entries}
 use Rattle.cache_rules.specs.declared.storing.Reception.{Reception}
 use Rattle.cache_store.{specs.History.{Call, History, Removes}, specs.History.Call.{Looked, Arrived, Validated}}
 use Rattle.cache_store.{specs.History.Call.{Described, Answered, Removed}, specs.Kept.contents_of}
-use Rattle.cache_pass.{specs.Effects.{Settings, settings_of}, specs.Passes.key_of, specs.Steps.{HasBegun, HasCome}}
+use Rattle.cache_pass.{specs.Effects.{Does, Settings, kept_of, settings_of}, specs.Passes.key_of, specs.Steps.{HasBegun, HasCome}}
 use Rattle.cache_pass.{specs.Steps.{HasEnded, HasFailed}, specs.declared.cache.Cache.Cache}
 use Rattle.cache_pass.{specs.declared.pass.Pass.Pass, specs.declared.pass.Phase.Phase}
 use Rattle.cache_pass.specs.declared.pass.Phase.TheVariants.{Began, Asking, Passing, Ended}
@@ -58,12 +58,17 @@ pub record World : Type 0 where
   pub passes : ℕ → Pass
   pub log : Log
 
--- a step of a pass, and what it answered
+-- a step of a pass, and what it answered, or a call by no pass
 pub data Deed : Type 0 where
   Begins : ℕ → First → Deed
   Comes : ℕ → Entries FieldValue → ℕ → Next → Deed
   Fails : ℕ → Option Reply → Deed
   Ends : List ℕ → Reception → ℕ → Option ℕ → Deed
+  Apart : Call → Deed
+
+-- the call stores and updates nothing: it looks up or removes
+abbrev pub IsApart : Call → Type 0
+IsApart call = (target : List ℕ) → ¬ (StoresAt target call)
 
 -- The step is as its contract says, and makes these calls.
 abbrev pub IsStep : Deed → Pass → Cache → Pass → Cache → History → Type 0
@@ -75,6 +80,9 @@ IsStep (Fails now found) old before new after calls =
     HasFailed old before now new after found × (calls ≡ Looked (key_of old) ∷ [])
 IsStep (Ends content reception now number) old before new after calls =
     (ended : HasEnded old before content reception now new after number) × (calls ≡ ended.calls)
+IsStep (Apart call) old before new after calls =
+    IsApart call × Does (settings_of before) call (kept_of before) (kept_of after)
+    × (settings_of after ≡ settings_of before) × (new ≡ old) × (calls ≡ call ∷ [])
 
 -- a pass that asks after its step asked in it
 abbrev pub asks_of : ℕ → Phase → Log
@@ -83,12 +91,20 @@ asks_of pass (Asking asked) = Asks pass ∷ []
 asks_of pass (Passing asked status response) = []
 asks_of pass Ended = []
 
+-- ... and by no call apart
+abbrev pub asked_in : Deed → ℕ → Phase → Log
+asked_in (Begins now first) pass phase = asks_of pass phase
+asked_in (Comes status response now next) pass phase = asks_of pass phase
+asked_in (Fails now found) pass phase = asks_of pass phase
+asked_in (Ends content reception now number) pass phase = asks_of pass phase
+asked_in (Apart call) pass phase = []
+
 -- a step of the pass with this name; no other pass changes
 pub record Acts (pass : ℕ) (deed : Deed) (old new : World) : Type 0 where
   pub calls : History
   pub step : IsStep deed (old.passes pass) old.cache (new.passes pass) new.cache calls
   pub others : (other : ℕ) → (other ≡ pass) ⊎ (new.passes other ≡ old.passes other)
-  pub log : new.log ≡ asks_of pass (new.passes pass).phase ++ (map (Calls pass) calls ++ old.log)
+  pub log : new.log ≡ asked_in deed pass (new.passes pass).phase ++ (map (Calls pass) calls ++ old.log)
 
 -- nothing is stored, and nothing has happened
 pub record IsNew (settings : Settings) (world : World) : Type 0 where
@@ -97,7 +113,7 @@ pub record IsNew (settings : Settings) (world : World) : Type 0 where
   pub began : (pass : ℕ) → (world.passes pass).phase ≡ Began
   pub silent : world.log ≡ []
 
--- this comes of a new world by any steps of any passes, in any order
+-- this comes of a new world by any steps of any passes and calls apart, in any order
 abbrev pub Reaches : Settings → List (ℕ × Deed) → World → Type 0
 Reaches settings [] world = IsNew settings world
 Reaches settings (last ∷ deeds) world = (before : World) × Reaches settings deeds before × Acts last.0 last.1 before world
