@@ -438,6 +438,10 @@ struct typed_headers_resource {
     struct typed_headers_text etags;
     /* The boundary between several parts, as `typed_headers_respond` takes it. Empty: THIS_STRING_SEPARATES. */
     struct typed_headers_text boundary;
+    /* The methods that the server implements for some resource, if `has_implemented`; GET, HEAD and `methods` count
+       too. Any other method is answered by 501, and one of them that isn't in `methods` by 405 (sections 9.1 and
+       15.6.2). If not, they are those of RFC 9110, and PATCH. Since 2.0. */
+    struct typed_headers_text implemented;
     /* The greatest length of content that is taken, if `has_limit`. */
     uint64_t limit;
     /* One of `typed_headers_resource_state`. */
@@ -454,6 +458,8 @@ struct typed_headers_resource {
     bool has_limit;
     /* Whether the rules for other origins count. If not, no answer has their fields. */
     bool has_cors;
+    /* Whether `implemented` counts. Since 2.0. */
+    bool has_implemented;
 };
 
 /* What a server knows of a representation of a resource, beside its lines there. */
@@ -486,6 +492,23 @@ struct typed_headers_resource_request {
 };
 
 /*
+ * Why a server denies a request: by its credentials, or by the load. The answer says nothing of the resource (section
+ * 15.5.4), but it has the fields for other origins. A struct of zeros denies nothing. Since 2.0.
+ */
+struct typed_headers_denial {
+    /* The challenges of 401, as the line of WWW-Authenticate: it may not be empty then (section 11.6.1). Any other status
+       ignores it. */
+    struct typed_headers_text challenge;
+    /* After how many seconds the client may send another request, if `has_retry_after`: the line of Retry-After of 429
+       (RFC 6585, section 4) and of 503 (RFC 9110, section 15.6.4). Any other status ignores it. */
+    uint64_t retry_after;
+    /* 401, 403, 429 or 503. 0: the request isn't denied. */
+    uint16_t status;
+    /* Whether `retry_after` is known. */
+    bool has_retry_after;
+};
+
+/*
  * Why a request is answered as it is: the first of these that applies, in the order of
  * crates/decide_resource/README.md.
  */
@@ -496,7 +519,7 @@ enum typed_headers_resource_reason {
     TYPED_HEADERS_INVALID_HOST = 1,
     /* 421: the host isn't one of the resource's. */
     TYPED_HEADERS_MISDIRECTED = 2,
-    /* 501: the server doesn't implement the method. Those of RFC 9110, PATCH and `methods` count as implemented. */
+    /* 501: the server doesn't implement the method. */
     TYPED_HEADERS_UNKNOWN_METHOD = 3,
     /* 405: the server implements the method, and the resource doesn't have it. */
     TYPED_HEADERS_METHOD_NOT_ALLOWED = 4,
@@ -1122,11 +1145,11 @@ uint8_t typed_headers_cors_answer(const struct typed_headers_cors_rules *rules, 
 uint8_t typed_headers_unsent_origin(const uint8_t *origins, size_t origins_length, size_t *place);
 
 /*
- * The whole answer of a resource to a request (RFC 9110, sections 7.4 to 15): by its host, its method, its content,
- * negotiation, preconditions, ranges, and the rules for other origins. `representations` are the current ones, the most
- * wanted first. `rules` count if `resource->has_cors`. `target` is that of the request line: if it is in absolute-form,
- * its host counts, else that of Host; it may be empty. There may be no representation to show though the state is
- * current, if the server makes them only as it performs GET.
+ * The whole answer of a resource to a request (RFC 9110, sections 7.4 to 15): by its host, a denial, its method, its
+ * content, negotiation, preconditions, ranges, and the rules for other origins. `representations` are the current ones,
+ * the most wanted first. `rules` count if `resource->has_cors`. `target` is that of the request line: if it is in
+ * absolute-form, its host counts, else that of Host; it may be empty. `denial` of zeros denies nothing. There may be no
+ * representation to show though the state is current, if the server makes them only as it performs GET.
  *
  * The text is the lines of the answer, each `name: value` and a LF, names in lower case. They are all that the response
  * has of the fields that these decisions own. If the status is 0, the server performs the method and sets the lines in
@@ -1135,18 +1158,18 @@ uint8_t typed_headers_unsent_origin(const uint8_t *origins, size_t origins_lengt
  * `typed_headers_respond`. Both rooms, their counts and `*facts` are given as there.
  *
  * Refused: a line of a text can't be a field line; a method is no token; a list has more lines than there are methods
- * or representations; the state or the version is another number; the location is empty; the boundary or an entity tag
- * is none; a date lies past the year 9999; the rules count and are refused; the target is in absolute-form without a
- * host; or a line of the section before its first empty one is no field. Too large: the section has more names than a
- * map has room for (24,576). Memory: the boundary is one.
+ * or representations; the state, the version or the status of the denial is another number; the location or the
+ * challenge of a 401 is empty; the boundary or an entity tag is none; a date lies past the year 9999; the rules count
+ * and are refused; the target is in absolute-form without a host; or a line of the section before its first empty one
+ * is no field. Too large: the section has more names than a map has room for (24,576). Memory: the boundary is one.
  */
 uint8_t typed_headers_resource_answer(const struct typed_headers_resource *resource,
                                       const struct typed_headers_representation *representations,
                                       size_t representations_length, const struct typed_headers_cors_rules *rules,
                                       const struct typed_headers_resource_request *request, const uint8_t *method,
                                       size_t method_length, const uint8_t *target, size_t target_length,
-                                      const uint8_t *section, size_t section_length,
-                                      const struct typed_headers_keys *keys,
+                                      const struct typed_headers_denial *denial, const uint8_t *section,
+                                      size_t section_length, const struct typed_headers_keys *keys,
                                       struct typed_headers_resource_facts *facts,
                                       struct typed_headers_bytes_range *parts, size_t parts_length,
                                       size_t *parts_written, uint8_t *room, size_t room_length, size_t *written);
@@ -1501,13 +1524,15 @@ uint8_t typed_headers_resource_handle_new(struct typed_headers_resource_handle *
 
 /*
  * What `typed_headers_resource_answer` gives for this resource and these fields. Refused: the method is no token, the
- * version is another number, or the target is in absolute-form without a host. Memory: nothing is rejected.
+ * version or the status of the denial is another number, the target is in absolute-form without a host, or the
+ * challenge of a 401 is empty or can't be a field line. Memory: nothing is rejected.
  */
 uint8_t typed_headers_resource_handle_answer(struct typed_headers_resource_handle *handle,
                                              struct typed_headers_section *fields,
                                              const struct typed_headers_resource_request *request,
                                              const uint8_t *method, size_t method_length, const uint8_t *target,
-                                             size_t target_length, struct typed_headers_resource_facts *facts,
+                                             size_t target_length, const struct typed_headers_denial *denial,
+                                             struct typed_headers_resource_facts *facts,
                                              struct typed_headers_bytes_range *parts, size_t parts_length,
                                              size_t *parts_written, uint8_t *room, size_t room_length,
                                              size_t *written);

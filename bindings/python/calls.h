@@ -28,6 +28,7 @@ union slot {
         struct typed_headers_cache_request cache_request;
         struct typed_headers_content content;
         struct typed_headers_resource resource;
+        struct typed_headers_denial denial;
         struct typed_headers_gateway gateway;
         struct typed_headers_hop hop;
         struct typed_headers_request_outcome request_outcome;
@@ -90,10 +91,13 @@ SHAPE(resource, MEMBER(resource, hosts, A_TEXT), MEMBER(resource, methods, A_TEX
       MEMBER(resource, creating, A_TEXT), MEMBER(resource, guarded, A_TEXT), MEMBER(resource, accept, A_TEXT),
       MEMBER(resource, accept_encoding, A_TEXT), MEMBER(resource, location, A_TEXT),
       MEMBER(resource, media_types, A_TEXT), MEMBER(resource, languages, A_TEXT), MEMBER(resource, codings, A_TEXT),
-      MEMBER(resource, etags, A_TEXT), MEMBER(resource, boundary, A_TEXT), FLAGGED(resource, limit, U64, has_limit),
+      MEMBER(resource, etags, A_TEXT), MEMBER(resource, boundary, A_TEXT),
+      FLAGGED(resource, implemented, A_TEXT, has_implemented), FLAGGED(resource, limit, U64, has_limit),
       MEMBER(resource, state, U16), MEMBER(resource, by_media_type, BOOL), MEMBER(resource, by_language, BOOL),
       MEMBER(resource, by_coding, BOOL), MEMBER(resource, is_strict, BOOL), MEMBER(resource, needs_length, BOOL),
       MEMBER(resource, has_cors, BOOL))
+SHAPE(denial, MEMBER(denial, challenge, A_TEXT), FLAGGED(denial, retry_after, U64, has_retry_after),
+      MEMBER(denial, status, U16))
 SHAPE(gateway, MEMBER(gateway, name, A_TEXT), MEMBER(gateway, protected_fields, A_TEXT),
       MEMBER(gateway, consumes_credentials, BOOL), MEMBER(gateway, passes_underscores, BOOL))
 SHAPE(hop, MEMBER(hop, client, A_TEXT), MEMBER(hop, interface_node, A_TEXT), MEMBER(hop, client_port, U16),
@@ -194,10 +198,11 @@ CALL(unsent_origin, MAY(REFUSED) | MAY(ABSENT) | MAY(NO_MEMORY), (TEXT_OF(at[0])
      OF_KIND(OUT_NUMBER, SIZE))
 CALL(resource_answer, MAY(REFUSED) | MAY(TOO_LARGE) | MAY(NO_MEMORY), (&at[0].any.resource, at[1].list.at,
      at[1].list.length, &at[2].any.cors_rules, &at[3].any.resource_request, TEXT_OF(at[4]), TEXT_OF(at[5]),
-     TEXT_OF(at[6]), &keys, &at[7].any.resource_facts, ROOM(at[8]), ROOM(at[9])), OF_SHAPE(IN_STRUCT, resource),
-     OF_SHAPE(LIST_STRUCT, representation), OF_SHAPE(IN_STRUCT, cors_rules), OF_SHAPE(IN_STRUCT, resource_request),
-     PLAIN(GIVEN_TEXT), PLAIN(GIVEN_TEXT), PLAIN(GIVEN_TEXT), OF_SHAPE(OUT_STRUCT, resource_facts),
-     OF_SHAPE(ROOM_OF_STRUCTS, bytes_range), PLAIN(ROOM_OF_BYTES))
+     &at[6].any.denial, TEXT_OF(at[7]), &keys, &at[8].any.resource_facts, ROOM(at[9]), ROOM(at[10])),
+     OF_SHAPE(IN_STRUCT, resource), OF_SHAPE(LIST_STRUCT, representation), OF_SHAPE(IN_STRUCT, cors_rules),
+     OF_SHAPE(IN_STRUCT, resource_request), PLAIN(GIVEN_TEXT), PLAIN(GIVEN_TEXT), OF_SHAPE(IN_STRUCT, denial),
+     PLAIN(GIVEN_TEXT), OF_SHAPE(OUT_STRUCT, resource_facts), OF_SHAPE(ROOM_OF_STRUCTS, bytes_range),
+     PLAIN(ROOM_OF_BYTES))
 CALL(may_store, MAY(REFUSED) | MAY(TOO_LARGE) | MAY(NO_MEMORY), (TEXT_OF(at[0]), TEXT_OF(at[1]), at[2].u16,
      TEXT_OF(at[3]), &keys, at[4].flag, &at[5].u8), PLAIN(GIVEN_TEXT), PLAIN(GIVEN_TEXT), OF_KIND(NUMBER, U16),
      PLAIN(GIVEN_TEXT), OF_KIND(NUMBER, BOOL), OF_KIND(OUT_NUMBER, U8))
@@ -297,9 +302,9 @@ CALL(resource_handle_new, MAY(REFUSED) | MAY(NO_MEMORY), (at[0].handle.at, &at[1
      at[2].list.length, &at[3].any.cors_rules), OF_HANDLE(NEW, resource_handle), OF_SHAPE(IN_STRUCT, resource),
      OF_SHAPE(LIST_STRUCT, representation), OF_SHAPE(IN_STRUCT, cors_rules))
 CALL(resource_handle_answer, MAY(REFUSED) | MAY(ABSENT) | MAY(NO_MEMORY), (at[0].handle.at, at[1].handle.at,
-     &at[2].any.resource_request, TEXT_OF(at[3]), TEXT_OF(at[4]), &at[5].any.resource_facts, ROOM(at[6]),
-     ROOM(at[7])), OF_HANDLE(OPENED, resource_handle), OF_HANDLE(OPENED, section),
-     OF_SHAPE(IN_STRUCT, resource_request), PLAIN(GIVEN_TEXT), PLAIN(GIVEN_TEXT),
+     &at[2].any.resource_request, TEXT_OF(at[3]), TEXT_OF(at[4]), &at[5].any.denial, &at[6].any.resource_facts,
+     ROOM(at[7]), ROOM(at[8])), OF_HANDLE(OPENED, resource_handle), OF_HANDLE(OPENED, section),
+     OF_SHAPE(IN_STRUCT, resource_request), PLAIN(GIVEN_TEXT), PLAIN(GIVEN_TEXT), OF_SHAPE(IN_STRUCT, denial),
      OF_SHAPE(OUT_STRUCT, resource_facts), OF_SHAPE(ROOM_OF_STRUCTS, bytes_range), PLAIN(ROOM_OF_BYTES))
 CALL(connection_free, 0, (at[0].handle.at), OF_HANDLE(OPENED, connection))
 CALL(connection_new, MAY(REFUSED) | MAY(NO_MEMORY), (at[0].handle.at, at[1].size, &keys), OF_HANDLE(NEW, connection),
@@ -367,7 +372,7 @@ CALL(files_plan, MAY(REFUSED) | MAY(ABSENT) | MAY(NO_MEMORY), (at[0].handle.at, 
      at[2].list.length, at[3].u64, at[4].flag, &at[5].size), OF_HANDLE(OPENED, files), OF_HANDLE(OPENED, connection),
      OF_SHAPE(LIST_STRUCT, entry), OF_KIND(NUMBER, U64), OF_KIND(NUMBER, BOOL), OF_KIND(OUT_NUMBER, SIZE))
 
-enum { MOST_SLOTS = 10 };
+enum { MOST_SLOTS = 11 };
 #define CALLS \
     METHOD(canonical), METHOD(field), METHOD(age), METHOD(content_length), METHOD(date), METHOD(expires), \
     METHOD(last_modified), METHOD(media_type), METHOD(essence), METHOD(strong_eq), METHOD(weak_eq), \

@@ -260,6 +260,7 @@ static const struct typed_headers_resource RESOURCE = {.methods = {(const uint8_
                                                        .media_types = {(const uint8_t *)"text/html", 9},
                                                        .etags = {(const uint8_t *)"\"xyzzy\"", 7},
                                                        .has_cors = true};
+static const struct typed_headers_denial NOT_DENIED;
 
 static uint64_t resource_answered(struct typed_headers_resource_handle *handle) {
     static const struct typed_headers_resource_request ASKED = {.present = 784200000, .version = 11, .has_length = true};
@@ -267,13 +268,13 @@ static uint64_t resource_answered(struct typed_headers_resource_handle *handle) 
     struct typed_headers_section fields = TYPED_HEADERS_CLOSED;
     size_t parts;
     if (!handle->is_open) {
-        typed_headers_resource_answer(&RESOURCE, &SHOWN, 1, &RULES, &ASKED, BYTES("GET"), BYTES("/"), BYTES(REQUEST), &KEYS,
-                                      &facts, ranges, 10, &parts, room, 1000, &written);
+        typed_headers_resource_answer(&RESOURCE, &SHOWN, 1, &RULES, &ASKED, BYTES("GET"), BYTES("/"), &NOT_DENIED,
+                                      BYTES(REQUEST), &KEYS, &facts, ranges, 10, &parts, room, 1000, &written);
         return facts.status;
     }
     typed_headers_section_new(&fields, BYTES(REQUEST), &KEYS);
-    typed_headers_resource_handle_answer(handle, &fields, &ASKED, BYTES("GET"), BYTES("/"), &facts, ranges, 10, &parts,
-                                         room, 1000, &written);
+    typed_headers_resource_handle_answer(handle, &fields, &ASKED, BYTES("GET"), BYTES("/"), &NOT_DENIED, &facts, ranges,
+                                         10, &parts, room, 1000, &written);
     typed_headers_section_free(&fields);
     return facts.status;
 }

@@ -131,8 +131,8 @@ static uint8_t handled_resource_answer(const struct typed_headers_resource *reso
                                        size_t representations_length, const struct typed_headers_cors_rules *rules,
                                        const struct typed_headers_resource_request *request, const uint8_t *method,
                                        size_t method_length, const uint8_t *target, size_t target_length,
-                                       const uint8_t *section, size_t section_length,
-                                       const struct typed_headers_keys *keys,
+                                       const struct typed_headers_denial *denial, const uint8_t *section,
+                                       size_t section_length, const struct typed_headers_keys *keys,
                                        struct typed_headers_resource_facts *facts,
                                        struct typed_headers_bytes_range *parts, size_t parts_length,
                                        size_t *parts_written, uint8_t *room, size_t room_length, size_t *written) {
@@ -149,11 +149,11 @@ static uint8_t handled_resource_answer(const struct typed_headers_resource *reso
         uint8_t first_room[FIRST_ROOM];
         size_t first_count, first_written;
         typed_headers_resource_handle_answer(&handle, &fields, request, method, method_length, target, target_length,
-                                             &first, first_parts, FIRST_ROOM, &first_count, first_room, FIRST_ROOM,
-                                             &first_written);
+                                             denial, &first, first_parts, FIRST_ROOM, &first_count, first_room,
+                                             FIRST_ROOM, &first_written);
         status = typed_headers_resource_handle_answer(&handle, &fields, request, method, method_length, target,
-                                                      target_length, facts, parts, parts_length, parts_written, room,
-                                                      room_length, written);
+                                                      target_length, denial, facts, parts, parts_length, parts_written,
+                                                      room, room_length, written);
     }
     typed_headers_section_free(&fields);
     typed_headers_resource_handle_free(&handle);

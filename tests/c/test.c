@@ -1478,7 +1478,7 @@ static void check_opened(const struct row *row) {
 /* The resources of tests/cases/resource: their lines, in the order of the struct, and what else is said. */
 struct resource_of {
     const char *name;
-    const char *texts[12];
+    const char *texts[13];
     size_t count;
     bool is_note, is_strict, is_dated;
 };
@@ -1499,8 +1499,8 @@ static const struct resource_of RESOURCES[] = {
      {"", "GET\nDELETE", "", "", "", "", "", "text/plain\ntext/plain", "\nen", "\ngzip", "", ""},
      2, false, false, true},
 };
-enum { RESOURCE_TEXTS = 12, LOCATION = 6, ETAGS = 10, BOUNDARY = 11 };
-static struct area resource_areas[RESOURCE_TEXTS];
+enum { RESOURCE_TEXTS = 13, LOCATION = 6, ETAGS = 10, BOUNDARY = 11, IMPLEMENTED = 12 };
+static struct area resource_areas[RESOURCE_TEXTS], challenge_area, wrong_area;
 
 struct resource_call {
     struct typed_headers_resource resource;
@@ -1508,6 +1508,7 @@ struct resource_call {
     size_t count, most_parts;
     struct typed_headers_cors_rules rules;
     struct typed_headers_resource_request request;
+    struct typed_headers_denial denial;
     struct text method, target, section;
 };
 
@@ -1520,9 +1521,9 @@ static uint8_t call_resource(const void *arguments, uint64_t *number, uint8_t *r
     sent_count = NOT_WRITTEN;
     uint8_t status = (is_handled ? handled_resource_answer : typed_headers_resource_answer)(
         &call->resource, call->count ? call->representations : NULL, call->count, &call->rules, &call->request,
-        call->method.bytes, call->method.length, call->target.bytes, call->target.length, call->section.bytes,
-        call->section.length, &KEYS, &facts, call->most_parts ? sent_parts : NULL, call->most_parts, &sent_count, room,
-        room_length, written);
+        call->method.bytes, call->method.length, call->target.bytes, call->target.length, &call->denial,
+        call->section.bytes, call->section.length, &KEYS, &facts, call->most_parts ? sent_parts : NULL,
+        call->most_parts, &sent_count, room, room_length, written);
     if (facts.status != before.status || facts.place != before.place || facts.sends != before.sends) {
         *number = (((facts.status * 32ull + facts.reason) * 8 + facts.sends) * 2 + facts.has_place) * 8 + facts.place;
     } else if (sent_count != NOT_WRITTEN) {
@@ -1536,13 +1537,14 @@ static void put_part(struct resource_call *call, int place, const char *bytes, s
         &call->resource.hosts,       &call->resource.methods,  &call->resource.creating,
         &call->resource.guarded,     &call->resource.accept,   &call->resource.accept_encoding,
         &call->resource.location,    &call->resource.media_types, &call->resource.languages,
-        &call->resource.codings,     &call->resource.etags,    &call->resource.boundary};
+        &call->resource.codings,     &call->resource.etags,    &call->resource.boundary,
+        &call->resource.implemented};
     struct text text = put(resource_areas[place], bytes, length);
     *texts[place] = (struct typed_headers_text){text.bytes, text.length};
 }
 
 static void put_resource(struct resource_call *call, const struct resource_of *resource) {
-    for (int place = 0; place < RESOURCE_TEXTS; place++) {
+    for (int place = 0; place < IMPLEMENTED; place++) {
         put_part(call, place, resource->texts[place], strlen(resource->texts[place]));
     }
     call->count = resource->count;
@@ -1595,6 +1597,19 @@ static size_t read_sends(const struct row *answer, size_t i, uint64_t *number, s
 /* Calls that are refused: a text, a number or a list that none of these is. */
 static void check_refused_resource(const struct row *row, const struct resource_call *given) {
     struct resource_call call = *given;
+    call.denial = (struct typed_headers_denial){.status = 402};
+    check(row, call_resource, &call, TYPED_HEADERS_REFUSED, NO_NUMBER, NO_TEXT);
+    call.denial.status = 401;
+    check(row, call_resource, &call, TYPED_HEADERS_REFUSED, NO_NUMBER, NO_TEXT);
+    struct text text = put(wrong_area, "Basic\n", 6);
+    call.denial.challenge = (struct typed_headers_text){text.bytes, text.length};
+    check(row, call_resource, &call, TYPED_HEADERS_REFUSED, NO_NUMBER, NO_TEXT);
+    call = *given;
+    text = put(wrong_area, "GET\nP T", 7);
+    call.resource.implemented = (struct typed_headers_text){text.bytes, text.length};
+    call.resource.has_implemented = true;
+    check(row, call_resource, &call, TYPED_HEADERS_REFUSED, NO_NUMBER, NO_TEXT);
+    call = *given;
     call.resource.state = 4;
     check(row, call_resource, &call, TYPED_HEADERS_REFUSED, NO_NUMBER, NO_TEXT);
     call = *given;
@@ -1619,7 +1634,30 @@ static void check_refused_resource(const struct row *row, const struct resource_
     }
 }
 
-/* `answer RESOURCE STATE VERSION METHOD AUTHORITY CONTENT FIELDS` */
+/*
+ * The words before the resource of a row. `implementing METHODS` has the methods that the server implements, and `denied
+ * STATUS CHALLENGE SECONDS` says why it denies the request. How many they are.
+ */
+static size_t read_server(const struct row *row, struct resource_call *call) {
+    if (strcmp(row->call, "implementing") == 0) {
+        put_part(call, IMPLEMENTED, row->words[0].bytes, row->words[0].length);
+        call->resource.has_implemented = true;
+        return 1;
+    }
+    if (strcmp(row->call, "denied") != 0) {
+        return 0;
+    }
+    call->denial.status = (uint16_t)read_number(row, 0);
+    if (!is_word(&row->words[1], "(none)")) {
+        struct text challenge = put(challenge_area, row->words[1].bytes, row->words[1].length);
+        call->denial.challenge = (struct typed_headers_text){challenge.bytes, challenge.length};
+    }
+    call->denial.has_retry_after = !is_word(&row->words[2], "(none)");
+    call->denial.retry_after = call->denial.has_retry_after ? read_number(row, 2) : 0;
+    return 3;
+}
+
+/* `answer RESOURCE STATE VERSION METHOD AUTHORITY CONTENT FIELDS`, or the same after the words of the server. */
 static void check_resource(const struct row *row) {
     static const char *const reasons[] = {"InvalidHost", "Misdirected", "UnknownMethod", "MethodNotAllowed", "Options",
                                           "UnmetExpectation", "Moved", "Gone", "NotFound", "LengthRequired",
@@ -1629,20 +1667,20 @@ static void check_resource(const struct row *row) {
     static const char *const names[] = {
         "allow", "location", "accept", "accept-patch", "accept-post", "accept-encoding", "content-encoding",
         "content-language", "etag", "last-modified", "accept-ranges", "content-range", "content-length", "content-type",
-        "access-control-allow-origin", "access-control-allow-methods", "vary"};
+        "www-authenticate", "retry-after", "access-control-allow-origin", "access-control-allow-methods", "vary"};
     static char wanted[AREA], authority[256];
     struct resource_call call = {.most_parts = MOST_PARTS, .request = {.present = 1767225600}};
-    size_t i = 0, length = 0, count;
-    while (!is_word(&row->words[0], RESOURCES[i].name)) {
-        i++;
+    size_t known = 0, length = 0, count, i = read_server(row, &call);
+    while (!is_word(&row->words[i], RESOURCES[known].name)) {
+        known++;
     }
-    put_resource(&call, &RESOURCES[i]);
+    put_resource(&call, &RESOURCES[known]);
     static const char *const states[] = {"absent", "gone", "server"};
-    call.resource.state = (uint16_t)place_of(&row->words[1], states, 3);
-    i = 2;
-    if (row->words[1].bytes[0] == '3') {
-        call.resource.state = (uint16_t)read_number(row, 1);
-        put_part(&call, LOCATION, row->words[2].bytes, row->words[2].length);
+    call.resource.state = (uint16_t)place_of(&row->words[i + 1], states, 3);
+    i += 2;
+    if (row->words[i - 1].bytes[0] == '3') {
+        call.resource.state = (uint16_t)read_number(row, i - 1);
+        put_part(&call, LOCATION, row->words[i].bytes, row->words[i].length);
         i++;
     }
     call.request.version = is_word(&row->words[i], "1.0") ? 10 : 11;
@@ -2531,7 +2569,8 @@ static void make_row(struct row *row) {
         check_boundary(row);
     } else if (strcmp(row->call, "decide_unstored") == 0) {
         check_unstored(row);
-    } else if (strcmp(row->call, "answer") == 0) {
+    } else if (strcmp(row->call, "answer") == 0 || strcmp(row->call, "implementing") == 0 ||
+               strcmp(row->call, "denied") == 0) {
         check_resource(row);
     } else if (strcmp(row->call, "request") == 0) {
         check_offer(row);
@@ -2618,6 +2657,8 @@ int main(int count, char **names) {
     for (int i = 0; i < RESOURCE_TEXTS; i++) {
         resource_areas[i] = new_area();
     }
+    challenge_area = new_area();
+    wrong_area = new_area();
     room_area = new_area();
     is_null = count > 1 && strcmp(names[1], "--null") == 0;
     is_handled = count > 1 && strcmp(names[1], "--handles") == 0;

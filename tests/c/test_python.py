@@ -341,16 +341,28 @@ RESOURCES = {
 STATES = {"current": 0, "absent": 1, "gone": 2, "server": 3}
 
 
-def resource_answer(words, wanted):
+def implementing(words, wanted):
+    implemented = decode(words[0]).decode("latin-1").split()
+    return resource_answer(words[1:], wanted, implemented=implemented)
+
+
+def denied(words, wanted):
+    status, challenge, seconds, *left = words
+    challenge = "" if challenge == "(none)" else decode(challenge).decode("latin-1")
+    why = headers.Denied(int(status), challenge, None if seconds == "(none)" else int(seconds))
+    return resource_answer(left, wanted, denied=why)
+
+
+def resource_answer(words, wanted, implemented=None, denied=None):
     name, state, *left = words
     location = decode(left.pop(0)).decode("latin-1") if state.isdigit() else ""
     version, method, authority, content, *left = left
-    resource = headers.Resource(**RESOURCES[name], location=location,
+    resource = headers.Resource(**RESOURCES[name], location=location, implemented=implemented,
                                 state=STATES[state] if state in STATES else int(state))
     target = "/" if authority == "(none)" else f"http://{authority}/"
     length = {"none": 0, "unsized": None}[content] if content.isalpha() else int(content)
     given = resource.answer(decode(method), section(left)[0], target=target, length=length,
-                            version=10 if version == "1.0" else 11, now=1_767_225_600)
+                            version=10 if version == "1.0" else 11, now=1_767_225_600, denied=denied)
     reason, status, *left = wanted
     sends, place, ranges = "nothing", None, []
     if left[0] in ("nothing", "alternatives", "perform"):
@@ -623,6 +635,8 @@ CALLS = {
     "accept_from": lambda words, wanted: handshake(words[1:], wanted, origins=commas(words[0])),
     "check": opened,
     "answer": resource_answer,
+    "implementing": implementing,
+    "denied": denied,
     "request": offer,
     **{f"{field}Basic.decode": lambda *row: credentials(*row, is_bearer=False) for field in CREDENTIALS},
     **{f"{field}Bearer.decode": lambda *row: credentials(*row, is_bearer=True) for field in CREDENTIALS},

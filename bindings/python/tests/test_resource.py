@@ -13,6 +13,7 @@ from typed_headers import asgi
 from typed_headers import (
     Answer as ResourceAnswer,
     CorsPolicy,
+    Denied,
     ETag,
     HeaderError,
     InvalidField,
@@ -116,6 +117,47 @@ class Answers(unittest.TestCase):
             self.assertEqual((answer.status, answer.reason), (204, Reason.PREFLIGHT))
             self.assertNotIn("allow", dict(answer.fields))
 
+    def test_methods_of_the_server(self) -> None:
+        for implemented, method, wanted in (
+            (None, "POST", 405), (None, "PURGE", 501), (["PURGE"], "PURGE", 405), (["PURGE"], "POST", 501),
+            ([], "POST", 501), ([], "GET", 200), ([], "OPTIONS", 204), (["purge"], "PURGE", 501),
+        ):
+            answer = Resource(["GET"], PAGES, implemented=implemented).answer(method, HOST)
+            self.assertEqual(answer.status, wanted, (implemented, method))
+            self.assertEqual("allow" in dict(answer.fields), wanted in (204, 405))
+        listed, paired = Resource(["GET"], implemented=["PURGE"]), Resource(["GET"], implemented=("PURGE",))
+        self.assertEqual(hash(listed), hash(paired))
+
+    def test_denied_requests(self) -> None:
+        policy, asked = CorsPolicy("https://app.example"), {**HOST, "Origin": "https://app.example"}
+        shared = (("access-control-allow-origin", "https://app.example"), ("vary", "origin"))
+        basic = Denied(401, challenge='Basic realm="a", Bearer')
+        for denied, wanted in (
+            (basic, (("www-authenticate", 'Basic realm="a", Bearer'),)),
+            (Denied(403, challenge="Basic"), ()),
+            (Denied(429, retry_after=120), (("retry-after", "120"),)),
+            (Denied(429), ()),
+            (Denied(503, retry_after=0), (("retry-after", "0"),)),
+        ):
+            for state in (State.CURRENT, State.GONE):
+                for method in ("GET", "OPTIONS", "BREW"):
+                    answer = Resource(["GET"], PAGES, state, cors=policy).answer(method, asked, denied=denied)
+                    self.assertEqual((answer.status, answer.reason), (denied.status, Reason.DENIED))
+                    self.assertEqual((answer.sends, set(answer.fields)), (Sends.NOTHING, {*wanted, *shared}))
+        asked["Access-Control-Request-Method"] = "PUT"
+        self.assertEqual(Resource(["GET"], cors=policy).answer("OPTIONS", asked, denied=basic).reason, Reason.PREFLIGHT)
+        self.assertEqual(PAGE.answer("GET", {"Host": "a b"}, denied=basic).status, 400)
+
+    def test_what_is_no_denial(self) -> None:
+        for status in (0, 200, 402, 404, 500):
+            with self.assertRaisesRegex(HeaderError, "status"):
+                Denied(status)
+        for challenge in ("", "Basic\n", "\x7f", "\u20ac"):
+            with self.assertRaisesRegex(HeaderError, "challenge"):
+                Denied(401, challenge)
+        with self.assertRaisesRegex(HeaderError, "retry_after"):
+            Denied(429, retry_after=-1)
+
     def test_what_is_no_resource(self) -> None:
         cases: List[Tuple[Dict[str, Any], str]] = [
             ({"methods": ["GE T"]}, "is no token"),
@@ -126,6 +168,7 @@ class Answers(unittest.TestCase):
             ({"methods": ["GET"], "representations": [Representation(language="\x00")]}, "languages"),
             ({"methods": ["GET"], "representations": [Representation(last_modified=253_402_300_800)]}, "9999"),
             ({"methods": ["GET"], "hosts": ["\x7f"]}, "hosts"),
+            ({"methods": ["GET"], "implemented": ["POST", "a b"]}, "implemented: 'a b' is no token"),
         ]
         for named, said in cases:
             with self.subTest(said), self.assertRaisesRegex(HeaderError, said):
@@ -221,6 +264,12 @@ class Applications(unittest.TestCase):
         self.assertEqual(performed, [])
         self.assertEqual((send(), performed), ((201, b"made"), [b"tea"]))
 
+    def test_denied_requests(self) -> None:
+        denied = Served(Resource(["GET"], PAGES), denied=Denied(429, retry_after=60))
+        for method in ("GET", "HEAD", "PUT", "BREW"):
+            answer = ask(validator(Serves(lambda environ: denied)), method)
+            self.assertEqual((answer.status, answer.fields["retry-after"]), (429, "60"))
+
     def test_explanations(self) -> None:
         strict = Resource(["GET"], PAGES, by_media_type=True, is_strict=True)
         answer = ask(validator(Serves(lambda environ: Served(strict))), Accept="image/png")
@@ -304,6 +353,13 @@ class Asynchronous(unittest.TestCase):
             answer = self.ask(application, method, **asked)
             self.assertEqual((answer.status, answer.content), (wanted, b""), asked)
             self.assertEqual(answer.fields.get("content-length"), None if wanted in (204, 304) else "0", asked)
+
+    def test_denied_requests(self) -> None:
+        async def find(scope: asgi.Scope) -> asgi.Served:
+            return asgi.Served(Resource(["GET"], PAGES), denied=Denied(401, "Basic"))
+
+        answer = self.ask(asgi.Serves(find), "PUT")
+        self.assertEqual((answer.status, answer.fields["www-authenticate"]), (401, "Basic"))
 
     def test_methods(self) -> None:
         async def receive() -> Dict[str, Any]:

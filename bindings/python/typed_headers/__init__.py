@@ -61,7 +61,7 @@ from .negotiation import (
     look_up_language,
     type_quality,
 )
-from .resource import Answer, Method, Reason, Representation, Resource, Sends, State
+from .resource import Answer, Denied, Method, Reason, Representation, Resource, Sends, State
 from .values import (
     ByteRange,
     CacheControl,
@@ -107,6 +107,7 @@ __all__ = [
     "CorsPolicy",
     "Credentials",
     "Decision",
+    "Denied",
     "ETag",
     "Fault",
     "Flaw",

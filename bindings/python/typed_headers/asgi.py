@@ -48,7 +48,7 @@ from .caching import Cache
 from .cors import CorsKind, CorsPolicy
 from .errors import HeaderError
 from .headers import Headers
-from .resource import Answer, Resource, Sends
+from .resource import Answer, Denied, Resource, Sends
 
 __all__ = ["Cached", "ConditionalRequests", "Cors", "Result", "Served", "Serves", "list_alternatives"]
 
@@ -427,6 +427,8 @@ class Served:
     content: Callable[[int], Content] = lambda place: b""
     #: What performs each method. GET needs nothing if there are representations.
     methods: Mapping[str, Callable[[Scope, Receive], Awaitable[Result]]] = field(default_factory=dict)
+    #: Why the request is denied, if it is.
+    denied: Optional[Denied] = None
 
 
 _VERSIONS = {"1.0": 10, "2": 20, "3": 30}
@@ -478,6 +480,7 @@ class Serves:
                 target=_target(scope),
                 length=_length_of_content(scope, request),
                 version=_VERSIONS.get(scope.get("http_version", ""), 11),
+                denied=served.denied,
             )
         except HeaderError:
             await _answer(send, 400, [("content-length", "0")])

@@ -14,7 +14,7 @@ from .errors import HeaderError
 from .headers import Headers, HeadersLike, asked_of
 from .values import ByteRange, ETag, MediaType
 
-__all__ = ["Answer", "Method", "Reason", "Representation", "Resource", "Sends", "State"]
+__all__ = ["Answer", "Denied", "Method", "Reason", "Representation", "Resource", "Sends", "State"]
 
 
 class State(IntEnum):
@@ -45,7 +45,7 @@ class Reason(IntEnum):
     INVALID_HOST = 1
     #: 421: the host isn't one of the resource's.
     MISDIRECTED = 2
-    #: 501: the server doesn't implement the method. Those of RFC 9110, PATCH and `methods` count as implemented.
+    #: 501: the server doesn't implement the method.
     UNKNOWN_METHOD = 3
     #: 405: the server implements the method, and the resource doesn't have it.
     METHOD_NOT_ALLOWED = 4
@@ -134,6 +134,40 @@ class Representation:
 
 
 @dataclass(frozen=True)
+class Denied:
+    """Why a server denies a request: by its credentials, or by the load. The answer says nothing of the resource.
+
+    `HeaderError` if the status is none of the four, a 401 has no challenge, or the challenge can't be a field line.
+
+    >>> resource = Resource([Method("GET")])
+    >>> denied = Denied(401, challenge='Basic realm="notes"')
+    >>> answer = resource.answer("POST", {"Host": "a.example"}, denied=denied)
+    >>> answer.status, answer.fields
+    (401, (('www-authenticate', 'Basic realm="notes"'),))
+    """
+
+    #: 401 (RFC 9110, section 15.5.2), 403 (15.5.4), 429 (RFC 6585, section 4) or 503 (RFC 9110, section 15.6.4).
+    status: int
+    #: The challenges of a 401, as the value of WWW-Authenticate (RFC 9110, section 11.6.1). Other answers have none.
+    challenge: str = ""
+    #: After how many seconds the client may send another request: Retry-After of a 429 or a 503, if that is known.
+    retry_after: Optional[int] = None
+    # Its values as the library takes them.
+    _given: ClassVar[Tuple[bytes, Optional[int], int]]
+
+    def __post_init__(self) -> None:
+        challenge = _library.to_bytes(self.challenge, "challenge")
+        if self.status not in (401, 403, 429, 503):
+            raise HeaderError(f"status: {self.status} is none of 401, 403, 429 and 503")
+        if self.status == 401 and not challenge:
+            raise HeaderError("challenge: a 401 has one (RFC 9110, section 11.6.1)")
+        if _library.NO_VALUE.search(challenge):
+            raise _library.rejected("challenge", [challenge])
+        seconds = None if self.retry_after is None else _library.to_number(self.retry_after, "retry_after")
+        object.__setattr__(self, "_given", (challenge, seconds, int(self.status)))
+
+
+@dataclass(frozen=True)
 class Answer:
     """What a resource answers a request."""
 
@@ -167,6 +201,7 @@ class Answer:
 
 
 _NO_RULES = (b"", b"", b"", b"", None, False)
+_NOT_DENIED = (b"", None, 0)
 
 _VERSIONS = (10, 11, 20, 30)
 _BOUNDARY = re.compile(r"[A-Za-z0-9'+._-]{1,70}")
@@ -223,6 +258,9 @@ class Resource:
     limit: Optional[int] = None
     #: What responses say to requests from other origins, if they say anything.
     cors: Optional[CorsPolicy] = None
+    #: The methods that the server implements for some resource, with GET, HEAD and `methods` (RFC 9110, section 9.1).
+    #: `None`: those of RFC 9110, and PATCH. Any other is answered by 501, and one that isn't in `methods` by 405.
+    implemented: Optional[Sequence[str]] = None
     # Its texts as the library takes them, and the handle of the resource that it made of them.
     _texts: ClassVar[Sequence[bytes]]
     _handle: "ClassVar[_library.Handle]"
@@ -232,6 +270,8 @@ class Resource:
         object.__setattr__(self, "methods", methods)
         for name in ("representations", "hosts"):
             object.__setattr__(self, name, tuple(getattr(self, name)))
+        if self.implemented is not None:
+            object.__setattr__(self, "implemented", tuple(self.implemented))
         object.__setattr__(self, "state", State(self.state))
         if self.limit is not None:
             object.__setattr__(self, "limit", _library.to_number(self.limit, "limit"))
@@ -256,11 +296,13 @@ class Resource:
             "languages": [it.language or "" for it in shown],
             "codings": [it.coding or "" for it in shown],
             "etags": [str(it.etag or "") for it in shown],
+            "implemented": list(self.implemented or ()),
         }
         texts = [_library.joined(_library.to_lines(name, lines)) for name, lines in lists.items()]
         texts[6] = _library.to_bytes(self.location, "location")
         object.__setattr__(self, "_texts", texts)
-        hosts, names, creating, guarded, accept, accept_encoding, location, kinds, languages, codings, etags = texts
+        (hosts, names, creating, guarded, accept, accept_encoding, location, kinds, languages, codings, etags,
+         implemented) = texts
         known = tuple(
             (
                 None if it.length is None else _library.to_number(it.length, "length"),
@@ -273,8 +315,8 @@ class Resource:
         boundary = _library.to_bytes(self.boundary, "boundary")
         resource = (
             hosts, names, creating, guarded, accept, accept_encoding, location, kinds, languages, codings, etags, boundary,
-            self.limit, int(self.state), self.by_media_type, self.by_language, self.by_coding, self.is_strict,
-            self.needs_length, self.cors is not None,
+            None if self.implemented is None else implemented, self.limit, int(self.state), self.by_media_type,
+            self.by_language, self.by_coding, self.is_strict, self.needs_length, self.cors is not None,
         )
         rules = _NO_RULES if self.cors is None else self.cors._rules
         return _library.calls.resource_handle_new(resource, known, rules)
@@ -288,21 +330,23 @@ class Resource:
         length: Optional[SupportsIndex] = 0,
         version: int = 11,
         now: Optional[Time] = None,
+        denied: Optional[Denied] = None,
     ) -> Answer:
         """What the resource answers a request.
 
         `request` has its fields. `target` is that of its request line: in absolute-form its host counts, else that of
         Host. `length` is that of its content: 0 if it has none, and `None` if it isn't stated. `version` is 10, 11, 20
-        or 30, and `now` is when it is answered, the present if it isn't given. `HeaderError` if the method is no token,
-        the target has no host, or a line can't be a field line.
+        or 30, and `now` is when it is answered, the present if it isn't given. `denied` says why the server denies it,
+        if it does. `HeaderError` if the method is no token, the target has no host, or a line can't be a field line.
         """
         verb, asked = _library.to_bytes(method, "method"), _library.to_bytes(target, "target")
         section = asked_of(request)
         size = None if length is None else _library.to_number(length, "length")
         present = int(time.time()) if now is None else _library.to_seconds(now, "now")
         known = (present, size, version if version in _VERSIONS else 0, size != 0)
+        denial = _NOT_DENIED if denied is None else denied._given
         status, (place, code, reason, sends), ranges, text = _library.calls.resource_handle_answer(
-            self._handle, section, known, verb, asked
+            self._handle, section, known, verb, asked, denial
         )
         if status:
             text_of = section if isinstance(section, bytes) else b""
@@ -317,9 +361,10 @@ class Resource:
         return Answer(Reason(reason), code or None, Sends(sends), place, parts, lines, frozenset(named))
 
     def _refused(self, methods: Tuple[Method, ...]) -> HeaderError:
-        for method in methods:
-            if not _library.TOKEN.fullmatch(method.name):
-                return HeaderError(f"methods: {method.name!r} is no token (RFC 9110, section 9.1)")
+        known = [("methods", it.name) for it in methods] + [("implemented", it) for it in self.implemented or ()]
+        for name, method in known:
+            if not _library.TOKEN.fullmatch(method):
+                return HeaderError(f"{name}: {method!r} is no token (RFC 9110, section 9.1)")
         if self.state >= State.MOVED_PERMANENTLY and not self.location:
             return HeaderError("location: a resource that has moved needs one")
         if not _BOUNDARY.fullmatch(self.boundary):
@@ -331,7 +376,7 @@ class Resource:
                 except HeaderError as error:
                     return error
         names = ("hosts", "methods", "creating", "guarded", "accept", "accept_encoding", "location", "media_types",
-                 "languages", "codings", "etags")
+                 "languages", "codings", "etags", "implemented")
         for name, text in zip(names, self._texts):
             for line in text.split(b"\n"):
                 if _library.NO_VALUE.search(line):

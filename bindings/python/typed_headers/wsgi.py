@@ -45,7 +45,7 @@ from .caching import Cache
 from .cors import CorsKind, CorsPolicy
 from .errors import HeaderError
 from .headers import Headers
-from .resource import Answer, Resource, Sends
+from .resource import Answer, Denied, Resource, Sends
 
 __all__ = ["Cached", "ConditionalRequests", "Cors", "Result", "Served", "Serves", "list_alternatives"]
 
@@ -445,6 +445,8 @@ class Served:
     content: Callable[[int], Content] = lambda place: b""
     #: What performs each method. GET needs nothing if there are representations.
     methods: Mapping[str, Callable[[Environ], Result]] = field(default_factory=dict)
+    #: Why the request is denied, if it is.
+    denied: Optional[Denied] = None
 
 
 _VERSIONS = {"HTTP/0.9": 10, "HTTP/1.0": 10, "HTTP/2": 20, "HTTP/2.0": 20, "HTTP/3": 30, "HTTP/3.0": 30}
@@ -510,6 +512,7 @@ class Serves:
                 target=environ.get("REQUEST_URI") or environ.get("RAW_URI") or "",
                 length=_length_of_content(environ, request),
                 version=_VERSIONS.get(environ.get("SERVER_PROTOCOL", ""), 11),
+                denied=served.denied,
             )
         except HeaderError:
             return _bad_request(start_response)

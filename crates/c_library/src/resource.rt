@@ -5,7 +5,10 @@ ghost use Rattle.c_resource.specs.Answers.{Answers};
 use crate::response::worse;
 use c_decisions::{BytesRange, Rules};
 use c_parts::{DONE, HashKeys, copy_into};
-use c_resource::{AnswerFacts, RepresentationParts, RequestParts, ResourceParts, answer_for};
+use c_resource::{
+    AnswerFacts, DenialParts, GivenRequest, GivenResource, RepresentationParts, RequestParts,
+    ResourceParts, answer_for,
+};
 use std::alloc::Global;
 
 /// The whole answer of a resource to a request (RFC 9110, sections 7.4 to 15): its status, what it
@@ -19,6 +22,7 @@ pub extern "C" fn typed_headers_resource_answer(
     request: &RequestParts,
     method: &[u8],
     target: &[u8],
+    denial: &DenialParts<'_>,
     section: &[u8],
     keys: &HashKeys,
     facts: &mut AnswerFacts,
@@ -27,21 +31,25 @@ pub extern "C" fn typed_headers_resource_answer(
     room: &mut [u8],
     written: &mut usize,
 ) -> u8
-    ensures { WritesAnswer (Answers resource.entry.now representations.now rules.entry.now request.now method.now
-        target.now section.now) facts.old facts.new parts.old parts.new parts_written.old parts_written.new
+    ensures { WritesAnswer
+        (Answers resource.entry.now representations.now rules.entry.now
+        (record { parts = request.now; method = method.now; target = target.now; denial = denial.entry.now })
+        section.now)
+        facts.old facts.new parts.old parts.new parts_written.old parts_written.new
         room.old room.new written.old written.new result }
 {
-    match answer_for(
-        alloc,
-        resource,
+    let given = GivenResource {
+        parts: resource,
         representations,
         rules,
-        request,
+    };
+    let asked = GivenRequest {
+        parts: request,
         method,
         target,
-        section,
-        keys,
-    ) {
+        denial,
+    };
+    match answer_for(alloc, &given, &asked, section, keys) {
         Ok(answered) => {
             *facts = answered.facts;
             let one = copy_into(answered.parts.as_slice(), DONE, parts, parts_written);

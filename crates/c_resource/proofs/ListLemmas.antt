@@ -1,7 +1,10 @@
 -- Lists by their places.
 use Rattle.std.proofs.Common.{◌≡◌, ℕ, zero, suc, ◌+◌, ◌<◌, List, [], ◌∷◌, ◌++◌, Some, arith, ◌∙◌, Bool, ap, get_or}
 use Rattle.std.proofs.Common.{length, length-append, map, option_map, refl, slice_get, subst, sym, zero-add, ◌||◌}
-use Rattle.std.{specs.List.list_any, proofs.lemmas.Option.{slice_get-map, slice_get_read}}
+use Rattle.std.proofs.Common.{All, inl, inr, take}
+use Rattle.std.{specs.List.list_any, proofs.lemmas.List.{map-append, take_more}}
+use Rattle.std.{proofs.lemmas.List.Elements.All-get_or, proofs.lemmas.Option.{slice_get-map, slice_get_cases}}
+use Rattle.std.proofs.lemmas.Option.{slice_get_read}
 use Rattle.http_header.specs.FieldValue.{FieldValue}
 use Rattle.headers.specs.Lines.{lines_of}
 use Rattle.c_resource.specs.Lists.{IsEachAt}
@@ -47,3 +50,22 @@ pub line_at : (values : List FieldValue) (place : ℕ) (value : FieldValue) → 
 line_at values place value below is =
     slice_get-map (λ (v : FieldValue). v.bytes) values place
     ∙ ap (option_map (λ (v : FieldValue). v.bytes)) (slice_get_read values (length values) place value refl below is)
+
+-- the bytes of one value more
+pub lines_of-more : (values : List FieldValue) (place : ℕ) (value : FieldValue) → place < length values
+    → value ≡ get_or values place value
+    → lines_of (take (place + 1) values) ≡ lines_of (take place values) ++ value.bytes ∷ []
+lines_of-more values place value below is =
+    ap lines_of (take_more values place value below ∙ ap (λ (v : FieldValue). take place values ++ v ∷ []) (sym is))
+    ∙ map-append (λ (v : FieldValue). v.bytes) (take place values) (value ∷ [])
+
+-- what holds of each value holds of that at a place
+pub All-at : {X : Type 0} (P : X → Type 0) (values : List X) (place : ℕ) (value : X) → All P values
+    → slice_get values place ≡ Some value → P value
+All-at P values place value all at =
+    elim ((slice_get_cases values place).1) [
+      | inl found ↦
+          let same : get_or values place found.0 ≡ value = cc (found.2, found.3, at) in
+          subst P same (All-get_or P values place found.0 found.1 all)
+      | inr past ↦ absurd (cc (at, past.1))
+    ]

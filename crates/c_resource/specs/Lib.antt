@@ -1,4 +1,5 @@
 pub mod Answers
+pub mod Implemented
 pub mod Lists
 pub mod MethodRules
 pub mod Representations

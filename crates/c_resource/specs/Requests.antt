@@ -1,12 +1,35 @@
 -- A request, by what a caller hands in.
-use Rattle.std.specs.Prelude.{◌≡◌, ℕ, ◌==◌, ◌||◌, List, Option, Some, None, Result, Ok, Err, drop, if◌then◌else◌, take}
+use Rattle.std.specs.Prelude.{◌≡◌, ◌⊎◌, ℕ, ◌==◌, Bool, false, ◌||◌, List, Option, Some, None, Result, Ok, Err, drop, take}
+use Rattle.std.specs.Prelude.{if◌then◌else◌}
 use Rattle.http_header.specs.FieldValue.{FieldValue}
 use Rattle.gateway_messages.{specs.Targets.{authority_len, scheme_len}, specs.declared.protocol.Protocol.Protocol}
 use Rattle.gateway_messages.specs.declared.protocol.Protocol.TheVariants.{Http10, Http11}
+use Rattle.decide_resource.specs.declared.denied.Denied.{Denied}
+use Rattle.decide_resource.specs.declared.denied.Denied.TheVariants.{Unauthenticated, Forbidden, TooManyRequests}
+use Rattle.decide_resource.specs.declared.denied.Denied.TheVariants.{Unavailable}
 use Rattle.decide_resource.specs.declared.request.RequestContent.{RequestContent}
 use Rattle.decide_resource.specs.declared.request.RequestContent.TheVariants.{Absent, Sized, Unsized}
+use Rattle.c_decisions.specs.Numbers.{known}
 use Rattle.c_parts.{specs.declared.status.Failure.Failure, specs.declared.status.Failure.TheVariants.Refused}
-use Rattle.c_resource.{specs.Values.IsFilledValue, specs.declared.request.RequestParts.RequestParts}
+use Rattle.c_resource.{specs.Values.IsFilledValue, specs.declared.request.DenialParts.DenialParts}
+use Rattle.c_resource.{specs.declared.request.GivenRequest.GivenRequest, specs.declared.request.RequestParts.RequestParts}
+
+-- a request, but for its fields
+pub record Asked : Type 0 where
+  pub parts : RequestParts
+  pub method : List ℕ
+  pub target : List ℕ
+  pub denial : DenialParts
+
+-- the one that was handed in
+abbrev pub asked_by : GivenRequest → Asked
+asked_by given =
+    record {
+      parts = given.parts.now;
+      method = given.method.now;
+      target = given.target.now;
+      denial = given.denial.now;
+    }
 
 -- ---- the version
 
@@ -44,3 +67,26 @@ IsAuthorityAnswer (Some text) (Ok None) = ⊥
 IsAuthorityAnswer (Some text) (Ok (Some authority)) = IsFilledValue text (Ok authority)
 IsAuthorityAnswer None (Err failure) = ⊥
 IsAuthorityAnswer (Some text) (Err failure) = IsFilledValue text (Err failure)
+
+-- ---- why it is denied (RFC 9110, sections 15.5.2, 15.5.4 and 15.6.4; RFC 6585, section 4)
+
+-- the statuses of denied requests, and 0 for one that isn't
+abbrev pub is_denial_status : ℕ → Bool
+is_denial_status status =
+    status == 0 || (status == 401 || (status == 403 || (status == 429 || status == 503)))
+
+-- after how many seconds the client may send another request, if that is known
+abbrev pub retry_after : DenialParts → Option ℕ
+retry_after given = known given.has_retry_after given.retry_after
+
+-- the denial of a status. 401 has challenges, which may not be empty (section 11.6.1).
+abbrev pub IsDenialAnswer : DenialParts → Result (Option Denied) Failure → Type 0
+IsDenialAnswer given (Ok None) = given.status ≡ 0
+IsDenialAnswer given (Ok (Some (Unauthenticated challenge))) =
+    (given.status ≡ 401) × IsFilledValue given.challenge.now (Ok challenge)
+IsDenialAnswer given (Ok (Some Forbidden)) = given.status ≡ 403
+IsDenialAnswer given (Ok (Some (TooManyRequests seconds))) = (given.status ≡ 429) × (seconds ≡ retry_after given)
+IsDenialAnswer given (Ok (Some (Unavailable seconds))) = (given.status ≡ 503) × (seconds ≡ retry_after given)
+IsDenialAnswer given (Err failure) =
+    ((given.status ≡ 401) × IsFilledValue given.challenge.now (Err failure))
+    ⊎ ((failure ≡ Refused) × (is_denial_status given.status ≡ false))

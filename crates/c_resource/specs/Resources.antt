@@ -10,8 +10,9 @@ use Rattle.decide_resource.{specs.declared.resource.Resource.Resource, specs.dec
 use Rattle.decide_resource.specs.declared.resource.State.TheVariants.{Current, Absent, Gone, Moved, Server}
 use Rattle.c_decisions.{specs.Contents.IsBoundaryOf, specs.Numbers.known, specs.Rules.IsPolicyAnswer}
 use Rattle.c_decisions.{specs.Texts.IsValuesOf, specs.declared.rules.Rules.Rules}
-use Rattle.c_parts.{specs.declared.status.Failure.Failure, specs.declared.status.Failure.TheVariants.{Memory, Refused}}
-use Rattle.c_resource.{specs.MethodRules.IsRulesAnswer, specs.Representations.IsRepresentationsAnswer}
+use Rattle.c_parts.{specs.declared.status.Failure.Failure, specs.declared.status.Failure.TheVariants.Refused}
+use Rattle.c_resource.{specs.Implemented.{AreImplemented, FailsAtMethods}, specs.MethodRules.IsRulesAnswer}
+use Rattle.c_resource.specs.Representations.{IsRepresentationsAnswer}
 use Rattle.c_resource.specs.Values.{IsFilledValue}
 use Rattle.c_resource.specs.declared.representation.RepresentationParts.{RepresentationParts}
 use Rattle.c_resource.specs.declared.resource.ResourceParts.{ResourceParts}
@@ -46,18 +47,6 @@ IsStateAnswer number location (Ok (Moved redirect value)) =
     (redirect_of number ≡ Some redirect) × IsFilledValue location (Ok value)
 IsStateAnswer number location (Err failure) = (3 < number) × FailsAtRedirect (redirect_of number) location failure
 
--- ---- the methods of the server
-
--- those of RFC 9110, section 9.3, and PATCH (RFC 5789), beside GET and HEAD
-abbrev pub usual_methods : List (List ℕ)
-usual_methods =
-    codes "POST" ∷ codes "PUT" ∷ codes "DELETE" ∷ codes "CONNECT" ∷ codes "OPTIONS" ∷ codes "TRACE"
-    ∷ codes "PATCH" ∷ []
-
-abbrev pub AreUsual : Result (Vec (List ℕ)) Failure → Type 0
-AreUsual (Ok methods) = methods.items ≡ usual_methods
-AreUsual (Err failure) = failure ≡ Memory
-
 -- ---- the rest
 
 abbrev pub negotiation_of : ResourceParts → Negotiation
@@ -87,7 +76,7 @@ module _ (given : ResourceParts) (numbers : List RepresentationParts) (shared : 
   pub record IsResource (resource : Resource) : Type 0 where
     pub state : IsStateAnswer given.state given.location.now (Ok resource.state)
     pub boundary : IsBoundaryOf (boundary_text given.boundary.now) (Ok resource.boundary)
-    pub implemented : AreUsual (Ok resource.implemented)
+    pub implemented : AreImplemented given.has_implemented given.implemented.now (Ok resource.implemented)
     pub hosts : AreHostsRead given.hosts.now (Ok resource.hosts)
     pub rules : IsRulesAnswer given (Ok resource.rules)
     pub representations : IsRepresentationsAnswer given numbers (Ok resource.representations)
@@ -101,9 +90,10 @@ module _ (given : ResourceParts) (numbers : List RepresentationParts) (shared : 
   FailsAtResource failure =
       IsStateAnswer given.state given.location.now (Err failure)
       ⊎ (IsBoundaryOf (boundary_text given.boundary.now) (Err failure)
+      ⊎ (((given.has_implemented ≡ true) × FailsAtMethods given.implemented.now failure)
       ⊎ (AreHostsRead given.hosts.now (Err failure)
       ⊎ (IsRulesAnswer given (Err failure)
-      ⊎ (IsRepresentationsAnswer given numbers (Err failure) ⊎ IsCorsAnswer given.has_cors shared (Err failure)))))
+      ⊎ (IsRepresentationsAnswer given numbers (Err failure) ⊎ IsCorsAnswer given.has_cors shared (Err failure))))))
 
   abbrev pub IsResourceAnswer : Result Resource Failure → Type 0
   IsResourceAnswer (Ok resource) = IsResource resource

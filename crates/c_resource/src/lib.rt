@@ -2,6 +2,7 @@
 #![tactic(auto)]
 
 mod answer;
+mod implemented;
 pub mod laws;
 mod lists;
 mod method_rule;
@@ -12,8 +13,8 @@ mod settled;
 mod shown;
 mod values;
 
-pub use crate::answer::{Answered, answer_for, show_answer};
+pub use crate::answer::{Answered, answer_for, answer_with};
 pub use crate::representation::RepresentationParts;
-pub use crate::request::{RequestParts, content_of, read_authority, read_protocol};
-pub use crate::resource::{ResourceParts, read_resource};
+pub use crate::request::{DenialParts, GivenRequest, RequestParts};
+pub use crate::resource::{GivenResource, ResourceParts, read_resource};
 pub use crate::shown::AnswerFacts;

@@ -1,9 +1,10 @@
 //! A resource, as C hands it in.
 ghost use Rattle.std.specs.Prelude.{◌≡◌};
 ghost use Rattle.c_decisions.specs.Contents.{IsBoundaryOf};
-ghost use Rattle.c_resource.specs.Resources.{AreHostsRead, AreUsual, IsCorsAnswer, IsResourceAnswer};
+ghost use Rattle.c_resource.specs.Resources.{AreHostsRead, IsCorsAnswer, IsResourceAnswer};
 ghost use Rattle.c_resource.specs.Resources.{IsStateAnswer, boundary_text, negotiation_of, redirect_of};
 
+use crate::implemented::read_implemented;
 use crate::method_rule::read_rules;
 use crate::representation::{RepresentationParts, read_representations};
 use crate::values::read_filled;
@@ -13,7 +14,6 @@ use decide_cors::CorsPolicy;
 use decide_preconditions::Boundary;
 use decide_resource::{Negotiation, Redirect, Resource, State};
 use headers::HeaderValue;
-use http::Method;
 use std::alloc::Global;
 
 /// What stands between several parts, if nothing is said of it.
@@ -51,6 +51,9 @@ pub struct ResourceParts<'a> {
     pub etags: &'a [u8],
     /// The boundary between several parts. Empty, it is `THIS_STRING_SEPARATES`.
     pub boundary: &'a [u8],
+    /// The methods that the server implements for some resource, if `has_implemented` (RFC 9110, section
+    /// 9.1), with GET, HEAD and those that this one has. If not: those of RFC 9110, and PATCH.
+    pub implemented: &'a [u8],
     /// The greatest length of content that is taken, if `has_limit`.
     pub limit: u64,
     /// 0 if it has a current representation, 1 if it has none, 2 if it is gone for good, 3 if it is the
@@ -70,6 +73,19 @@ pub struct ResourceParts<'a> {
     pub has_limit: bool,
     /// Whether there are rules for requests from other origins.
     pub has_cors: bool,
+    /// Whether it is said which methods the server implements.
+    pub has_implemented: bool,
+}
+
+/// A resource, as C hands it in.
+#[derive(Clone, Copy)]
+pub struct GivenResource<'a> {
+    /// What is said of it, and the lines of its methods and of its representations.
+    pub parts: &'a ResourceParts<'a>,
+    /// What else is said of each representation.
+    pub representations: &'a [RepresentationParts],
+    /// The rules for requests from other origins, which count if it has some.
+    pub rules: &'a Rules<'a>,
 }
 
 fn read_hosts(alloc: Global, text: &[u8]) -> Result<Option<Vec<HeaderValue>>, Failure>
@@ -145,22 +161,7 @@ fn read_cors(
     }
 }
 
-// The methods of RFC 9110, section 9.3, and PATCH (RFC 5789), beside GET and HEAD.
-fn usual_methods(alloc: Global) -> Result<Vec<Method>, Failure>
-    ensures { AreUsual result }
-{
-    let mut methods = Vec::new(alloc);
-    methods.push(Method::POST)?;
-    methods.push(Method::PUT)?;
-    methods.push(Method::DELETE)?;
-    methods.push(Method::CONNECT)?;
-    methods.push(Method::OPTIONS)?;
-    methods.push(Method::TRACE)?;
-    methods.push(Method::PATCH)?;
-    Ok(methods)
-}
-
-/// The resource that is said. Its server implements the methods of RFC 9110, and PATCH.
+/// The resource that is said.
 pub fn read_resource(
     alloc: Global,
     parts: &ResourceParts<'_>,
@@ -171,7 +172,7 @@ pub fn read_resource(
 {
     let state = read_state(alloc, parts.state, parts.location)?;
     let boundary = read_boundary(alloc, parts.boundary)?;
-    let implemented = usual_methods(alloc)?;
+    let implemented = read_implemented(alloc, parts.has_implemented, parts.implemented)?;
     let hosts = read_hosts(alloc, parts.hosts)?;
     let methods = read_rules(alloc, parts)?;
     let representations = read_representations(alloc, parts, numbers)?;

@@ -134,6 +134,7 @@ pub struct Resource {
     pub codings: Text,
     pub etags: Text,
     pub boundary: Text,
+    pub implemented: Text,
     pub limit: u64,
     pub state: u16,
     pub by_media_type: bool,
@@ -143,6 +144,7 @@ pub struct Resource {
     pub needs_length: bool,
     pub has_limit: bool,
     pub has_cors: bool,
+    pub has_implemented: bool,
 }
 
 #[repr(C)]
@@ -164,6 +166,15 @@ pub struct ResourceRequest {
     pub version: u8,
     pub has_content: bool,
     pub has_length: bool,
+}
+
+#[repr(C)]
+#[derive(Clone, Copy, Debug)]
+pub struct Denial {
+    pub challenge: Text,
+    pub retry_after: u64,
+    pub status: u16,
+    pub has_retry_after: bool,
 }
 
 #[repr(C)]
@@ -649,6 +660,7 @@ extern "C" {
         method_length: usize,
         target: *const u8,
         target_length: usize,
+        denial: *const Denial,
         section: *const u8,
         section_length: usize,
         keys: *const Keys,
@@ -960,6 +972,7 @@ extern "C" {
         method_length: usize,
         target: *const u8,
         target_length: usize,
+        denial: *const Denial,
         facts: *mut ResourceFacts,
         parts: *mut BytesRange,
         parts_length: usize,

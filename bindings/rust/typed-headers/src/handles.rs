@@ -300,6 +300,7 @@ impl CorsPolicy {
 ///     version: Version::Http11,
 ///     fields: &fields,
 ///     content: Default::default(),
+///     denied: None,
 /// };
 /// assert_eq!(resource.answer(&request, &parsed, 1_767_225_600)?.status, Some(405));
 /// # Ok::<(), typed_headers::Error>(())
@@ -336,7 +337,8 @@ impl PreparedResource {
         fields: &ParsedSection,
         now: impl Into<Timestamp>,
     ) -> Result<ResourceAnswer, Error> {
-        let (asked, facts) = (request.given(now), Cell::new(sys::ResourceFacts::default()));
+        let (asked, denial) = (request.given(now), request.denial());
+        let facts = Cell::new(sys::ResourceFacts::default());
         let found = self.handle.with(|handle| {
             fields.handle.with(|fields| {
                 // SAFETY: as above.
@@ -349,6 +351,7 @@ impl PreparedResource {
                         request.method.len(),
                         request.target.as_ptr(),
                         request.target.len(),
+                        &denial,
                         facts.as_ptr(),
                         parts.items.as_mut_ptr(),
                         parts.items.len(),

@@ -60,7 +60,7 @@ pub use negotiation::{
     Quality,
 };
 pub use resource::{
-    Method, Reason, Representation, RequestContent, Resource, ResourceAnswer, ResourceRequest, Sends, State,
+    Denied, Method, Reason, Representation, RequestContent, Resource, ResourceAnswer, ResourceRequest, Sends, State,
 };
 pub use response::{respond, Content, Response};
 pub use store::{Cache, CacheOptions, CacheRequest, Pass, Reply, Step};
@@ -279,6 +279,7 @@ mod tests {
                 version: Version::Http11,
                 fields: &text,
                 content: RequestContent::Absent,
+                denied: None,
             };
             assert_eq!(resource.answer(&request, &fields, NOW), given.answer(&request, NOW, KEYS));
         }
@@ -289,6 +290,65 @@ mod tests {
         assert_eq!(PreparedResource::new(&moved).err(), Some(Error::Rejected));
         let moved = std::thread::spawn(move || (fields.field("age"), policy, resource)).join();
         assert_eq!(moved.map(|(found, ..)| found).ok(), Some(Ok(None)));
+    }
+
+    #[test]
+    fn denied_and_unknown() {
+        let fields = Section::from_bytes("Host: a.example\nOrigin: https://b.example\n");
+        let parsed = ParsedSection::new(&fields, KEYS).unwrap();
+        let methods = [Method { name: "GET", ..Method::default() }];
+        let cors = CorsRules { origins: &["https://b.example"], ..CorsRules::default() };
+        let usual = Resource { methods: &methods, cors: Some(cors), ..Resource::default() };
+        let own = Resource { implemented: Some(&["PURGE"]), ..usual };
+        let none = Resource { implemented: Some(&[]), ..usual };
+        let request = ResourceRequest {
+            method: "GET",
+            target: "/",
+            version: Version::Http11,
+            fields: &fields,
+            content: RequestContent::Absent,
+            denied: None,
+        };
+        let answer = |resource: &Resource<'_>, request: &ResourceRequest<'_>| {
+            let answer = resource.answer(request, NOW, KEYS);
+            assert_eq!(PreparedResource::new(resource).unwrap().answer(request, &parsed, NOW), answer);
+            answer
+        };
+        for (resource, method, status) in [
+            (&usual, "PURGE", 501),
+            (&usual, "POST", 405),
+            (&own, "PURGE", 405),
+            (&own, "POST", 501),
+            (&none, "POST", 501),
+            (&none, "GET", 200),
+        ] {
+            let answer = answer(resource, &ResourceRequest { method, ..request }).unwrap();
+            assert_eq!(answer.status, Some(status));
+        }
+        let wrong = Resource { implemented: Some(&["a b"]), ..usual };
+        assert_eq!(PreparedResource::new(&wrong).err(), Some(Error::Rejected));
+
+        let denied = |denied| answer(&usual, &ResourceRequest { method: "POST", denied: Some(denied), ..request });
+        for (why, status, name, value) in [
+            (
+                Denied::Unauthenticated("Basic realm=\"a\""),
+                401,
+                "www-authenticate",
+                Some(b"Basic realm=\"a\"".as_slice()),
+            ),
+            (Denied::Forbidden, 403, "allow", None),
+            (Denied::TooManyRequests(Some(120)), 429, "retry-after", Some(b"120".as_slice())),
+            (Denied::Unavailable(None), 503, "retry-after", None),
+        ] {
+            let answer = denied(why).unwrap();
+            assert_eq!((answer.status, answer.reason), (Some(status), Reason::Denied));
+            assert_eq!(answer.fields.get(name), value);
+            let shared = answer.fields.get("access-control-allow-origin");
+            assert_eq!(shared, Some(b"https://b.example".as_slice()));
+        }
+        for challenge in ["", "Basic\n", "Basic\0"] {
+            assert_eq!(denied(Denied::Unauthenticated(challenge)), Err(Error::Rejected));
+        }
     }
 
     #[test]
@@ -307,6 +367,7 @@ mod tests {
             version: Version::Http11,
             fields: &text,
             content: RequestContent::Absent,
+            denied: None,
         };
         let cache = Cache::new(CacheOptions::shared(), KEYS).unwrap();
         let (asked, stored) = (Section::new(), Section::parse("Cache-Control: max-age=10\n").unwrap());

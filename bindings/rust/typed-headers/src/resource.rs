@@ -91,6 +91,9 @@ pub struct Resource<'a> {
     pub limit: Option<u64>,
     /// The rules for requests from other origins.
     pub cors: Option<CorsRules<'a>>,
+    /// The methods that the server implements for some resource, with GET, HEAD and its `methods` (RFC 9110, section 9.1).
+    /// `None`: those of RFC 9110, and PATCH. Any other is answered by 501, and one that it doesn't have by 405.
+    pub implemented: Option<&'a [&'a str]>,
 }
 
 /// What is said of the content of a request.
@@ -106,6 +109,23 @@ pub enum RequestContent {
     Unsized,
 }
 
+/// Why a server denies a request: by its credentials, or by the load. The answer says nothing of the resource.
+#[derive(Clone, Copy, Debug, PartialEq, Eq, Hash)]
+#[non_exhaustive]
+pub enum Denied<'a> {
+    /// 401: it has no valid credentials. The challenges, as the field line of WWW-Authenticate (RFC 9110, section 11.6.1).
+    /// Without one the answer is an error.
+    Unauthenticated(&'a str),
+    /// 403: its credentials don't suffice, or none do (section 15.5.4).
+    Forbidden,
+    /// 429: the client sends too many (RFC 6585, section 4). After how many seconds it may send another one, if that is
+    /// known.
+    TooManyRequests(Option<u64>),
+    /// 503: the server can't handle it now (RFC 9110, section 15.6.4). After how many seconds the client may send another
+    /// one, if that is known.
+    Unavailable(Option<u64>),
+}
+
 /// A request to a resource.
 #[derive(Clone, Copy, Debug)]
 pub struct ResourceRequest<'a> {
@@ -119,6 +139,8 @@ pub struct ResourceRequest<'a> {
     pub fields: &'a Section,
     /// Its content, by the framing of its message.
     pub content: RequestContent,
+    /// Why the server denies it, if it does.
+    pub denied: Option<Denied<'a>>,
 }
 
 /// Why an answer is what it is.
@@ -131,7 +153,7 @@ pub enum Reason {
     InvalidHost,
     /// 421: the host isn't one of the resource's.
     Misdirected,
-    /// 501: the server doesn't implement the method. Those of RFC 9110, PATCH and the resource's count as implemented.
+    /// 501: the server doesn't implement the method.
     UnknownMethod,
     /// 405: the server implements the method, and the resource doesn't have it.
     MethodNotAllowed,
@@ -244,11 +266,13 @@ impl State<'_> {
 }
 
 impl Resource<'_> {
-    /// The whole answer of the resource to a request at the second `now` (RFC 9110, sections 7.4 to 15): by its host, its
-    /// method, its content, negotiation, preconditions, ranges, and the rules for other origins.
+    /// The whole answer of the resource to a request at the second `now` (RFC 9110, sections 7.4 to 15): by its host, a
+    /// denial, its method, its content, negotiation, preconditions, ranges, and the rules for other origins.
     ///
     /// ```
-    /// use typed_headers::{Keys, Method, Reason, Representation, Resource, ResourceRequest, Section, Sends, Version};
+    /// use typed_headers::{
+    ///     Denied, Keys, Method, Reason, Representation, Resource, ResourceRequest, Section, Sends, Version,
+    /// };
     ///
     /// let text = Representation { media_type: "text/plain", length: Some(10), ..Representation::default() };
     /// let methods = [Method { name: "GET", ..Method::default() }];
@@ -260,12 +284,16 @@ impl Resource<'_> {
     ///     version: Version::Http11,
     ///     fields: &fields,
     ///     content: Default::default(),
+    ///     denied: None,
     /// };
     /// let answer = resource.answer(&request, 1_767_225_600, Keys::random())?;
     /// assert_eq!((answer.status, answer.sends, answer.place), (Some(200), Sends::Whole, Some(0)));
     /// request.method = "DELETE";
     /// let answer = resource.answer(&request, 1_767_225_600, Keys::random())?;
     /// assert_eq!((answer.status, answer.reason), (Some(405), Reason::MethodNotAllowed));
+    /// request.denied = Some(Denied::TooManyRequests(Some(60)));
+    /// let answer = resource.answer(&request, 1_767_225_600, Keys::random())?;
+    /// assert_eq!((answer.status, answer.fields.get("retry-after")), (Some(429), Some(b"60".as_slice())));
     /// # Ok::<(), typed_headers::Error>(())
     /// ```
     pub fn answer(
@@ -274,7 +302,7 @@ impl Resource<'_> {
         now: impl Into<Timestamp>,
         keys: Keys,
     ) -> Result<ResourceAnswer, Error> {
-        let asked = request.given(now);
+        let (asked, denial) = (request.given(now), request.denial());
         let section = request.fields.as_bytes();
         let facts = Cell::new(sys::ResourceFacts::default());
         let found = self.given(|given, numbers, rules| {
@@ -290,6 +318,7 @@ impl Resource<'_> {
                     request.method.len(),
                     request.target.as_ptr(),
                     request.target.len(),
+                    &denial,
                     section.as_ptr(),
                     section.len(),
                     &keys.0,
@@ -324,8 +353,9 @@ impl Resource<'_> {
             lines(shown, |it| it.language)?,
             lines(shown, |it| it.coding)?,
             lines(shown, |it| it.etag)?,
+            joined(self.implemented.unwrap_or_default())?,
         ];
-        let [hosts, methods, creating, guarded, accept, accept_encoding, media_types, languages, codings, etags] =
+        let [hosts, methods, creating, guarded, accept, accept_encoding, media_types, languages, codings, etags, implemented] =
             texts.each_ref().map(|it| text(it));
         let given = sys::Resource {
             hosts,
@@ -340,6 +370,7 @@ impl Resource<'_> {
             codings,
             etags,
             boundary: text(self.boundary.as_bytes()),
+            implemented,
             limit: self.limit.unwrap_or(0),
             state,
             by_media_type: self.by_media_type,
@@ -349,6 +380,7 @@ impl Resource<'_> {
             needs_length: self.needs_length,
             has_limit: self.limit.is_some(),
             has_cors: self.cors.is_some(),
+            has_implemented: self.implemented.is_some(),
         };
         let numbers: Vec<sys::Representation> = shown
             .iter()
@@ -373,6 +405,22 @@ impl ResourceRequest<'_> {
             version: self.version as u8,
             has_content: self.content != RequestContent::Absent,
             has_length: matches!(self.content, RequestContent::Sized(_)),
+        }
+    }
+
+    pub(crate) fn denial(&self) -> sys::Denial {
+        let (status, challenge, seconds) = match self.denied {
+            None => (0, "", None),
+            Some(Denied::Unauthenticated(challenge)) => (401, challenge, None),
+            Some(Denied::Forbidden) => (403, "", None),
+            Some(Denied::TooManyRequests(seconds)) => (429, "", seconds),
+            Some(Denied::Unavailable(seconds)) => (503, "", seconds),
+        };
+        sys::Denial {
+            challenge: text(challenge.as_bytes()),
+            retry_after: seconds.unwrap_or(0),
+            status,
+            has_retry_after: seconds.is_some(),
         }
     }
 }

@@ -1,18 +1,19 @@
 use Rattle.std.{proofs.Common.{◌≡◌, Err, inl, inr, subst, sym}, proofs.lemmas.Result.err_from_is_err_and}
 use Rattle.c_decisions.specs.Contents.{IsBoundaryOf}
 use Rattle.c_parts.specs.declared.status.Failure.{Failure}
-use Rattle.c_resource.{specs.Answers.Answers, specs.Resources.boundary_text}
+use Rattle.c_resource.{specs.Answers.Answers, specs.Requests.asked_by, specs.Resources.boundary_text}
 use Rattle.c_resource.proofs.answer.answer_for.Goals as goal
 
-pub returns-in_err-resource : goal.returns-in_err-resource
-returns-in_err-resource c =
+pub returns-in_err-known : goal.returns-in_err-known
+returns-in_err-known c =
     let answer = c.from_residual in
-    let failure = c.in_err-resource.field-0.0 in
+    let failure = c.in_err-known.field-0.0 in
     let error = err_from_is_err_and answer.result answer.ensures.1 in
     let is : answer.result ≡ Err failure = cc (error.1, error.2) in
+    let given = c.args.resource.now in
     subst
-    (Answers c.args.resource.now c.args.representations.now c.args.rules.now c.args.request.now c.args.method.now
-    c.args.target.now c.args.section.now) (sym is) (inl c.in_err-resource.ensures)
+    (Answers given.parts.now given.representations.now given.rules.now (asked_by c.args.request.now)
+    c.args.section.now) (sym is) (inl c.in_err-known.ensures)
 
 pub returns-in_err-answered : goal.returns-in_err-answered
 returns-in_err-answered c =
@@ -20,14 +21,14 @@ returns-in_err-answered c =
     let failure = c.in_err-answered.field-0.0 in
     let error = err_from_is_err_and answer.result answer.ensures.1 in
     let is : answer.result ≡ Err failure = cc (error.1, error.2) in
+    let given = c.args.resource.now in
     subst
-    (Answers c.args.resource.now c.args.representations.now c.args.rules.now c.args.request.now c.args.method.now
-    c.args.target.now c.args.section.now) (sym is)
+    (Answers given.parts.now given.representations.now given.rules.now (asked_by c.args.request.now)
+    c.args.section.now) (sym is)
     (elim c.in_err-answered.ensures [
-      | inl request ↦ inr request
+      | inl request ↦ inr (inl request)
       | inr memory ↦
           inl (inr (inl (subst
-          (λ (reason : Failure). IsBoundaryOf (boundary_text c.args.resource.now.boundary.now) (Err reason))
-          (sym memory)
-          c.in_ok-resource.ensures.boundary.0)))
+          (λ (reason : Failure). IsBoundaryOf (boundary_text given.parts.now.boundary.now) (Err reason))
+          (sym memory.0) c.in_ok-known.ensures.boundary.0)))
     ])
