@@ -240,7 +240,7 @@ def work(number: int, folder: Path, seed: int, todo, done, found) -> None:
 
 FAULTS = list(cache.FAULTS)
 # Episodes of each origin server in which a fault must be found.
-TRIES = 8
+TRIES = 16
 
 
 def tasks(options: argparse.Namespace) -> list[Task]:
