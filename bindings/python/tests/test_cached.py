@@ -294,9 +294,7 @@ class CachedTest(unittest.TestCase):
             self.assertEqual(served.ask(at=1010, Cache_Control="no-store").content, b"one")
             self.assertEqual(served.ask(at=1011).content, b"one")
 
-    @unittest.expectedFailure
     def test_hands_no_cookie_of_a_304_on(self) -> None:
-        """(what a 304 adds to a stored response is stored, and so is its cookie)"""
         stored = [("Cache-Control", "max-age=10"), ("ETag", '"1"')]
         again = [("Cache-Control", "max-age=60"), ("ETag", '"1"'), ("Set-Cookie", "session=alice")]
         for served in self.each(lambda: in_turn(Given(200, stored, b"page"), Given(304, again), Given(200, stored, b"page"))):
