@@ -3,6 +3,7 @@
 
     tests/notes/run tests/notes/notes.py
 
+With `--replay` it gives the same answers each time: without Date, and with tags that aren't random.
 It reads requests of one connection from standard input, and answers them on standard output. The package and its
 library are found as elsewhere: PYTHONPATH, TYPED_HEADERS_LIBRARY.
 """
@@ -10,7 +11,9 @@ import http.client
 import io
 import json
 import re
+import secrets
 import sys
+from email.utils import formatdate
 
 from typed_headers import CorsPolicy, ETag, Method, Representation, Resource, State
 from typed_headers.wsgi import Result, Served, Serves
@@ -24,15 +27,18 @@ EVERY = ("GET", "POST", "PUT", "DELETE", "CONNECT", "TRACE", "PATCH")
 
 
 class Notes:
-    """Texts by their numbers, each with the number of the change that wrote it."""
+    """Texts by their numbers, each with its tag: a number at random, and that of the change that wrote it."""
 
-    def __init__(self):
-        self.by_id, self.changes, self.last = {}, 0, 0
+    def __init__(self, series):
+        self.by_id, self.series, self.changes, self.last = {}, series, 0, 0
+
+    def tag(self):
+        return ETag(f"{self.series}-{self.changes}")
 
     def write(self, place, text):
         self.changes += 1
-        self.by_id[place] = (text, self.changes)
-        return ("etag", str(ETag(str(self.changes))))
+        self.by_id[place] = (text, self.tag())
+        return ("etag", str(self.tag()))
 
     def add(self, environ):
         text = content_of(environ)
@@ -54,7 +60,7 @@ class Notes:
         path = environ["PATH_INFO"]
         if path == "/notes":
             listed = json.dumps([f"/notes/{place}" for place in self.by_id], separators=(",", ":")).encode()
-            return served([GET, POST], (listed, self.changes), {"POST": self.add})
+            return served([GET, POST], (listed, self.tag()), {"POST": self.add})
         note = re.fullmatch("/notes/([1-9][0-9]*)", path)
         if not note:
             return Served(Resource(EVERY, state=State.ABSENT, cors=CORS))
@@ -77,14 +83,16 @@ def served(methods, text, performed):
     named = {"by_media_type": True, "is_strict": True, "limit": 65536, "cors": CORS}
     if text is None:
         return Served(Resource(methods, state=State.ABSENT, **named), methods=performed)
-    content, version = text
-    shown = Representation(JSON, len(content), ETag(str(version)), sends_ranges=False)
+    content, tag = text
+    shown = Representation(JSON, len(content), tag, sends_ranges=False)
     return Served(Resource(methods, [shown], **named), lambda place: content, performed)
 
 
 def main():
     """Answers the requests of one connection."""
-    application = Serves(Notes().find, explain=lambda answer, resource: None)
+    is_replayed = "--replay" in sys.argv[1:]
+    series = 0 if is_replayed else secrets.randbits(64)
+    application = Serves(Notes(series).find, explain=lambda answer, resource: None)
     source, sink = sys.stdin.buffer, sys.stdout.buffer
     while line := source.readline().decode("latin-1").split():
         method, target, version = line
@@ -96,7 +104,8 @@ def main():
         environ |= {"CONTENT_TYPE": fields.get("content-type", "")}
 
         def start_response(status, sent):
-            head = "".join(f"{name}: {value}\r\n" for name, value in sent)
+            dated = [] if is_replayed else [("date", formatdate(usegmt=True))]
+            head = "".join(f"{name}: {value}\r\n" for name, value in [*dated, *sent])
             sink.write(f"HTTP/1.1 {status}\r\n{head}\r\n".encode("latin-1"))
 
         sink.write(b"".join(application(environ, start_response)))

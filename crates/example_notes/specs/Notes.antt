@@ -12,10 +12,12 @@ note_at notes id = get nat_cmp notes.by_id id
 pub record Changes (before : Notes) (id : ℕ) (note : Option Note) (after : Notes) : Type 0 where
   pub notes : Updates nat_cmp before.by_id after.by_id id note
   pub changes : after.changes ≡ before.changes + 1
+  pub series : after.series ≡ before.series
 
 -- the text is now that of the note of this number, and the number of the change is its version
 abbrev pub Writes : Notes → ℕ → List ℕ → Notes → Type 0
-Writes before id text after = Changes before id (Some (record { text = text; version = before.changes + 1 })) after
+Writes before id text after =
+    Changes before id (Some (record { text = text; version = before.changes + 1; series = before.series })) after
 
 abbrev pub Removes : Notes → ℕ → Notes → Type 0
 Removes before id after = Changes before id None after
@@ -25,8 +27,13 @@ Removes before id after = Changes before id None after
 abbrev pub path_of : ℕ → List ℕ
 path_of id = codes "/notes/" ++ decimal id
 
-abbrev pub tag_of : ℕ → List ℕ
-tag_of version = codes "\"" ++ decimal version ++ codes "\""
+-- Two connections have two series, so no two texts have one tag (RFC 9110, section 8.8.1).
+abbrev pub tag_of : (series version : ℕ) → List ℕ
+tag_of series version = codes "\"" ++ decimal series ++ codes "-" ++ decimal version ++ codes "\""
+
+-- the tag of what the next change writes
+abbrev pub next_tag : Notes → List ℕ
+next_tag notes = tag_of notes.series (notes.changes + 1)
 
 -- a path as a JSON string
 abbrev pub item_of : ℕ → List ℕ

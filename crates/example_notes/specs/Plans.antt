@@ -8,7 +8,7 @@ use Rattle.http_server.specs.Response.{fields}
 use Rattle.http_uri.specs.Uri.{uri_path}
 use Rattle.serde_json.specs.Data.{Data}
 use Rattle.serde_json.specs.Read.{read as read_text}
-use Rattle.headers.specs.LineMap.{Field, fields_of, lines_at, set_all}
+use Rattle.headers.specs.{Date.fixdate, LineMap.{Field, fields_of, lines_at, set_all}}
 use Rattle.server_connection.{specs.declared.piece.Piece.Piece, specs.declared.piece.Piece.TheVariants.Literal}
 use Rattle.server_connection.specs.declared.plan.Plan.{Plan}
 use Rattle.gateway_messages.specs.declared.protocol.Protocol.TheVariants.{Http10, Http11}
@@ -19,7 +19,7 @@ use Rattle.decide_resource.{specs.declared.answer.Answer.Answer, specs.declared.
 use Rattle.decide_resource.specs.declared.answer.Sends.TheVariants as sends
 use Rattle.decide_resource.specs.declared.request.RequestContent.TheVariants.{Sized}
 use Rattle.decide_resource.specs.declared.resource.Resource.{Resource}
-use Rattle.example_notes.specs.Notes.{Removes, Writes, list_text, note_at, path_of, tag_of}
+use Rattle.example_notes.specs.Notes.{Removes, Writes, list_text, next_tag, note_at, path_of}
 use Rattle.example_notes.{specs.Resources.{IsResource, collection_methods, note_methods}, specs.Targets.IsTarget}
 use Rattle.example_notes.{specs.declared.notes.Note.Note, specs.declared.notes.Notes.Notes}
 use Rattle.example_notes.{specs.declared.perform.Done.Done, specs.declared.service.Service.Service}
@@ -30,7 +30,8 @@ use Rattle.example_notes.specs.declared.target.Target.TheVariants as target
 
 -- the current text of a target
 abbrev pub IsText : Notes → Target → Option Note → Type 0
-IsText notes target.Notes text = text ≡ Some (record { text = list_text notes; version = notes.changes })
+IsText notes target.Notes text =
+    text ≡ Some (record { text = list_text notes; version = notes.changes; series = notes.series })
 IsText notes (target.Note id) text = text ≡ note_at notes id
 IsText notes target.Nowhere text = text ≡ None
 IsText notes target.Server text = text ≡ None
@@ -51,7 +52,7 @@ pub record IsAsked (request : Request (List ℕ)) (asked : Asked) : Type 0 where
   pub fields : asked.fields ≡ lines_at (head_of request).headers
   pub admitted : asked.denied ≡ None
 
--- the answer of the resource to the request, without a clock, as no date is sent
+-- the answer of the resource to the request, without a clock, as nothing has a date of modification
 pub record IsAnswerBy (resource : Resource) (request : Request (List ℕ)) (answer : Answer) : Type 0 where
   pub asked : Asked
   pub is_asked : IsAsked request asked
@@ -98,12 +99,12 @@ Stores before target.Notes content after done =
     Writes before (before.changes + 1) content after
     × HasDone 201
     (
-    (codes "location", path_of (before.changes + 1) ∷ []) ∷ (codes "etag", tag_of (before.changes + 1) ∷ []) ∷ []
+    (codes "location", path_of (before.changes + 1) ∷ []) ∷ (codes "etag", next_tag before ∷ []) ∷ []
     )
     done
 Stores before (target.Note id) content after done =
     Writes before id content after
-    × HasDone 204 ((codes "etag", tag_of (before.changes + 1) ∷ []) ∷ []) done
+    × HasDone 204 ((codes "etag", next_tag before ∷ []) ∷ []) done
 Stores before target.Nowhere content after done = (after ≡ before) × HasDone 404 [] done
 Stores before target.Server content after done = (after ≡ before) × HasDone 404 [] done
 
@@ -136,6 +137,11 @@ Carries sent plan =
     (m : Entries FieldValue) × (fields plan.headers.items ≡ map (λ p. (p.0, p.1.bytes)) (pairs m))
     × ((name : List ℕ) → lines_at m name ≡ set_all (lines_at []) sent name)
 
+-- the field that says when a response is made (section 6.6.1), if the clock tells it
+abbrev pub date_fields : Option ℕ → List Field
+date_fields None = []
+date_fields (Some second) = (codes "date", fixdate second ∷ []) ∷ []
+
 -- The plan is the answer of the resource that the path leads to, with what performing the method did.
 pub record IsPlanned (before : Service) (request : Request (List ℕ)) (plan : Plan) (after : Service) : Type 0 where
   pub at : Target
@@ -147,6 +153,7 @@ pub record IsPlanned (before : Service) (request : Request (List ℕ)) (plan : P
   pub done : Done
   pub does : Does answer.status before.notes (head_of request).method at (body_of request) after.notes done
   pub status : plan.status ≡ done.status
-  pub carries : Carries (fields_of answer.fields.items ++ fields_of done.fields.items) plan
+  pub date : Option ℕ
+  pub carries : Carries (date_fields date ++ (fields_of answer.fields.items ++ fields_of done.fields.items)) plan
   pub content : plan.pieces.items ≡ pieces_of answer.sends text
   pub routes : after.routes ≡ before.routes

@@ -1,8 +1,12 @@
 //! A small JSON resource over standard input and output, for one connection: a collection at
 //! `/notes`, and its notes at `/notes/1`, `/notes/2` and so on. Nothing is stored after the
 //! connection.
+//!
+//! With `--replay` it gives the same answers each time: without Date, and with tags that aren't
+//! random.
 #![tactic(auto)]
 
+mod clock;
 mod notes;
 mod perform;
 mod resource;
@@ -10,16 +14,25 @@ mod service;
 mod target;
 mod text;
 
+use crate::clock::Clock;
 use crate::service::new_service;
 use http_server::Config;
 use server_connection::serve_exchanges;
-use std::hash::RandomState;
+use std::env;
+use std::hash::{BuildHasher, RandomState};
 use std::process::ExitCode;
 
 fn main(rt: HostRuntime) -> anyhow::Result<ExitCode> {
     let alloc = rt.alloc();
     let keys = RandomState::new(&rt)?;
-    let mut service = new_service(alloc)?;
+    let words: Vec<String> = env::args(&rt)?.collect(alloc)?;
+    let is_replayed = words.iter().any(|word| word.as_str() == "--replay");
+    let series = if is_replayed {
+        0
+    } else {
+        RandomState::new(&rt)?.hash_one(0u64)
+    };
+    let mut service = new_service(alloc, series, Clock::new(&rt, !is_replayed))?;
     let (mut reader, mut writer) = (rt.stdin(), rt.stdout());
     match serve_exchanges(
         alloc,

@@ -11,8 +11,10 @@ use std::collections::BTreeMap;
 pub struct Note {
     /// The text.
     pub text: Bytes,
-    /// The number of the change, which is its entity tag.
+    /// The number of the change.
     pub version: u64,
+    /// The series of the change: with its number it is the entity tag.
+    pub series: u64,
 }
 
 /// Notes by their numbers, and how often they changed.
@@ -22,6 +24,8 @@ pub struct Notes {
     pub by_id: BTreeMap<u64, Note>,
     /// The number of changes.
     pub changes: u64,
+    /// A number at random, which tells these changes from those of other connections.
+    pub series: u64,
 }
 
 impl Notes {
@@ -34,6 +38,7 @@ impl Notes {
             Some(note) => Ok(Some(Note {
                 text: note.text.clone()?,
                 version: note.version,
+                series: note.series,
             })),
             None => Ok(None),
         }
@@ -55,7 +60,15 @@ impl Notes {
         ensures version { IfOk result (λ version. version ≡ self.old.changes + 1) }
     {
         let version = self.next()?;
-        self.by_id.insert(id, Note { text, version })?;
+        let series = self.series;
+        self.by_id.insert(
+            id,
+            Note {
+                text,
+                version,
+                series,
+            },
+        )?;
         self.changes = version;
         Ok(version)
     }

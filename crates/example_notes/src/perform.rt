@@ -2,7 +2,7 @@
 ghost use Rattle.std.{specs.Prelude.{◌≡◌, ◌+◌, ◌∷◌, [], IfOk, IsTrue, codes}, specs.Bool.MatchBool};
 ghost use Rattle.std.specs.String.{string_bytes};
 ghost use Rattle.headers.specs.LineMap.{field_of};
-ghost use Rattle.example_notes.{specs.Notes.{Writes, tag_of}, specs.Plans.{HasDone, IsJson, Performs, Stores, Takes}};
+ghost use Rattle.example_notes.{specs.Notes.{Writes, next_tag}, specs.Plans.{HasDone, IsJson, Performs, Stores, Takes}};
 ghost use Rattle.example_notes.specs.declared.target.Target.TheVariants as target;
 
 use crate::notes::Notes;
@@ -53,7 +53,7 @@ fn add(alloc: Global, notes: &mut Notes, content: &Bytes) -> Result<Done, AllocE
 {
     let id = notes.add(content.clone()?)?;
     let location = field(alloc, LOCATION, path_of(alloc, id)?)?;
-    let etag = field(alloc, ETAG, tag_of(alloc, id)?)?;
+    let etag = field(alloc, ETAG, tag_of(alloc, notes.series, id)?)?;
     Ok(Done {
         status: StatusCode::CREATED,
         fields: vec![in alloc; location, etag]?,
@@ -63,10 +63,10 @@ fn add(alloc: Global, notes: &mut Notes, content: &Bytes) -> Result<Done, AllocE
 // Overwrites a note.
 fn write(alloc: Global, notes: &mut Notes, id: u64, content: &Bytes) -> Result<Done, AllocError>
     ensures { IfOk result (λ done. Writes notes.old id content.now notes.new
-        × HasDone 204 ((codes "etag", tag_of (notes.old.changes + 1) ∷ []) ∷ []) done) }
+        × HasDone 204 ((codes "etag", next_tag notes.old ∷ []) ∷ []) done) }
 {
     let version = notes.write(id, content.clone()?)?;
-    let etag = field(alloc, ETAG, tag_of(alloc, version)?)?;
+    let etag = field(alloc, ETAG, tag_of(alloc, notes.series, version)?)?;
     Ok(Done {
         status: StatusCode::NO_CONTENT,
         fields: vec![in alloc; etag]?,

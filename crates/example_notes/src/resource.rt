@@ -90,11 +90,11 @@ fn taking_json(
     })
 }
 
-// A text as a representation: JSON, with the number of its change as a strong tag.
+// A text as a representation: JSON, with its change as a strong tag.
 fn representation(alloc: Global, text: &Note) -> Result<Representation, AllocError>
     ensures { IfOk result (IsJsonOf text.now) }
 {
-    let tag = tag_of(alloc, text.version)?;
+    let tag = tag_of(alloc, text.series, text.version)?;
     let etag = allocated(ETag::from_str(alloc, tag.as_str()))?;
     Ok(Representation {
         coding: None,

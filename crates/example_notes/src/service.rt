@@ -1,12 +1,14 @@
 //! Answers requests for notes.
-ghost use Rattle.std.specs.Prelude.{◌≡◌, [], IfOk, OnOk, map, option_copied};
+ghost use Rattle.std.specs.Prelude.{◌≡◌, [], ◌++◌, IfOk, OnOk, map, option_copied};
 ghost use Rattle.http.specs.Request.{body_of, head_of};
 ghost use Rattle.http_header.specs.HeaderMap.{pairs};
 ghost use Rattle.http_server.specs.Response.{fields};
 ghost use Rattle.headers.specs.LineMap.{fields_of};
 ghost use Rattle.decide_resource.specs.Requests.{request_of};
-ghost use Rattle.example_notes.specs.Plans.{Carries, Does, IsAnswerAt, IsAnswerBy, IsAsked, IsText, pieces_of};
+ghost use Rattle.example_notes.specs.Plans.{Carries, Does, IsAnswerAt, IsAnswerBy, IsAsked, IsText, date_fields};
+ghost use Rattle.example_notes.specs.Plans.{pieces_of};
 
+use crate::clock::Clock;
 use crate::notes::{Note, Notes};
 use crate::perform::{Done, only, perform};
 use crate::resource::{collection, note, server};
@@ -17,7 +19,7 @@ use decide_preconditions::Plan as Planned;
 use decide_resource::{Answer, RequestContent, RequestHead, Resource, Sends, answer_request};
 use decide_routes::{Routes, nowhere, server_wide};
 use gateway_messages::Protocol;
-use headers::{Encoded, HeaderMap, set_all};
+use headers::{Date, Encoded, HeaderMap, encoding, set_all};
 use http::{Request, Version};
 use server_connection::{Handler, Piece, Plan};
 use std::alloc::{AllocError, Global};
@@ -26,14 +28,20 @@ use std::io;
 
 /// A service that answers requests for notes.
 #[derive(Drop)]
-pub struct Service {
+pub struct Service<'a> {
     alloc: Global,
     routes: Routes<Place>,
     notes: Notes,
+    clock: Clock<'a>,
 }
 
-/// Makes a service without notes. Fails only if an allocation fails.
-pub fn new_service(alloc: Global) -> Result<Service, AllocError> {
+/// Makes a service without notes, whose changes are of this series. Fails only if an allocation
+/// fails.
+pub fn new_service(
+    alloc: Global,
+    series: u64,
+    clock: Clock<'_>,
+) -> Result<Service<'_>, AllocError> {
     let Ok(router) = router(alloc) else {
         return Err(AllocError);
     };
@@ -42,6 +50,7 @@ pub fn new_service(alloc: Global) -> Result<Service, AllocError> {
     let notes = Notes {
         by_id: BTreeMap::new(alloc),
         changes: 0,
+        series,
     };
     Ok(Service {
         alloc,
@@ -51,6 +60,7 @@ pub fn new_service(alloc: Global) -> Result<Service, AllocError> {
             server_wide,
         },
         notes,
+        clock,
     })
 }
 
@@ -86,7 +96,7 @@ fn answer_by(
     answer_request(alloc, resource, &head, 0)
 }
 
-impl Service {
+impl Service<'_> {
     // The current text of a target, if it has one.
     fn text_at(&self, target: Target) -> Result<Option<Note>, AllocError>
         ensures { IfOk result (IsText self.now.notes target) }
@@ -95,6 +105,7 @@ impl Service {
             Target::Notes => Ok(Some(Note {
                 text: Bytes::from_string(list_text(self.alloc, &self.notes)?)?,
                 version: self.notes.changes,
+                series: self.notes.series,
             })),
             Target::Note(id) => self.notes.get(id),
             Target::Nowhere | Target::Server => Ok(None),
@@ -152,6 +163,22 @@ fn outcome(
     }
 }
 
+// These fields after the one that says when the response is made, if the time is known.
+fn dated(
+    alloc: Global,
+    date: &Option<Date>,
+    mut fields: Vec<Encoded>,
+) -> Result<Vec<Encoded>, AllocError>
+    ensures { IfOk result (λ sent. fields_of sent.items ≡ date_fields date.now ++ fields_of fields.items) }
+{
+    let Some(date) = date else {
+        return Ok(fields);
+    };
+    let mut sent = vec![in alloc; encoding(alloc, date)?]?;
+    sent.append(&mut fields)?;
+    Ok(sent)
+}
+
 // Adds the field lines of a map.
 fn add_lines(plan: &mut Plan, lines: &HeaderMap) -> Result<(), AllocError>
     requires { fields plan.old.headers.items ≡ [] }
@@ -193,7 +220,7 @@ fn add_content(plan: &mut Plan, sends: &Sends, text: Option<Note>) -> Result<(),
     }
 }
 
-impl Handler for Service {
+impl Handler for Service<'_> {
     ghost use Rattle.std.specs.Prelude.{⊤};
     ghost use Rattle.example_notes.specs.Plans.{IsPlanned};
 
@@ -210,7 +237,9 @@ impl Handler for Service {
         plan.status = done.status;
         answer.fields.append(&mut done.fields)?;
         add_content(plan, &answer.sends, text)?;
-        add_fields(alloc, plan, answer.fields)?;
+        let date = self.clock.now();
+        let sent = dated(alloc, &date, answer.fields)?;
+        add_fields(alloc, plan, sent)?;
         Ok(())
     }
 

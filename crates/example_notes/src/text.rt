@@ -14,11 +14,12 @@ pub fn path_of(alloc: Global, id: u64) -> Result<String, AllocError>
     Ok(text)
 }
 
-/// Makes the entity tag of the text that a change wrote. Fails only if an allocation fails.
-pub fn tag_of(alloc: Global, version: u64) -> Result<String, AllocError>
-    ensures { IfOk result (λ text. string_bytes text ≡ tag_of version) }
+/// Makes the entity tag of the text that a change of a series wrote. Fails only if an allocation
+/// fails.
+pub fn tag_of(alloc: Global, series: u64, version: u64) -> Result<String, AllocError>
+    ensures { IfOk result (λ text. string_bytes text ≡ tag_of series version) }
 {
-    let text = format!(in alloc; "\"{version}\"")?;
+    let text = format!(in alloc; "\"{series}-{version}\"")?;
     Ok(text)
 }
 

@@ -1,7 +1,7 @@
-use Rattle.std.{proofs.Common.{ℕ, List, Option, refl, ◌∙◌, ap, subst}, proofs.lemmas.List.map-append}
+use Rattle.std.{proofs.Common.{ℕ, List, Option, refl, ◌++◌, ◌∙◌, ap, subst}, proofs.lemmas.List.map-append}
 use Rattle.http_uri.{specs.Uri.uri_path, specs.declared.uri.Uri.Uri}
 use Rattle.headers.{specs.LineMap.{Field, field_of, fields_of}, specs.declared.Encoded.Encoded}
-use Rattle.example_notes.{specs.Plans.{Carries, IsAnswerAt}, specs.Targets.IsTarget, specs.declared.notes.Note.Note}
+use Rattle.example_notes.{specs.Plans.{Carries, IsAnswerAt, date_fields}, specs.Targets.IsTarget, specs.declared.notes.Note.Note}
 use Rattle.example_notes.proofs.service.ServiceHandler.plan.Goals as goal
 
 pub returns : goal.returns
@@ -25,11 +25,14 @@ returns c =
           c.as_ref.ensures.value c.in_ok-answer.ensures;
       done = done;
       does = c.in_ok-done.ensures;
+      date = c.now-date.result;
       status = c.add_fields.ensures.status ∙ c.add_content.ensures.status;
       carries =
           subst (λ (sent : List Field). Carries sent c.add_fields.new.plan)
+          (c.in_ok-sent.ensures
+          ∙ ap (λ (fields : List Field). date_fields c.now-date.result ++ fields)
           (ap (λ (fields : List Encoded). fields_of fields) c.in_ok-append.ensures.items
-          ∙ map-append field_of answer.fields.items done.fields.items)
+          ∙ map-append field_of answer.fields.items done.fields.items))
           c.in_ok-add_fields.ensures.headers;
       content = c.add_fields.ensures.pieces ∙ c.in_ok-add_content.ensures.pieces;
       routes = refl;
