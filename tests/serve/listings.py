@@ -105,6 +105,7 @@ def is_a_representation(server, top):
     expect(Links(page).targets == ["../", "x"] and b"Index of /sub/" in page, f"the listing of a folder: {page}")
     expect(server.answer("GET", "/in/")[2] == page.replace(b"/sub/", b"/in/"), "the listing of a link to a folder")
     also, lines, content = server.answer("HEAD", "/sub/")
+    lines, fields = ([line for line in it if line[0] != "date"] for it in (lines, fields))
     expect((also, lines, content) == (200, fields, b""), "HEAD of a listing")
     expect(server.status("/sub/", f"If-None-Match: {tag}") == 304, "a listing that didn't change")
     expect(server.status("/sub/", 'If-Match: "x"') == 412, "a listing with another tag")
