@@ -1,3 +1,3 @@
-pub mod Ownership
 pub mod Calls
+pub mod Files
 pub mod Plans

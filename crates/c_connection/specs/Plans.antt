@@ -6,23 +6,23 @@ use Rattle.http_header.specs.Token.{lowercase}
 use Rattle.http_server.specs.Response.{fields}
 use Rattle.server_connection.specs.declared.piece.Piece.{Piece}
 use Rattle.c_parts.{specs.declared.status.Failure.Failure, specs.declared.status.Failure.TheVariants.{Refused, Memory}}
-use Rattle.c_connection.specs.declared.held.Held.{Held}
+use Rattle.c_handles.specs.declared.held.HeldConnection.{HeldConnection}
 
 -- the connection stays as it is, whatever becomes of the plan
-pub record KeepsConnection (old new : Held) : Type 0 where
+pub record KeepsConnection (old new : HeldConnection) : Type 0 where
   pub connection : new.connection ≡ old.connection
   pub begun : new.has_begun ≡ old.has_begun
   pub rejection : new.rejection ≡ old.rejection
 
 -- the plan is one with this status, and without field lines and content; or the number is no status
-abbrev pub Begins : ℕ → Held → Held → Result (Unit {0}) Failure → Type 0
+abbrev pub Begins : ℕ → HeldConnection → HeldConnection → Result (Unit {0}) Failure → Type 0
 Begins status old new (Ok tt) =
     KeepsConnection old new × (new.plan.status ≡ status) × (fields new.plan.headers.items ≡ [])
     × (new.plan.pieces.items ≡ [])
 Begins status old new (Err failure) = (failure ≡ Refused) × (new ≡ old) × ¬ (IsStatusCode status)
 
 -- A field line follows the others of the plan. Else they stay: the name or the value is none, or no memory is left.
-abbrev pub AddsField : (name value : List ℕ) → Held → Held → Result (Unit {0}) Failure → Type 0
+abbrev pub AddsField : (name value : List ℕ) → HeldConnection → HeldConnection → Result (Unit {0}) Failure → Type 0
 AddsField name value old new (Ok tt) =
     KeepsConnection old new × (new.plan.status ≡ old.plan.status) × (new.plan.pieces.items ≡ old.plan.pieces.items)
     × (fields new.plan.headers.items ≡ fields old.plan.headers.items ++ (lowercase name, value) ∷ [])
@@ -32,7 +32,7 @@ AddsField name value old new (Err failure) =
     × ((failure ≡ Memory) ⊎ ((failure ≡ Refused) × ((¬ (IsFieldName name)) ⊎ (¬ (IsFieldValue value)))))
 
 -- A piece follows the others of the plan, or no memory is left.
-abbrev pub AddsPiece : Piece → Held → Held → Result (Unit {0}) Failure → Type 0
+abbrev pub AddsPiece : Piece → HeldConnection → HeldConnection → Result (Unit {0}) Failure → Type 0
 AddsPiece piece old new (Ok tt) =
     KeepsConnection old new × (new.plan.status ≡ old.plan.status) × (new.plan.headers ≡ old.plan.headers)
     × (new.plan.pieces.items ≡ old.plan.pieces.items ++ piece ∷ [])

@@ -1,21 +1,17 @@
-//! A server's connection for C, behind a handle.
+//! A server's connection for C, and a service of files that answers on it, behind handles.
 //!
 //! Nothing here opens a socket or a file. The host, a program in C, passes what it received, and writes what it is
 //! offered. `include/typed_headers.h` documents the calls.
 #![tactic(auto)]
 
-mod handle;
-mod held;
+mod calling;
+mod files;
 mod host;
 mod moving;
 mod planning;
 mod reading;
 
-pub use crate::handle::Connection;
-pub use crate::held::Held;
-pub use crate::moving::{close, finish_input, next, open, receive, respond, sent, write_time_out};
+pub use crate::files::{next_path, open_files, plan_files};
+pub use crate::moving::{finish_input, next, open_connection, receive, respond, sent};
 pub use crate::planning::{add_bytes, add_field, add_range, begin};
-pub use crate::reading::{
-    planned_of, range_of, rejection_of, write_content, write_method, write_output, write_path,
-    write_query,
-};
+pub use crate::reading::{Text, planned_of, range_of, rejection_of, write_text};

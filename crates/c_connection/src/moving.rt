@@ -1,23 +1,21 @@
 //! Calls that move a connection on.
-ghost use Rattle.std.specs.Prelude.{◌≡◌, ◌↔◌, IfOk, IfErr, IsTrue, None, Ok, Err};
-ghost use Rattle.c_connection.specs.Calls.{Finishes, HandsOut, HandsOutLate, IsLate, IsNew, IsTimedOut, OffersAll};
-ghost use Rattle.c_connection.specs.Calls.{OnOpen, Opens, Receives, Responds, Shows, Wants, event_number};
+ghost use Rattle.std.specs.Prelude.{◌≡◌};
+ghost use Rattle.c_handles.specs.Handles.{Opens};
+ghost use Rattle.c_connection.specs.Calls.{Finishes, HandsOut, IsConnectionHeld, OffersAll, OnConnection, Receives};
+ghost use Rattle.c_connection.specs.Calls.{Responds, Wants, event_number};
 
-use crate::handle::Connection as Handle;
-use crate::held::Held;
+use crate::calling::change;
 use crate::host::Host;
-use c_parts::{DONE, Failure, HashKeys, copy_into};
+use c_handles::{Handle, Held, HeldConnection};
+use c_parts::{Failure, HashKeys};
 use http_server::{Config, Reason, Refusal};
 use server_connection::{Connection, Event, Plan};
 use std::alloc::Global;
 use std::hash::RandomState;
+use std::mem::replace;
 
-const TIMED_OUT: &[u8] =
-    b"HTTP/1.1 408 Request Timeout\r\nconnection: close\r\ncontent-length: 0\r\n\r\n";
-
-fn new_held(alloc: Global, keys: &HashKeys, most_content: usize) -> Result<Box<Held>, Failure>
-    ensures made { IfOk result (λ held. IsNew most_content (Ok held.value)) }
-    ensures memory { IfErr result (λ failure. IsNew most_content (Err failure)) }
+fn new_connection(alloc: Global, keys: &HashKeys, most_content: usize) -> Result<Held, Failure>
+    ensures { IsConnectionHeld most_content result }
 {
     // The keys are always given.
     let Ok(keys) = RandomState::new(keys) else {
@@ -25,45 +23,28 @@ fn new_held(alloc: Global, keys: &HashKeys, most_content: usize) -> Result<Box<H
     };
     let mut config = Config::default();
     config.max_body_len = most_content;
-    let held = Held {
+    Ok(Held::Connection(HeldConnection {
         connection: Connection::new::<Host>(alloc, keys, config),
         plan: Plan::new(alloc),
         has_begun: false,
         rejection: 0,
-    };
-    match Box::new(alloc, held) {
-        Ok(held) => Ok(held),
-        Err(_) => Err(Failure::Memory),
-    }
+    }))
 }
 
 /// Opens a closed handle with a connection that has received nothing. A request whose content is longer than so many
 /// bytes is rejected. Names of fields come from outside: so the keys should be random. Rejected if the handle is open.
-pub fn open(
+pub fn open_connection(
     alloc: Global,
     handle: &mut Handle,
     most_content: usize,
     keys: &HashKeys,
 ) -> Result<(), Failure>
-    ensures { Opens most_content handle.old.held handle.new.held result }
+    ensures { Opens (IsConnectionHeld most_content) handle.old.held handle.new.held result }
 {
-    if let Some(held) = handle.take(alloc) {
-        handle.put(held);
-        return Err(Failure::Refused);
-    }
-    let held = new_held(alloc, keys, most_content)?;
-    handle.put(held);
-    Ok(())
+    c_handles::open(alloc, handle, new_connection(alloc, keys, most_content))
 }
 
-/// Closes a handle, and frees what it has.
-pub fn close(alloc: Global, handle: &mut Handle)
-    ensures { handle.new.held ≡ None }
-{
-    drop(handle.take(alloc));
-}
-
-fn receive_in(held: &mut Held, bytes: &[u8]) -> Result<(), Failure>
+fn receive_in(held: &mut HeldConnection, bytes: &[u8]) -> Result<(), Failure>
     ensures { Receives bytes.now held.old held.new result }
 {
     if !held.connection.is_receiving() {
@@ -80,17 +61,12 @@ fn receive_in(held: &mut Held, bytes: &[u8]) -> Result<(), Failure>
 
 /// Receives all of these bytes, or none. Rejected if the connection doesn't want input.
 pub fn receive(alloc: Global, handle: &mut Handle, bytes: &[u8]) -> Result<(), Failure>
-    ensures { OnOpen (Receives bytes.now) handle.old.held handle.new.held result }
+    ensures { OnConnection (Receives bytes.now) handle.old.held handle.new.held result }
 {
-    let Some(mut held) = handle.take(alloc) else {
-        return Err(Failure::Absent);
-    };
-    let answer = receive_in(&mut held, bytes);
-    handle.put(held);
-    answer
+    change(alloc, handle, |held| receive_in(held, bytes))
 }
 
-fn finish_in(held: &mut Held) -> Result<(), Failure>
+fn finish_in(held: &mut HeldConnection) -> Result<(), Failure>
     ensures { Finishes held.old held.new result }
 {
     if !held.connection.is_receiving() {
@@ -102,14 +78,9 @@ fn finish_in(held: &mut Held) -> Result<(), Failure>
 
 /// Says that the input ends here. Rejected if the connection doesn't want input.
 pub fn finish_input(alloc: Global, handle: &mut Handle) -> Result<(), Failure>
-    ensures { OnOpen Finishes handle.old.held handle.new.held result }
+    ensures { OnConnection Finishes handle.old.held handle.new.held result }
 {
-    let Some(mut held) = handle.take(alloc) else {
-        return Err(Failure::Absent);
-    };
-    let answer = finish_in(&mut held);
-    handle.put(held);
-    answer
+    change(alloc, handle, finish_in)
 }
 
 fn event_number(event: Event) -> u8
@@ -141,7 +112,7 @@ fn rejection_by(event: Event) -> u16 {
     }
 }
 
-fn next_in(held: &mut Held) -> Result<u8, Failure>
+fn next_in(held: &mut HeldConnection) -> Result<u8, Failure>
     ensures { Wants held.old held.new result }
 {
     let event = held.connection.next::<Host>();
@@ -151,23 +122,18 @@ fn next_in(held: &mut Held) -> Result<u8, Failure>
 
 /// Does what needs nothing of the host, and returns the number of what the connection wants then.
 pub fn next(alloc: Global, handle: &mut Handle) -> Result<u8, Failure>
-    ensures { OnOpen Wants handle.old.held handle.new.held result }
+    ensures { OnConnection Wants handle.old.held handle.new.held result }
 {
-    let Some(mut held) = handle.take(alloc) else {
-        return Err(Failure::Absent);
-    };
-    let answer = next_in(&mut held);
-    handle.put(held);
-    answer
+    change(alloc, handle, next_in)
 }
 
-fn respond_in(alloc: Global, held: &mut Held) -> Result<(), Failure>
+fn respond_in(alloc: Global, held: &mut HeldConnection) -> Result<(), Failure>
     ensures { Responds held.old held.new result }
 {
     if !held.connection.is_asking() {
         return Err(Failure::Refused);
     }
-    let plan = held.take_plan(alloc);
+    let plan = replace(&mut held.plan, Plan::new(alloc));
     held.has_begun = false;
     held.connection.respond::<Host>(plan);
     Ok(())
@@ -175,18 +141,13 @@ fn respond_in(alloc: Global, held: &mut Held) -> Result<(), Failure>
 
 /// Answers the request that waits, by the plan. Rejected if none waits.
 pub fn respond(alloc: Global, handle: &mut Handle) -> Result<(), Failure>
-    ensures { OnOpen Responds handle.old.held handle.new.held result }
+    ensures { OnConnection Responds handle.old.held handle.new.held result }
 {
-    let Some(mut held) = handle.take(alloc) else {
-        return Err(Failure::Absent);
-    };
-    let answer = respond_in(alloc, &mut held);
-    handle.put(held);
-    answer
+    change(alloc, handle, |held| respond_in(alloc, held))
 }
 
 // How many bytes the connection offers to be written next.
-fn offered(held: &Held) -> u64
+fn offered(held: &HeldConnection) -> u64
     ensures { OffersAll held.now result }
 {
     let output = held.connection.output();
@@ -199,7 +160,7 @@ fn offered(held: &Held) -> u64
     }
 }
 
-fn sent_in(held: &mut Held, count: u64) -> Result<(), Failure>
+fn sent_in(held: &mut HeldConnection, count: u64) -> Result<(), Failure>
     ensures { HandsOut count held.old held.new result }
 {
     if count > offered(held) {
@@ -211,46 +172,7 @@ fn sent_in(held: &mut Held, count: u64) -> Result<(), Failure>
 
 /// Says that so many of the bytes that the connection offers were written. Rejected if it offers fewer.
 pub fn sent(alloc: Global, handle: &mut Handle, count: u64) -> Result<(), Failure>
-    ensures { OnOpen (HandsOut count) handle.old.held handle.new.held result }
+    ensures { OnConnection (HandsOut count) handle.old.held handle.new.held result }
 {
-    let Some(mut held) = handle.take(alloc) else {
-        return Err(Failure::Absent);
-    };
-    let answer = sent_in(&mut held, count);
-    handle.put(held);
-    answer
-}
-
-fn is_late(held: &Held) -> bool
-    ensures { IsTrue result ↔ IsLate held.now }
-{
-    let connection = &held.connection;
-    connection.is_receiving() && held.has_begun && connection.output().is_empty()
-}
-
-fn write_time_out_in(held: &Held, room: &mut [u8], written: &mut usize) -> u8
-    ensures { HandsOutLate held.now room.old room.new written.old written.new result }
-{
-    if !is_late(held) {
-        return Failure::Absent.status();
-    }
-    copy_into(TIMED_OUT, DONE, room, written)
-}
-
-/// Writes the response 408 (RFC 9110, section 15.5.9), if a request has begun and isn't received whole, and nothing
-/// waits to be written. The host sends it, and closes.
-pub fn write_time_out(
-    alloc: Global,
-    handle: &mut Handle,
-    room: &mut [u8],
-    written: &mut usize,
-) -> u8
-    ensures { Shows IsTimedOut handle.old.held handle.new.held room.old room.new written.old written.new result }
-{
-    let Some(held) = handle.take(alloc) else {
-        return Failure::Absent.status();
-    };
-    let status = write_time_out_in(&held, room, written);
-    handle.put(held);
-    status
+    change(alloc, handle, |held| sent_in(held, count))
 }

@@ -1,17 +1,17 @@
 //! Calls that make the plan of a response.
 ghost use Rattle.server_connection.specs.declared.piece.Piece.TheVariants.{Literal, Range};
-ghost use Rattle.c_connection.{specs.Calls.OnOpen, specs.Plans.{AddsField, AddsPiece, Begins, IsValueOf}};
+ghost use Rattle.c_connection.{specs.Calls.OnConnection, specs.Plans.{AddsField, AddsPiece, Begins, IsValueOf}};
 
-use crate::handle::Connection as Handle;
-use crate::held::Held;
+use crate::calling::change;
 use bytes::Bytes;
+use c_handles::{Handle, HeldConnection};
 use c_parts::{Failure, read_name};
 use http::{HeaderValue, StatusCode};
 use http_header::HeaderValueError;
 use server_connection::{Extent, Piece};
 use std::alloc::Global;
 
-fn begin_in(held: &mut Held, status: u16) -> Result<(), Failure>
+fn begin_in(held: &mut HeldConnection, status: u16) -> Result<(), Failure>
     ensures { Begins status held.old held.new result }
 {
     let Ok(status) = StatusCode::from_u16(status) else {
@@ -25,14 +25,9 @@ fn begin_in(held: &mut Held, status: u16) -> Result<(), Failure>
 /// Begins the plan again: with this status, and without fields and content. Rejected if the status is no number from
 /// 100 to 999.
 pub fn begin(alloc: Global, handle: &mut Handle, status: u16) -> Result<(), Failure>
-    ensures { OnOpen (Begins status) handle.old.held handle.new.held result }
+    ensures { OnConnection (Begins status) handle.old.held handle.new.held result }
 {
-    let Some(mut held) = handle.take(alloc) else {
-        return Err(Failure::Absent);
-    };
-    let answer = begin_in(&mut held, status);
-    handle.put(held);
-    answer
+    change(alloc, handle, |held| begin_in(held, status))
 }
 
 fn value_of(alloc: Global, value: &[u8]) -> Result<HeaderValue, Failure>
@@ -45,7 +40,12 @@ fn value_of(alloc: Global, value: &[u8]) -> Result<HeaderValue, Failure>
     }
 }
 
-fn add_field_in(alloc: Global, held: &mut Held, name: &[u8], value: &[u8]) -> Result<(), Failure>
+fn add_field_in(
+    alloc: Global,
+    held: &mut HeldConnection,
+    name: &[u8],
+    value: &[u8],
+) -> Result<(), Failure>
     ensures { AddsField name.now value.now held.old held.new result }
 {
     let name = read_name(alloc, name)?;
@@ -60,17 +60,12 @@ pub fn add_field(
     name: &[u8],
     value: &[u8],
 ) -> Result<(), Failure>
-    ensures { OnOpen (AddsField name.now value.now) handle.old.held handle.new.held result }
+    ensures { OnConnection (AddsField name.now value.now) handle.old.held handle.new.held result }
 {
-    let Some(mut held) = handle.take(alloc) else {
-        return Err(Failure::Absent);
-    };
-    let answer = add_field_in(alloc, &mut held, name, value);
-    handle.put(held);
-    answer
+    change(alloc, handle, |held| add_field_in(alloc, held, name, value))
 }
 
-fn add_bytes_in(alloc: Global, held: &mut Held, content: &[u8]) -> Result<(), Failure>
+fn add_bytes_in(alloc: Global, held: &mut HeldConnection, content: &[u8]) -> Result<(), Failure>
     ensures { AddsPiece (Literal content.now) held.old held.new result }
 {
     let content = Bytes::copy_from_slice(alloc, content)?;
@@ -80,17 +75,12 @@ fn add_bytes_in(alloc: Global, held: &mut Held, content: &[u8]) -> Result<(), Fa
 /// Adds bytes to the content of the plan. Fails only if an allocation fails, or if the content would have 2^64 bytes
 /// or more.
 pub fn add_bytes(alloc: Global, handle: &mut Handle, content: &[u8]) -> Result<(), Failure>
-    ensures { OnOpen (AddsPiece (Literal content.now)) handle.old.held handle.new.held result }
+    ensures { OnConnection (AddsPiece (Literal content.now)) handle.old.held handle.new.held result }
 {
-    let Some(mut held) = handle.take(alloc) else {
-        return Err(Failure::Absent);
-    };
-    let answer = add_bytes_in(alloc, &mut held, content);
-    handle.put(held);
-    answer
+    change(alloc, handle, |held| add_bytes_in(alloc, held, content))
 }
 
-fn add_range_in(held: &mut Held, start: u64, length: u64) -> Result<(), Failure>
+fn add_range_in(held: &mut HeldConnection, start: u64, length: u64) -> Result<(), Failure>
     ensures { AddsPiece (Range (record { start = start; len = length })) held.old held.new result }
 {
     let extent = Extent { start, len: length };
@@ -99,13 +89,8 @@ fn add_range_in(held: &mut Held, start: u64, length: u64) -> Result<(), Failure>
 
 /// Adds bytes of what the host has open to the content of the plan. Fails in the same way.
 pub fn add_range(alloc: Global, handle: &mut Handle, start: u64, length: u64) -> Result<(), Failure>
-    ensures { OnOpen (AddsPiece (Range (record { start = start; len = length })))
+    ensures { OnConnection (AddsPiece (Range (record { start = start; len = length })))
         handle.old.held handle.new.held result }
 {
-    let Some(mut held) = handle.take(alloc) else {
-        return Err(Failure::Absent);
-    };
-    let answer = add_range_in(&mut held, start, length);
-    handle.put(held);
-    answer
+    change(alloc, handle, |held| add_range_in(held, start, length))
 }

@@ -1,90 +1,51 @@
 //! Calls that read what a connection has.
-ghost use Rattle.std.specs.Prelude.{◌≡◌, None, Ok};
-ghost use Rattle.c_connection.specs.Calls.{IsContent, IsMethod, IsPath, IsQuery, IsRangeNext, IsRejection, OnAsked};
-ghost use Rattle.c_connection.specs.Calls.{CopiesOutput, HandsOutAsked, OnOpen, Reads, Shows, front_of, planned};
+ghost use Rattle.std.specs.Prelude.{◌≡◌, ◌↔◌, IfErr, IfOk, IsTrue, Ok, Err, Some, option_map};
+ghost use Rattle.c_handles.specs.Handles.{OnHeld, connection_in};
+ghost use Rattle.c_parts.specs.Endings.{Writes, done};
+ghost use Rattle.c_connection.specs.Calls.{IsLate, IsRangeNext, IsRejection, IsText, OnAsked, Shows, front_of};
+ghost use Rattle.c_connection.specs.Calls.{is_found, planned};
 
-use crate::handle::Connection as Handle;
-use crate::held::Held;
+use crate::calling::ask;
+use c_handles::{Handle, Held, HeldConnection};
 use c_parts::{DONE, Failure, copy_into};
 use server_connection::Extent;
 use std::alloc::Global;
 
-// Writes bytes of the request that waits, if one does.
-fn write_asked(held: &Held, bytes: &[u8], room: &mut [u8], written: &mut usize) -> u8
-    ensures { HandsOutAsked (λ _ answer. answer ≡ Ok bytes.now) held.now
-        room.old room.new written.old written.new result }
+/// Bytes that a connection has.
+#[derive(Clone, Copy)]
+pub enum Text {
+    /// The method of the request that waits.
+    Method,
+    /// The path of its target.
+    Path,
+    /// The query of its target.
+    Query,
+    /// Its content.
+    Content,
+    /// The first bytes that wait to be written, at most so many.
+    Output(usize),
+    /// The response 408 (RFC 9110, section 15.5.9), if a request has begun and isn't received whole, and nothing waits
+    /// to be written. The host sends it, and closes.
+    TimeOut,
+}
+
+const TIMED_OUT: &[u8] =
+    b"HTTP/1.1 408 Request Timeout\r\nconnection: close\r\ncontent-length: 0\r\n\r\n";
+
+// What was found of the request that waits.
+fn asked<'h>(held: &HeldConnection, found: Option<&'h [u8]>) -> Result<&'h [u8], Failure>
+    ensures given { IfOk result (λ bytes.
+        OnAsked (is_found (option_map (λ text. text.now) found.entry)) held.now (Ok bytes.now)) }
+    ensures failed { IfErr result (λ failure.
+        OnAsked (is_found (option_map (λ text. text.now) found.entry)) held.now (Err failure)) }
 {
     if !held.connection.is_asking() {
-        return Failure::Refused.status();
+        return Err(Failure::Refused);
     }
-    copy_into(bytes, DONE, room, written)
-}
-
-fn write_query_in(held: &Held, room: &mut [u8], written: &mut usize) -> u8
-    ensures { HandsOutAsked IsQuery held.now room.old room.new written.old written.new result }
-{
-    if !held.connection.is_asking() {
-        return Failure::Refused.status();
+    match found {
+        Some(bytes) => Ok(bytes),
+        None => Err(Failure::Absent),
     }
-    match held.connection.request().uri().query() {
-        Some(query) => copy_into(query.as_bytes(), DONE, room, written),
-        None => Failure::Absent.status(),
-    }
-}
-
-/// Writes the method of the request that waits. Rejected if none waits.
-pub fn write_method(alloc: Global, handle: &mut Handle, room: &mut [u8], written: &mut usize) -> u8
-    ensures { Shows (OnAsked IsMethod) handle.old.held handle.new.held
-        room.old room.new written.old written.new result }
-{
-    let Some(held) = handle.take(alloc) else {
-        return Failure::Absent.status();
-    };
-    let bytes = held.connection.request().method().as_str().as_bytes();
-    let status = write_asked(&held, bytes, room, written);
-    handle.put(held);
-    status
-}
-
-/// Writes the path of its target.
-pub fn write_path(alloc: Global, handle: &mut Handle, room: &mut [u8], written: &mut usize) -> u8
-    ensures { Shows (OnAsked IsPath) handle.old.held handle.new.held
-        room.old room.new written.old written.new result }
-{
-    let Some(held) = handle.take(alloc) else {
-        return Failure::Absent.status();
-    };
-    let bytes = held.connection.request().uri().path().as_bytes();
-    let status = write_asked(&held, bytes, room, written);
-    handle.put(held);
-    status
-}
-
-/// Writes the query of its target. `Absent` also if it has none.
-pub fn write_query(alloc: Global, handle: &mut Handle, room: &mut [u8], written: &mut usize) -> u8
-    ensures { Shows (OnAsked IsQuery) handle.old.held handle.new.held
-        room.old room.new written.old written.new result }
-{
-    let Some(held) = handle.take(alloc) else {
-        return Failure::Absent.status();
-    };
-    let status = write_query_in(&held, room, written);
-    handle.put(held);
-    status
-}
-
-/// Writes its content.
-pub fn write_content(alloc: Global, handle: &mut Handle, room: &mut [u8], written: &mut usize) -> u8
-    ensures { Shows (OnAsked IsContent) handle.old.held handle.new.held
-        room.old room.new written.old written.new result }
-{
-    let Some(held) = handle.take(alloc) else {
-        return Failure::Absent.status();
-    };
-    let bytes = held.connection.request().body().as_slice();
-    let status = write_asked(&held, bytes, room, written);
-    handle.put(held);
-    status
 }
 
 // The first bytes, at most so many.
@@ -94,64 +55,98 @@ fn front_of(bytes: &[u8], most: usize) -> &[u8]
     &bytes[..bytes.len().min(most)]
 }
 
-/// Copies the first bytes that wait to be written, as many as fit.
-pub fn write_output(
+fn is_late(held: &HeldConnection) -> bool
+    ensures { IsTrue result ↔ IsLate held.now }
+{
+    let connection = &held.connection;
+    connection.is_receiving() && held.has_begun && connection.output().is_empty()
+}
+
+fn text_of(held: &HeldConnection, text: Text) -> Result<&[u8], Failure>
+    ensures given { IfOk result (λ bytes. IsText text held.now (Ok bytes.now)) }
+    ensures failed { IfErr result (λ failure. IsText text held.now (Err failure)) }
+{
+    let request = held.connection.request();
+    match text {
+        Text::Method => asked(held, Some(request.method().as_str().as_bytes())),
+        Text::Path => asked(held, Some(request.uri().path().as_bytes())),
+        Text::Query => match request.uri().query() {
+            Some(query) => asked(held, Some(query.as_bytes())),
+            None => asked(held, None),
+        },
+        Text::Content => asked(held, Some(request.body().as_slice())),
+        Text::Output(most) => Ok(front_of(held.connection.output(), most)),
+        Text::TimeOut => {
+            if is_late(held) {
+                Ok(TIMED_OUT)
+            } else {
+                Err(Failure::Absent)
+            }
+        }
+    }
+}
+
+fn write_in(held: &Held, text: Text, room: &mut [u8], written: &mut usize) -> u8
+    ensures { Writes (λ bytes. bytes) (λ _. done) (OnHeld (IsText text) (connection_in (Some held.now)))
+        room.old room.new written.old written.new result }
+{
+    let Held::Connection(held) = held else {
+        return Failure::Absent.status();
+    };
+    match text_of(held, text) {
+        Ok(bytes) => copy_into(bytes, DONE, room, written),
+        Err(failure) => failure.status(),
+    }
+}
+
+/// Writes these bytes. Rejected if they are of the request that waits and none waits. `Absent` if there are none.
+pub fn write_text(
     alloc: Global,
     handle: &mut Handle,
+    text: Text,
     room: &mut [u8],
     written: &mut usize,
-) -> Result<(), Failure>
-    ensures open { OnOpen (Reads (CopiesOutput room.old room.new written.new)) handle.old.held handle.new.held result }
-    ensures closed { handle.old.held ≡ None → (room.new ≡ room.old) × (written.new ≡ written.old) }
+) -> u8
+    ensures { Shows text handle.old.held handle.new.held room.old room.new written.old written.new result }
 {
     let Some(held) = handle.take(alloc) else {
-        return Err(Failure::Absent);
+        return Failure::Absent.status();
     };
-    let front = front_of(held.connection.output(), room.len());
-    copy_into(front, DONE, room, written);
+    let status = write_in(&held, text, room, written);
     handle.put(held);
-    Ok(())
+    status
 }
 
 /// The range of what the host has open that is to be written once no bytes wait. `Absent` also if there is none.
 pub fn range_of(alloc: Global, handle: &mut Handle) -> Result<Extent, Failure>
-    ensures { OnOpen (Reads IsRangeNext) handle.old.held handle.new.held result }
+    ensures same { handle.new.held ≡ handle.old.held }
+    ensures range { OnHeld IsRangeNext (connection_in handle.old.held) result }
 {
-    let Some(held) = handle.take(alloc) else {
-        return Err(Failure::Absent);
-    };
-    let range = held.connection.range();
-    handle.put(held);
-    match range {
+    ask(alloc, handle, |held| match held.connection.range() {
         Some(extent) => Ok(extent),
         None => Err(Failure::Absent),
-    }
+    })
 }
 
 /// The status by which the connection rejected what it received. `Absent` also if it rejected nothing.
 pub fn rejection_of(alloc: Global, handle: &mut Handle) -> Result<u16, Failure>
-    ensures { OnOpen (Reads IsRejection) handle.old.held handle.new.held result }
+    ensures same { handle.new.held ≡ handle.old.held }
+    ensures status { OnHeld IsRejection (connection_in handle.old.held) result }
 {
-    let Some(held) = handle.take(alloc) else {
-        return Err(Failure::Absent);
-    };
-    let rejection = held.rejection;
-    handle.put(held);
-    if rejection == 0 {
-        Err(Failure::Absent)
-    } else {
-        Ok(rejection)
-    }
+    ask(alloc, handle, |held| match held.rejection {
+        0 => Err(Failure::Absent),
+        rejection => Ok(rejection),
+    })
 }
 
 /// The status of the plan, and how long its content is.
 pub fn planned_of(alloc: Global, handle: &mut Handle) -> Result<(u16, u64), Failure>
-    ensures { OnOpen (Reads (λ held answer. answer ≡ Ok (planned held))) handle.old.held handle.new.held result }
+    ensures same { handle.new.held ≡ handle.old.held }
+    ensures planned { OnHeld (λ held answer. answer ≡ Ok (planned held)) (connection_in handle.old.held) result }
 {
-    let Some(held) = handle.take(alloc) else {
-        return Err(Failure::Absent);
-    };
-    let planned = (held.plan.status.as_u16(), held.plan.len);
-    handle.put(held);
-    Ok(planned)
+    ask(
+        alloc,
+        handle,
+        |held| Ok((held.plan.status.as_u16(), held.plan.len)),
+    )
 }

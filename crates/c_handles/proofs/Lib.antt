@@ -1,1 +1,2 @@
+mod OpenLemmas
 mod PassLemmas

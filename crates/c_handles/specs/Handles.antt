@@ -5,7 +5,8 @@ use Rattle.decide_cors.specs.Policy.{Policy}
 use Rattle.decide_resource.specs.declared.resource.Resource.{Resource}
 use Rattle.c_parts.{specs.declared.status.Failure.Failure, specs.declared.status.Failure.TheVariants.{Refused, Absent}}
 use Rattle.c_pass.{specs.declared.held.Shared.Shared, specs.declared.held.Stepped.Stepped}
-use Rattle.c_handles.specs.declared.held.Held.{Held}
+use Rattle.c_files.specs.declared.held.HeldFiles.{HeldFiles}
+use Rattle.c_handles.{specs.declared.held.Held.Held, specs.declared.held.HeldConnection.HeldConnection}
 use Rattle.c_handles.specs.declared.held.Held.TheVariants as held
 
 -- the fields of the section that a handle has
@@ -32,6 +33,16 @@ cache_in other = None
 abbrev pub pass_in : Option Held → Option Stepped
 pass_in (Some (held.Pass stepped)) = Some stepped
 pass_in other = None
+
+-- the connection that a handle has
+abbrev pub connection_in : Option Held → Option HeldConnection
+connection_in (Some (held.Connection connection)) = Some connection
+connection_in other = None
+
+-- the service of files that a handle has
+abbrev pub files_in : Option Held → Option HeldFiles
+files_in (Some (held.Files files)) = Some files
+files_in other = None
 
 -- this is said of what a handle has; without it, the answer is `Absent`
 abbrev pub OnHeld : {X V : Type 0} → (X → Result V Failure → Type 0) → Option X → Result V Failure → Type 0

@@ -1,9 +1,24 @@
 //! What an open handle has.
 
+use c_files::HeldFiles;
 use c_pass::{Shared, Stepped};
 use decide_cors::CorsPolicy;
 use decide_resource::Resource;
 use headers::HeaderMap;
+use server_connection::{Connection, Plan};
+
+/// A connection, and the plan that is being made for the request that waits.
+#[derive(Drop)]
+pub struct HeldConnection {
+    /// The connection.
+    pub connection: Connection,
+    /// The plan.
+    pub plan: Plan,
+    /// Whether bytes were received since the last response.
+    pub has_begun: bool,
+    /// The status by which it rejected what it received, or 0.
+    pub rejection: u16,
+}
 
 /// What an open handle has.
 #[derive(Drop)]
@@ -18,4 +33,8 @@ pub enum Held {
     Cache(Shared),
     /// A pass through one.
     Pass(Stepped),
+    /// A server's connection.
+    Connection(HeldConnection),
+    /// A service of files.
+    Files(HeldFiles),
 }

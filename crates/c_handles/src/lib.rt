@@ -1,4 +1,4 @@
-//! Sections, policies, resources, caches and passes for C, behind handles.
+//! The handles of the calls for C, and the calls on sections, policies, resources, caches and passes behind them.
 #![tactic(auto)]
 
 mod asking;
@@ -13,9 +13,9 @@ mod resource;
 pub use crate::asking::{choose, evaluate, respond, select};
 pub use crate::field::written_field;
 pub use crate::handle::Handle;
-pub use crate::held::Held;
+pub use crate::held::{Held, HeldConnection};
 pub use crate::opening::{
-    close, open_cache, open_cache_with, open_policy, open_resource, open_section,
+    close, open, open_cache, open_cache_with, open_policy, open_resource, open_section,
 };
 pub use crate::passing::{
     begin_pass, copy_pass_content, pass_came, pass_ended, pass_failed, pass_received, pass_resume,

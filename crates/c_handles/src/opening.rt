@@ -1,5 +1,5 @@
 //! How a handle is opened and closed.
-ghost use Rattle.std.specs.Prelude.{◌≡◌, ◌⊎◌, None, Ok, Err, IfErr, IfOk};
+ghost use Rattle.std.specs.Prelude.{◌≡◌, ◌⊎◌, None, Err};
 ghost use Rattle.c_parts.specs.declared.status.Failure.TheVariants.{Memory};
 ghost use Rattle.c_pass.specs.Caches.{IsExtended, IsPlain};
 ghost use Rattle.c_handles.{specs.Handles.Opens, specs.Passes.IsCacheHeld, specs.Policies.IsPolicyHeld};
@@ -9,39 +9,21 @@ use crate::handle::Handle;
 use crate::held::Held;
 use c_decisions::{Rules, read_policy};
 use c_parts::{Failure, HashKeys, read_map};
-use c_pass::{CacheExtensions, CacheOptions, Shared, new_cache, new_cache_with};
+use c_pass::{CacheExtensions, CacheOptions, new_cache, new_cache_with};
 use c_resource::{RepresentationParts, ResourceParts, read_resource};
 use std::alloc::Global;
 
-fn new_section(alloc: Global, section: &[u8], keys: &HashKeys) -> Result<Box<Held>, Failure>
-    ensures section { IfOk result (λ held. IsSectionHeld section.now (Ok held.value)) }
-    ensures failure { IfErr result (λ failure. IsSectionHeld section.now (Err failure)) }
+/// Opens a closed handle with what was made, or gives the failure. Rejected if the handle is open.
+pub fn open(alloc: Global, handle: &mut Handle, made: Result<Held, Failure>) -> Result<(), Failure>
+    ensures { Opens (λ answer. (answer ≡ made) ⊎ (answer ≡ Err Memory)) handle.old.held handle.new.held result }
 {
-    let fields = read_map(alloc, section, keys)?;
-    Ok(Box::new(alloc, Held::Section(fields))?)
-}
-
-fn new_policy(alloc: Global, rules: &Rules<'_>) -> Result<Box<Held>, Failure>
-    ensures policy { IfOk result (λ held. IsPolicyHeld rules.entry.now (Ok held.value)) }
-    ensures failure { IfErr result (λ failure. IsPolicyHeld rules.entry.now (Err failure)) }
-{
-    let policy = read_policy(alloc, rules)?;
-    Ok(Box::new(alloc, Held::Policy(policy))?)
-}
-
-fn new_resource(
-    alloc: Global,
-    parts: &ResourceParts<'_>,
-    representations: &[RepresentationParts],
-    rules: &Rules<'_>,
-) -> Result<Box<Held>, Failure>
-    ensures resource { IfOk result (λ held.
-        IsResourceHeld parts.entry.now representations.now rules.entry.now (Ok held.value)) }
-    ensures failure { IfErr result (λ failure.
-        IsResourceHeld parts.entry.now representations.now rules.entry.now (Err failure)) }
-{
-    let resource = read_resource(alloc, parts, representations, rules)?;
-    Ok(Box::new(alloc, Held::Resource(resource))?)
+    if let Some(held) = handle.take(alloc) {
+        handle.put(held);
+        return Err(Failure::Refused);
+    }
+    let held = Box::new(alloc, made?)?;
+    handle.put(held);
+    Ok(())
 }
 
 /// Opens a closed handle with the fields of a section. Names of fields come from outside: so the keys
@@ -54,26 +36,18 @@ pub fn open_section(
 ) -> Result<(), Failure>
     ensures { Opens (IsSectionHeld section.now) handle.old.held handle.new.held result }
 {
-    if let Some(held) = handle.take(alloc) {
-        handle.put(held);
-        return Err(Failure::Refused);
-    }
-    let held = new_section(alloc, section, keys)?;
-    handle.put(held);
-    Ok(())
+    open(
+        alloc,
+        handle,
+        read_map(alloc, section, keys).map(Held::Section),
+    )
 }
 
 /// Opens a closed handle with the policy of these rules. Rejected also if the handle is open.
 pub fn open_policy(alloc: Global, handle: &mut Handle, rules: &Rules<'_>) -> Result<(), Failure>
     ensures { Opens (IsPolicyHeld rules.entry.now) handle.old.held handle.new.held result }
 {
-    if let Some(held) = handle.take(alloc) {
-        handle.put(held);
-        return Err(Failure::Refused);
-    }
-    let held = new_policy(alloc, rules)?;
-    handle.put(held);
-    Ok(())
+    open(alloc, handle, read_policy(alloc, rules).map(Held::Policy))
 }
 
 /// Opens a closed handle with what a server knows of a target. Rejected also if the handle is open.
@@ -87,30 +61,8 @@ pub fn open_resource(
     ensures { Opens (IsResourceHeld parts.entry.now representations.now rules.entry.now)
         handle.old.held handle.new.held result }
 {
-    if let Some(held) = handle.take(alloc) {
-        handle.put(held);
-        return Err(Failure::Refused);
-    }
-    let held = new_resource(alloc, parts, representations, rules)?;
-    handle.put(held);
-    Ok(())
-}
-
-fn open_cache_of(
-    alloc: Global,
-    handle: &mut Handle,
-    made: Result<Shared, Failure>,
-) -> Result<(), Failure>
-    ensures { Opens (IsCacheHeld (λ answer. (answer ≡ made) ⊎ (answer ≡ Err Memory)))
-        handle.old.held handle.new.held result }
-{
-    if let Some(held) = handle.take(alloc) {
-        handle.put(held);
-        return Err(Failure::Refused);
-    }
-    let held = Box::new(alloc, Held::Cache(made?))?;
-    handle.put(held);
-    Ok(())
+    let made = read_resource(alloc, parts, representations, rules);
+    open(alloc, handle, made.map(Held::Resource))
 }
 
 /// Opens a closed handle with an empty cache. Rejected also if the handle is open.
@@ -122,7 +74,11 @@ pub fn open_cache(
 ) -> Result<(), Failure>
     ensures { Opens (IsCacheHeld (IsPlain options.now keys.now)) handle.old.held handle.new.held result }
 {
-    open_cache_of(alloc, handle, new_cache(alloc, options, keys))
+    open(
+        alloc,
+        handle,
+        new_cache(alloc, options, keys).map(Held::Cache),
+    )
 }
 
 /// Opens a closed handle with an empty cache that does more than RFC 9111. Rejected also if the handle is open.
@@ -136,11 +92,8 @@ pub fn open_cache_with(
     ensures { Opens (IsCacheHeld (IsExtended options.now extensions.entry.now keys.now))
         handle.old.held handle.new.held result }
 {
-    open_cache_of(
-        alloc,
-        handle,
-        new_cache_with(alloc, options, extensions, keys),
-    )
+    let made = new_cache_with(alloc, options, extensions, keys);
+    open(alloc, handle, made.map(Held::Cache))
 }
 
 /// Closes a handle, and frees what it has.

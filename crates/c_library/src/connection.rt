@@ -1,20 +1,21 @@
 //! A server's connection, behind a handle.
-ghost use Rattle.std.specs.Prelude.{◌≡◌, None, Ok};
+ghost use Rattle.std.specs.Prelude.{◌≡◌, None, Ok, length};
 ghost use Rattle.server_connection.specs.declared.piece.Piece.TheVariants.{Literal, Range};
 ghost use Rattle.c_parts.specs.Endings.{Gives};
-ghost use Rattle.c_connection.specs.Calls.{CopiesOutput, Finishes, HandsOut, IsContent, IsMethod, IsPath, IsQuery};
-ghost use Rattle.c_connection.specs.Calls.{IsRangeNext, IsRejection, IsTimedOut, OnAsked, OnOpen, Opens, Reads};
+ghost use Rattle.c_handles.specs.Handles.{OnHeld, Opens, connection_in};
+ghost use Rattle.c_connection.specs.Calls.{Finishes, HandsOut, IsConnectionHeld, IsRangeNext, IsRejection, OnConnection};
 ghost use Rattle.c_connection.{specs.Calls.{Receives, Responds, Shows, Wants, planned}, specs.Plans.AddsField};
 ghost use Rattle.c_connection.specs.Plans.{AddsPiece, Begins};
+ghost use Rattle.c_connection.specs.declared.reading.Text.TheVariants.{Content, Method, Output, Path, Query, TimeOut};
 ghost use Rattle.c_library.{specs.CacheStore.Ends, specs.Connections.TellsBoth};
 
 use crate::giving::give;
 use crate::store::ended;
 use c_connection::{
-    Connection, add_bytes, add_field, add_range, begin, close, finish_input, next, open,
-    planned_of, range_of, receive, rejection_of, respond, sent, write_content, write_method,
-    write_output, write_path, write_query, write_time_out,
+    Text, add_bytes, add_field, add_range, begin, finish_input, next, open_connection, planned_of,
+    range_of, receive, rejection_of, respond, sent, write_text,
 };
+use c_handles::{Handle, close};
 use c_parts::{DONE, HashKeys};
 use std::alloc::Global;
 
@@ -22,18 +23,18 @@ use std::alloc::Global;
 #[unsafe(no_mangle)]
 pub extern "C" fn typed_headers_connection_new(
     alloc: Global,
-    connection: &mut Connection,
+    connection: &mut Handle,
     most_content: usize,
     keys: &HashKeys,
 ) -> u8
-    ensures { Ends (Opens most_content connection.old.held connection.new.held) result }
+    ensures { Ends (Opens (IsConnectionHeld most_content) connection.old.held connection.new.held) result }
 {
-    ended(open(alloc, connection, most_content, keys))
+    ended(open_connection(alloc, connection, most_content, keys))
 }
 
 /// Closes a handle, and frees what it has.
 #[unsafe(no_mangle)]
-pub extern "C" fn typed_headers_connection_free(alloc: Global, connection: &mut Connection) -> u8
+pub extern "C" fn typed_headers_connection_free(alloc: Global, connection: &mut Handle) -> u8
     ensures { (result ≡ 0) × (connection.new.held ≡ None) }
 {
     close(alloc, connection);
@@ -44,10 +45,10 @@ pub extern "C" fn typed_headers_connection_free(alloc: Global, connection: &mut 
 #[unsafe(no_mangle)]
 pub extern "C" fn typed_headers_connection_next(
     alloc: Global,
-    connection: &mut Connection,
+    connection: &mut Handle,
     event: &mut u8,
 ) -> u8
-    ensures { Gives (OnOpen Wants connection.old.held connection.new.held) event.old event.new result }
+    ensures { Gives (OnConnection Wants connection.old.held connection.new.held) event.old event.new result }
 {
     give(next(alloc, connection), event)
 }
@@ -56,10 +57,10 @@ pub extern "C" fn typed_headers_connection_next(
 #[unsafe(no_mangle)]
 pub extern "C" fn typed_headers_connection_receive(
     alloc: Global,
-    connection: &mut Connection,
+    connection: &mut Handle,
     input: &[u8],
 ) -> u8
-    ensures { Ends (OnOpen (Receives input.now) connection.old.held connection.new.held) result }
+    ensures { Ends (OnConnection (Receives input.now) connection.old.held connection.new.held) result }
 {
     ended(receive(alloc, connection, input))
 }
@@ -68,9 +69,9 @@ pub extern "C" fn typed_headers_connection_receive(
 #[unsafe(no_mangle)]
 pub extern "C" fn typed_headers_connection_finish_input(
     alloc: Global,
-    connection: &mut Connection,
+    connection: &mut Handle,
 ) -> u8
-    ensures { Ends (OnOpen Finishes connection.old.held connection.new.held) result }
+    ensures { Ends (OnConnection Finishes connection.old.held connection.new.held) result }
 {
     ended(finish_input(alloc, connection))
 }
@@ -79,66 +80,66 @@ pub extern "C" fn typed_headers_connection_finish_input(
 #[unsafe(no_mangle)]
 pub extern "C" fn typed_headers_connection_method(
     alloc: Global,
-    connection: &mut Connection,
+    connection: &mut Handle,
     room: &mut [u8],
     written: &mut usize,
 ) -> u8
-    ensures { Shows (OnAsked IsMethod) connection.old.held connection.new.held
+    ensures { Shows Method connection.old.held connection.new.held
         room.old room.new written.old written.new result }
 {
-    write_method(alloc, connection, room, written)
+    write_text(alloc, connection, Text::Method, room, written)
 }
 
 /// Writes the path of its target.
 #[unsafe(no_mangle)]
 pub extern "C" fn typed_headers_connection_path(
     alloc: Global,
-    connection: &mut Connection,
+    connection: &mut Handle,
     room: &mut [u8],
     written: &mut usize,
 ) -> u8
-    ensures { Shows (OnAsked IsPath) connection.old.held connection.new.held
+    ensures { Shows Path connection.old.held connection.new.held
         room.old room.new written.old written.new result }
 {
-    write_path(alloc, connection, room, written)
+    write_text(alloc, connection, Text::Path, room, written)
 }
 
 /// Writes the query of its target.
 #[unsafe(no_mangle)]
 pub extern "C" fn typed_headers_connection_query(
     alloc: Global,
-    connection: &mut Connection,
+    connection: &mut Handle,
     room: &mut [u8],
     written: &mut usize,
 ) -> u8
-    ensures { Shows (OnAsked IsQuery) connection.old.held connection.new.held
+    ensures { Shows Query connection.old.held connection.new.held
         room.old room.new written.old written.new result }
 {
-    write_query(alloc, connection, room, written)
+    write_text(alloc, connection, Text::Query, room, written)
 }
 
 /// Writes its content.
 #[unsafe(no_mangle)]
 pub extern "C" fn typed_headers_connection_content(
     alloc: Global,
-    connection: &mut Connection,
+    connection: &mut Handle,
     room: &mut [u8],
     written: &mut usize,
 ) -> u8
-    ensures { Shows (OnAsked IsContent) connection.old.held connection.new.held
+    ensures { Shows Content connection.old.held connection.new.held
         room.old room.new written.old written.new result }
 {
-    write_content(alloc, connection, room, written)
+    write_text(alloc, connection, Text::Content, room, written)
 }
 
 /// Begins the plan again, with this status.
 #[unsafe(no_mangle)]
 pub extern "C" fn typed_headers_connection_plan(
     alloc: Global,
-    connection: &mut Connection,
+    connection: &mut Handle,
     status: u16,
 ) -> u8
-    ensures { Ends (OnOpen (Begins status) connection.old.held connection.new.held) result }
+    ensures { Ends (OnConnection (Begins status) connection.old.held connection.new.held) result }
 {
     ended(begin(alloc, connection, status))
 }
@@ -147,11 +148,11 @@ pub extern "C" fn typed_headers_connection_plan(
 #[unsafe(no_mangle)]
 pub extern "C" fn typed_headers_connection_plan_field(
     alloc: Global,
-    connection: &mut Connection,
+    connection: &mut Handle,
     name: &[u8],
     value: &[u8],
 ) -> u8
-    ensures { Ends (OnOpen (AddsField name.now value.now) connection.old.held connection.new.held) result }
+    ensures { Ends (OnConnection (AddsField name.now value.now) connection.old.held connection.new.held) result }
 {
     ended(add_field(alloc, connection, name, value))
 }
@@ -160,10 +161,10 @@ pub extern "C" fn typed_headers_connection_plan_field(
 #[unsafe(no_mangle)]
 pub extern "C" fn typed_headers_connection_plan_bytes(
     alloc: Global,
-    connection: &mut Connection,
+    connection: &mut Handle,
     content: &[u8],
 ) -> u8
-    ensures { Ends (OnOpen (AddsPiece (Literal content.now)) connection.old.held connection.new.held) result }
+    ensures { Ends (OnConnection (AddsPiece (Literal content.now)) connection.old.held connection.new.held) result }
 {
     ended(add_bytes(alloc, connection, content))
 }
@@ -172,11 +173,11 @@ pub extern "C" fn typed_headers_connection_plan_bytes(
 #[unsafe(no_mangle)]
 pub extern "C" fn typed_headers_connection_plan_range(
     alloc: Global,
-    connection: &mut Connection,
+    connection: &mut Handle,
     start: u64,
     length: u64,
 ) -> u8
-    ensures { Ends (OnOpen (AddsPiece (Range (record { start = start; len = length })))
+    ensures { Ends (OnConnection (AddsPiece (Range (record { start = start; len = length })))
         connection.old.held connection.new.held) result }
 {
     ended(add_range(alloc, connection, start, length))
@@ -184,8 +185,8 @@ pub extern "C" fn typed_headers_connection_plan_range(
 
 /// Answers the request that waits, by the plan.
 #[unsafe(no_mangle)]
-pub extern "C" fn typed_headers_connection_respond(alloc: Global, connection: &mut Connection) -> u8
-    ensures { Ends (OnOpen Responds connection.old.held connection.new.held) result }
+pub extern "C" fn typed_headers_connection_respond(alloc: Global, connection: &mut Handle) -> u8
+    ensures { Ends (OnConnection Responds connection.old.held connection.new.held) result }
 {
     ended(respond(alloc, connection))
 }
@@ -194,27 +195,28 @@ pub extern "C" fn typed_headers_connection_respond(alloc: Global, connection: &m
 #[unsafe(no_mangle)]
 pub extern "C" fn typed_headers_connection_output(
     alloc: Global,
-    connection: &mut Connection,
+    connection: &mut Handle,
     room: &mut [u8],
     written: &mut usize,
 ) -> u8
-    ensures open { Ends (OnOpen (Reads (CopiesOutput room.old room.new written.new))
-        connection.old.held connection.new.held) result }
-    ensures closed { connection.old.held ≡ None → (room.new ≡ room.old) × (written.new ≡ written.old) }
+    ensures { Shows (Output (length room.old)) connection.old.held connection.new.held
+        room.old room.new written.old written.new result }
 {
-    ended(write_output(alloc, connection, room, written))
+    let most = room.len();
+    write_text(alloc, connection, Text::Output(most), room, written)
 }
 
 /// The range of what the host has open that is to be written once no bytes wait.
 #[unsafe(no_mangle)]
 pub extern "C" fn typed_headers_connection_range(
     alloc: Global,
-    connection: &mut Connection,
+    connection: &mut Handle,
     start: &mut u64,
     length: &mut u64,
 ) -> u8
-    ensures { TellsBoth (λ extent. extent.start) (λ extent. extent.len)
-        (OnOpen (Reads IsRangeNext) connection.old.held connection.new.held)
+    ensures same { connection.new.held ≡ connection.old.held }
+    ensures range { TellsBoth (λ extent. extent.start) (λ extent. extent.len)
+        (OnHeld IsRangeNext (connection_in connection.old.held))
         start.old start.new length.old length.new result }
 {
     match range_of(alloc, connection) {
@@ -231,10 +233,10 @@ pub extern "C" fn typed_headers_connection_range(
 #[unsafe(no_mangle)]
 pub extern "C" fn typed_headers_connection_sent(
     alloc: Global,
-    connection: &mut Connection,
+    connection: &mut Handle,
     count: u64,
 ) -> u8
-    ensures { Ends (OnOpen (HandsOut count) connection.old.held connection.new.held) result }
+    ensures { Ends (OnConnection (HandsOut count) connection.old.held connection.new.held) result }
 {
     ended(sent(alloc, connection, count))
 }
@@ -243,24 +245,25 @@ pub extern "C" fn typed_headers_connection_sent(
 #[unsafe(no_mangle)]
 pub extern "C" fn typed_headers_connection_time_out(
     alloc: Global,
-    connection: &mut Connection,
+    connection: &mut Handle,
     room: &mut [u8],
     written: &mut usize,
 ) -> u8
-    ensures { Shows IsTimedOut connection.old.held connection.new.held
+    ensures { Shows TimeOut connection.old.held connection.new.held
         room.old room.new written.old written.new result }
 {
-    write_time_out(alloc, connection, room, written)
+    write_text(alloc, connection, Text::TimeOut, room, written)
 }
 
 /// The status by which the connection rejected what came.
 #[unsafe(no_mangle)]
 pub extern "C" fn typed_headers_connection_rejection(
     alloc: Global,
-    connection: &mut Connection,
+    connection: &mut Handle,
     status: &mut u16,
 ) -> u8
-    ensures { Gives (OnOpen (Reads IsRejection) connection.old.held connection.new.held) status.old status.new result }
+    ensures same { connection.new.held ≡ connection.old.held }
+    ensures status { Gives (OnHeld IsRejection (connection_in connection.old.held)) status.old status.new result }
 {
     give(rejection_of(alloc, connection), status)
 }
@@ -269,12 +272,13 @@ pub extern "C" fn typed_headers_connection_rejection(
 #[unsafe(no_mangle)]
 pub extern "C" fn typed_headers_connection_planned(
     alloc: Global,
-    connection: &mut Connection,
+    connection: &mut Handle,
     status: &mut u16,
     length: &mut u64,
 ) -> u8
-    ensures { TellsBoth (λ facts. facts.0) (λ facts. facts.1)
-        (OnOpen (Reads (λ held answer. answer ≡ Ok (planned held))) connection.old.held connection.new.held)
+    ensures same { connection.new.held ≡ connection.old.held }
+    ensures planned { TellsBoth (λ facts. facts.0) (λ facts. facts.1)
+        (OnHeld (λ held answer. answer ≡ Ok (planned held)) (connection_in connection.old.held))
         status.old status.new length.old length.new result }
 {
     match planned_of(alloc, connection) {

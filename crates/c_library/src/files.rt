@@ -1,32 +1,33 @@
 //! A service of a folder's files, behind a handle.
 ghost use Rattle.std.specs.Prelude.{◌≡◌, None};
 ghost use Rattle.c_parts.specs.Endings.{Gives, Writes, done};
-ghost use Rattle.c_file_calls.specs.Calls.{IsPathNext, Opens, Plans};
+ghost use Rattle.c_handles.specs.Handles.{Opens, connection_in, files_in};
+ghost use Rattle.c_connection.specs.Files.{IsFilesHeld, IsPathNext, Plans};
 ghost use Rattle.c_library.specs.CacheStore.{Ends};
 
 use crate::giving::give;
 use crate::store::ended;
-use c_connection::Connection;
-use c_file_calls::{Files, close, open, plan, write_path};
+use c_connection::{next_path, open_files, plan_files};
 use c_files::Facts;
-use c_parts::{DONE, HashKeys};
+use c_handles::{Handle, close};
+use c_parts::{DONE, HashKeys, copy_into};
 use std::alloc::Global;
 
 /// Opens a closed handle with a service of files.
 #[unsafe(no_mangle)]
 pub extern "C" fn typed_headers_files_new(
     alloc: Global,
-    files: &mut Files,
+    files: &mut Handle,
     cache_control: &[u8],
     hosts: &[u8],
     negotiates: bool,
     boundary: &[u8],
     keys: &HashKeys,
 ) -> u8
-    ensures { Ends (Opens cache_control.now hosts.now negotiates boundary.now keys.now files.old.held files.new.held)
-        result }
+    ensures { Ends (Opens (IsFilesHeld cache_control.now hosts.now negotiates boundary.now keys.now)
+        files.old.held files.new.held) result }
 {
-    ended(open(
+    ended(open_files(
         alloc,
         files,
         cache_control,
@@ -39,7 +40,7 @@ pub extern "C" fn typed_headers_files_new(
 
 /// Closes a handle, and frees what it has.
 #[unsafe(no_mangle)]
-pub extern "C" fn typed_headers_files_free(alloc: Global, files: &mut Files) -> u8
+pub extern "C" fn typed_headers_files_free(alloc: Global, files: &mut Handle) -> u8
     ensures { (result ≡ 0) × (files.new.held ≡ None) }
 {
     close(alloc, files);
@@ -50,26 +51,29 @@ pub extern "C" fn typed_headers_files_free(alloc: Global, files: &mut Files) -> 
 #[unsafe(no_mangle)]
 pub extern "C" fn typed_headers_files_path(
     alloc: Global,
-    files: &mut Files,
-    connection: &mut Connection,
+    files: &mut Handle,
+    connection: &mut Handle,
     found: &[Facts],
     room: &mut [u8],
     written: &mut usize,
 ) -> u8
     ensures same_files { files.new.held ≡ files.old.held }
     ensures same_connection { connection.new.held ≡ connection.old.held }
-    ensures path { Writes (λ bytes. bytes) (λ _. done) (IsPathNext found.now files.old.held connection.old.held)
-        room.old room.new written.old written.new result }
+    ensures path { Writes (λ bytes. bytes) (λ _. done) (IsPathNext found.now (files_in files.old.held)
+        (connection_in connection.old.held)) room.old room.new written.old written.new result }
 {
-    write_path(alloc, files, connection, found, room, written)
+    match next_path(alloc, files, connection, found) {
+        Ok(path) => copy_into(path.as_bytes(), DONE, room, written),
+        Err(failure) => failure.status(),
+    }
 }
 
 /// Makes the plan of the response to the request that waits.
 #[unsafe(no_mangle)]
 pub extern "C" fn typed_headers_files_plan(
     alloc: Global,
-    files: &mut Files,
-    connection: &mut Connection,
+    files: &mut Handle,
+    connection: &mut Handle,
     found: &[Facts],
     now: u64,
     is_last: bool,
@@ -78,5 +82,8 @@ pub extern "C" fn typed_headers_files_plan(
     ensures { Gives (Plans found.now now is_last files.old.held files.new.held connection.old.held connection.new.held)
         source.old source.new result }
 {
-    give(plan(alloc, files, connection, found, now, is_last), source)
+    give(
+        plan_files(alloc, files, connection, found, now, is_last),
+        source,
+    )
 }

@@ -1,0 +1,8 @@
+use Rattle.std.proofs.Common.{refl}
+use Rattle.http_server.specs.declared.state.Config.{Config}
+use Rattle.c_connection.proofs.moving.new_connection.Goals as goal
+
+pub returns : goal.returns
+returns c =
+    let config : Config = record (c.default-config.result) { max_body_len = c.args.most_content } in
+    (config, refl, c.new-2.ensures.begins, c.new-3.ensures)
