@@ -33,10 +33,10 @@
 #include <stdint.h>
 
 /* The version of this file. `typed_headers_version` returns that of the library. */
-#define TYPED_HEADERS_VERSION_MAJOR 1
-#define TYPED_HEADERS_VERSION_MINOR 1
+#define TYPED_HEADERS_VERSION_MAJOR 2
+#define TYPED_HEADERS_VERSION_MINOR 0
 #define TYPED_HEADERS_VERSION_PATCH 0
-#define TYPED_HEADERS_VERSION "1.1.0"
+#define TYPED_HEADERS_VERSION "2.0.0"
 
 #ifdef __cplusplus
 extern "C" {
@@ -1250,7 +1250,7 @@ uint8_t typed_headers_cache_new(struct typed_headers_cache *cache, const struct 
 
 /*
  * Opens a closed cache as `typed_headers_cache_new` does, with extensions. Refused: it is open, or a line of the
- * targeted fields is no field name. Memory: the cache is closed. Since 1.1.
+ * targeted fields is no field name. Memory: the cache is closed. Since 2.0.
  */
 uint8_t typed_headers_cache_new_with(struct typed_headers_cache *cache,
                                      const struct typed_headers_cache_options *options,
@@ -1319,7 +1319,7 @@ uint8_t typed_headers_framing(const uint8_t *method, size_t method_length, uint1
                               const uint8_t *section, size_t section_length, const struct typed_headers_keys *keys,
                               struct typed_headers_framing_outcome *outcome);
 
-/* ---- Typed values of fields, since version 1.1 ---- */
+/* ---- Typed values of fields, since version 2.0 ---- */
 
 /*
  * The user name and the password of Basic, by the first line of `authorization` or of `proxy-authorization` (RFC 7617,
@@ -1431,7 +1431,7 @@ uint8_t typed_headers_members(const uint8_t *lines, size_t lines_length, uint8_t
 uint8_t typed_headers_has_member(const uint8_t *lines, size_t lines_length, const uint8_t *member,
                                  size_t member_length, bool any_case, uint8_t *has);
 
-/* ---- sections and policies: what several calls are asked of is parsed once, behind a handle. Since 1.1. ---- */
+/* ---- sections and policies: what several calls are asked of is parsed once, behind a handle. Since 2.0. ---- */
 
 /* Closes a handle, and gives its memory back. It may be closed before, or null. The status is TYPED_HEADERS_DONE. */
 uint8_t typed_headers_section_free(struct typed_headers_section *fields);
@@ -1537,7 +1537,7 @@ uint8_t typed_headers_resource_handle_answer(struct typed_headers_resource_handl
                                              size_t *parts_written, uint8_t *room, size_t room_length,
                                              size_t *written);
 
-/* ---- The connection of a server, which opens no socket and no file. Since 1.1. ---- */
+/* ---- The connection of a server, which opens no socket and no file. Since 2.0. ---- */
 
 /* Closes a handle, and gives its memory back. It may be closed before, or null. The status is TYPED_HEADERS_DONE. */
 uint8_t typed_headers_connection_free(struct typed_headers_connection *connection);
@@ -1637,7 +1637,7 @@ uint8_t typed_headers_connection_rejection(struct typed_headers_connection *conn
 uint8_t typed_headers_connection_planned(struct typed_headers_connection *connection, uint16_t *status,
                                          uint64_t *length);
 
-/* ---- A pass: one client's request through a cache, from its arrival to its last byte. Since 1.1. ---- */
+/* ---- A pass: one client's request through a cache, from its arrival to its last byte. Since 2.0. ---- */
 
 /*
  * Closes a pass, and gives its memory back. It may be closed before, or null. A pass may be closed at any time: nothing
@@ -1723,7 +1723,7 @@ uint8_t typed_headers_pass_received(struct typed_headers_cache *cache, struct ty
 uint8_t typed_headers_pass_ended(struct typed_headers_cache *cache, struct typed_headers_pass *pass,
                                  bool is_complete, uint64_t now, uint64_t *number);
 
-/* ---- Files that the program opens, and a service that decides on them. Since 1.1. ---- */
+/* ---- Files that the program opens, and a service that decides on them. Since 2.0. ---- */
 
 /* Closes a handle, and gives its memory back. It may be closed before, or null. The status is TYPED_HEADERS_DONE. */
 uint8_t typed_headers_files_free(struct typed_headers_files *files);

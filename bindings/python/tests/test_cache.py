@@ -4,7 +4,7 @@ import pickle
 import threading
 import unittest
 from datetime import datetime, timezone
-from typing import Dict, List, Optional
+from typing import Dict, List, Optional, Tuple
 
 from typed_headers import Ask, Cache, HeaderError, InvalidSection, OutOfOrder, Pass, PassOn, Reply, Wait
 
@@ -200,7 +200,10 @@ class CacheTest(unittest.TestCase):
     def test_only_a_get_for_the_whole_waits(self) -> None:
         cache = Cache(shared=True, wait=10)
         first = cache.begin("GET", A, {}, now=1000)
-        for method, target, fields in (("HEAD", A, {}), ("GET", A, {"Range": "bytes=0-1"}), ("POST", A, {}), ("GET", B, {})):
+        others: List[Tuple[str, str, Dict[str, str]]] = [
+            ("HEAD", A, {}), ("GET", A, {"Range": "bytes=0-1"}), ("POST", A, {}), ("GET", B, {}),
+        ]
+        for method, target, fields in others:
             self.assertEqual(cache.begin(method, target, fields, now=1000).step, Ask())
         self.assertIsNone(first.failed(now=1000))
         self.assertEqual(cache.begin("GET", A, {}, now=1000).step, Ask())

@@ -250,7 +250,10 @@ class OtherOrigins(unittest.TestCase):
         # Browsers serialize an origin as the URL standard does: in lower case, and without a default port.
         for unsent in ("https://A.example", "https://a.example:443", "https://*.example", "wss://a.example"):
             origins = ["null", "https://a.example", unsent, "http://127.1"]
-            for call in (lambda: CorsPolicy(origins), lambda: websocket_respond("GET", {}, origins=origins)):
+            calls: List[Callable[[], object]] = [
+                lambda: CorsPolicy(origins), lambda: websocket_respond("GET", {}, origins=origins),
+            ]
+            for call in calls:
                 with self.assertRaises(HeaderError) as caught:
                     call()
                 self.assertEqual(str(caught.exception), f"origins: no browser sends {unsent!r} (place 2)")

@@ -103,9 +103,9 @@ class Answers(unittest.TestCase):
             self.assertEqual(answer.fields, (("location", "/new"),) if wanted == 308 else ())
 
     def test_options(self) -> None:
-        for method in (["GET"], [Method("PUT", creates=True)]):
-            answer = Resource(method, state=State.ABSENT).answer("OPTIONS", HOST)
-            self.assertEqual(answer.status, 404 if method == ["GET"] else 204)
+        cases: List[Tuple[List[Union[Method, str]], int]] = [(["GET"], 404), ([Method("PUT", creates=True)], 204)]
+        for methods, wanted in cases:
+            self.assertEqual(Resource(methods, state=State.ABSENT).answer("OPTIONS", HOST).status, wanted)
         server = Resource(["GET", "POST"], state=State.SERVER)
         self.assertEqual(server.answer("OPTIONS", HOST).fields, (("allow", "GET, HEAD, POST, OPTIONS"),))
         self.assertEqual(server.answer("GET", HOST).status, 404)
@@ -118,10 +118,11 @@ class Answers(unittest.TestCase):
             self.assertNotIn("allow", dict(answer.fields))
 
     def test_methods_of_the_server(self) -> None:
-        for implemented, method, wanted in (
+        cases: List[Tuple[Optional[List[str]], str, int]] = [
             (None, "POST", 405), (None, "PURGE", 501), (["PURGE"], "PURGE", 405), (["PURGE"], "POST", 501),
             ([], "POST", 501), ([], "GET", 200), ([], "OPTIONS", 204), (["purge"], "PURGE", 501),
-        ):
+        ]
+        for implemented, method, wanted in cases:
             answer = Resource(["GET"], PAGES, implemented=implemented).answer(method, HOST)
             self.assertEqual(answer.status, wanted, (implemented, method))
             self.assertEqual("allow" in dict(answer.fields), wanted in (204, 405))

@@ -150,6 +150,7 @@ __all__ = [
     "Target",
     "Times",
     "TooLarge",
+    "Wait",
     "__version__",
     "age",
     "canonical_field",

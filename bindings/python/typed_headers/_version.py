@@ -1,3 +1,3 @@
 """The version, which tools/version writes."""
 
-VERSION = "1.1.0"
+VERSION = "2.0.0"

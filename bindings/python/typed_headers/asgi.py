@@ -41,10 +41,10 @@ from typing import (
 )
 from urllib.parse import quote
 
-from ._cached import MOMENT, Ask, Reply, Rules, Step, Turn, Wait, target_of
+from ._cached import MOMENT, Rules, Step, Turn, target_of
 from ._exchange import CONDITIONS, ORIGINS, Cutter, Fields, Response, length_of, respond, tagged
 from ._serving import DECIDING, Explanation, explained, list_alternatives, ranges
-from .caching import Cache
+from .caching import Ask, Cache, Reply, Wait
 from .cors import CorsKind, CorsPolicy
 from .errors import HeaderError
 from .headers import Headers

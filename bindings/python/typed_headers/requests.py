@@ -17,9 +17,9 @@ from requests.adapters import HTTPAdapter
 from urllib3 import HTTPHeaderDict, HTTPResponse
 from urllib3.exceptions import HTTPError
 
-from ._cached import Ask, Reply, Rules, Step, Turn, Wait
+from ._cached import Rules, Step, Turn
 from ._exchange import length_of
-from .caching import Cache
+from .caching import Ask, Cache, Reply, Wait
 from .errors import HeaderError
 from .headers import Headers
 

@@ -39,9 +39,9 @@ from ._exchange import (
     respond,
     tagged,
 )
-from ._cached import Ask, Reply, Rules, Step, Turn, Wait, target_of
+from ._cached import Rules, Step, Turn, target_of
 from ._serving import DECIDING, Explanation, explained, list_alternatives, ranges
-from .caching import Cache
+from .caching import Ask, Cache, Reply, Wait
 from .cors import CorsKind, CorsPolicy
 from .errors import HeaderError
 from .headers import Headers

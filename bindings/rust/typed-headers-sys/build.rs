@@ -2,7 +2,7 @@
 use std::path::Path;
 use std::process::Command;
 
-const VERSION: &str = "1.1";
+const VERSION: &str = "2.0";
 
 fn main() {
     println!("cargo::rerun-if-env-changed=TYPED_HEADERS");

@@ -105,7 +105,7 @@ struct Readme;
 /// The version of the library.
 ///
 /// ```
-/// assert!(typed_headers::version().starts_with("1."));
+/// assert!(typed_headers::version().starts_with("2."));
 /// ```
 pub fn version() -> &'static str {
     // SAFETY: the text is a constant.
