@@ -216,6 +216,9 @@ class PassPlayer(Player):
         it = self.passes[name]
         is_right, out_of_order = it.phase == phase, [Told("out_of_order")]
         if self.for_package and self.is_likely(0.02):
+            if it.phase == "asking":
+                # Choice: the package makes a failure of it, which uses what is stored, and so counts for what goes first.
+                self.cache.lookup(it.key, it.request, 0, GUESS)
             it.phase = "ended"
             self.step("close", name, (), [Told("(none)")], [])
         elif phase == "passing":
