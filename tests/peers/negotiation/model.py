@@ -1,5 +1,6 @@
 """RFC 9110, section 12.5, and RFC 4647, sections 3.3.1 and 3.4, as a second reading of their text: the qualities that
 an offer may have by a field, in thousandths, over the readings that the text leaves open."""
+import contextlib
 import itertools
 import math
 import re
@@ -107,9 +108,14 @@ def readings(dimension: str, text: str) -> list[Element | None]:
         return [element_of(dimension, text)]
     except Malformed:
         pass
+    # Choice: an empty parameter is none (section 5.6.6), in each field.
+    emptied: list[Element | None] = []
+    if '"' not in text:
+        with contextlib.suppress(Malformed):
+            emptied = [element_of(dimension, re.sub(r";[ \t]*(?=;|$)", "", text))]
     found = BEGINNINGS[dimension].match(text)
     if not found or (dimension == "accept" and found[1] != "*/*" and "*" in found[1].removesuffix("/*")):
-        return [None]
+        return [*emptied, None]
     good: Parameters = []
     weights = []
     for piece in re.findall(rf';((?:[^;"]|{QUOTES.pattern})*)', text[found.end(1):], re.DOTALL):
@@ -122,8 +128,8 @@ def readings(dimension: str, text: str) -> list[Element | None]:
             pass
     some: list[Element | None] = [(found[1].lower(), good if dimension == "accept" else [], it) for it in (1, 1000)]
     if len(weights) > 1:
-        return [None, *some]
-    return [None] if weights and re.fullmatch(r"0(\.0{0,3})?", weights[0]) else some
+        return [*emptied, None, *some]
+    return [*emptied, *([None] if weights and re.fullmatch(r"0(\.0{0,3})?", weights[0]) else some)]
 
 
 def media_qualities(ranges: list[Element], offers: list[str]) -> Iterator[set[int]]:
