@@ -279,7 +279,7 @@ enum typed_headers_pass_action {
        of `typed_headers_pass_content`. The pass has ended. */
     TYPED_HEADERS_REPLY = 0,
     /* The same, and then validate it for nobody: by a new pass for the same request with one more line
-       `cache-control: no-cache`. */
+       `cache-control: no-cache`, and without `only-if-cached`. */
     TYPED_HEADERS_REPLY_AND_VALIDATE = 1,
     /* Forward the request as it is. */
     TYPED_HEADERS_ASK = 2,

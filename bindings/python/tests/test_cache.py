@@ -133,6 +133,12 @@ class CacheTest(unittest.TestCase):
         validating = served.validation(now=1020)
         assert validating is not None
         self.assertEqual(validating.came(200, FRESH, now=1020), PassOn(False))
+        # That only a stored response may be sent is for the client.
+        served = cache.begin("GET", A, {"Cache-Control": "only-if-cached"}, now=1020)
+        validating = served.validation(now=1020)
+        assert validating is not None
+        self.assertEqual(validating.step, Ask((("if-none-match", '"1"'),)))
+        self.assertEqual(validating.came(200, FRESH, now=1020), PassOn(True))
 
     def test_stores_nothing_that_was_asked_before_a_removal(self) -> None:
         cache = Cache(shared=True)

@@ -5,6 +5,7 @@ A shared cache serves several users, as a proxy does; a private one serves a sin
 
 import threading
 import time
+from contextlib import suppress
 from dataclasses import dataclass
 from enum import IntEnum
 from typing import Any, Callable, Iterable, List, Optional, Sequence, Set, Tuple, TypeVar, Union
@@ -13,6 +14,7 @@ from . import _library
 from ._library import Text, Time
 from .errors import HeaderError
 from .headers import Headers, HeadersLike
+from .values import members
 
 __all__ = [
     "Ask",
@@ -350,11 +352,16 @@ class Pass:
         return number != 0
 
     def validation(self, *, now: Optional[Time] = None) -> Optional["Pass"]:
-        """A pass by which what was served stale is validated for nobody: the same request with one more `no-cache`.
+        """A pass by which what was served stale is validated for nobody: the same request with `no-cache`, and without
+        `only-if-cached`, which was for the client.
 
         `None` if what the request would get now needs no validation any more.
         """
-        request = Headers([*self._request.pairs(), ("cache-control", "no-cache")])
+        kept = list(self._request.lines("cache-control"))
+        with suppress(HeaderError):
+            kept = [it for it in members("", *kept) if it.partition("=")[0].strip().lower() != "only-if-cached"]
+        others = [it for it in self._request.pairs() if it[0].lower() != "cache-control"]
+        request = Headers([*others, *(("cache-control", it) for it in [*kept, "no-cache"])])
         with self._cache._lock:
             served = Pass(self._cache, self._method, self._target, self._request, now)
             if not isinstance(served.step, Reply) or not served.step.validates:

@@ -6,11 +6,11 @@ from dataclasses import dataclass
 
 from caching.model import current_ages, has
 from common.dates import imf_fixdate
-from common.fields import Fields, lines_of
+from common.fields import Fields, lines_of, members
 from common.rows import word
 from histories import writing
 from histories.generate import JUMPS, STATUSES, TARGETS, VARIED, Player, trimmed
-from histories.model import SAFE, Request, Stored, answers, is_fair, is_for_cache, matches, read
+from histories.model import SAFE, Request, Stored, answers, is_closed, is_fair, is_for_cache, matches, read
 from histories.writing import Call, Told
 
 OPEN = 8
@@ -159,8 +159,13 @@ class PassPlayer(Player):
         found = self.cache.lookup(it.key, it.request, self.now, GUESS)
         if found.word != "serve_and_revalidate" or not is_for_cache(it.request):
             return [Told("(none)")]
-        # "A cache MUST NOT store any part of either this request or any response to it": no-store stays (section 5.2.1.5)
-        it.request = Request(it.request.method, [*it.request.fields, ("cache-control", "no-cache")])
+        # "A cache MUST NOT store any part of either this request or any response to it": no-store stays (section 5.2.1.5),
+        # and only-if-cached, which is for the client, goes.
+        asked = lines_of(it.request.fields, "cache-control")
+        if all(is_closed(line, True) for line in asked):
+            asked = [own for own in members(asked) if own.strip(" \t").lower().partition("=")[0] != "only-if-cached"]
+        fields = [own for own in it.request.fields if own[0].lower() != "cache-control"]
+        it.request = Request(it.request.method, [*fields, *(("cache-control", own) for own in [*asked, "no-cache"])])
         return self.begun(it)
 
     # What clients and the origin do

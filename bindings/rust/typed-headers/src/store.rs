@@ -58,7 +58,7 @@ pub struct Reply {
     /// Its content, or the part of it that is sent: nothing to HEAD.
     pub content: Vec<u8>,
     /// Whether it is then validated for nobody: by a new pass for the same request with one more line `cache-control:
-    /// no-cache`.
+    /// no-cache`, and without `only-if-cached`.
     pub validates: bool,
 }
 
