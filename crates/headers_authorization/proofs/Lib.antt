@@ -1,2 +1,3 @@
+pub mod Base64Lemmas
 pub mod BasicLemmas
 pub mod SchemeLemmas

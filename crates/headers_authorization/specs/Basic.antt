@@ -5,7 +5,7 @@ use Rattle.http_header.specs.Token.{space}
 use Rattle.memchr.specs.Find.{IsFirstByte, is_byte}
 use Rattle.base64.specs.GeneralPurpose.{IsBytes}
 use Rattle.headers_syntax.specs.Lines.{Line}
-use Rattle.headers_base64.specs.Base64.{base64}
+use Rattle.headers_authorization.specs.Base64.{base64}
 
 -- b':'
 abbrev pub colon : ℕ

@@ -1,3 +1,4 @@
+pub mod Base64
 pub mod Basic
 pub mod BasicLaws
 pub mod Bearer

@@ -4,9 +4,9 @@ ghost use Rattle.headers_authorization.specs.Basic.{colon as colon_byte, is_spac
 ghost use Rattle.headers_authorization.{specs.Basic.{basic_scheme, ReadsBasic, basic_writes}, specs.Scheme.IsReadBack};
 
 use crate::authorization::Authorization;
+use crate::base64_values::{base64_value, read_base64};
 use crate::credentials::Credentials;
 use crate::proxy_authorization::ProxyAuthorization;
-use headers_base64::{base64_value, read_base64};
 use http_header::HeaderValue;
 use memchr::memchr;
 use std::alloc::{AllocError, Global};

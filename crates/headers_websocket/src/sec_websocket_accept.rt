@@ -2,10 +2,10 @@
 ghost use Rattle.std.specs.Prelude.{◌≡◌, ◌++◌, IfOk, codes};
 ghost use Rattle.http_header.specs.FieldValue.{plain_value, FieldValue, field_value_code};
 ghost use Rattle.sha1.specs.Sha1.{sha1};
-ghost use Rattle.headers_base64.specs.Base64.{base64};
+ghost use Rattle.headers_authorization.specs.Base64.{base64};
 
 use crate::sec_websocket_key::SecWebsocketKey;
-use headers_base64::base64_value;
+use headers_authorization::base64_value;
 use headers_core::{FormHeader, Header};
 use http_header::{HeaderName, HeaderValue, SEC_WEBSOCKET_ACCEPT};
 use sha1::Sha1;

@@ -1,9 +1,9 @@
 //! The header `sec-websocket-key`.
 ghost use Rattle.std.specs.Prelude.{◌≡◌, true, IfOk, codes};
 ghost use Rattle.http_header.specs.FieldValue.{FieldValue, field_value_code};
-ghost use Rattle.headers_base64.specs.Base64.{base64};
+ghost use Rattle.headers_authorization.specs.Base64.{base64};
 
-use headers_base64::base64_value;
+use headers_authorization::base64_value;
 use headers_core::{FormHeader, Header};
 use http_header::{HeaderName, HeaderValue, SEC_WEBSOCKET_KEY};
 use std::alloc::{AllocError, Global};

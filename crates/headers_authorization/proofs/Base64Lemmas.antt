@@ -8,7 +8,7 @@ use Rattle.http_header.{specs.Token.{space, is_visible_or_blank}, specs.FieldVal
 use Rattle.http_header.proofs.TokenLemmas.{IsFieldValue-from_visible}
 use Rattle.base64.{specs.Rfc4648.{encode_symbols, padding_len}, specs.GeneralPurpose.{IsBytes, decode_of, encode_of}}
 use Rattle.base64.{specs.Engines.standard, proofs.Tables.all_below_at, proofs.EngineFacts.decode_of-encode_of}
-use Rattle.headers_base64.specs.Base64.{base64}
+use Rattle.headers_authorization.specs.Base64.{base64}
 
 -- VCHAR of RFC 5234: visible ASCII
 abbrev is_vchar : ℕ → Bool

@@ -1,6 +1,6 @@
 use Rattle.std.proofs.Common.{◌≡◌, Ok, Err, refl, sym, ◌∙◌}
-use Rattle.headers_base64.specs.Base64.{base64}
-use Rattle.headers_base64.proofs.read_base64.Goals as goal
+use Rattle.headers_authorization.specs.Base64.{base64}
+use Rattle.headers_authorization.proofs.base64_values.read_base64.Goals as goal
 
 pub returns-in-Ok : goal.returns-in-Ok
 unfolding base64

@@ -1,8 +1,8 @@
 use Rattle.std.proofs.Common.{◌≡◌, ℕ, List, [], ◌++◌, ◌∙◌, ap, sym, subst, arith}
 use Rattle.http_header.specs.FieldValue.{IsFieldValue, plain_value}
 use Rattle.base64.specs.GeneralPurpose.{IsBytes}
-use Rattle.headers_base64.{specs.Base64.base64, proofs.Base64Lemmas.IsFieldValue-base64}
-use Rattle.headers_base64.proofs.base64_value.Goals as goal
+use Rattle.headers_authorization.{specs.Base64.base64, proofs.Base64Lemmas.IsFieldValue-base64}
+use Rattle.headers_authorization.proofs.base64_values.base64_value.Goals as goal
 
 -- the text that the prefix was pushed on
 begins : (prefix empty pushed : List ℕ) → empty ≡ [] → pushed ≡ empty ++ prefix → pushed ≡ prefix

@@ -1,10 +1,8 @@
 //! Header values in base64, padded and in the standard alphabet (RFC 4648, section 4).
-#![tactic(auto)]
-
 ghost use Rattle.std.specs.Prelude.{◌≡◌, ◌++◌, ℕ, List, IfOk, IsTrue, MatchOption};
 ghost use Rattle.http_header.specs.FieldValue.{plain_value, is_visible_text};
 ghost use Rattle.base64.specs.GeneralPurpose.{IsBytes};
-ghost use Rattle.headers_base64.specs.Base64.{base64};
+ghost use Rattle.headers_authorization.specs.Base64.{base64};
 
 use base64::DecodeAllocError;
 use base64::engine::general_purpose::STANDARD;
