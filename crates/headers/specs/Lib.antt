@@ -14,6 +14,7 @@ pub use Rattle.headers_core.specs.declared.entity_tag_range
 pub use Rattle.headers_connection.specs.Chunked
 pub use Rattle.headers_connection.specs.Connection
 pub use Rattle.headers_connection.specs.Expect
+pub use Rattle.headers_connection.specs.SecWebsocketVersion
 pub use Rattle.headers_content.specs.ContentLength
 pub use Rattle.headers_content.specs.ContentType
 pub use Rattle.headers_content.specs.Disposition
@@ -50,4 +51,3 @@ pub use Rattle.headers_syntax.specs.Refusal
 pub use Rattle.headers_syntax.specs.Shapes
 pub use Rattle.headers_syntax.specs.Text
 pub use Rattle.headers_syntax.proofs.ShapeLemmas
-pub use Rattle.headers_websocket.specs.SecWebsocketVersion

@@ -11,7 +11,8 @@ pub use headers_conditional::{
     LastModified,
 };
 pub use headers_connection::{
-    AsConnectionOption, Connection, Expect, Te, TransferEncoding, Upgrade,
+    AsConnectionOption, Connection, Expect, SecWebsocketAccept, SecWebsocketKey,
+    SecWebsocketVersion, Te, TransferEncoding, Upgrade,
 };
 pub use headers_content::{
     ContentDisposition, ContentEncoding, ContentLength, ContentLocation, ContentType,
@@ -40,5 +41,4 @@ pub use headers_ranges::{
 };
 pub use headers_security::{ReferrerPolicy, StrictTransportSecurity};
 pub use headers_syntax::trimmed;
-pub use headers_websocket::{SecWebsocketAccept, SecWebsocketKey, SecWebsocketVersion};
 pub use http_header::{HeaderMap, HeaderName, HeaderValue};

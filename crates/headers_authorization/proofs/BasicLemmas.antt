@@ -4,7 +4,7 @@ use Rattle.std.{proofs.Common.{slice_index, slice_index_or, eq-eqb, refl, sym, â
 use Rattle.std.{specs.List.{Contains, prefix_len}, proofs.Math.Seq.get_or-append_seam, proofs.lemmas.Bool.eqb-true}
 use Rattle.std.proofs.lemmas.List.{get_or_append_left, get_or_default, length-append, take_rest}
 use Rattle.base64.specs.GeneralPurpose.{IsBytes}
-use Rattle.headers_authorization.{specs.Base64.base64, proofs.Base64Lemmas.base64-once}
+use Rattle.headers_authorization.{specs.Base64.base64, specs.Base64Laws.base64-once}
 use Rattle.memchr.specs.Find.{IsFirstByte, is_byte}
 use Rattle.headers_authorization.{specs.Scheme.IsReadBack, specs.Basic.{colon, UserPass, is_space, after_spaces}}
 use Rattle.headers_authorization.specs.Basic.{user_pass, basic_scheme, ReadsBasic, basic_writes}

@@ -1,3 +1,2 @@
-pub mod Base64Lemmas
 pub mod BasicLemmas
 pub mod SchemeLemmas

@@ -4,7 +4,7 @@ use Rattle.std.proofs.lemmas.Bool.{cases_lt}
 use Rattle.memchr.specs.Find.{IsFirstByte, is_byte}
 use Rattle.base64.specs.GeneralPurpose.{IsBytes}
 use Rattle.headers_syntax.specs.Lines.{Line}
-use Rattle.headers_authorization.{specs.Base64.base64, proofs.Base64Lemmas.{base64-once, base64-no_space}}
+use Rattle.headers_authorization.{specs.Base64.base64, specs.Base64Laws.{base64-once, base64-no_space}}
 use Rattle.headers_authorization.{specs.Scheme.HasScheme, specs.CredentialLaws.CredentialLaws, specs.Basic.colon}
 use Rattle.headers_authorization.specs.Basic.{UserPass, basic_scheme, SameBasic, after_spaces, ReadsBasic, basic_writes}
 

@@ -1,4 +1,5 @@
 pub mod Base64
+pub mod Base64Laws
 pub mod Basic
 pub mod BasicLaws
 pub mod Bearer

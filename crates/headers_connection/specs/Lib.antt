@@ -1,3 +1,4 @@
 pub mod Chunked
 pub mod Connection
 pub mod Expect
+pub mod SecWebsocketVersion

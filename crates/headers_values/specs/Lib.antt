@@ -2,6 +2,7 @@ pub use Rattle.headers_conditional.specs.ETag
 pub use Rattle.headers_conditional.specs.IfRange
 pub use Rattle.headers_conditional.specs.Validator
 pub use Rattle.headers_connection.specs.Expect
+pub use Rattle.headers_connection.specs.SecWebsocketVersion
 pub use Rattle.headers_content.specs.ContentLength
 pub use Rattle.headers_content.specs.Disposition
 pub use Rattle.headers_context.specs.RetryAfter
@@ -12,4 +13,3 @@ pub use Rattle.headers_ranges.specs.ByteRanges
 pub use Rattle.headers_ranges.specs.ContentBytes
 pub use Rattle.headers_ranges.specs.ContentRange
 pub use Rattle.headers_ranges.specs.Range
-pub use Rattle.headers_websocket.specs.SecWebsocketVersion

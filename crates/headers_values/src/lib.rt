@@ -5,7 +5,9 @@ pub use headers_caching::{Age, Expires, Pragma};
 pub use headers_conditional::{
     ETag, IfModifiedSince, IfRange, IfUnmodifiedSince, InvalidETag, LastModified, into_tag, tag_of,
 };
-pub use headers_connection::{Expect, Upgrade};
+pub use headers_connection::{
+    Expect, SecWebsocketAccept, SecWebsocketKey, SecWebsocketVersion, Upgrade,
+};
 pub use headers_content::{ContentDisposition, ContentLength, ContentLocation};
 pub use headers_context::{
     Date, InvalidReferer, InvalidServer, InvalidUserAgent, Location, Referer, RetryAfter, Server,
@@ -18,4 +20,3 @@ pub use headers_ranges::{
     ContentRange, InvalidContentRange, InvalidRange, Range, Satisfiable, content_ranges_read_back,
     ranges_read_back,
 };
-pub use headers_websocket::{SecWebsocketAccept, SecWebsocketKey, SecWebsocketVersion};

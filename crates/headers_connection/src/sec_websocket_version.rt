@@ -20,7 +20,7 @@ impl Header for SecWebsocketVersion {
     ghost use Rattle.std.specs.Prelude.{true, codes};
     ghost use Rattle.headers_syntax.specs.HeaderLaws.{SameBy, ReadsBy, written_by};
     ghost use Rattle.headers_syntax.proofs.ShapeLemmas.{first_word_laws};
-    ghost use Rattle.headers_websocket.specs.SecWebsocketVersion.{sec_websocket_version_grammar};
+    ghost use Rattle.headers_connection.specs.SecWebsocketVersion.{sec_websocket_version_grammar};
 
     ghost field_name = { codes "sec-websocket-version" };
 
