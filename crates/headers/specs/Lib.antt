@@ -1,3 +1,5 @@
+pub mod ContentType
+pub mod ContentTypeLaws
 pub use Rattle.headers_authorization.specs.Basic
 pub use Rattle.headers_authorization.specs.Bearer
 pub use Rattle.headers_authorization.specs.CredentialLaws
@@ -15,12 +17,6 @@ pub use Rattle.headers_connection.specs.Chunked
 pub use Rattle.headers_connection.specs.Connection
 pub use Rattle.headers_connection.specs.Expect
 pub use Rattle.headers_connection.specs.SecWebsocketVersion
-pub use Rattle.headers_content.specs.ContentLength
-pub use Rattle.headers_content.specs.ContentType
-pub use Rattle.headers_content.specs.Disposition
-pub use Rattle.headers_context.specs.RetryAfter
-pub use Rattle.headers_context.specs.RetryTime
-pub use Rattle.headers_cookies.specs.SetCookie
 pub use Rattle.headers_cors.specs.AccessControlAllowCredentials
 pub use Rattle.headers_cors.specs.AccessControlAllowOrigin
 pub use Rattle.headers_cors.specs.AccessControlRequestMethod
@@ -29,6 +25,9 @@ pub use Rattle.headers_hosts.specs.Origin
 pub use Rattle.headers_items.specs.ItemsState
 pub use Rattle.headers_items.specs.Merge
 pub use Rattle.headers_items.specs.Places
+pub use Rattle.headers_lists.specs.ReferrerPolicy
+pub use Rattle.headers_lists.specs.StrictTransportSecurity
+pub use Rattle.headers_lists.specs.StrictTransportSecurityGrammar
 pub use Rattle.headers_map.specs.Canonical
 pub use Rattle.headers_map.specs.LineMap
 pub use Rattle.headers_map.specs.Typed
@@ -38,9 +37,6 @@ pub use Rattle.headers_ranges.specs.ByteRanges
 pub use Rattle.headers_ranges.specs.ContentBytes
 pub use Rattle.headers_ranges.specs.ContentRange
 pub use Rattle.headers_ranges.specs.Range
-pub use Rattle.headers_security.specs.ReferrerPolicy
-pub use Rattle.headers_security.specs.StrictTransportSecurity
-pub use Rattle.headers_security.specs.StrictTransportSecurityGrammar
 pub use Rattle.headers_syntax.specs.Date
 pub use Rattle.headers_syntax.specs.DecodesTo
 pub use Rattle.headers_syntax.specs.EntityTag
@@ -51,3 +47,8 @@ pub use Rattle.headers_syntax.specs.Refusal
 pub use Rattle.headers_syntax.specs.Shapes
 pub use Rattle.headers_syntax.specs.Text
 pub use Rattle.headers_syntax.proofs.ShapeLemmas
+pub use Rattle.headers_values.specs.ContentLength
+pub use Rattle.headers_values.specs.Disposition
+pub use Rattle.headers_values.specs.RetryAfter
+pub use Rattle.headers_values.specs.RetryTime
+pub use Rattle.headers_values.specs.SetCookie

@@ -1,3 +1,9 @@
+pub mod ReferrerPolicy
+pub mod ReferrerPolicyLaws
+pub mod SecurityParts
+pub mod StrictTransportSecurity
+pub mod StrictTransportSecurityGrammar
+pub mod StrictTransportSecurityLaws
 pub use Rattle.headers_caching.specs.CacheControl
 pub use Rattle.headers_caching.specs.CacheControlGrammar
 pub use Rattle.headers_core.specs.EntityTagRange
@@ -6,6 +12,3 @@ pub use Rattle.headers_conditional.specs.IfNoneMatch
 pub use Rattle.headers_connection.specs.Chunked
 pub use Rattle.headers_connection.specs.Connection
 pub use Rattle.headers_names.specs.ListItem
-pub use Rattle.headers_security.specs.ReferrerPolicy
-pub use Rattle.headers_security.specs.StrictTransportSecurity
-pub use Rattle.headers_security.specs.StrictTransportSecurityGrammar

@@ -1,2 +1,0 @@
-pub mod ContentLengthLemmas
-pub mod ContentTypeLemmas

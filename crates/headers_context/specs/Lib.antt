@@ -1,4 +1,0 @@
-pub mod RetryAfter
-pub mod RetryAfterLaws
-pub mod RetryTime
-pub mod RetryView

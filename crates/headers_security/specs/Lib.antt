@@ -1,6 +1,0 @@
-pub mod ReferrerPolicy
-pub mod ReferrerPolicyLaws
-pub mod SecurityParts
-pub mod StrictTransportSecurity
-pub mod StrictTransportSecurityGrammar
-pub mod StrictTransportSecurityLaws
