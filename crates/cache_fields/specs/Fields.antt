@@ -3,7 +3,7 @@ use Rattle.std.specs.Prelude.{ℕ, ◌+◌, ◌-◌, ◌^◌, min, Bool, ◌==�
 use Rattle.std.{specs.Prelude.codes, specs.List.before_first}
 use Rattle.headers_map.{specs.LineMap.LineMap, specs.Typed.HasLine}
 use Rattle.headers_syntax.{specs.Lines.{Line, only_line}, specs.Text.trim}
-use Rattle.rfc_dates.{specs.Calendar.unix_epoch, specs.Date.timestamp}
+use Rattle.rfc_values.{specs.Calendar.unix_epoch, specs.Date.timestamp}
 use Rattle.rfc_fields.specs.Numbers.{number_within}
 
 -- the message has a field of this name

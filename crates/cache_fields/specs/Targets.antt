@@ -5,8 +5,8 @@ use Rattle.std.specs.Option.{option_or}
 use Rattle.headers_map.specs.LineMap.{LineMap}
 use Rattle.headers_syntax.{specs.Lines.Line, specs.Text.trim}
 use Rattle.rfc_fields.specs.Numbers.{number_within}
-use Rattle.rfc_structured.{specs.Dictionaries.{MemberParts, dictionary}, specs.Items.ValueParts}
-use Rattle.rfc_structured.specs.Items.ValueParts.{Integer, Boolean, Text, Other}
+use Rattle.rfc_values.{specs.Dictionaries.{MemberParts, dictionary}, specs.Items.ValueParts}
+use Rattle.rfc_values.specs.Items.ValueParts.{Integer, Boolean, Text, Other}
 use Rattle.cache_fields.{specs.Directives.nothing, specs.Fields.greatest, specs.Freshness.by_itself}
 use Rattle.cache_fields.{specs.declared.directives.Directives.Directives, specs.declared.governing.Governing.Governing}
 

@@ -5,8 +5,8 @@ ghost use Rattle.cache_fields.specs.Fields.{age_of, age_value, date_in};
 
 use headers_syntax::trim;
 use http_header::{AGE, HeaderMap, HeaderName, HeaderValue};
-use rfc_dates::{Timestamp, read_date};
 use rfc_fields::{number, only_value};
+use rfc_values::{Timestamp, read_date};
 
 /// Parses a field that has exactly one field line as a date (RFC 9110, section 5.6.7). `now`
 /// decides a year of two digits.

@@ -10,8 +10,8 @@ use crate::governing::Governing;
 use crate::kind::Kind;
 use http::StatusCode;
 use http_header::{DATE, EXPIRES, HeaderMap, LAST_MODIFIED};
-use rfc_dates::Timestamp;
 use rfc_fields::has_line;
+use rfc_values::Timestamp;
 
 /// How many seconds a response may be taken as fresh if its origin doesn't say so, by what governs it (RFC
 /// 9111, section 4.2.2): a tenth of the time from its last modification to its Date. `None` if the origin

@@ -2,7 +2,7 @@
 ghost use Rattle.std.specs.Prelude.{◌≡◌, Bool, Option, ℕ, bytes_eq, option_map};
 ghost use Rattle.headers_map.specs.LineMap.{lines_at};
 ghost use Rattle.headers_syntax.{specs.Lines.lines_of, specs.Text.trim};
-ghost use Rattle.rfc_structured.{specs.Dictionaries.dictionary, specs.Values.{member_of, value_of}};
+ghost use Rattle.rfc_values.{specs.Dictionaries.dictionary, specs.Values.{member_of, value_of}};
 ghost use Rattle.cache_fields.specs.Targets.{is_true, is_true_or_named, replaced, seconds_of, told, told_after};
 ghost use Rattle.cache_fields.specs.Targets.{told_by, with_member};
 
@@ -10,7 +10,7 @@ use crate::directives::{Directives, nothing};
 use headers_syntax::trim;
 use http_header::{GetAll, HeaderMap, HeaderName, HeaderValue};
 use rfc_fields::{has_line, number};
-use rfc_structured::{Member, Value, read_entry};
+use rfc_values::{Member, Value, read_entry};
 
 // Whether a directive is there. One that is false, or has another type, isn't.
 fn is_true(value: &Value<'_>) -> bool

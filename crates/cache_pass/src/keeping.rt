@@ -13,8 +13,8 @@ use cache_rules::{Exchange, Reception, StoredResponse, is_stored};
 use headers::HeaderMap;
 use http::{Method, StatusCode};
 use http_header::{DATE, SET_COOKIE};
-use rfc_dates::Timestamp;
 use rfc_fields::has_line;
+use rfc_values::Timestamp;
 use std::alloc::Global;
 
 // When a response was made: its Date, or when it came if it has none that is valid.

@@ -3,7 +3,7 @@ use Rattle.std.specs.Prelude.{◌≡◌, ◌≢◌, ◌⊎◌, ℕ, List, [], �
 use Rattle.std.specs.Prelude.{option_map, nat_le, nat_lt, if◌then◌else◌}
 use Rattle.headers.specs.{Date.fixdate, LineMap.Field, LineMap.LineMap, Lines.Line, Lines.only_line, Shapes.only_tag}
 use Rattle.headers.specs.{Text.trim, Typed.ReadsNothing}
-use Rattle.rfc_dates.specs.{Calendar.unix_epoch, Date.timestamp}
+use Rattle.rfc_values.specs.{Calendar.unix_epoch, Date.timestamp}
 use Rattle.decide_preconditions.specs.Fields.{lines_sent}
 
 -- the entity tag of a response, if ETag is one

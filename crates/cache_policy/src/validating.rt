@@ -10,8 +10,8 @@ use headers::{
     trim,
 };
 use http_header::{IF_MODIFIED_SINCE, IF_NONE_MATCH, LAST_MODIFIED};
-use rfc_dates::{Timestamp, read_date};
 use rfc_fields::only_value;
+use rfc_values::{Timestamp, read_date};
 use std::alloc::{AllocError, Global};
 
 /// Returns the fields that make a request validate a stored response (RFC 9111, section 4.3.1), for

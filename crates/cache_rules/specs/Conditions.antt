@@ -2,7 +2,7 @@
 use Rattle.std.specs.Prelude.{◌≡◌, ◌≢◌, ◌⊎◌, ℕ, ◌-◌, Bool, true, false, ◌&&◌, length, nat_le, nat_lt, Option, Some}
 use Rattle.std.specs.Prelude.{None, option_and_then, option_map, codes, if◌then◌else◌}
 use Rattle.headers.specs.{Lines.Line, Shapes.only_tag, Typed.HasLine}
-use Rattle.rfc_dates.specs.Calendar.{unix_epoch}
+use Rattle.rfc_values.specs.Calendar.{unix_epoch}
 use Rattle.cache_policy.specs.{Fields.date_in, Requests.Request}
 use Rattle.decide_preconditions.specs.{Plans.IsPlan, declared.limits.RangeLimits.RangeLimits, declared.plan.Plan.Plan}
 use Rattle.decide_preconditions.specs.{Preconditions.IsGetOrHead, declared.resource.Resource.TheVariants.Current}

@@ -12,8 +12,8 @@ use decide_preconditions::{
 };
 use headers::{ETag, HeaderMap, HeaderMapExt, LastModified, Refused};
 use http_header::{IF_MATCH, IF_UNMODIFIED_SINCE, LAST_MODIFIED};
-use rfc_dates::Timestamp;
 use rfc_fields::has_line;
+use rfc_values::Timestamp;
 use std::alloc::{AllocError, Global};
 
 /// How a stored response answers the conditions and the ranges of a request.

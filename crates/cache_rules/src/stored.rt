@@ -7,7 +7,7 @@ use cache_policy::{RequestHead, Times, date};
 use headers::HeaderMap;
 use http::{Method, StatusCode};
 use http_header::DATE;
-use rfc_dates::Timestamp;
+use rfc_values::Timestamp;
 
 /// A response that a cache has stored, with the request that it answered (RFC 9111, section 2). Times
 /// are seconds since 1970, by the cache's own clock.

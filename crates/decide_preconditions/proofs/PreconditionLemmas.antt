@@ -2,7 +2,7 @@
 use Rattle.std.proofs.Common.{◌≡◌, ℕ, ◌+◌, ◌<◌, ◌≤◌, ◌⊎◌, List, [], ◌∷◌, Option, Some, None, refl, arith, inl, inr}
 use Rattle.std.{proofs.Common.{IfSome, IsTrue, Bool, true, false}, specs.Prelude.{IsSomeAnd, bytes_eq, codes}}
 use Rattle.std.{proofs.lemmas.Bool.{cases_Bool, both_ways, cases_lt}, proofs.lemmas.Slice.Eq.bytes_eq-Decides}
-use Rattle.rfc_dates.specs.Calendar.{unix_epoch}
+use Rattle.rfc_values.specs.Calendar.{unix_epoch}
 use Rattle.headers.{specs.LineMap.LineMap, specs.Lines.Line, specs.Typed.HasLine, specs.EntityTagRange.star}
 use Rattle.decide_preconditions.specs.Conditions.{ModifiedSinceLets, UnmodifiedSinceLets, dates}
 use Rattle.decide_preconditions.specs.Preconditions.{Answers, AreIgnored, IsGetOrHead, IsRead, IsUnconditional}

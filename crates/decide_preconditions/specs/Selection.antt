@@ -2,7 +2,7 @@
 use Rattle.std.specs.Prelude.{◌≡◌, ◌↔◌, ◌⊎◌, ℕ, ◌+◌, ◌<◌, Bool, true, false, ◌&&◌, ◌==◌, List, length, Option, Some}
 use Rattle.std.specs.Prelude.{None, Any, map, take, drop, bytes_eq, codes, nat_le, ⊤, if◌then◌else◌}
 use Rattle.std.{specs.Char.to_ascii_lowercase, specs.Option.{option_and_then, option_map_or}}
-use Rattle.rfc_dates.{specs.Calendar.unix_epoch, specs.Date.timestamp}
+use Rattle.rfc_values.{specs.Calendar.unix_epoch, specs.Date.timestamp}
 use Rattle.headers.{specs.EntityTag.is_tag, specs.LineMap.LineMap, specs.Lines.Line}
 use Rattle.decide_preconditions.{specs.Conditions.only_text, specs.Limits.are_too_many, specs.Parts.AreCoalesced}
 use Rattle.decide_preconditions.{specs.Parts.{Holds, IsJoined}, specs.RangeSets.{Covers, is_range_set, specs}}

@@ -13,8 +13,8 @@ use crate::tags::{Comparison, may_name, names, only_text};
 use headers::{HeaderMap, HeaderValue};
 use http::Method;
 use http_header::{GetAll, IF_MATCH, IF_MODIFIED_SINCE, IF_NONE_MATCH, IF_UNMODIFIED_SINCE};
-use rfc_dates::{Timestamp, read_date};
 use rfc_fields::has_line;
+use rfc_values::{Timestamp, read_date};
 
 /// The result of the preconditions of a request.
 #[derive(Clone, Copy, Debug, PartialEq, Eq)]

@@ -1,7 +1,7 @@
 //! The part of a representation that a request selects.
 ghost use Rattle.std.specs.Prelude.{◌≡◌, ◌↔◌, ◌+◌, ◌*◌, ℕ, List, Any, IfOk, MatchOption, OnErr, bytes_eq, codes, map};
 ghost use Rattle.std.{specs.Prelude.{nat_eq, nat_lt, option_map}, specs.Char.to_ascii_lowercase};
-ghost use Rattle.rfc_dates.specs.Calendar.{unix_epoch};
+ghost use Rattle.rfc_values.specs.Calendar.{unix_epoch};
 ghost use Rattle.headers.specs.LineMap.{lines_at};
 ghost use Rattle.decide_preconditions.{specs.Limits.are_too_many, specs.Parts.{AreCoalesced, Holds, IsJoined}};
 ghost use Rattle.decide_preconditions.specs.Selection.{has_bytes_unit, if_range_lets, is_exactly, is_modified_at};
@@ -16,8 +16,8 @@ use crate::tags::{Comparison, is_tag, is_tag_of, only_text};
 use headers::HeaderMap;
 use http::Method;
 use http_header::{IF_RANGE, RANGE};
-use rfc_dates::{Timestamp, read_date};
 use rfc_fields::has_line;
+use rfc_values::{Timestamp, read_date};
 use std::alloc::{AllocError, Global};
 
 /// The part of the current representation that a request selects.

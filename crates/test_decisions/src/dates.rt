@@ -1,5 +1,5 @@
 //! The calls on dates.
-use rfc_dates::{Timestamp, read_date};
+use rfc_values::{Timestamp, read_date};
 use test_rows::{Answer, Arguments, Calls, Failure};
 
 // Adds the seconds since 1970, with a minus sign before that, or `(none)`.

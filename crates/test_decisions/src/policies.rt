@@ -5,7 +5,7 @@ use cache_policy::{
 };
 use headers::{HeaderName, set_all};
 use http::Method;
-use rfc_structured::{Value, read_entry};
+use rfc_values::{Value, read_entry};
 use test_rows::{Answer, Arguments, Calls, Failure};
 
 // A policy with options.

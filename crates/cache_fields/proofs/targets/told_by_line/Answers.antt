@@ -1,6 +1,6 @@
 use Rattle.std.proofs.Common.{◌<◌, ◌∙◌, ap, sym, subst, option_copied, option_map}
-use Rattle.rfc_structured.{specs.Dictionaries.{length_of, members_in}, specs.Values.entry_of}
-use Rattle.rfc_structured.proofs.DictionaryLemmas.{entry-smaller}
+use Rattle.rfc_values.{specs.Dictionaries.{length_of, members_in}, specs.Values.entry_of}
+use Rattle.rfc_values.proofs.DictionaryLemmas.{entry-smaller}
 use Rattle.cache_fields.{specs.Targets.told_after, specs.declared.directives.Directives.Directives}
 use Rattle.cache_fields.proofs.TargetLemmas.{line-end, line-malformed, line-next}
 use Rattle.cache_fields.proofs.targets.told_by_line.Goals as goal

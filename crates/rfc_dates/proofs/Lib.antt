@@ -1,5 +1,0 @@
-pub mod CalendarLemmas
-pub mod DateLemmas
-pub mod FormatLemmas
-pub mod HttpDateLemmas
-pub mod YearLemmas

@@ -1,9 +1,0 @@
-use Rattle.std.proofs.Common.{◌≡◌, ◌-◌, ◌≤◌}
-use Rattle.httpdate.{specs.Text.day_name, specs.Reader.read_name}
-use Rattle.rfc_dates.proofs.parser.read_day_name.Given as goal
-
-abbrev pub invariant-loop-weekday : goal.invariant-loop-weekday
-invariant-loop-weekday l = record {
-  counted : 1 ≤ l.weekday;
-  left : read_name day_name 7 l.text ≡ read_name day_name (l.weekday - 1) l.text;
-}

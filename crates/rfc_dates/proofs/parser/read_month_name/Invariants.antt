@@ -1,9 +1,0 @@
-use Rattle.std.proofs.Common.{◌≡◌, ◌-◌, ◌≤◌}
-use Rattle.httpdate.{specs.Text.month_name, specs.Reader.read_name}
-use Rattle.rfc_dates.proofs.parser.read_month_name.Given as goal
-
-abbrev pub invariant-loop-month : goal.invariant-loop-month
-invariant-loop-month l = record {
-  counted : 1 ≤ l.month;
-  left : read_name month_name 12 l.text ≡ read_name month_name (l.month - 1) l.text;
-}

@@ -1,4 +1,0 @@
-pub mod Calendar
-pub mod Date
-pub mod Reader
-pub mod Text

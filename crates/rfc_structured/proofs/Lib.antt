@@ -1,3 +1,0 @@
-pub mod DictionaryLemmas
-pub mod ItemLemmas
-pub mod RepeatLemmas

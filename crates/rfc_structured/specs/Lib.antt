@@ -1,4 +1,0 @@
-pub mod Bytes
-pub mod Dictionaries
-pub mod Items
-pub mod Values
