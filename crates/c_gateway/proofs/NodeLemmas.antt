@@ -2,7 +2,7 @@
 use Rattle.std.{proofs.Common.{◌≡◌, ℕ, ◌<◌, true, List, [], ◌∷◌, arith, rules}, specs.List.list_all, specs.Str.IsUtf8}
 use Rattle.std.{proofs.lemmas.List.Elements.{All-cons, All-weaker}, proofs.lemmas.List.Sums.AllPass-from_list_all}
 use Rattle.std.{proofs.lemmas.Str.{IsUtf8-from_ascii, IsUtf8-nil}, proofs.lemmas.Str.Ascii.IsAscii-from_all}
-use Rattle.gateway_forwarded.specs.Nodes.{is_obfuscated, is_obfuscated_byte}
+use Rattle.gateway_hops.specs.Nodes.{is_obfuscated, is_obfuscated_byte}
 
 obfuscated_byte_ascii : (b : ℕ) → is_obfuscated_byte b ≡ true → b < 128
 obfuscated_byte_ascii b e = search rules

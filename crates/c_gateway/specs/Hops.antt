@@ -1,12 +1,12 @@
 -- How a request arrived, and what is known of the next connection, as a caller hands it in.
 use Rattle.std.specs.Prelude.{◌⊎◌, Bool, List, [], ◌∷◌, Option, Some, None, Result, Ok, Err, codes, if◌then◌else◌}
 use Rattle.headers.{specs.LineMap.LineMap, specs.Lines.Line}
-use Rattle.gateway_forwarded.{specs.Arrivals.ArrivalParts, specs.declared.arrival.Scheme.Scheme}
-use Rattle.gateway_forwarded.specs.declared.arrival.Scheme.TheVariants.{Http, Https}
-use Rattle.gateway_forwarded.specs.declared.fields.Forwarding.{Forwarding}
-use Rattle.gateway_forwarded.specs.declared.fields.Received.TheVariants.{KeptFromTrusted}
+use Rattle.gateway_hops.{specs.Arrivals.ArrivalParts, specs.declared.arrival.Scheme.Scheme}
+use Rattle.gateway_hops.specs.declared.arrival.Scheme.TheVariants.{Http, Https}
+use Rattle.gateway_hops.specs.declared.fields.Forwarding.{Forwarding}
+use Rattle.gateway_hops.specs.declared.fields.Received.TheVariants.{KeptFromTrusted}
 use Rattle.gateway_messages.specs.declared.protocol.Protocol.{Protocol}
-use Rattle.gateway_next_hop.{specs.Connections.ConnectionParts, specs.Sent.Hop}
+use Rattle.gateway_hops.{specs.Connections.ConnectionParts, specs.Sent.Hop}
 use Rattle.c_gateway.{specs.Nodes.{IsNodeOf, IsOptionalNodeOf}, specs.declared.hop.HopOptions.HopOptions}
 use Rattle.c_gateway.specs.declared.hop.Nodes.{Nodes}
 use Rattle.c_parts.specs.declared.status.Failure.{Failure}

@@ -1,10 +1,10 @@
 -- Nodes, as a caller hands them in.
 use Rattle.std.specs.Prelude.{◌≡◌, ◌≢◌, ℕ, ◌==◌, true, false, List, [], Option, Some, None, Result, Ok, Err}
 use Rattle.std.{specs.Prelude.if◌then◌else◌, specs.Net.Grammar.IsIpText, specs.declared.net.ip_addr.IpAddr.IpAddr}
-use Rattle.gateway_forwarded.{specs.Nodes.is_obfuscated, specs.declared.node.Node.Node}
-use Rattle.gateway_forwarded.{specs.declared.node.NodeName.NodeName, specs.declared.node.NodeName.TheVariants.Address}
-use Rattle.gateway_forwarded.specs.declared.node.NodeName.TheVariants.{Unknown, Hidden}
-use Rattle.gateway_forwarded.{specs.declared.node.NodePort.NodePort, specs.declared.node.NodePort.TheVariants.Number}
+use Rattle.gateway_hops.{specs.Nodes.is_obfuscated, specs.declared.node.Node.Node}
+use Rattle.gateway_hops.{specs.declared.node.NodeName.NodeName, specs.declared.node.NodeName.TheVariants.Address}
+use Rattle.gateway_hops.specs.declared.node.NodeName.TheVariants.{Unknown, Hidden}
+use Rattle.gateway_hops.{specs.declared.node.NodePort.NodePort, specs.declared.node.NodePort.TheVariants.Number}
 use Rattle.c_parts.{specs.declared.status.Failure.Failure, specs.declared.status.Failure.TheVariants.{Refused, Memory}}
 use Rattle.c_parts.specs.declared.status.Failure.TheVariants.{Absent, TooLarge}
 

@@ -7,8 +7,8 @@ use Rattle.gateway_messages.{specs.FieldLines.{Field, fields_of}, specs.Rejectio
 use Rattle.gateway_messages.specs.declared.expectation.Expectation.{Expectation}
 use Rattle.gateway_messages.specs.declared.expectation.Expectation.TheVariants as expectation
 use Rattle.gateway_messages.{specs.declared.gateway.Gateway.Gateway, specs.declared.protocol.Protocol.Protocol}
-use Rattle.gateway_next_hop.{specs.Sent.IsHopOutcome, specs.declared.request.HopOutcome.HopOutcome}
-use Rattle.gateway_next_hop.specs.declared.request.HopOutcome.TheVariants.{Send, RequireLength, Respond, Reject}
+use Rattle.gateway_hops.{specs.Sent.IsHopOutcome, specs.declared.request.HopOutcome.HopOutcome}
+use Rattle.gateway_hops.specs.declared.request.HopOutcome.TheVariants.{Send, RequireLength, Respond, Reject}
 use Rattle.c_parts.{specs.SectionMap.IsMapOf, specs.declared.status.Failure.Failure}
 use Rattle.c_decisions.{specs.Flags.flag_of, specs.Methods.IsMethodOf, specs.Texts.IsOptionalValue}
 use Rattle.c_gateway.{specs.Contents.{content_facts, no_content, request_content}, specs.Gateways.IsGatewayOf}

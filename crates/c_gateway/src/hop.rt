@@ -1,14 +1,13 @@
 //! How a request arrived, and what is known of the next connection, as C hands it in.
 ghost use Rattle.std.specs.Prelude.{◌≡◌, option_map};
 ghost use Rattle.headers.specs.LineMap.{lines_at};
-ghost use Rattle.gateway_forwarded.specs.Arrivals.{arrival_parts};
-ghost use Rattle.gateway_next_hop.specs.Connections.{connection_parts};
+ghost use Rattle.gateway_hops.specs.Arrivals.{arrival_parts};
+ghost use Rattle.gateway_hops.specs.Connections.{connection_parts};
 ghost use Rattle.c_gateway.specs.Hops.{AreNodesOf, arrival_of, connection_of, forwarding_of, scheme_of, told_host};
 
 use crate::node::{read_node, read_optional_node};
 use c_parts::Failure;
-use gateway_forwarded::{Arrival, Forwarding, Node, Received, Scheme};
-use gateway_next_hop::NextConnection;
+use gateway_hops::{Arrival, Forwarding, NextConnection, Node, Received, Scheme};
 use headers::{HeaderMap, HeaderValue};
 use http_header::HOST;
 use std::alloc::Global;

@@ -3,7 +3,7 @@ ghost use Rattle.std.specs.Prelude.{◌≡◌};
 ghost use Rattle.c_gateway.specs.Nodes.{IsHiddenOf, IsNodeNameOf, IsNodeOf, IsOptionalNodeOf, port_of};
 
 use c_parts::Failure;
-use gateway_forwarded::{Node, NodeName, NodePort, Obfuscated};
+use gateway_hops::{Node, NodeName, NodePort, Obfuscated};
 use headers::Refused;
 use std::alloc::Global;
 use std::net::IpAddr;

@@ -12,8 +12,8 @@ use crate::protocol::read_protocol;
 use crate::reason::reason_number;
 use c_decisions::{flag_of, optional_value, read_method};
 use c_parts::{Failure, HashKeys, read_map};
+use gateway_hops::{HopOutcome, send_request};
 use gateway_messages::{Expectation, Gateway, Protocol, RequestHead};
-use gateway_next_hop::{HopOutcome, send_request};
 use std::alloc::{AllocError, Global};
 
 /// What a gateway does with a request.

@@ -8,7 +8,7 @@ mod options;
 use crate::clock::SystemClock;
 use crate::options::command;
 use clap::ArgMatches;
-use gateway_forwarded::{Forwarding, Node, NodeName, Received};
+use gateway_hops::{Forwarding, Node, NodeName, Received};
 use gateway_messages::{Gateway, Pseudonym};
 use gateway_proxy::{Proxy, serve_gateway};
 use headers::HeaderValue;

@@ -3,7 +3,7 @@ use Rattle.std.specs.Prelude.{◌≡◌, ◌≢◌, ◌⊎◌, ℕ, ◌==◌, Bo
 use Rattle.std.{specs.Prelude.{codes, if◌then◌else◌}, specs.Bool.MatchBool}
 use Rattle.http_header.specs.FieldValue.{FieldValue, IsFieldValue}
 use Rattle.headers.{specs.LineMap.{LineMap, lines_at}, specs.Lines.Line}
-use Rattle.gateway_forwarded.{specs.Arrivals.ArrivalParts, specs.declared.arrival.Scheme.TheVariants.Http}
+use Rattle.gateway_hops.{specs.Arrivals.ArrivalParts, specs.declared.arrival.Scheme.TheVariants.Http}
 use Rattle.gateway_messages.{specs.Expectations.expect_fields, specs.FieldLines.fields_of, specs.HostTests.is_host}
 use Rattle.gateway_messages.specs.Rejections.{status_of}
 use Rattle.gateway_messages.specs.Requests as Forwarding
@@ -12,8 +12,8 @@ use Rattle.gateway_messages.specs.declared.expectation.Expectation.TheVariants.{
 use Rattle.gateway_messages.{specs.declared.framing.Framing.Framing, specs.declared.protocol.Protocol.Protocol}
 use Rattle.gateway_messages.specs.declared.protocol.Protocol.TheVariants.{Http10, Http11}
 use Rattle.gateway_messages.specs.declared.rejection.Rejection.{Rejection}
-use Rattle.gateway_next_hop.{specs.Connections.ConnectionParts, specs.Replaced.replaced_by, specs.Sent.{Hop, IsSent}}
-use Rattle.gateway_next_hop.{specs.Sent.LacksLength, specs.declared.request.SentRequest.SentRequest}
+use Rattle.gateway_hops.{specs.Connections.ConnectionParts, specs.Replaced.replaced_by, specs.Sent.{Hop, IsSent}}
+use Rattle.gateway_hops.{specs.Sent.LacksLength, specs.declared.request.SentRequest.SentRequest}
 use Rattle.gateway_relay.specs.declared.request.Request.{Request}
 use Rattle.gateway_proxy.{specs.Targets.{Parts, origin_form, target_of}, specs.declared.decision.Decision.Decision}
 use Rattle.gateway_proxy.specs.declared.decision.Decision.TheVariants.{Answer, Send}
@@ -74,7 +74,7 @@ asked proxy request authority =
       fields = lines_at request.fields;
     }
 
--- What is sent of a request: what `gateway_next_hop` sends, without Expect.
+-- What is sent of a request: what `gateway_hops` sends, without Expect.
 pub record IsSentOn (proxy : Proxy) (request : Request) (authority : Option Line) (to : List ℕ)
     (outgoing : Outgoing) : Type 0 where
   pub sent : SentRequest

@@ -3,15 +3,15 @@ ghost use Rattle.std.specs.Prelude.{◌≡◌, IfOk, OnErr, option_map};
 ghost use Rattle.headers.specs.LineMap.{lines_at};
 ghost use Rattle.gateway_messages.{specs.Expectations.expect_fields, specs.FieldLines.fields_of};
 ghost use Rattle.gateway_messages.specs.declared.expectation.Expectation.TheVariants.{Absent};
-ghost use Rattle.gateway_next_hop.specs.Replaced.{replaced_by};
+ghost use Rattle.gateway_hops.specs.Replaced.{replaced_by};
 ghost use Rattle.gateway_proxy.specs.Decisions.{HasHostValue, IsDecision, IsDecisionFor, given_host, NeedsMemory};
 ghost use Rattle.gateway_proxy.specs.Decisions.{protocol_of};
 
 use crate::proxy::Proxy;
 use crate::target::{Target, origin_form, target_of};
 use bytes::Bytes;
+use gateway_hops::{HopOutcome, SentRequest, replace_fields, send_request};
 use gateway_messages::{Expectation, FieldLine, Framing, Protocol, RequestHead, has_host};
-use gateway_next_hop::{HopOutcome, SentRequest, replace_fields, send_request};
 use gateway_relay::Request;
 use headers::{HeaderMap, HeaderValue};
 use http::StatusCode;

@@ -1,8 +1,7 @@
 //! A gateway in front of an origin server.
 
-use gateway_forwarded::{Arrival, Forwarding, Node, Scheme};
+use gateway_hops::{Arrival, Forwarding, NextConnection, Node, Scheme};
 use gateway_messages::Gateway;
-use gateway_next_hop::NextConnection;
 use headers::{Date, HeaderValue};
 use http1::Limits;
 
@@ -29,8 +28,8 @@ pub struct Proxy {
 
 impl Proxy {
     ghost use Rattle.std.specs.Prelude.{◌≡◌};
-    ghost use Rattle.gateway_forwarded.specs.Arrivals.{arrival_parts};
-    ghost use Rattle.gateway_next_hop.specs.Connections.{connection_parts};
+    ghost use Rattle.gateway_hops.specs.Arrivals.{arrival_parts};
+    ghost use Rattle.gateway_hops.specs.Connections.{connection_parts};
     ghost use Rattle.gateway_proxy.specs.Decisions.{proxy_arrival, proxy_connection};
 
     // What it says about its connection to the origin server: that stays open, and offers nothing.

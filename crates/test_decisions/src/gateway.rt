@@ -1,9 +1,9 @@
 //! Calls of a gateway that C doesn't have.
-use gateway_forwarded::{
-    Arrival, Forwarding, Node, NodeName, NodePort, Obfuscated, Received, Scheme, forwarding_fields,
+use gateway_hops::{
+    Arrival, Forwarding, NextConnection, Node, NodeName, NodePort, Obfuscated, Received, Scheme,
+    forwarding_fields,
 };
 use gateway_messages::{FieldLine, Framing, Gateway, Pseudonym, forward_trailers};
-use gateway_next_hop::NextConnection;
 use headers::{Encoded, HeaderMap, HeaderName, HeaderValue};
 use http_header::CONNECTION;
 use std::alloc::AllocError;

@@ -1,10 +1,10 @@
 use Rattle.std.proofs.Common.{◌∙◌, Option, ap, option_map, subst}
 use Rattle.headers.{specs.LineMap.lines_at, specs.Lines.Line}
-use Rattle.gateway_forwarded.specs.Arrivals.{ArrivalParts, arrival_parts}
+use Rattle.gateway_hops.specs.Arrivals.{ArrivalParts, arrival_parts}
 use Rattle.gateway_messages.specs.Requests as Forwarding
 use Rattle.gateway_messages.specs.declared.protocol.Protocol.{Protocol}
 use Rattle.gateway_messages.specs.declared.protocol.Protocol.TheVariants.{Http11}
-use Rattle.gateway_next_hop.{specs.Connections.ConnectionParts, specs.Sent.{Hop, IsHopOutcome, IsSent, hop_of}}
+use Rattle.gateway_hops.{specs.Connections.ConnectionParts, specs.Sent.{Hop, IsHopOutcome, IsSent, hop_of}}
 use Rattle.gateway_proxy.specs.Decisions.{asked, proxy_connection}
 use Rattle.gateway_proxy.proofs.decision.decide_for.Goals as goal
 

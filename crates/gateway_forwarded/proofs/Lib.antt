@@ -1,3 +1,0 @@
-mod ElementLemmas
-mod LastLemmas
-mod NodeLemmas

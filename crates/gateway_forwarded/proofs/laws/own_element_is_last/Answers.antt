@@ -1,5 +1,0 @@
-use Rattle.gateway_forwarded.proofs.LastLemmas.{own_last}
-use Rattle.gateway_forwarded.proofs.laws.own_element_is_last.Goals as goal
-
-pub returns : goal.returns
-returns c = own_last c.lists_parse_one_way.ensures c.joined_lines_keep_members.ensures

@@ -1,8 +1,0 @@
-use Rattle.std.proofs.Common.{Err, ap, rules}
-use Rattle.gateway_forwarded.proofs.NodeLemmas.{obfuscated_valid}
-use Rattle.gateway_forwarded.proofs.obfuscated.Obfuscated.new.Goals as goal
-
-pub unreachable-requires : goal.unreachable-requires
-unreachable-requires c =
-    c.in-Err-Invalid.ensures.invalid.0 (ap (λ e. Err e) c.in-Err-Invalid.field-0-is)
-    (obfuscated_valid c.args.text.now (search rules))

@@ -1,0 +1,4 @@
+mod ElementLemmas
+mod LastLemmas
+mod NodeLemmas
+mod ReplacedLemmas

@@ -1,0 +1,6 @@
+use Rattle.std.proofs.Common.{◌≡◌, ◌++◌}
+use Rattle.headers.specs.Lines.{lines_of}
+use Rattle.gateway_hops.proofs.fields.kept_if.Given as goal
+
+abbrev pub invariant-loop-line : goal.invariant-loop-line
+invariant-loop-line l = lines_of l.lines.items ++ lines_of l.line-iterator ≡ lines_of l.received

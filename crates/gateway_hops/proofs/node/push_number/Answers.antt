@@ -1,0 +1,10 @@
+use Rattle.std.proofs.Common.{arith, codes, decimal, refl}
+use Rattle.http_header.{specs.Token.is_value_byte, proofs.TokenLemmas.AllPass-from_test}
+use Rattle.gateway_hops.proofs.NodeLemmas.{decimal_valid, join_valid, on_ok}
+use Rattle.gateway_hops.proofs.node.push_number.Goals as goal
+
+pub returns-clause-valid : goal.returns-clause-valid
+returns-clause-valid c =
+    let fits = c.ranges.port.fits in
+    on_ok _ (join_valid (codes ":") (decimal c.args.port) (AllPass-from_test is_value_byte (codes ":") refl)
+    (decimal_valid c.args.port (omega (arith, fits))))

@@ -1,8 +1,0 @@
-use Rattle.std.proofs.Common.{◌≡◌, drop}
-use Rattle.headers.specs.LineMap.{fields_of as encodings_of}
-use Rattle.gateway_next_hop.specs.Replaced.{has_field}
-use Rattle.gateway_next_hop.proofs.replace.has_field.Given as goal
-
-abbrev pub invariant-loop-encoded : goal.invariant-loop-encoded
-invariant-loop-encoded l =
-    has_field (encodings_of (drop l.encoded-index l.own)) l.name ≡ has_field (encodings_of l.own) l.name

@@ -1,3 +1,0 @@
-pub mod Connections
-pub mod Replaced
-pub mod Sent
