@@ -1,8 +1,7 @@
 //! Field lines and offers, as C hands them in.
 ghost use Rattle.c_decisions.specs.Texts.{IsFieldOf, IsOptionalValue, IsValuesOf};
 
-use c_fields::map_of;
-use c_parts::{Failure, read_values};
+use c_parts::{Failure, map_of, read_values};
 use decide_negotiation::Dimension;
 use headers::{HeaderMap, HeaderName, HeaderValue};
 use http_header::HeaderValueError;

@@ -2,7 +2,7 @@
 use Rattle.std.specs.Prelude.{Option}
 use base.Fml.{Fml}
 use denote.RawPtr.{Ptr}
-use Rattle.c_boxes.specs.Ownership.{handle_owns}
+use Rattle.c_parts.specs.Ownership.{handle_owns}
 use Rattle.c_handles.specs.contracts.held.Held.{the_row}
 
 -- what a box at the pointer owns, or nothing if the handle is closed

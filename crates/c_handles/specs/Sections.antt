@@ -7,7 +7,7 @@ use Rattle.headers.{specs.Lines.{Line, lines_of}, specs.Typed.HasLine}
 use Rattle.headers_section.specs.Section.{Holds}
 use Rattle.c_parts.{specs.FieldText.IsNameOf, specs.SectionMap.IsMapOf, specs.declared.status.Failure.Failure}
 use Rattle.c_parts.specs.declared.status.Failure.TheVariants.{Refused, Memory, Absent, TooLarge}
-use Rattle.c_fields.specs.Written.{IsWrittenBlock}
+use Rattle.c_parts.specs.Written.{IsWrittenBlock}
 use Rattle.c_decisions.{specs.Contents.{IsBoundaryOf, IsContentOf}, specs.Evaluations.IsEvaluated}
 use Rattle.c_decisions.{specs.Methods.IsMethodOf, specs.Responses.IsResponded, specs.Selection.{HasRange, IsSelected}}
 use Rattle.c_decisions.{specs.Targets.IsResourceOf, specs.Texts.{AreValuesOf, FailsAt}}

@@ -2,13 +2,12 @@
 ghost use Rattle.std.specs.Prelude.{◌≡◌, ◌<◌, [], length, option_map, IfOk, MatchBool, Some};
 ghost use Rattle.http_header.specs.HeaderMap.{get_all};
 ghost use Rattle.headers.specs.Lines.{lines_of};
-ghost use Rattle.c_fields.specs.Written.{IsWrittenBlock};
+ghost use Rattle.c_parts.specs.Written.{IsWrittenBlock};
 ghost use Rattle.c_handles.{specs.Handles.{OnHeld, section_in}, specs.Sections.IsWrittenOf};
 
 use crate::handle::Handle;
 use crate::held::Held;
-use c_fields::{credentials_lines, has_credentials};
-use c_parts::{Failure, read_name};
+use c_parts::{Failure, credentials_lines, has_credentials, read_name};
 use headers::{HeaderMap, HeaderName, HeaderValue};
 use headers_section::read_block;
 use std::alloc::{AllocError, Global};

@@ -3,7 +3,7 @@ ghost use Rattle.std.specs.Prelude.{◌≡◌, Option, Some, None, is_some, true
 ghost use Rattle.c_handles.{specs.Ownership.held_owns, specs.declared.held.Held.Held};
 
 use crate::held::Held;
-use c_boxes::{Loose, RawBox};
+use c_parts::{Loose, RawBox};
 use std::alloc::Global;
 use std::marker::{Model, Send};
 use std::mem::replace;

@@ -5,8 +5,7 @@ ghost use Rattle.c_library.specs.CacheDirectives.{reads_directives, seconds_of, 
 ghost use Rattle.c_parts.{specs.Endings.Gives, specs.FieldText.FieldDecodes};
 
 use c_decisions::flag_of;
-use c_fields::has_flag;
-use c_parts::{DONE, Failure, read_values};
+use c_parts::{DONE, Failure, has_flag, read_values};
 use headers::{CacheControl, Refused, decode_values};
 use std::alloc::Global;
 use std::time::Duration;

@@ -1,10 +1,9 @@
 //! The canonical field lines of a header.
 ghost use Rattle.headers.specs.Lines.{lines_of};
-ghost use Rattle.c_fields.specs.Written.{IsWrittenAs, lines_text};
+ghost use Rattle.c_parts.specs.Written.{IsWrittenAs, lines_text};
 ghost use Rattle.c_parts.specs.Endings.{Writes, done};
 
-use c_fields::{lines_text, written_lines};
-use c_parts::{DONE, Failure, copy_into};
+use c_parts::{DONE, Failure, copy_into, lines_text, written_lines};
 use std::alloc::Global;
 
 /// Gives the canonical field lines of the header with this name: the encoding of the decoded value.

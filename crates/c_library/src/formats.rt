@@ -1,9 +1,8 @@
 //! Values, formatted.
-ghost use Rattle.c_fields.specs.Formats.{FormatsContentRange, FormatsDate, FormatsTag};
+ghost use Rattle.c_parts.specs.Formats.{FormatsContentRange, FormatsDate, FormatsTag};
 ghost use Rattle.c_parts.specs.Endings.{Writes, done};
 
-use c_fields::{ContentRangeParts, format_content_range, format_date, format_tag};
-use c_parts::{DONE, copy_into};
+use c_parts::{ContentRangeParts, DONE, copy_into, format_content_range, format_date, format_tag};
 use std::alloc::Global;
 
 /// Formats a time in seconds since 1970 as IMF-fixdate (RFC 9110, section 5.6.7).

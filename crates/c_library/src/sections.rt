@@ -5,7 +5,7 @@ ghost use Rattle.decide_negotiation.{specs.Choice.Chooses, specs.Codings.encodin
 ghost use Rattle.decide_negotiation.{specs.Languages.language_says, specs.MediaRanges.media_type_says};
 ghost use Rattle.decide_negotiation.specs.Qualities.{quality_by, quality_in};
 ghost use Rattle.c_parts.specs.Endings.{Gives, Writes, done};
-ghost use Rattle.c_fields.specs.Written.{lines_text};
+ghost use Rattle.c_parts.specs.Written.{lines_text};
 ghost use Rattle.c_decisions.specs.Selection.{WritesSelection};
 ghost use Rattle.c_handles.{specs.Handles.{OnHeld, Opens, section_in}, specs.Sections.{EvaluatesOf, FindsOf}};
 ghost use Rattle.c_handles.specs.Sections.{IsSectionHeld, IsWrittenOf, RespondsOf, SelectsOf, lines_under};
@@ -15,9 +15,8 @@ use crate::giving::give;
 use crate::response::worse;
 use crate::store::ended;
 use c_decisions::{BytesRange, ContentParts, MethodAndTarget, ResponseFacts, Target};
-use c_fields::lines_text;
 use c_handles::{Handle, choose, close, evaluate, open_section, respond, select, written_field};
-use c_parts::{DONE, Failure, HashKeys, copy_into};
+use c_parts::{DONE, Failure, HashKeys, copy_into, lines_text};
 use decide_negotiation::{Accept, AcceptEncoding, AcceptLanguage};
 use std::alloc::Global;
 

@@ -11,8 +11,7 @@ ghost use Rattle.c_typed.{specs.Members.{ShowsMembership, reads_list}, specs.Pol
 ghost use Rattle.c_typed.specs.{Directives.{ShowsArguments, ShowsStale}, Shown.{FieldShows, FieldShowsIf, LinesShow}};
 
 use crate::giving::give;
-use c_fields::ContentRangeParts;
-use c_parts::{DONE, copy_into};
+use c_parts::{ContentRangeParts, DONE, copy_into};
 use c_typed::{
     OriginParts, PortNumber, RetryTime, StaleDirectives, TransportSecurity, arguments_text,
     cookies_text, find_cookie, has_member, members_text, read_content_range, read_disposition,

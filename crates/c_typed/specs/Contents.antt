@@ -4,7 +4,7 @@ use Rattle.http_header.specs.FieldValue.{FieldValue}
 use Rattle.headers.{specs.ContentBytes.ContentBytes, specs.Disposition.disposition_of, specs.HeaderLaws.ReadsBy}
 use Rattle.headers.{specs.Lines.Line, specs.Shapes.first_kept}
 use Rattle.c_decisions.specs.Flags.{flag_of}
-use Rattle.c_fields.specs.declared.formats.ContentRangeParts.{ContentRangeParts}
+use Rattle.c_parts.specs.declared.formats.ContentRangeParts.{ContentRangeParts}
 
 -- the numbers of the range and the length; those that aren't there are 0
 abbrev pub parts_of : ContentBytes → ContentRangeParts

@@ -3,7 +3,7 @@ use Rattle.std.{specs.Prelude.{◌≡◌, ℕ, List, ◌++◌, length}, specs.Gl
 use Rattle.http_header.specs.FieldValue.{FieldValue}
 use Rattle.headers.{specs.Basic.{UserPass, password_of, user_of}, specs.Bearer.bearer_token, specs.Lines.Line}
 use Rattle.headers.specs.declared.authorization.Authorization.{Authorization}
-use Rattle.c_fields.specs.Written.{reads_basic, reads_bearer}
+use Rattle.c_parts.specs.Written.{reads_basic, reads_bearer}
 use Rattle.c_typed.specs.declared.credentials.UserPassword.{UserPassword}
 
 -- the first line has Basic credentials

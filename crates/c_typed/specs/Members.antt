@@ -5,7 +5,7 @@ use Rattle.headers.{specs.HeaderLaws.ReadsBy, specs.ItemsState.is_entry, specs.L
 use Rattle.headers.specs.Places.{comma, items}
 use Rattle.headers_syntax.specs.AsciiCase.{same_name}
 use Rattle.c_decisions.specs.Flags.{flag_of}
-use Rattle.c_fields.specs.Written.{lines_text}
+use Rattle.c_parts.specs.Written.{lines_text}
 
 -- all lines, joined by a comma and a space
 abbrev pub reads_list : List Line → List ℕ → Type 0

@@ -5,8 +5,7 @@ ghost use Rattle.c_typed.specs.Contents.{ShowsContentRange, ShowsDisposition, pa
 ghost use Rattle.c_typed.specs.Shown.{FieldShows};
 
 use c_decisions::flag_of;
-use c_fields::ContentRangeParts;
-use c_parts::{Failure, read_field};
+use c_parts::{ContentRangeParts, Failure, read_field};
 use headers::{ContentDisposition, ContentRange};
 use std::alloc::Global;
 

@@ -2,7 +2,7 @@ use Rattle.std.proofs.Common.{◌≡◌, ◌∙◌, true, Vec, Global, List, Opt
 use Rattle.http_header.specs.FieldValue.{FieldValue}
 use Rattle.headers.specs.Lines.{Line, lines_of}
 use Rattle.headers_section.specs.CanonicalText.{Block}
-use Rattle.c_fields.{specs.Written.{IsWrittenBlock, has_credentials}, proofs.WrittenLemmas.IfOk-written}
+use Rattle.c_parts.{specs.Written.{IsWrittenBlock, has_credentials}, proofs.WrittenLemmas.IfOk-written}
 use Rattle.c_handles.proofs.field.block_at.Goals as goal
 
 pub returns-then-has_credentials : goal.returns-then-has_credentials

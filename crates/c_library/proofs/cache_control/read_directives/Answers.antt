@@ -2,7 +2,7 @@ use Rattle.std.{proofs.Common.{◌≡◌, ◌∙◌, ◌<◌, List, Some, ap, ar
 use Rattle.headers.{specs.CacheControl.{directives_of, is_set}, specs.Lines.{Line, lines_of}}
 use Rattle.headers_items.specs.Entries.{entries}
 use Rattle.c_parts.specs.FieldText.{field_lines}
-use Rattle.c_fields.proofs.WrittenLemmas.{has_values}
+use Rattle.c_parts.proofs.WrittenLemmas.{has_values}
 use Rattle.c_library.proofs.DirectiveLemmas.{proxy_of}
 use Rattle.c_library.proofs.cache_control.read_directives.Goals as goal
 

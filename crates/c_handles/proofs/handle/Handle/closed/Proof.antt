@@ -17,7 +17,7 @@ use denote.Steps.{nothing}
 use denote.Triple.Entry.{alive}
 use denote.Triple.Walked.{Stays, walk_of}
 use Rattle.std.proofs.raw_atomic.Walks.{proved_at, leaves}
-use Rattle.c_boxes.proofs.HandleValues.{flagged_val, flagged_own, flagged_made, flagged_typed}
+use Rattle.c_parts.proofs.HandleValues.{flagged_val, flagged_own, flagged_made, flagged_typed}
 use Rattle.c_handles.specs.contracts.handle.Handle as handle
 use Rattle.c_handles.specs.contracts.handle.Handle.closed.{ended, clauses}
 use Rattle.c_handles.specs.contracts.handle.Handle.closed.Key.{name as #self}

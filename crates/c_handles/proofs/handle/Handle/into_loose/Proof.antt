@@ -21,10 +21,10 @@ use Rattle.core.proofs.alloc.Calls.{Goes-blank}
 use Rattle.std.{proofs.raw_atomic.Walks.{proved_at, leaves}, specs.Prelude.is_some}
 use Rattle.std_alloc.proofs.Pairs.{pair_of, pair_val, pair_Typed}
 use denote.Struct.Tuple.{Tuple}
-use Rattle.c_boxes.proofs.HandleValues.{flagged_val, flagged_told, flagged_typed, lone_val, lone_own}
-use Rattle.c_boxes.proofs.HandleValues.{lone_made, lone_typed, ptr_typed}
+use Rattle.c_parts.proofs.HandleValues.{flagged_val, flagged_told, flagged_typed, lone_val, lone_own}
+use Rattle.c_parts.proofs.HandleValues.{lone_made, lone_typed, ptr_typed}
 use Rattle.c_handles.specs.contracts.handle.Handle as handle
-use Rattle.c_boxes.specs.contracts.loose.Loose as loose
+use Rattle.c_parts.specs.contracts.loose.Loose as loose
 use Rattle.c_handles.specs.contracts.held.Held as Stored
 use Rattle.c_handles.specs.contracts.handle.Handle.into_loose.{ended, clauses}
 use Rattle.c_handles.specs.contracts.handle.Handle.into_loose.Key.{name as #self}

@@ -23,10 +23,10 @@ use Rattle.std_heap.specs.contracts.Global as Heap
 use Rattle.std_heap.specs.contracts.GlobalAllocator.TheImpl.{ghosts}
 use Rattle.std_heap.proofs.Global.TheLaws as heap
 use Rattle.c_handles.specs.contracts.held.Held as Stored
-use Rattle.c_boxes.specs.contracts.raw_box.RawBox as raw_box
+use Rattle.c_parts.specs.contracts.raw_box.RawBox as raw_box
 use Rattle.c_handles.specs.contracts.handle.Handle as handle
-use Rattle.c_boxes.proofs.HandleValues.{both, loose_good, loose_out, flagged_val, flagged_own, flagged_made}
-use Rattle.c_boxes.proofs.HandleValues.{flagged_typed}
+use Rattle.c_parts.proofs.HandleValues.{both, loose_good, loose_out, flagged_val, flagged_own, flagged_made}
+use Rattle.c_parts.proofs.HandleValues.{flagged_typed}
 use Rattle.c_handles.specs.contracts.handle.Handle.of_raw_box.{ended, clauses}
 use Rattle.c_handles.specs.contracts.handle.Handle.of_raw_box.Key.{name as #self}
 use Rattle.c_handles.proofs.handle.Handle.of_raw_box.Statement.{statement}
