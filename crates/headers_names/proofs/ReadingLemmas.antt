@@ -7,11 +7,11 @@ use Rattle.std.proofs.lemmas.List.Sums.{list_all-from_AllPass, take_while-cons}
 use Rattle.http_header.{specs.Token.{IsToken, is_token_byte, lowercase}, specs.FieldName.{IsFieldName, IsHeaderName}}
 use Rattle.headers_names.specs.ListItem.{Reading, is_token, name_of, method_of, leading_values, names, ReadsAsItself}
 
-is_token-from : (item : List ℕ) → is_token item ≡ true → IsToken item
+pub is_token-from : (item : List ℕ) → is_token item ≡ true → IsToken item
 is_token-from item e =
     let parts = and_parts _ _ e in (ltb-true _ _ parts.0, AllPass-from_list_all is_token_byte item parts.1)
 
-is_token-of : (item : List ℕ) → IsToken item → is_token item ≡ true
+pub is_token-of : (item : List ℕ) → IsToken item → is_token item ≡ true
 is_token-of item t =
     let some = t.0 in
     and_from _ _ (grind (arith, nat_tests)) (list_all-from_AllPass is_token_byte item t.1)

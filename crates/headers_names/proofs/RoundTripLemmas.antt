@@ -23,18 +23,18 @@ unfolding is_token_byte
 no_comma b t e = let f : IsTrue (is_token_byte comma) = subst (λ (x : ℕ). IsTrue (is_token_byte x)) e t in
     absurd (cc f)
 
-token_front : (x : List ℕ) → IsToken x → prefix_len is_blank x ≡ 0
+pub token_front : (x : List ℕ) → IsToken x → prefix_len is_blank x ≡ 0
 token_front [] t = absurd (omega (arith, t.0))
 token_front (b ∷ bs) t = let no : is_blank b ≡ false = token_no_blank b (t.1 0 0 t.0) in rw no refl
 
-token_back : (x : List ℕ) → IsToken x → suffix_len is_blank x ≡ 0
+pub token_back : (x : List ℕ) → IsToken x → suffix_len is_blank x ≡ 0
 token_back x t =
     let some = t.0 in
     suffix_len_is is_blank x (length x) 0 (omega arith) (λ k a b. absurd (omega (arith, a, b)))
     (λ h. token_no_blank _ (t.1 (length x - 1) 0 (omega arith)))
     ∙ (let z : length x - length x ≡ 0 = omega arith in z)
 
-token_trim : (x : List ℕ) → IsToken x → trim x ≡ x
+pub token_trim : (x : List ℕ) → IsToken x → trim x ≡ x
 token_trim x t =
     let whole : length x - 0 ≡ length x = omega arith in
     rw (token_front x t) (rw (token_back x t) (rw whole (take-length x)))
@@ -124,7 +124,7 @@ module _ (value_of : Reading) where
       own (x ∷ xs) h = (reads x (h 0 x (omega arith)), own xs (All-tail P x xs h))
 
 -- a vector's iterator gives its elements
-drained : {X Z : Type 0} (s : IntoIter X Z) (xs given : List X) → into_iter_items s ≡ xs
+pub drained : {X Z : Type 0} (s : IntoIter X Z) (xs given : List X) → into_iter_items s ≡ xs
     → into_iter_len s ≡ length xs → Drains into_iter_steps s given → given ≡ xs
 drained s xs given e l d =
     sym (map-id given) ∙ items_from_drains given (d.1.0, d.1.1, λ _. (d.0, d.1.2)) (YieldsList-from_vec xs e l)
