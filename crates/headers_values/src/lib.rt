@@ -1,5 +1,5 @@
-//! Headers that are one value: of content and its context (RFC 9110, sections 6.6.1, 8.6, 8.7, 10.1 and 10.2; RFC 6266),
-//! and of a cookie that is set (RFC 6265). The others are exported.
+//! Headers that are one value: of content and its context (RFC 9110, sections 6.6.1, 8.6, 8.7, 10.1 and 10.2; RFC
+//! 6266), and of a cookie that is set (RFC 6265). The others are exported.
 #![tactic(auto)]
 
 mod content_disposition;

@@ -7,7 +7,8 @@ use Rattle.httpdate.{specs.Reader.{read_tag, read_name, read_padded_day}, specs.
 use Rattle.httpdate.{specs.Text.two_digits, proofs.OptionLemmas.{cond_some, and_then_some}}
 use Rattle.httpdate.proofs.ReaderLemmas.{after_tag_sound, read_name_sound, read_name-day_name, read_tag_complete}
 use Rattle.httpdate.proofs.ReaderLemmas.{read_padded_day_digits, read_padded_day_space}
-use Rattle.rfc_values.{specs.declared.date_time.DateTime.DateTime, specs.Calendar.{seconds, in_year, IsDateTime, IsNear}}
+use Rattle.rfc_values.specs.declared.date_time.DateTime.{DateTime}
+use Rattle.rfc_values.specs.Calendar.{seconds, in_year, IsDateTime, IsNear}
 use Rattle.rfc_values.{specs.Date.{ShowsDate, ShowsNamed, Denotes, timestamp}, specs.Reader.is_date_time}
 use Rattle.rfc_values.specs.Reader.{in_near_century, read_imf_fixdate, read_rfc850_date, read_asctime_date, read_form}
 use Rattle.rfc_values.{specs.Reader.date_time, proofs.CalendarLemmas.short_month, proofs.FormatLemmas.imf_rest}
