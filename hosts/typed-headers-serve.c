@@ -244,14 +244,29 @@ static void log_front(const struct peer *peer) {
         log_text("%s - - [%s] \"", client, text);
 }
 
-static void log_end(size_t start, uint16_t status, uint64_t length, bool has_length) {
+/* The first line of a field of the request that waits, or a dash if no request waits or it has no such field. */
+static void log_field(struct peer *peer, const char *name) {
+    size_t length;
+    if (typed_headers_connection_field(&peer->connection, (const uint8_t *)name, strlen(name), worker.buffer, BUFFER,
+                                       &length) == TYPED_HEADERS_DONE)
+        log_escaped(worker.buffer, length);
+    else
+        log_text("-");
+}
+
+static void log_end(struct peer *peer, size_t start, uint16_t status, uint64_t length, bool has_length) {
+    bool is_json = options.log == JSON_LOG;
     char text[24] = "-";
     if (has_length)
         snprintf(text, sizeof text, "%llu", (unsigned long long)length);
-    if (options.log == JSON_LOG)
-        log_text(",\"status\":%u,\"bytes\":%s}\n", (unsigned)status, has_length ? text : "0");
+    if (is_json)
+        log_text(",\"status\":%u,\"bytes\":%s,\"referer\":\"", (unsigned)status, has_length ? text : "0");
     else
-        log_text("\" %u %s \"-\" \"-\"\n", (unsigned)status, text);
+        log_text("\" %u %s \"", (unsigned)status, text);
+    log_field(peer, "referer");
+    log_text(is_json ? "\",\"user_agent\":\"" : "\" \"");
+    log_field(peer, "user-agent");
+    log_text(is_json ? "\"}\n" : "\"\n");
     if (worker.log_length > PIPE_BUF && start > 0)
         write_log(start);
 }
@@ -281,7 +296,7 @@ static void log_request(struct peer *peer) {
     log_text(is_json ? "\"" : " HTTP/1.1");
     if (typed_headers_connection_planned(&peer->connection, &status, &planned) != TYPED_HEADERS_DONE)
         complain("a plan is missing");
-    log_end(start, status, planned, planned > 0 && !is_head);
+    log_end(peer, start, status, planned, planned > 0 && !is_head);
 }
 
 /* Logs what was rejected, and so is no request of which more is known. */
@@ -291,7 +306,7 @@ static void log_rejection(struct peer *peer, uint16_t status) {
         return;
     log_front(peer);
     log_text("%s", options.log == JSON_LOG ? "" : "-");
-    log_end(start, status, 0, false);
+    log_end(peer, start, status, 0, false);
 }
 
 /* ---- How many connections an address has, of all workers ---- */

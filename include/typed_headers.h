@@ -1580,6 +1580,13 @@ uint8_t typed_headers_connection_content(struct typed_headers_connection *connec
                                          size_t room_length, size_t *written);
 
 /*
+ * The first line of the field of this name, in any case, of the request that waits. Absent also: it has no such field.
+ * Refused: the name is no field name, or no request waits. Memory: the name isn't one of the standards'.
+ */
+uint8_t typed_headers_connection_field(struct typed_headers_connection *connection, const uint8_t *name,
+                                       size_t name_length, uint8_t *room, size_t room_length, size_t *written);
+
+/*
  * Begins the plan of the response to the request that waits: with this status, and without fields and content. Refused:
  * the status is no number from 100 to 999.
  */

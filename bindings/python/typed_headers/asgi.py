@@ -266,7 +266,7 @@ class Cached:
         turn = Turn(self.rules, scope["method"], target, request)
         step: Optional[Step] = turn.start()
         if isinstance(step, Wait):
-            step = await _waited(turn)
+            step = await waited(turn)
         given = _Given(receive, scope["method"])
         while isinstance(step, Ask):
             if not given.rewind():
@@ -304,7 +304,7 @@ class Cached:
         return passing.step
 
 
-async def _waited(turn: Turn) -> Step:
+async def waited(turn: Turn) -> Step:
     """What is done once the request for which this one waits has ended."""
     loop, woken = asyncio.get_running_loop(), asyncio.Event()
 

@@ -1,6 +1,8 @@
 -- What the calls on a handle do to its connection.
 use Rattle.std.specs.Prelude.{◌≡◌, ◌≢◌, ◌⊎◌, ℕ, ◌<◌, List, [], ◌∷◌, ◌++◌, length, Option, Some, None, ⊤, codes, true}
 use Rattle.std.specs.Prelude.{Result, Ok, Err, take, min}
+use Rattle.std.specs.Option.{option_map}
+use Rattle.http_header.{specs.FieldValue.FieldValue, specs.HeaderMap.get}
 use Rattle.http.{specs.declared.request.Request.Request, specs.declared.request.Parts.Parts, specs.Request.body_of}
 use Rattle.http.specs.Request.{head_of}
 use Rattle.http_uri.specs.Uri.{uri_path, uri_query}
@@ -10,13 +12,13 @@ use Rattle.server_connection.specs.declared.connection.Event.{Event}
 use Rattle.server_connection.specs.declared.connection.Event.TheVariants as event
 use Rattle.server_connection.{specs.declared.machine.Phase.TheVariants.{Receiving, Asking}, specs.Connection.HasRested}
 use Rattle.server_connection.{specs.Connection.{IsReached, IsSaid}, specs.Machine.{IsNextRange, Moves, Offers}}
-use Rattle.c_parts.{specs.Endings.{Writes, done}, specs.declared.status.Failure.Failure}
+use Rattle.c_parts.{specs.Endings.{Writes, done}, specs.FieldText.IsNameOf, specs.declared.status.Failure.Failure}
 use Rattle.c_parts.specs.declared.status.Failure.TheVariants.{Refused, Memory, Absent}
 use Rattle.c_handles.{specs.Handles.{OnHeld, connection_in}, specs.declared.held.Held.Held}
 use Rattle.c_handles.specs.declared.held.Held.TheVariants as held
 use Rattle.c_handles.specs.declared.held.HeldConnection.{HeldConnection}
 use Rattle.c_connection.{specs.declared.host.Host.Host, specs.declared.reading.Text.Text}
-use Rattle.c_connection.specs.declared.reading.Text.TheVariants.{Method, Path, Query, Content, Output, TimeOut}
+use Rattle.c_connection.specs.declared.reading.Text.TheVariants.{Method, Path, Query, Field, Content, Output, TimeOut}
 
 -- the plan is the next that the host gives, for that request
 abbrev pub host_plans : Host → Request (List ℕ) → Plan → Host → Type 0
@@ -134,6 +136,19 @@ abbrev pub is_found : {V : Type 0} → Option V → Result V Failure
 is_found None = Err Absent
 is_found (Some value) = Ok value
 
+-- the first line of the field of this name, if the request has the field
+abbrev pub field_asked : HeldConnection → List ℕ → Option (List ℕ)
+field_asked held name = option_map (λ (value : FieldValue). value.bytes) (get (head_asked held).headers name)
+
+-- that line, or why the name is none
+abbrev pub OnName : Result (List ℕ) Failure → HeldConnection → Result (List ℕ) Failure → Type 0
+OnName (Ok name) held answer = OnAsked (is_found (field_asked held name)) held answer
+OnName (Err failure) held answer = answer ≡ Err failure
+
+-- that line, of the field of this name in any case
+abbrev pub IsField : List ℕ → HeldConnection → Result (List ℕ) Failure → Type 0
+IsField name held answer = (read : Result (List ℕ) Failure) × IsNameOf name read × OnName read held answer
+
 -- the first bytes that wait to be written, as many as there is room for
 abbrev pub front_of : List ℕ → ℕ → List ℕ
 front_of bytes most = take (min (length bytes) most) bytes
@@ -143,6 +158,7 @@ abbrev pub IsText : Text → HeldConnection → Result (List ℕ) Failure → Ty
 IsText Method held answer = OnAsked (Ok (head_asked held).method) held answer
 IsText Path held answer = OnAsked (Ok (uri_path (head_asked held).uri)) held answer
 IsText Query held answer = OnAsked (is_found (uri_query (head_asked held).uri)) held answer
+IsText (Field name) held answer = IsField name.now held answer
 IsText Content held answer = OnAsked (Ok (body_of held.connection.machine.request)) held answer
 IsText (Output most) held answer = answer ≡ Ok (front_of held.connection.machine.output.items most)
 IsText TimeOut held answer = IsTimedOut held answer

@@ -2,24 +2,26 @@
 ghost use Rattle.std.specs.Prelude.{◌≡◌, ◌↔◌, IfErr, IfOk, IsTrue, Ok, Err, Some, option_map};
 ghost use Rattle.c_handles.specs.Handles.{OnHeld, connection_in};
 ghost use Rattle.c_parts.specs.Endings.{Writes, done};
-ghost use Rattle.c_connection.specs.Calls.{IsLate, IsRangeNext, IsRejection, IsText, OnAsked, Shows, front_of};
-ghost use Rattle.c_connection.specs.Calls.{is_found, planned};
+ghost use Rattle.c_connection.specs.Calls.{IsField, IsLate, IsRangeNext, IsRejection, IsText, OnAsked, Shows};
+ghost use Rattle.c_connection.specs.Calls.{front_of, is_found, planned};
 
 use crate::calling::ask;
 use c_handles::{Handle, Held, HeldConnection};
-use c_parts::{DONE, Failure, copy_into};
+use c_parts::{DONE, Failure, copy_into, read_name};
 use server_connection::Extent;
 use std::alloc::Global;
 
 /// Bytes that a connection has.
 #[derive(Clone, Copy)]
-pub enum Text {
+pub enum Text<'n> {
     /// The method of the request that waits.
     Method,
     /// The path of its target.
     Path,
     /// The query of its target.
     Query,
+    /// The first line of its field of this name, in any case.
+    Field(&'n [u8]),
     /// Its content.
     Content,
     /// The first bytes that wait to be written, at most so many.
@@ -62,7 +64,18 @@ fn is_late(held: &HeldConnection) -> bool
     connection.is_receiving() && held.has_begun && connection.output().is_empty()
 }
 
-fn text_of(held: &HeldConnection, text: Text) -> Result<&[u8], Failure>
+fn field_of<'h>(alloc: Global, held: &'h HeldConnection, name: &[u8]) -> Result<&'h [u8], Failure>
+    ensures given { IfOk result (λ bytes. IsField name.now held.now (Ok bytes.now)) }
+    ensures failed { IfErr result (λ failure. IsField name.now held.now (Err failure)) }
+{
+    let name = read_name(alloc, name)?;
+    match held.connection.request().headers().get(&name) {
+        Some(value) => asked(held, Some(value.as_bytes())),
+        None => asked(held, None),
+    }
+}
+
+fn text_of<'h>(alloc: Global, held: &'h HeldConnection, text: Text<'_>) -> Result<&'h [u8], Failure>
     ensures given { IfOk result (λ bytes. IsText text held.now (Ok bytes.now)) }
     ensures failed { IfErr result (λ failure. IsText text held.now (Err failure)) }
 {
@@ -74,6 +87,7 @@ fn text_of(held: &HeldConnection, text: Text) -> Result<&[u8], Failure>
             Some(query) => asked(held, Some(query.as_bytes())),
             None => asked(held, None),
         },
+        Text::Field(name) => field_of(alloc, held, name),
         Text::Content => asked(held, Some(request.body().as_slice())),
         Text::Output(most) => Ok(front_of(held.connection.output(), most)),
         Text::TimeOut => {
@@ -86,14 +100,14 @@ fn text_of(held: &HeldConnection, text: Text) -> Result<&[u8], Failure>
     }
 }
 
-fn write_in(held: &Held, text: Text, room: &mut [u8], written: &mut usize) -> u8
+fn write_in(alloc: Global, held: &Held, text: Text<'_>, room: &mut [u8], written: &mut usize) -> u8
     ensures { Writes (λ bytes. bytes) (λ _. done) (OnHeld (IsText text) (connection_in (Some held.now)))
         room.old room.new written.old written.new result }
 {
     let Held::Connection(held) = held else {
         return Failure::Absent.status();
     };
-    match text_of(held, text) {
+    match text_of(alloc, held, text) {
         Ok(bytes) => copy_into(bytes, DONE, room, written),
         Err(failure) => failure.status(),
     }
@@ -103,7 +117,7 @@ fn write_in(held: &Held, text: Text, room: &mut [u8], written: &mut usize) -> u8
 pub fn write_text(
     alloc: Global,
     handle: &mut Handle,
-    text: Text,
+    text: Text<'_>,
     room: &mut [u8],
     written: &mut usize,
 ) -> u8
@@ -112,7 +126,7 @@ pub fn write_text(
     let Some(held) = handle.take(alloc) else {
         return Failure::Absent.status();
     };
-    let status = write_in(&held, text, room, written);
+    let status = write_in(alloc, &held, text, room, written);
     handle.put(held);
     status
 }

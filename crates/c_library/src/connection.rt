@@ -6,7 +6,8 @@ ghost use Rattle.c_handles.specs.Handles.{OnHeld, Opens, connection_in};
 ghost use Rattle.c_connection.specs.Calls.{Finishes, HandsOut, IsConnectionHeld, IsRangeNext, IsRejection, OnConnection};
 ghost use Rattle.c_connection.{specs.Calls.{Receives, Responds, Shows, Wants, planned}, specs.Plans.AddsField};
 ghost use Rattle.c_connection.specs.Plans.{AddsPiece, Begins};
-ghost use Rattle.c_connection.specs.declared.reading.Text.TheVariants.{Content, Method, Output, Path, Query, TimeOut};
+ghost use Rattle.c_connection.specs.declared.reading.Text.TheVariants.{Content, Field, Method, Output, Path, Query};
+ghost use Rattle.c_connection.specs.declared.reading.Text.TheVariants.{TimeOut};
 ghost use Rattle.c_library.{specs.CacheStore.Ends, specs.Connections.TellsBoth};
 
 use crate::giving::give;
@@ -116,6 +117,21 @@ pub extern "C" fn typed_headers_connection_query(
         room.old room.new written.old written.new result }
 {
     write_text(alloc, connection, Text::Query, room, written)
+}
+
+/// Writes the first line of its field of this name.
+#[unsafe(no_mangle)]
+pub extern "C" fn typed_headers_connection_field(
+    alloc: Global,
+    connection: &mut Handle,
+    name: &[u8],
+    room: &mut [u8],
+    written: &mut usize,
+) -> u8
+    ensures { Shows (Field name) connection.old.held connection.new.held
+        room.old room.new written.old written.new result }
+{
+    write_text(alloc, connection, Text::Field(name), room, written)
 }
 
 /// Writes its content.

@@ -1010,6 +1010,14 @@ extern "C" {
         room_length: usize,
         written: *mut usize,
     ) -> u8;
+    pub fn typed_headers_connection_field(
+        connection: *mut Connection,
+        name: *const u8,
+        name_length: usize,
+        room: *mut u8,
+        room_length: usize,
+        written: *mut usize,
+    ) -> u8;
     pub fn typed_headers_connection_plan(connection: *mut Connection, status: u16) -> u8;
     pub fn typed_headers_connection_plan_field(
         connection: *mut Connection,
