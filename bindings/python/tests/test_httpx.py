@@ -69,7 +69,7 @@ class Origin(httpx.BaseTransport, httpx.AsyncBaseTransport):
 
 
 class Transports(unittest.TestCase):
-    """Each test is made by both transports: `get` asks by the one whose turn it is."""
+    is_async = False
 
     def setUp(self) -> None:
         self.loop = asyncio.new_event_loop()
@@ -88,84 +88,73 @@ class Transports(unittest.TestCase):
         found = self.client.request(method, URL + path, **named)
         return self.loop.run_until_complete(found) if self.is_async else found
 
-    def twice(self) -> Iterator[None]:
-        for self.is_async in (False, True):
-            with self.subTest(is_async=self.is_async):
-                yield
-
     def test_a_hit(self) -> None:
-        for _ in self.twice():
-            self.begin(stored())
-            first, self.now = self.get("/a#x"), NOW + 10
-            second = self.get("/a#y")
-            self.assertEqual([it.extensions["from_cache"] for it in (first, second)], [False, True])
-            self.assertEqual([(it.status_code, it.content) for it in (first, second)], [(200, b"hello")] * 2)
-            self.assertEqual((second.headers["Age"], len(self.origin.asked)), ("10", 1))
-            self.assertEqual(self.get(headers={"Range": "bytes=1-2"}).content, b"el")
-            self.assertEqual(self.get(headers={"If-None-Match": '"1"'}).status_code, 304)
-            self.assertEqual(self.get(method="HEAD").headers["Content-Length"], "5")
-            self.assertTrue(all(it.is_closed for it in self.origin.given))
+        self.begin(stored(Content_Length="5"))
+        first, self.now = self.get("/a#x"), NOW + 10
+        second = self.get("/a#y")
+        self.assertEqual([it.extensions["from_cache"] for it in (first, second)], [False, True])
+        self.assertEqual([(it.status_code, it.content) for it in (first, second)], [(200, b"hello")] * 2)
+        self.assertEqual((second.headers["Age"], len(self.origin.asked)), ("10", 1))
+        self.assertEqual(self.get(headers={"Range": "bytes=1-2"}).content, b"el")
+        self.assertEqual(self.get(headers={"If-None-Match": '"1"'}).status_code, 304)
+        self.assertEqual(self.get(method="HEAD").headers["Content-Length"], "5")
+        self.assertTrue(all(it.is_closed for it in self.origin.given))
 
     def test_validation(self) -> None:
-        for _ in self.twice():
-            renewed = 304, {"ETag": '"1"', "Cache-Control": "max-age=60"}, b""
-            self.begin(stored(), renewed, stored(b"new", ETag='"2"'))
-            self.get()
-            self.now += 100
-            found = self.get()
-            self.assertEqual((found.status_code, found.content), (200, b"hello"))
-            self.assertEqual(self.origin.asked[1].headers["if-none-match"], '"1"')
-            self.now += 100
-            self.assertEqual(self.get().content, b"new")
-            self.assertEqual((self.get().content, len(self.origin.asked)), (b"new", 3))
+        renewed = 304, {"ETag": '"1"', "Cache-Control": "max-age=60"}, b""
+        self.begin(stored(), renewed, stored(b"new", ETag='"2"'))
+        self.get()
+        self.now += 100
+        found = self.get()
+        self.assertEqual((found.status_code, found.content), (200, b"hello"))
+        self.assertEqual(self.origin.asked[1].headers["if-none-match"], '"1"')
+        self.now += 100
+        self.assertEqual(self.get().content, b"new")
+        self.assertEqual((self.get().content, len(self.origin.asked)), (b"new", 3))
 
     def test_variants_and_methods(self) -> None:
-        for _ in self.twice():
-            varied = [stored(it, Vary="Accept-Language") for it in (b"en", b"de")]
-            self.begin(*varied, (204, {}, b""), stored(b"x"))
-            for language in ("en", "de", "en", "de"):
-                self.assertEqual(self.get(headers={"Accept-Language": language}).text, language)
-            self.assertEqual(len(self.origin.asked), 2)
-            self.assertEqual(self.get(method="PUT", content=b"new").status_code, 204)
-            self.assertEqual(self.get(headers={"Accept-Language": "en"}).text, "x")
+        varied = [stored(it, Vary="Accept-Language") for it in (b"en", b"de")]
+        self.begin(*varied, (204, {}, b""), stored(b"x"))
+        for language in ("en", "de", "en", "de"):
+            self.assertEqual(self.get(headers={"Accept-Language": language}).text, language)
+        self.assertEqual(len(self.origin.asked), 2)
+        self.assertEqual(self.get(method="PUT", content=b"new").status_code, 204)
+        self.assertEqual(self.get(headers={"Accept-Language": "en"}).text, "x")
 
     def test_errors(self) -> None:
-        for _ in self.twice():
-            failed = httpx.ConnectError("no server")
-            self.begin(stored(Cache_Control="max-age=1, stale-if-error=60"), failed, (503, {}, b""), failed)
+        failed = httpx.ConnectError("no server")
+        self.begin(stored(Cache_Control="max-age=1, stale-if-error=60"), failed, (503, {}, b""), failed)
+        self.get()
+        self.now += 10
+        self.assertEqual([self.get().content, self.get().content], [b"hello", b"hello"])
+        self.now += 100
+        with self.assertRaises(httpx.ConnectError):
             self.get()
-            self.now += 10
-            self.assertEqual([self.get().content, self.get().content], [b"hello", b"hello"])
-            self.now += 100
-            with self.assertRaises(httpx.ConnectError):
-                self.get()
-            self.assertEqual(self.get(headers={"Cache-Control": "only-if-cached"}).status_code, 504)
+        self.assertEqual(self.get(headers={"Cache-Control": "only-if-cached"}).status_code, 504)
 
     def test_validation_after_the_response(self) -> None:
-        for _ in self.twice():
-            self.begin(stored(Cache_Control="max-age=1, stale-while-revalidate=60"), stored(b"new"))
-            self.get()
-            self.now += 10
-            self.assertEqual(self.get().content, b"hello")
-            for _ in range(500):
-                if self.get().content == b"new":
-                    break
-                time.sleep(0.01)
-            self.assertEqual(len(self.origin.asked), 2)
+        self.begin(stored(Cache_Control="max-age=1, stale-while-revalidate=60"), stored(b"new"))
+        self.get()
+        self.now += 10
+        self.assertEqual(self.get().content, b"hello")
+        for _ in range(500):
+            if self.get().content == b"new":
+                break
+            time.sleep(0.01)
+        self.assertEqual(len(self.origin.asked), 2)
 
     def test_content_that_is_not_read_whole(self) -> None:
-        for _ in self.twice():
-            self.begin(stored(), stored(bytes(200_000)), stored(), ValueError("a fault"), stored(b"after"))
-            if self.is_async:
-                self.loop.run_until_complete(self.look())
-            else:
-                with self.client.stream("GET", URL + "/a") as response:
-                    self.assertEqual(next(response.iter_raw()), b"he")
-            self.assertEqual(len(self.get().content), 200_000)
-            self.assertEqual(self.get().content, b"hello")
-            with self.assertRaises(ValueError):
-                self.get("/b")
-            self.assertEqual(self.get("/b").content, b"after")
+        self.begin(stored(), stored(bytes(200_000)), stored(), ValueError("a fault"), stored(b"after"))
+        if self.is_async:
+            self.loop.run_until_complete(self.look())
+        else:
+            with self.client.stream("GET", URL + "/a") as response:
+                self.assertEqual(next(response.iter_raw()), b"he")
+        self.assertEqual(len(self.get().content), 200_000)
+        self.assertEqual(self.get().content, b"hello")
+        with self.assertRaises(ValueError):
+            self.get("/b")
+        self.assertEqual(self.get("/b").content, b"after")
 
     async def look(self) -> None:
         async with self.client.stream("GET", URL + "/a") as response:
@@ -174,16 +163,19 @@ class Transports(unittest.TestCase):
                 break
 
     def test_a_wrong_field(self) -> None:
-        for _ in self.twice():
-            self.begin(stored())
-            with self.assertRaises(httpx.LocalProtocolError):
-                self.get(headers={"A": "b\x00c"})
-            self.assertEqual(self.get().content, b"hello")
+        self.begin(stored())
+        with self.assertRaises(httpx.LocalProtocolError):
+            self.get(headers={"A": "b\x00c"})
+        self.assertEqual(self.get().content, b"hello")
 
     def test_private_alone(self) -> None:
         for transport in (CachedTransport, AsyncCachedTransport):
             with self.assertRaises(ValueError):
                 transport(cache=Cache(shared=True))
+
+
+class AsyncTransports(Transports):
+    is_async = True
 
 
 class Handler(BaseHTTPRequestHandler):

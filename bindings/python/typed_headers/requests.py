@@ -14,7 +14,10 @@ from urllib.parse import urldefrag
 
 import requests
 from requests.adapters import HTTPAdapter
-from urllib3 import HTTPHeaderDict, HTTPResponse
+from urllib3 import HTTPResponse
+
+# (version 1 has it nowhere else)
+from urllib3._collections import HTTPHeaderDict
 from urllib3.exceptions import HTTPError
 
 from ._cached import Rules, Step, Turn
