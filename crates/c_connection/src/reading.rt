@@ -2,12 +2,13 @@
 ghost use Rattle.std.specs.Prelude.{◌≡◌, ◌↔◌, IfErr, IfOk, IsTrue, Ok, Err, Some, option_map};
 ghost use Rattle.c_handles.specs.Handles.{OnHeld, connection_in};
 ghost use Rattle.c_parts.specs.Endings.{Writes, done};
-ghost use Rattle.c_connection.specs.Calls.{IsField, IsLate, IsRangeNext, IsRejection, IsText, OnAsked, Shows};
-ghost use Rattle.c_connection.specs.Calls.{front_of, is_found, planned};
+ghost use Rattle.c_connection.specs.Calls.{IsField, IsLate, IsRangeNext, IsRejection, IsText, OnAsked, OnName};
+ghost use Rattle.c_connection.specs.Calls.{Shows, front_of, is_found, planned};
 
 use crate::calling::ask;
 use c_handles::{Handle, Held, HeldConnection};
 use c_parts::{DONE, Failure, copy_into, read_name};
+use http_header::HeaderName;
 use server_connection::Extent;
 use std::alloc::Global;
 
@@ -64,20 +65,29 @@ fn is_late(held: &HeldConnection) -> bool
     connection.is_receiving() && held.has_begun && connection.output().is_empty()
 }
 
-fn field_of<'h>(alloc: Global, held: &'h HeldConnection, name: &[u8]) -> Result<&'h [u8], Failure>
-    ensures given { IfOk result (λ bytes. IsField name.now held.now (Ok bytes.now)) }
-    ensures failed { IfErr result (λ failure. IsField name.now held.now (Err failure)) }
+fn line_of<'h>(held: &'h HeldConnection, name: &HeaderName) -> Result<&'h [u8], Failure>
+    ensures given { IfOk result (λ bytes. OnName (Ok name.now) held.now (Ok bytes.now)) }
+    ensures failed { IfErr result (λ failure. OnName (Ok name.now) held.now (Err failure)) }
 {
-    let name = read_name(alloc, name)?;
-    match held.connection.request().headers().get(&name) {
+    match held.connection.request().headers().get(name) {
         Some(value) => asked(held, Some(value.as_bytes())),
         None => asked(held, None),
     }
 }
 
+fn field_of<'h>(alloc: Global, held: &'h HeldConnection, name: &[u8]) -> Result<&'h [u8], Failure>
+    ensures given { IfOk result (λ bytes. IsField name.now held.now (Ok bytes.now)) }
+    ensures failed { IfErr result (λ failure. IsField name.now held.now (Err failure)) }
+{
+    match read_name(alloc, name) {
+        Ok(name) => line_of(held, &name),
+        Err(failure) => Err(failure),
+    }
+}
+
 fn text_of<'h>(alloc: Global, held: &'h HeldConnection, text: Text<'_>) -> Result<&'h [u8], Failure>
-    ensures given { IfOk result (λ bytes. IsText text held.now (Ok bytes.now)) }
-    ensures failed { IfErr result (λ failure. IsText text held.now (Err failure)) }
+    ensures given { IfOk result (λ bytes. IsText text.entry held.now (Ok bytes.now)) }
+    ensures failed { IfErr result (λ failure. IsText text.entry held.now (Err failure)) }
 {
     let request = held.connection.request();
     match text {
@@ -101,7 +111,7 @@ fn text_of<'h>(alloc: Global, held: &'h HeldConnection, text: Text<'_>) -> Resul
 }
 
 fn write_in(alloc: Global, held: &Held, text: Text<'_>, room: &mut [u8], written: &mut usize) -> u8
-    ensures { Writes (λ bytes. bytes) (λ _. done) (OnHeld (IsText text) (connection_in (Some held.now)))
+    ensures { Writes (λ bytes. bytes) (λ _. done) (OnHeld (IsText text.entry) (connection_in (Some held.now)))
         room.old room.new written.old written.new result }
 {
     let Held::Connection(held) = held else {
@@ -121,7 +131,7 @@ pub fn write_text(
     room: &mut [u8],
     written: &mut usize,
 ) -> u8
-    ensures { Shows text handle.old.held handle.new.held room.old room.new written.old written.new result }
+    ensures { Shows text.entry handle.old.held handle.new.held room.old room.new written.old written.new result }
 {
     let Some(held) = handle.take(alloc) else {
         return Failure::Absent.status();
