@@ -1,12 +1,11 @@
 -- A comment by the grammar ends where the scan over its bytes ends, and what the scan passes is a comment.
-use Rattle.std.proofs.Common.{◌≡◌, ℕ, zero, suc, Bool, true, false, not, cond, List, [], ◌∷◌, ◌++◌, refl, sym, ◌∙◌, ap}
-use Rattle.std.proofs.Common.{subst, ◌+◌, ◌<◌, ◌≤◌, length, get_or, drop, Option, Some, None, add-one, arith}
-use Rattle.std.{proofs.lemmas.Bool.{and_parts, eqb-true}, proofs.lemmas.List.{append_assoc, drop_all}}
-use Rattle.std.{proofs.lemmas.Option.{none-some, same_Some}, proofs.Math.Seq.drop-cons, specs.Prelude.{◌&&◌, ◌==◌}}
-use Rattle.http_header.specs.Token.{is_value_byte}
-use Rattle.rfc_fields.specs.Comments.{Content, HasComment, CommentsParseOneWay, content_text, is_content, is_ctext}
-use Rattle.rfc_fields.{specs.Comments.Content.{Nothing, Text, Pair, Inner}, specs.CommentScan.{after, after_any}}
-use Rattle.rfc_fields.{specs.CommentScan.{after_plain, behind, closing, lead}, specs.declared.comments.Nesting.Nesting}
+use Rattle.std.proofs.lemmas.{Grind.common_steps, Bool.{and_parts, eqb-true}, List.{append_assoc, drop_all}}
+use Rattle.std.proofs.{lemmas.Option.{none-some, same_Some}, Common.{◌≡◌, ℕ, zero, suc, Bool, true, false, not, cond}}
+use Rattle.std.proofs.Common.{List, [], ◌∷◌, ◌++◌, refl, sym, ◌∙◌, ap, subst, ◌+◌, ◌<◌, ◌≤◌, length, get_or, drop}
+use Rattle.std.{proofs.{Common.{Option, Some, None, add-one, arith}, Math.Seq.drop-cons}, specs.Prelude.{◌&&◌, ◌==◌}}
+use Rattle.{http_header.specs.Token.is_value_byte, rfc_fields.specs.Comments.{Content, HasComment, CommentsParseOneWay}}
+use Rattle.rfc_fields.specs.Comments.{content_text, is_content, is_ctext, Content.{Nothing, Text, Pair, Inner}}
+use Rattle.rfc_fields.specs.{CommentScan.{after, after_any, behind, closing, lead}, declared.comments.Nesting.Nesting}
 use Rattle.rfc_fields.specs.declared.comments.Progress.TheVariants.{Within, Closed, Never}
 use Rattle.rfc_fields.proofs.GrammarLemmas.{not_true}
 
@@ -25,24 +24,19 @@ behind-within n m b s e = behind-cons n b s ∙ ap (λ p. lead p s (λ k. behind
 
 behind-drop : (n : Nesting) (i : ℕ) (s : List ℕ) → i < length s
     → behind n (drop i s) ≡ lead (after n (get_or s i 0)) (drop (i + 1) s) (λ m. behind m (drop (i + 1) s))
-behind-drop n i s h =
-    ap (behind n) (drop-cons s i 0 h) ∙ behind-cons n (get_or s i 0) (drop (suc i) s)
-    ∙ ap (λ k. lead (after n (get_or s i 0)) (drop k s) (λ m. behind m (drop k s))) (sym (add-one i))
+behind-drop n i s h = grind (arith, drop-cons, behind-cons, add-one, common_steps)
 
 pub within-next : (n m : Nesting) (i : ℕ) (s : List ℕ) (all : Option (List ℕ)) → i < length s
     → after n (get_or s i 0) ≡ Within m → all ≡ behind n (drop i s) → all ≡ behind m (drop (i + 1) s)
-within-next n m i s all h e a =
-    a ∙ behind-drop n i s h ∙ ap (λ p. lead p (drop (i + 1) s) (λ m. behind m (drop (i + 1) s))) e
+within-next n m i s all h e a = grind (arith, behind-drop)
 
 pub never-next : (n : Nesting) (i : ℕ) (s : List ℕ) (all : Option (List ℕ)) → i < length s
     → after n (get_or s i 0) ≡ Never → all ≡ behind n (drop i s) → all ≡ None
-never-next n i s all h e a =
-    a ∙ behind-drop n i s h ∙ ap (λ p. lead p (drop (i + 1) s) (λ m. behind m (drop (i + 1) s))) e
+never-next n i s all h e a = grind (arith, behind-drop)
 
 closed-next : (n : Nesting) (i : ℕ) (s : List ℕ) (all : Option (List ℕ)) → i < length s
     → after n (get_or s i 0) ≡ Closed → all ≡ behind n (drop i s) → all ≡ Some (drop (i + 1) s)
-closed-next n i s all h e a =
-    a ∙ behind-drop n i s h ∙ ap (λ p. lead p (drop (i + 1) s) (λ m. behind m (drop (i + 1) s))) e
+closed-next n i s all h e a = grind (arith, behind-drop)
 
 pub behind-end : (n : Nesting) (i : ℕ) (s : List ℕ) (all : Option (List ℕ)) → length s ≤ i
     → all ≡ behind n (drop i s) → all ≡ None
@@ -52,14 +46,7 @@ behind-end n i s all h a = a ∙ ap (behind n) (drop_all i s h)
 -- ---- the scan passes what the grammar has
 
 after-ctext : (d b : ℕ) → is_ctext b ≡ true → after (at d false) b ≡ Within (at d false)
-after-ctext d b h =
-    let x = and_parts (is_value_byte b && not (b == 40) && not (b == 41)) (not (b == 92)) h in
-    let y = and_parts (is_value_byte b && not (b == 40)) (not (b == 41)) x.0 in
-    let z = and_parts (is_value_byte b) (not (b == 40)) y.0 in
-    ap (λ v. cond v (after_plain d b) Never) z.0 ∙ ap (λ v. cond v (Within (at d true))
-    (cond (b == 40) (Within (at (suc d) false)) (cond (b == 41) (closing d) (Within (at d false))))) (not_true _ x.1) ∙
-    ap (λ v. cond v (Within (at (suc d) false)) (cond (b == 41) (closing d) (Within (at d false)))) (not_true _ z.1) ∙
-    ap (λ v. cond v (closing d) (Within (at d false))) (not_true _ y.1)
+after-ctext d b h = grind (arith, and_parts, is_value_byte, not_true)
 
 after-escaped : (d b : ℕ) → is_value_byte b ≡ true → after (at d true) b ≡ Within (at d false)
 after-escaped d b h = ap (λ v. cond v (Within (at d false)) Never) h
@@ -68,25 +55,26 @@ passes : (c : Content) (d : ℕ) (s : List ℕ) → is_content c ≡ true
     → behind (at d false) (content_text c ++ s) ≡ behind (at d false) s
 passes Nothing d s h = refl
 passes (Text b c) d s h =
-    let x = and_parts (is_ctext b) (is_content c) h in
-    behind-within (at d false) (at d false) b (content_text c ++ s) (after-ctext d b x.0) ∙ passes c d s x.1
+    grind (arith, and_parts, behind-within, after-ctext, passes c d s (and_parts (is_ctext b) (is_content c) h).1)
 passes (Pair b c) d s h =
     let x = and_parts (is_value_byte b) (is_content c) h in
     behind-within (at d false) (at d true) 92 (b ∷ (content_text c ++ s)) refl
     ∙ behind-within (at d true) (at d false) b (content_text c ++ s) (after-escaped d b x.0) ∙ passes c d s x.1
 passes (Inner i c) d s h =
-    let x = and_parts (is_content i) (is_content c) h in
-    behind-within (at d false) (at (suc d) false) 40 ((content_text i ++ 41 ∷ content_text c) ++ s) refl
-    ∙ ap (behind (at (suc d) false)) (append_assoc (content_text i) (41 ∷ content_text c) s)
-    ∙ passes i (suc d) (41 ∷ (content_text c ++ s)) x.0
-    ∙ behind-within (at (suc d) false) (at d false) 41 (content_text c ++ s) refl
-    ∙ passes c d s x.1
+    grind (
+      arith,
+      and_parts,
+      behind-within,
+      append_assoc,
+      passes i (suc d) (41 ∷ (content_text c ++ s)) (and_parts
+          (is_content i) (is_content c) h).0,
+      passes c d s (and_parts (is_content i) (is_content c) h).1,
+    )
 
 -- what follows a comment is what the scan behind its first parenthesis finds
 pub behind-comment : (text rest : List ℕ) → HasComment text rest → behind (at 0 false) (drop 1 text) ≡ Some rest
 unfolding behind
-behind-comment text rest h =
-    ap (λ s. behind (at 0 false) (drop 1 s)) h.written ∙ passes h.content 0 (41 ∷ rest) h.valid
+behind-comment text rest h = grind (arith, passes)
 
 pub no_comment : (text : List ℕ) → behind (at 0 false) (drop 1 text) ≡ None → (rest : List ℕ) → HasComment text rest → ⊥
 no_comment text e rest h = none-some rest (sym e ∙ behind-comment text rest h)
@@ -123,17 +111,10 @@ ClosesFrom d false s r = Closes d s r
 module _ (pre : List ℕ) (f : Content → Content) (text : (c : Content) → content_text (f c) ≡ pre ++ content_text c)
     (valid : (c : Content) → is_content c ≡ true → is_content (f c) ≡ true) where
   grow_layer : (s t : List ℕ) → Layer s t → Layer (pre ++ s) t
-  grow_layer s t l =
-      record {
-        content = f l.content;
-        valid = valid l.content l.valid;
-        written = ap (λ x. pre ++ x) l.written ∙ sym (append_assoc pre (content_text l.content) (41 ∷ t))
-            ∙ ap (λ x. x ++ 41 ∷ t) (sym (text l.content));
-      }
+  grow_layer s t l = grind (arith, append_assoc)
 
   grow : (d : ℕ) (s r : List ℕ) → Closes d s r → Closes d (pre ++ s) r
-  grow zero s r h = grow_layer s r h
-  grow (suc d) s r h = (h.0, grow_layer s h.0 h.1, h.2)
+  grow d s r h = grind (arith, grow_layer)
 
 inner_layer : (d : ℕ) (s t r : List ℕ) → Layer s t → Closes d t r → Closes d (40 ∷ s) r
 inner_layer d s t r l h =
@@ -197,8 +178,7 @@ value_case : (b d : ℕ) (e : Bool) (s r : List ℕ)
     → ((d : ℕ) (e : Bool) (r : List ℕ) → behind (at d e) s ≡ Some r → ClosesFrom d e s r)
     → (x : Bool) → is_value_byte b ≡ x → lead (cond x (after_any d e b) Never) s (λ m. behind m s) ≡ Some r
     → ClosesFrom d e (b ∷ s) r
-value_case b d e s r ih true v h = any_case b d s r ih v e h
-value_case b d e s r ih false v h = absurd (none-some r h)
+value_case b d e s r ih h6 v h = grind (arith, any_case, none-some)
 
 closes : (s : List ℕ) (d : ℕ) (e : Bool) (r : List ℕ) → behind (at d e) s ≡ Some r → ClosesFrom d e s r
 unfolding behind
@@ -214,6 +194,4 @@ comment-behind s rest h =
 pub closed_comment : (n : Nesting) (i : ℕ) (s : List ℕ) → i < length s → get_or s 0 0 ≡ 40
     → after n (get_or s i 0) ≡ Closed → behind (at 0 false) (drop 1 s) ≡ behind n (drop i s)
     → HasComment s (drop (i + 1) s)
-closed_comment n i s h first e a =
-    rw (ap (λ b. b ∷ drop 1 s) (sym first) ∙ sym (drop-cons s 0 0 (omega (arith, h)))) at
-    (comment-behind _ _ (closed-next n i s _ h e a))
+closed_comment n i s h first e a = grind (arith, drop-cons, comment-behind, closed-next)

@@ -1,14 +1,12 @@
 -- The directive that a text is, by the grammar.
-use Rattle.std.proofs.Common.{◌≡◌, ◌∙◌, ℕ, ◌-◌, Bool, true, false, List, [], ◌∷◌, ◌++◌, length, take, drop, Option}
-use Rattle.std.{proofs.Common.{Some, None, refl, sym, ap, subst, inl, inr, arith}, proofs.lemmas.Bool.and_parts}
-use Rattle.std.{proofs.lemmas.Bool.{and_right, cases_Bool}, proofs.lemmas.List.length-append}
-use Rattle.std.{proofs.lemmas.Slice.Eq.bytes_eq-Decides, proofs.Math.Seq.{drop-append_seam, take-append_seam}}
-use Rattle.std.{specs.Prelude.{⊤, ◌&&◌, ◌==◌, not, bytes_eq, if◌then◌else◌}, specs.List.{list_all, prefix_len}}
-use Rattle.http_header.specs.Token.{is_token_byte}
+use Rattle.std.proofs.lemmas.{Grind.common_steps, Bool.{and_parts, and_right, cases_Bool}, List.length-append}
+use Rattle.std.proofs.{lemmas.Slice.Eq.bytes_eq-Decides, Common.{◌≡◌, ◌∙◌, ℕ, ◌-◌, Bool, true, false, List, [], ◌∷◌}}
+use Rattle.std.proofs.Common.{◌++◌, length, take, Option, Some, None, refl, sym, ap, subst, arith}
+use Rattle.std.{proofs.Math.Seq.{drop-append_seam, take-append_seam}, specs.Prelude.{⊤, ◌&&◌, ◌==◌, not, bytes_eq}}
+use Rattle.{std.specs.{Prelude.if◌then◌else◌, List.{list_all, prefix_len}}, http_header.specs.Token.is_token_byte}
 use Rattle.rfc_fields.specs.Directives.{DirectiveParts, IsDirective, argument_text, directive_text, equals, argument_at}
-use Rattle.rfc_fields.specs.Directives.{directive_in, is_argument, is_directive, parts_at, value_at}
-use Rattle.rfc_fields.{specs.Grammar.quote, specs.Values.ValueParts.{TokenText, QuotedText}, specs.Values.ValueParts}
-use Rattle.rfc_fields.specs.Values.{is_token, is_value, value_text}
+use Rattle.rfc_fields.specs.{Directives.{directive_in, is_argument, is_directive, parts_at, value_at}, Grammar.quote}
+use Rattle.rfc_fields.specs.Values.{ValueParts, is_token, is_value, value_text, ValueParts.{TokenText, QuotedText}}
 
 -- the text begins with no byte of a token
 abbrev pub Stops : List ℕ → Type 0
@@ -33,13 +31,10 @@ unfolding is_token_byte
 quote_is_no_token = refl
 
 argument_stops : (a : Option ValueParts) → Stops (argument_text a)
-argument_stops None = tt
-argument_stops (Some v) = equals_stops
+argument_stops a = grind (arith, equals_stops)
 
 between : (s : List ℕ) → take (length (quote ∷ (s ++ quote ∷ [])) - 2) (s ++ quote ∷ []) ≡ s
-between s =
-    let long : length (quote ∷ (s ++ quote ∷ [])) - 2 ≡ length s = omega (arith, length-append s (quote ∷ [])) in
-    ap (λ (n : ℕ). take n (s ++ quote ∷ [])) long ∙ take-append_seam s (quote ∷ [])
+between s = grind (arith, length-append, take-append_seam, common_steps)
 
 value_again : (v : ValueParts) → is_value v ≡ true → value_at (value_text v) ≡ v
 value_again (TokenText s) h = rw h refl
@@ -51,21 +46,20 @@ value_again (QuotedText s) h = rw (no_token s) (ap (λ (t : List ℕ). QuotedTex
         (rw quote_is_no_token refl)
 
 argument_again : (a : Option ValueParts) → is_argument a ≡ true → argument_at (argument_text a) ≡ a
-argument_again None h = refl
-argument_again (Some v) h = ap (λ (w : ValueParts). Some w) (value_again v h)
+argument_again a h = grind (arith, value_again)
 
 parts_again : (d : DirectiveParts) → is_directive d ≡ true → parts_at (directive_text d) ≡ d
 parts_again d h =
-    let valid = and_parts (is_token d.name) (is_argument d.argument) h in
-    let bytes : list_all is_token_byte d.name ≡ true = (and_parts _ (list_all is_token_byte d.name) valid.0).1 in
-    let end : prefix_len is_token_byte (directive_text d) ≡ length d.name = name_length _ _ bytes (argument_stops _) in
-    let name : take (prefix_len is_token_byte (directive_text d)) (directive_text d) ≡ d.name =
-    ap (λ (n : ℕ). take n (directive_text d)) end ∙ take-append_seam d.name (argument_text d.argument) in
-    let rest : drop (prefix_len is_token_byte (directive_text d)) (directive_text d) ≡ argument_text d.argument =
-    ap (λ (n : ℕ). drop n (directive_text d)) end ∙ drop-append_seam d.name (argument_text d.argument) in
-    let argument : argument_at (drop (prefix_len is_token_byte (directive_text d)) (directive_text d)) ≡ d.argument =
-    ap argument_at rest ∙ argument_again _ valid.1 in
-    rw (name, argument) refl
+    grind (
+      arith,
+      and_parts,
+      is_token_byte,
+      name_length,
+      argument_stops,
+      take-append_seam,
+      drop-append_seam,
+      argument_again,
+    )
 
 both_hold : (d : DirectiveParts) (b c : Bool) → b ≡ true → c ≡ true → (if b && c then Some d else None) ≡ Some d
 both_hold d b c e f = rw (e, f) refl
@@ -84,16 +78,7 @@ directive_in-from text d h =
 -- and what is found is its directive
 pub directive_in-is : (text : List ℕ) (d : DirectiveParts) → directive_in text ≡ Some d → IsDirective text d
 unfolding directive_in
-directive_in-is text d e =
-    elim (cases_Bool (is_directive (parts_at text) && bytes_eq text (directive_text (parts_at text)))) [
-      | inl t ↦
-          let found : Some (parts_at text) ≡ Some d = rw t at e in
-          let same : parts_at text ≡ d = cc found in
-          let both = and_parts (is_directive (parts_at text)) (bytes_eq text (directive_text (parts_at text))) t in
-          subst (λ (p : DirectiveParts). IsDirective text p) same
-          (record { valid = both.0; written = (bytes_eq-Decides text (directive_text (parts_at text))).0 both.1 })
-      | inr f ↦ let none : None ≡ Some d = rw f at e in absurd (cc none)
-    ]
+directive_in-is text d e = grind (arith, cases_Bool, bytes_eq, and_parts, bytes_eq-Decides)
 
 -- a text that is no directive has none
 pub directive_in-none : (text : List ℕ) → ((d : DirectiveParts) → ¬ (IsDirective text d)) → directive_in text ≡ None

@@ -1,27 +1,29 @@
 -- What a text that is a directive begins with, and that it is one directive only.
-use Rattle.std.proofs.Common.{◌≡◌, ℕ, suc, ◌+◌, ◌-◌, ◌<◌, ◌≤◌, Bool, true, false, not, cond, List, [], ◌∷◌, ◌++◌}
-use Rattle.std.proofs.Common.{length, get_or, take, drop, Option, Some, None, refl, sym, ◌∙◌, ap, arith, length-drop}
-use Rattle.std.{proofs.Math.Seq.take-append_seam, proofs.lemmas.List.{take_all, take-append-drop}}
-use Rattle.std.{proofs.lemmas.List.Folds.length-prefix_len, proofs.lemmas.Bool.{and_parts, ne_eqb}, specs.Prelude.◌&&◌}
-use Rattle.std.{specs.Prelude.◌==◌, specs.List.{list_all, prefix_len}}
-use Rattle.http_header.specs.Token.{is_token_byte}
-use Rattle.rfc_fields.{specs.Values.{ValueParts, is_token, is_value, value_text}, specs.Values.ValueParts.TokenText}
-use Rattle.rfc_fields.{specs.Values.ValueParts.QuotedText, specs.Directives.{DirectiveParts, IsDirective, IsArgument}}
-use Rattle.rfc_fields.{specs.Directives.{argument_text, is_argument, is_directive}, proofs.GrammarLemmas.false_true}
+use Rattle.std.proofs.Common.{◌≡◌, ℕ, suc, ◌+◌, ◌-◌, ◌<◌, Bool, true, false, not, cond, List, [], ◌∷◌, ◌++◌, length}
+use Rattle.std.proofs.Common.{get_or, take, drop, Option, Some, None, refl, sym, ◌∙◌, ap, arith, length-drop}
+use Rattle.std.proofs.{Math.Seq.take-append_seam, lemmas.List.{take_all, take-append-drop, Folds.length-prefix_len}}
+use Rattle.std.{proofs.lemmas.Bool.{and_parts, ne_eqb}, specs.{Prelude.{◌&&◌, ◌==◌}, List.{list_all, prefix_len}}}
+use Rattle.{http_header.specs.Token.is_token_byte, rfc_fields.specs.Values.{ValueParts, is_token, is_value, value_text}}
+use Rattle.rfc_fields.specs.{Values.ValueParts.{TokenText, QuotedText}, Directives.{DirectiveParts, IsDirective}}
+use Rattle.rfc_fields.specs.Directives.{IsArgument, argument_text, is_argument, is_directive}
+use Rattle.rfc_fields.proofs.GrammarLemmas.{false_true}
 
 -- the name ends where the bytes of a token do
 argument_ends : (a : Option ValueParts) → prefix_len is_token_byte (argument_text a) ≡ 0
 unfolding is_token_byte
-argument_ends None = refl
-argument_ends (Some v) = refl
+argument_ends a = grind arith
 
 front-len : (name tail : List ℕ) → list_all is_token_byte name ≡ true → prefix_len is_token_byte tail ≡ 0
     → prefix_len is_token_byte (name ++ tail) ≡ length name
 front-len [] tail h k = k
 front-len (b ∷ name) tail h k =
-    let x = and_parts (is_token_byte b) (list_all is_token_byte name) h in
-    let rest = front-len name tail x.1 k in
-    ap (λ c. cond c (1 + prefix_len is_token_byte (name ++ tail)) 0) x.0 ∙ omega (arith, rest)
+    grind (
+      arith,
+      and_parts,
+      is_token_byte,
+      front-len name tail (and_parts (is_token_byte b) (list_all is_token_byte
+          name) h).1 k,
+    )
 
 name_valid : (d : DirectiveParts) → is_directive d ≡ true → is_token d.name ≡ true
 name_valid d h = (and_parts (is_token d.name) (is_argument d.argument) h).0
@@ -30,9 +32,7 @@ argument_valid : (d : DirectiveParts) → is_directive d ≡ true → is_argumen
 argument_valid d h = (and_parts (is_token d.name) (is_argument d.argument) h).1
 
 pub name-len : (m : List ℕ) (d : DirectiveParts) → IsDirective m d → prefix_len is_token_byte m ≡ length d.name
-name-len m d h =
-    ap (prefix_len is_token_byte) h.written ∙ front-len _ _
-    (and_parts (not (length d.name == 0)) (list_all is_token_byte d.name) (name_valid d h.valid)).1 (argument_ends _)
+name-len m d h = grind (arith, is_token_byte, front-len, and_parts, name_valid, argument_ends)
 
 drop-front : (xs ys : List ℕ) → drop (length xs) (xs ++ ys) ≡ ys
 drop-front [] ys = refl
@@ -40,9 +40,7 @@ drop-front (x ∷ xs) ys = drop-front xs ys
 
 pub argument-is : (m : List ℕ) (d : DirectiveParts) → IsDirective m d
     → drop (prefix_len is_token_byte m) m ≡ argument_text d.argument
-argument-is m d h =
-    ap (λ n. drop n m) (name-len m d h) ∙ ap (drop (length d.name)) h.written
-    ∙ drop-front d.name (argument_text d.argument)
+argument-is m d h = grind (arith, name-len, drop-front)
 
 list_all-prefix : (s : List ℕ) → list_all is_token_byte (take (prefix_len is_token_byte s) s) ≡ true
 list_all-prefix [] = refl
@@ -65,42 +63,25 @@ length-prefix s = length-prefix_len is_token_byte s
 
 -- the bytes of a token at the front of a text are a name, if there's one
 front_valid : (m : List ℕ) → 0 < prefix_len is_token_byte m → is_token (take (prefix_len is_token_byte m) m) ≡ true
-front_valid m h =
-    ap (λ c. c && list_all is_token_byte (take (prefix_len is_token_byte m) m)) (nonzero _ (rw (length-prefix m) h)) ∙
-    list_all-prefix m
+front_valid m h = grind (arith, is_token_byte, nonzero, length-prefix, list_all-prefix)
 
 pub no_name : (m : List ℕ) → prefix_len is_token_byte m ≡ 0 → (d : DirectiveParts) → IsDirective m d → ⊥
-no_name m e d h =
-    let n : length d.name ≡ 0 = sym (name-len m d h) ∙ e in
-    let x = and_parts (not (length d.name == 0)) (list_all is_token_byte d.name) (name_valid d h.valid) in
-    false_true (sym (ap (λ k. not (k == 0)) n) ∙ x.0)
+no_name m e d h = grind (arith, name-len, and_parts, is_token_byte, name_valid, false_true)
 
 take_rest : (k : ℕ) (xs : List ℕ) → take (length xs - k) (drop k xs) ≡ drop k xs
-take_rest k xs =
-    let h : length (drop k xs) ≤ length xs - k = omega (arith, length-drop {A = ℕ}) in
-    take_all (length xs - k) (drop k xs) h
+take_rest k xs = grind (arith, length-drop, take_all)
 
 -- what is left from place n on, as the code has it
 pub argument_at : (m : List ℕ) (n : ℕ) (d : DirectiveParts) → n ≡ prefix_len is_token_byte m → IsDirective m d
     → IsArgument (take (length m - n) (drop n m)) d.argument
-argument_at m n d e h =
-    record {
-      valid = argument_valid d h.valid;
-      written = take_rest n m ∙ ap (λ k. drop k m) e ∙ argument-is m d h;
-    }
+argument_at m n d e h = grind (arith, argument_valid, take_rest, argument-is)
 
 pub directive_at : (m : List ℕ) (n : ℕ) (a : Option ValueParts) → n ≡ prefix_len is_token_byte m → 0 < n
     → IsArgument (take (length m - n) (drop n m)) a → IsDirective m (record { name = take n m; argument = a })
-directive_at m n a e h t =
-    let named : is_token (take n m) ≡ true = ap (λ k. is_token (take k m)) e ∙ front_valid m (rw e at h) in
-    record {
-      valid = ap (λ c. c && is_argument a) named ∙ t.valid;
-      written = sym (take-append-drop n m) ∙ ap (λ x. take n m ++ x) (sym (take_rest n m) ∙ t.written);
-    }
+directive_at m n a e h t = grind (arith, front_valid, take-append-drop, take_rest)
 
 rest_cons : (s : List ℕ) → 0 < length s → get_or s 0 0 ≡ 61 → 61 ∷ drop 1 s ≡ s
-rest_cons [] h e = absurd (omega arith)
-rest_cons (b ∷ s) h e = ap (λ x. x ∷ s) (sym e)
+rest_cons s h e = grind arith
 
 -- the text behind "="
 pub rest_is : (s : List ℕ) → 0 < length s → get_or s 0 0 ≡ 61 → 61 ∷ take (length s - 1) (drop 1 s) ≡ s
@@ -115,22 +96,18 @@ snoc_once : (s t : List ℕ) → s ++ 34 ∷ [] ≡ t ++ 34 ∷ [] → s ≡ t
 snoc_once [] [] e = refl
 snoc_once [] (y ∷ t) e = let tails : [] ≡ t ++ 34 ∷ [] = cc in absurd (nil_snoc t tails)
 snoc_once (x ∷ s) [] e = let tails : [] ≡ s ++ 34 ∷ [] = cc in absurd (nil_snoc s tails)
-snoc_once (x ∷ s) (y ∷ t) e =
-    let tails : s ++ 34 ∷ [] ≡ t ++ 34 ∷ [] = cc in let heads : x ≡ y = cc in
-    ap (λ h. h ∷ s) heads ∙ ap (λ r. y ∷ r) (snoc_once s t tails)
+snoc_once (x ∷ s) (y ∷ t) e = grind (arith, snoc_once s t (cc))
 
 -- a quote is no byte of a token
 no_quoted_token : (s t : List ℕ) → s ≡ 34 ∷ t → is_token s ≡ true → ⊥
 unfolding is_token_byte
-no_quoted_token s t e h =
-    false_true (and_parts (not (length (34 ∷ t) == 0)) (list_all is_token_byte (34 ∷ t)) (sym (ap is_token e) ∙ h)).1
+no_quoted_token s t e h = grind (arith, false_true, and_parts, is_token_byte)
 
 pub value_once : (v w : ValueParts) → is_value v ≡ true → is_value w ≡ true → value_text v ≡ value_text w → v ≡ w
 value_once (TokenText s) (TokenText t) h k e = ap TokenText e
 value_once (TokenText s) (QuotedText t) h k e = absurd (no_quoted_token s (t ++ 34 ∷ []) e h)
 value_once (QuotedText s) (TokenText t) h k e = absurd (no_quoted_token t (s ++ 34 ∷ []) (sym e) k)
-value_once (QuotedText s) (QuotedText t) h k e =
-    let tails : s ++ 34 ∷ [] ≡ t ++ 34 ∷ [] = cc in ap QuotedText (snoc_once s t tails)
+value_once (QuotedText s) (QuotedText t) h k e = grind (arith, snoc_once)
 
 argument_once : (a b : Option ValueParts) → is_argument a ≡ true → is_argument b ≡ true
     → argument_text a ≡ argument_text b → a ≡ b
@@ -141,9 +118,7 @@ argument_once (Some v) (Some w) h k e =
     let tails : value_text v ≡ value_text w = cc in ap (λ x. Some x) (value_once v w h k tails)
 
 name-is : (m : List ℕ) (d : DirectiveParts) → IsDirective m d → take (prefix_len is_token_byte m) m ≡ d.name
-name-is m d h =
-    ap (λ n. take n m) (name-len m d h) ∙ ap (take (length d.name)) h.written
-    ∙ take-append_seam d.name (argument_text d.argument)
+name-is m d h = grind (arith, name-len, take-append_seam)
 
 -- a text is one directive only
 pub directive_once : (m : List ℕ) (d e : DirectiveParts) → IsDirective m d → IsDirective m e → d ≡ e

@@ -1,16 +1,13 @@
 -- The loops over the members of a field.
-use Rattle.std.proofs.Common.{◌≡◌, ℕ, Bool, true, false, cond, List, [], ◌∷◌, ◌++◌, map, find, Option, Some, None, refl}
-use Rattle.std.{proofs.Common.{sym, ◌∙◌, ap, subst}, proofs.lemmas.Bool.and_parts, proofs.lemmas.List.append-nil}
-use Rattle.std.{proofs.lemmas.List.Folds.list_all-append, specs.Prelude.◌&&◌, specs.List.list_all}
-use Rattle.headers_syntax.specs.Lines.{Line}
-use Rattle.rfc_fields.{specs.Scan.{Member, closes}, specs.Scan.Member.{Whole, Malformed}}
+use Rattle.std.proofs.Common.{arith, ◌≡◌, ℕ, Bool, true, cond, List, [], ◌∷◌, ◌++◌, map, find, Option, Some, None, refl}
+use Rattle.std.proofs.{Common.{sym, ◌∙◌, ap, subst}, lemmas.{Bool.and_parts, List.{append-nil, Folds.list_all-append}}}
+use Rattle.{std.specs.{Prelude.◌&&◌, List.list_all}, headers_syntax.specs.Lines.Line, rfc_fields.specs.Scan.Member}
 use Rattle.rfc_fields.specs.Laws.{DirectivesParseOneWay, JoinKeepsDirectives, WellFormedFieldIsWhole}
-use Rattle.rfc_fields.{specs.Laws.MalformedIsClearOfNone, specs.declared.scan.State.TheVariants.Outside}
-use Rattle.rfc_fields.specs.Members.{members, field_members, combined, is_whole, is_well_formed}
-use Rattle.rfc_fields.specs.Directives.{DirectiveParts, IsMemberDirective, AreDirectives, FindsDirective, IsClearOf}
-use Rattle.rfc_fields.specs.Directives.{HasOtherThanDirectives, directive_text, directive_member, is_directive}
-use Rattle.rfc_fields.{specs.Directives.{is_named, or_named}, proofs.DirectiveLemmas.directive_once}
-use Rattle.rfc_fields.{proofs.JoinLemmas.join_keeps_members, proofs.PieceLemmas.whole_members}
+use Rattle.rfc_fields.specs.{Laws.MalformedIsClearOfNone, Members.{members, field_members, combined, is_whole}}
+use Rattle.rfc_fields.specs.{Members.is_well_formed, Directives.{DirectiveParts, IsMemberDirective, AreDirectives}}
+use Rattle.rfc_fields.specs.Directives.{FindsDirective, IsClearOf, HasOtherThanDirectives, directive_text}
+use Rattle.rfc_fields.specs.Directives.{directive_member, is_directive, is_named, or_named}
+use Rattle.rfc_fields.proofs.{DirectiveLemmas.directive_once, JoinLemmas.join_keeps_members, PieceLemmas.whole_members}
 
 -- the members up to what is left are directives, and the first of the name among them was found
 pub record SoFar (name : List ℕ) (initial left : List Member) (found : Option DirectiveParts) : Type 0 where
@@ -23,8 +20,7 @@ all_more : (ds : List DirectiveParts) (d : DirectiveParts) → list_all is_direc
     → list_all is_directive (ds ++ d ∷ []) ≡ true
 all_more [] d h e = ap (λ c. c && true) e
 all_more (x ∷ ds) d h e =
-    let p = and_parts (is_directive x) (list_all is_directive ds) h in
-    ap (λ c. c && list_all is_directive (ds ++ d ∷ [])) p.0 ∙ all_more ds d p.1 e
+    grind (arith, and_parts, all_more ds d (and_parts (is_directive x) (list_all is_directive ds) h).1 e)
 
 split_more : (ds : List DirectiveParts) (d : DirectiveParts) (rest : List Member)
     → map directive_member ds ++ directive_member d ∷ rest ≡ map directive_member (ds ++ d ∷ []) ++ rest
@@ -35,8 +31,7 @@ find_case : (name : List ℕ) (x d : DirectiveParts) (ds : List DirectiveParts) 
     → or_named name (find (is_named name) ds) d ≡ find (is_named name) (ds ++ d ∷ [])
     → or_named name (cond c (Some x) (find (is_named name) ds)) d
     ≡ cond c (Some x) (find (is_named name) (ds ++ d ∷ []))
-find_case name x d ds true h = refl
-find_case name x d ds false h = h
+find_case name x d ds c h = grind arith
 
 find_more : (name : List ℕ) (ds : List DirectiveParts) (d : DirectiveParts)
     → or_named name (find (is_named name) ds) d ≡ find (is_named name) (ds ++ d ∷ [])
@@ -46,28 +41,11 @@ find_more name (x ∷ ds) d = find_case name x d ds (is_named name x) (find_more
 pub so_far_more : (name : List ℕ) (initial left rest : List Member) (m : Member) (found : Option DirectiveParts)
     (d : DirectiveParts) → SoFar name initial left found → left ≡ m ∷ rest → IsMemberDirective m d
     → SoFar name initial rest (or_named name found d)
-so_far_more name initial left rest Malformed found d h e k = absurd k
-so_far_more name initial left rest (Whole s) found d h e k =
-    record {
-      directives = h.directives ++ d ∷ [];
-      valid = all_more h.directives d h.valid k.valid;
-      split = h.split ∙ ap (λ ms. map directive_member h.directives ++ ms) e
-          ∙ ap (λ t. map directive_member h.directives ++ Whole t ∷ rest) k.written ∙ split_more h.directives d rest;
-      first = ap (λ f. or_named name f d) h.first ∙ find_more name h.directives d;
-    }
+so_far_more name initial left rest m found d h e k = grind (arith, all_more, split_more, find_more)
 
 pub so_far_end : (lines : List Line) (name : List ℕ) (initial left : List Member) (found : Option DirectiveParts)
     → initial ≡ field_members true lines → SoFar name initial left found → left ≡ [] → FindsDirective lines name found
-so_far_end lines name initial left found is h e =
-    record {
-      directives = h.directives;
-      are = record {
-        valid = h.valid;
-        written = sym is ∙ h.split ∙ ap (λ ms. map directive_member h.directives ++ ms) e
-            ∙ append-nil (map directive_member h.directives);
-      };
-      first = h.first;
-    }
+so_far_end lines name initial left found is h e = grind (arith, append-nil)
 
 -- a member among directives is one
 other_in : (before ds : List DirectiveParts) (m : Member) (rest : List Member)
@@ -90,11 +68,7 @@ other_in (x ∷ before) (d ∷ ds) m rest e v =
 pub so_far_other : (lines : List Line) (name : List ℕ) (initial left rest : List Member) (m : Member)
     (found : Option DirectiveParts) → initial ≡ field_members true lines → SoFar name initial left found
     → left ≡ m ∷ rest → ((d : DirectiveParts) → IsMemberDirective m d → ⊥) → HasOtherThanDirectives lines
-so_far_other lines name initial left rest m found is h e other ds are =
-    let same : map directive_member h.directives ++ m ∷ rest ≡ map directive_member ds =
-    ap (λ ms. map directive_member h.directives ++ ms) (sym e) ∙ sym h.split ∙ is ∙ are.written in
-    let some = other_in h.directives ds m rest same are.valid in
-    other some.0 some.1
+so_far_other lines name initial left rest m found is h e other ds are = grind (arith, other_in)
 
 -- the directives of a field are fixed by its members
 directives_once : (ds es : List DirectiveParts) → list_all is_directive ds ≡ true → list_all is_directive es ≡ true
@@ -117,8 +91,7 @@ are_once lines ds es h k = directives_once ds es h.valid k.valid (sym h.written 
 
 pub found_once : (lines : List Line) (name : List ℕ) (a b : Option DirectiveParts) → FindsDirective lines name a
     → FindsDirective lines name b → a ≡ b
-found_once lines name a b h k =
-    h.first ∙ ap (find (is_named name)) (are_once lines h.directives k.directives h.are k.are) ∙ sym k.first
+found_once lines name a b h k = grind (arith, are_once)
 
 pub not_clear : (lines : List Line) (name : List ℕ) (d : DirectiveParts) → FindsDirective lines name (Some d)
     → IsClearOf lines name → ⊥
@@ -132,25 +105,15 @@ join_members : (lines : List Line) → list_all is_well_formed lines ≡ true
 join_members lines h = append-nil (members true (combined lines)) ∙ (join_keeps_members true lines h).1
 
 pub join_keeps_directives : JoinKeepsDirectives
-join_keeps_directives lines ds h = (
-  λ are. record { valid = are.valid; written = sym (join_members lines h) ∙ are.written },
-  λ are. record { valid = are.valid; written = join_members lines h ∙ are.written },
-)
+join_keeps_directives lines ds h = grind (arith, join_members)
 
 pub whole_field : WellFormedFieldIsWhole
 whole_field q [] = refl
-whole_field q (line ∷ lines) =
-    list_all-append is_whole (members q line) (field_members q lines)
-    ∙ ap (λ c. c && list_all is_whole (field_members q lines)) (whole_members q line)
-    ∙ ap (λ c. closes q Outside line && c) (whole_field q lines)
+whole_field q (line ∷ lines) = grind (arith, list_all-append, whole_members, whole_field q lines)
 
 all_whole : (ds : List DirectiveParts) → list_all is_whole (map directive_member ds) ≡ true
 all_whole [] = refl
 all_whole (d ∷ ds) = all_whole ds
 
 pub malformed_is_clear_of_none : MalformedIsClearOfNone
-malformed_is_clear_of_none lines name bad h =
-    let good : list_all is_whole (field_members true lines) ≡ true =
-    ap (list_all is_whole) h.are.written ∙ all_whole h.directives in
-    let e : false ≡ true = sym bad ∙ sym (whole_field true lines) ∙ good in
-    cc
+malformed_is_clear_of_none lines name bad h = grind (arith, all_whole, whole_field)

@@ -1,14 +1,12 @@
 -- A list by the grammar is cut in its elements.
-use Rattle.std.proofs.Common.{◌≡◌, ℕ, Bool, true, false, not, cond, List, [], ◌∷◌, ◌++◌, map, refl, sym, ◌∙◌, ap}
-use Rattle.std.{proofs.lemmas.Bool.{and_parts, eq-eqb}, proofs.lemmas.List.{append_assoc, append-nil}}
-use Rattle.std.{specs.Prelude.{◌&&◌, ◌==◌}, specs.List.{flat_map, list_all}}
-use Rattle.http_header.specs.Token.{is_value_byte}
-use Rattle.rfc_fields.specs.Grammar.{Octet, Part, Element, is_octet, octet_text, is_part, part_text, is_element}
-use Rattle.rfc_fields.{specs.Grammar.{element_text, list_text, IsSeparator}, specs.Grammar.Octet.{Plain, Pair}}
-use Rattle.rfc_fields.{specs.Grammar.Part.{Byte, Quoted}, specs.Scan.Member.Whole, specs.Laws.ParsesOneWay}
-use Rattle.rfc_fields.{specs.declared.scan.State.State, specs.Scan.{Member, state_after, is_cut, closes, push, pieces}}
-use Rattle.rfc_fields.{specs.declared.scan.State.TheVariants.{Outside, Inside, Escaped}, proofs.ScanLemmas.pieces-push}
-use Rattle.rfc_fields.proofs.ScanLemmas.{pieces-cut}
+use Rattle.std.proofs.Common.{arith, ◌≡◌, ℕ, Bool, true, false, not, cond, List, [], ◌∷◌, ◌++◌, map, refl, sym, ◌∙◌, ap}
+use Rattle.std.{proofs.lemmas.{Bool.{and_parts, eq-eqb}, List.{append_assoc, append-nil}}, specs.Prelude.{◌&&◌, ◌==◌}}
+use Rattle.{std.specs.List.{flat_map, list_all}, http_header.specs.Token.is_value_byte, rfc_fields.specs.Grammar.Octet}
+use Rattle.rfc_fields.specs.Grammar.{Part, Element, is_octet, octet_text, is_part, part_text, is_element, element_text}
+use Rattle.rfc_fields.specs.{Grammar.{list_text, IsSeparator, Octet.{Plain, Pair}, Part.{Byte, Quoted}}, Scan.Member}
+use Rattle.rfc_fields.specs.{Scan.{state_after, is_cut, closes, push, pieces, Member.Whole}, Laws.ParsesOneWay}
+use Rattle.rfc_fields.specs.declared.scan.State.{State, TheVariants.{Outside, Inside, Escaped}}
+use Rattle.rfc_fields.proofs.ScanLemmas.{pieces-push, pieces-cut}
 
 pub false_true : false ≡ true → ⊥
 false_true e = cc
@@ -42,17 +40,11 @@ runs_none sep q st = record { splits = λ s. refl; ends = λ s. refl }
 pub runs_byte : (sep : ℕ) (q : Bool) (st st' : State) (b : ℕ) → is_cut sep st b ≡ false → state_after q st b ≡ st'
     → Runs sep q st (b ∷ []) st'
 unfolding closes
-runs_byte sep q st st' b e n =
-    record { splits = λ s. pieces-push sep q st st' b s e n; ends = λ s. ap (λ t. closes q t s) n }
+runs_byte sep q st st' b e n = grind (arith, pieces-push)
 
 pub runs_append : (sep : ℕ) (q : Bool) (st st' st'' : State) (xs ys : List ℕ) → Runs sep q st xs st'
     → Runs sep q st' ys st'' → Runs sep q st (xs ++ ys) st''
-runs_append sep q st st' st'' xs ys h k =
-    record {
-      splits = λ s. ap (pieces sep q st) (append_assoc xs ys s) ∙ h.splits (ys ++ s) ∙ ap (push_all xs) (k.splits s)
-          ∙ sym (push_all-append xs ys (pieces sep q st'' s));
-      ends = λ s. ap (closes q st) (append_assoc xs ys s) ∙ h.ends (ys ++ s) ∙ k.ends s;
-    }
+runs_append sep q st st' st'' xs ys h k = grind (arith, append_assoc, push_all-append)
 
 never_cut : (sep : ℕ) (b : ℕ) → is_cut sep Inside b ≡ false
 never_cut sep b = elim (b == sep) as (λ v. (v && false) ≡ false) [ true ↦ refl | false ↦ refl ]
@@ -61,11 +53,7 @@ never_cut' : (sep : ℕ) (b : ℕ) → is_cut sep Escaped b ≡ false
 never_cut' sep b = elim (b == sep) as (λ v. (v && false) ≡ false) [ true ↦ refl | false ↦ refl ]
 
 pub runs_octet : (sep : ℕ) (q : Bool) (o : Octet) → is_octet q o ≡ true → Runs sep q Inside (octet_text o) Inside
-runs_octet sep q (Plain b) h =
-    let x = and_parts (is_value_byte b && not (b == 34)) (not (q && b == 92)) h in
-    let y = and_parts (is_value_byte b) (not (b == 34)) x.0 in
-    runs_byte sep q Inside Inside b (never_cut _ b) (ap (λ c. cond c Outside (cond (q && b == 92) Escaped Inside))
-    (not_true (b == 34) y.1) ∙ ap (λ c. cond c Escaped Inside) (not_true (q && b == 92) x.1))
+runs_octet sep q (Plain b) h = grind (arith, and_parts, is_value_byte, runs_byte, never_cut, not_true)
 runs_octet sep q (Pair b) h =
     let x = and_parts q (is_value_byte b) h in
     runs_append sep q Inside Escaped Inside (92 ∷ []) (b ∷ [])
@@ -82,11 +70,7 @@ runs_octets sep q (o ∷ os) h =
 
 pub runs_part : (sep : ℕ) (q : Bool) (g : IsSeparator sep) (p : Part) → is_part sep q p ≡ true
     → Runs sep q Outside (part_text p) Outside
-runs_part sep q g (Byte b) h =
-    let x = and_parts (is_value_byte b && not (b == 34)) (not (b == sep)) h in
-    let y = and_parts (is_value_byte b) (not (b == 34)) x.0 in
-    runs_byte sep q Outside Outside b (ap (λ c. c && true) (not_true (b == sep) x.1))
-    (ap (λ c. cond c Inside Outside) (not_true (b == 34) y.1))
+runs_part sep q g (Byte b) h = grind (arith, and_parts, is_value_byte, runs_byte, not_true)
 runs_part sep q g (Quoted os) h =
     runs_append sep q Outside Inside Outside (34 ∷ []) (flat_map octet_text os ++ 34 ∷ [])
     (runs_byte sep q Outside Inside 34 (ap (λ c. c && true) g.quote_not) refl)

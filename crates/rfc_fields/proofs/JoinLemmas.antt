@@ -1,25 +1,20 @@
 -- Lines that are joined by a comma and a space, and lines that end malformed.
-use Rattle.std.proofs.Common.{◌≡◌, ℕ, suc, ◌+◌, Bool, true, false, cond, List, [], ◌∷◌, ◌++◌, map, filter, drop, refl}
-use Rattle.std.{proofs.Common.{sym, ◌∙◌, ap, arith, inl, inr, ◌⊎◌}, proofs.lemmas.Bool.{and_parts, eqb-true}}
-use Rattle.std.{proofs.lemmas.List.Elements.filter-append, proofs.lemmas.List.{map-append, append_assoc, append-nil}}
-use Rattle.std.{specs.Prelude.◌==◌, specs.List.{list_all, prefix_len}}
-use Rattle.headers_syntax.specs.Text.{trim, trim_end, is_blank}
-use Rattle.rfc_fields.specs.Scan.{Member, state_after, is_cut, is_outside, closes, push, pieces}
-use Rattle.rfc_fields.{specs.Scan.Member.{Whole, Malformed}, specs.declared.scan.State.State, specs.Members.members_of}
-use Rattle.rfc_fields.{specs.Members.{members, combined, is_member, trimmed}, specs.Laws.KeepsMembersBefore}
-use Rattle.rfc_fields.specs.Laws.{JoinKeepsMembers, EndsMalformed, MalformedComesLast}
-use Rattle.rfc_fields.{specs.declared.scan.State.TheVariants.{Outside, Inside, Escaped}, proofs.ScanLemmas.pieces-push}
-use Rattle.rfc_fields.{proofs.GrammarLemmas.false_true, proofs.PieceLemmas.{SomePieces, some_pieces, cut_outside}}
-use Rattle.rfc_fields.proofs.PieceLemmas.{no_members}
+use Rattle.std.proofs.Common.{◌≡◌, ℕ, ◌+◌, Bool, true, false, cond, List, [], ◌∷◌, ◌++◌, refl, sym, ◌∙◌, ap, arith, inl}
+use Rattle.std.proofs.{Common.{inr, ◌⊎◌}, lemmas.{Bool.{and_parts, eqb-true}, List.{map-append, append_assoc}}}
+use Rattle.std.{proofs.lemmas.List.{append-nil, Elements.filter-append}, specs.{Prelude.◌==◌, List.list_all}}
+use Rattle.{headers_syntax.specs.Text.trim, rfc_fields.specs.Scan.{Member, state_after, is_cut, is_outside, closes}}
+use Rattle.rfc_fields.specs.{Scan.{push, pieces, Member.{Whole, Malformed}}, declared.scan.State.State}
+use Rattle.rfc_fields.specs.{declared.scan.State.TheVariants.{Outside, Inside, Escaped}, Members.{members_of, members}}
+use Rattle.rfc_fields.specs.{Members.combined, Laws.{KeepsMembersBefore, JoinKeepsMembers, EndsMalformed}}
+use Rattle.rfc_fields.{specs.Laws.MalformedComesLast, proofs.{ScanLemmas.pieces-push, GrammarLemmas.false_true}}
+use Rattle.rfc_fields.proofs.PieceLemmas.{SomePieces, some_pieces, cut_outside, no_members}
 
 push-append : (b : ℕ) (ps qs : List Member) → SomePieces ps → push b (ps ++ qs) ≡ push b ps ++ qs
 unfolding push
 push-append b ps qs h = ap (λ x. push b (x ++ qs)) h.is ∙ ap (λ x. push b x ++ qs) (sym h.is)
 
 closed_outside : (st : State) → is_outside st ≡ true → st ≡ Outside
-closed_outside Outside h = refl
-closed_outside Inside h = cc
-closed_outside Escaped h = cc
+closed_outside st h = grind arith
 
 pub closes-join : (q : Bool) (st : State) (a s : List ℕ) → closes q st a ≡ true
     → closes q st (a ++ 44 ∷ s) ≡ closes q Outside s
@@ -31,58 +26,43 @@ join_step : (q : Bool) (st : State) (b : ℕ) (a s : List ℕ) (c : Bool) → is
     → pieces 44 q (state_after q st b) (a ++ 44 ∷ s) ≡ pieces 44 q (state_after q st b) a ++ pieces 44 q Outside s
     → cond c (Whole [] ∷ pieces 44 q Outside (a ++ 44 ∷ s)) (push b (pieces 44 q (state_after q st b) (a ++ 44 ∷ s)))
     ≡ cond c (Whole [] ∷ pieces 44 q Outside a) (push b (pieces 44 q (state_after q st b) a)) ++ pieces 44 q Outside s
-join_step q st b a s true e k =
-    let o = cut_outside 44 q st b refl e in
-    ap (λ t. Whole [] ∷ pieces 44 q t (a ++ 44 ∷ s)) (sym o) ∙ ap (λ x. Whole [] ∷ x) k
-    ∙ ap (λ t. (Whole [] ∷ pieces 44 q t a) ++ pieces 44 q Outside s) o
-join_step q st b a s false e k = ap (push b) k ∙ push-append b _ _ (some_pieces 44 q _ a)
+join_step q st b a s c e k = grind (arith, cut_outside, push-append, some_pieces)
 
 pub pieces-join : (q : Bool) (st : State) (a s : List ℕ) → closes q st a ≡ true
     → pieces 44 q st (a ++ 44 ∷ s) ≡ pieces 44 q st a ++ pieces 44 q Outside s
 unfolding closes pieces
-pieces-join q st [] s h =
-    ap (λ t. pieces 44 q t (44 ∷ s)) (closed_outside st h)
-    ∙ ap (λ t. pieces 44 q t [] ++ pieces 44 q Outside s) (sym (closed_outside st h))
+pieces-join q st [] s h = grind (arith, closed_outside)
 pieces-join q st (b ∷ a) s h = join_step q st b a s _ refl (pieces-join q (state_after q st b) a s h)
 
 trim-space : (s : List ℕ) → trim (32 ∷ s) ≡ trim s
-trim-space s =
-    let e : 1 + prefix_len is_blank s ≡ suc (prefix_len is_blank s) = omega arith in
-    ap (λ n. trim_end (drop n (32 ∷ s))) e
+trim-space s = grind (arith)
 
 members_of_push : (p : Member) (ps : List Member) → members_of (push 32 (p ∷ ps)) ≡ members_of (p ∷ ps)
 unfolding push
-members_of_push (Whole s) ps = ap (λ t. filter is_member (Whole t ∷ map trimmed ps)) (trim-space s)
-members_of_push Malformed ps = refl
+members_of_push p ps = grind (arith, trim-space)
 
 members_of-space : (ps : List Member) → SomePieces ps → members_of (push 32 ps) ≡ members_of ps
 members_of-space ps h = ap (λ x. members_of (push 32 x)) h.is ∙ members_of_push _ _ ∙ ap members_of (sym h.is)
 
 members_of-append : (ps qs : List Member) → members_of (ps ++ qs) ≡ members_of ps ++ members_of qs
-members_of-append ps qs =
-    ap (filter is_member) (map-append trimmed ps qs) ∙ filter-append is_member (map trimmed ps) (map trimmed qs)
+members_of-append ps qs = grind (arith, map-append, filter-append)
 
 -- whatever follows a comma behind a well formed line
 pub members-join : (q : Bool) (a s : List ℕ) → closes q Outside a ≡ true
     → members q (a ++ 44 ∷ s) ≡ members q a ++ members q s
-members-join q a s h =
-    ap members_of (pieces-join q Outside a s h) ∙ members_of-append (pieces 44 q Outside a) (pieces 44 q Outside s)
+members-join q a s h = grind (arith, pieces-join, members_of-append)
 
 members-space : (q : Bool) (s : List ℕ) → members q (32 ∷ s) ≡ members q s
 members-space q s = ap members_of (pieces-push 44 q _ _ 32 s refl refl) ∙ members_of-space _ (some_pieces 44 q _ s)
 
 pub keeps_members_before : KeepsMembersBefore
 unfolding closes
-keeps_members_before q a s h = (
-  closes-join q Outside a (32 ∷ s) h,
-  members-join q a (32 ∷ s) h ∙ ap (λ ms. members q a ++ ms) (members-space q s),
-)
+keeps_members_before q a s h = grind (arith, closes-join, members-join, members-space)
 
 pub join_keeps_members : JoinKeepsMembers
 unfolding closes
 join_keeps_members q [] h = (refl, no_members q)
-join_keeps_members q (line ∷ []) h =
-    ((and_parts (closes q Outside line) true h).0, sym (append-nil (members q line)))
+join_keeps_members q (line ∷ []) h = grind (arith, and_parts, append-nil)
 join_keeps_members q (line ∷ other ∷ lines) h =
     let x = and_parts (closes q Outside line) (list_all (closes q Outside) (other ∷ lines)) h in
     let j = keeps_members_before q line (combined (other ∷ lines)) x.0 in
@@ -114,8 +94,7 @@ Malforms q st s = (pieces 44 q st s ≡ Malformed ∷ []) ⊎ SplitsMalformed q 
 
 malforms_cut : (q : Bool) (st : State) (b : ℕ) (s : List ℕ) → is_cut 44 st b ≡ true → closes q st [] ≡ true
     → Malforms q Outside s → Malforms q st (b ∷ s)
-malforms_cut q st b s e o (inl h) =
-    inr (record { before = []; rest = s; text = ap (λ x. x ∷ s) (cut_is st b e); closed = o; malformed = h })
+malforms_cut q st b s e o (inl h) = grind (arith, cut_is)
 malforms_cut q st b s e o (inr h) =
     inr (record {
       before = b ∷ h.before;
@@ -140,9 +119,7 @@ malforms_push q st b s e (inr h) =
 
 malforms_step : (q : Bool) (st : State) (b : ℕ) (s : List ℕ) (c : Bool) → is_cut 44 st b ≡ c
     → Malforms q (state_after q st b) s → Malforms q st (b ∷ s)
-malforms_step q st b s true e h =
-    malforms_cut q st b s e (closed_at_cut q st b e) (rw (cut_outside 44 q st b refl e) at h)
-malforms_step q st b s false e h = malforms_push q st b s e h
+malforms_step q st b s c e h = grind (arith, malforms_cut, closed_at_cut, cut_outside, malforms_push)
 
 malforms : (q : Bool) (st : State) (s : List ℕ) → closes q st s ≡ false → Malforms q st s
 unfolding closes pieces
@@ -153,15 +130,7 @@ malforms q st (b ∷ s) h = malforms_step q st b s (is_cut 44 st b) refl (malfor
 
 ends_malformed : (q : Bool) (s : List ℕ) → Malforms q Outside s → EndsMalformed q s
 unfolding closes
-ends_malformed q s (inl h) =
-    record {
-      before = [];
-      rest = s;
-      text = refl;
-      well_formed = refl;
-      malformed = h;
-      members = ap members_of h ∙ ap (λ ms. ms ++ Malformed ∷ []) (sym (no_members q));
-    }
+ends_malformed q s (inl h) = grind (arith, no_members)
 ends_malformed q s (inr h) =
     record {
       before = h.before ++ 44 ∷ [];

@@ -1,8 +1,7 @@
 -- Digits, read with a greatest number.
-use Rattle.std.proofs.Common.{◌≡◌, ℕ, ◌+◌, ◌-◌, ◌*◌, ◌^◌, Bool, true, false, cond, List, [], ◌∷◌, length, Option, Some}
-use Rattle.std.{proofs.Common.{None, refl, sym, ◌∙◌, ap, arith}, proofs.Math.Nat.pow-suc, specs.Prelude.{◌&&◌, min}}
-use Rattle.std.{specs.Prelude.option_and_then, specs.Char.is_ascii_digit, specs.Str.all_ascii_digits}
-use Rattle.headers_syntax.specs.Number.{decimal_value}
+use Rattle.std.proofs.Common.{◌≡◌, ℕ, ◌+◌, ◌-◌, ◌*◌, ◌^◌, Bool, cond, List, [], ◌∷◌, length, Option, Some, None, ◌∙◌}
+use Rattle.std.{proofs.{Common.{ap, arith}, Math.Nat.pow-suc}, specs.Prelude.{◌&&◌, min, option_and_then}}
+use Rattle.{std.specs.{Char.is_ascii_digit, Str.all_ascii_digits}, headers_syntax.specs.Number.decimal_value}
 use Rattle.rfc_fields.specs.Numbers.{with_digit, number_within}
 
 -- the number once the rest of the digits is read
@@ -22,8 +21,7 @@ digit_step : (g n m b : ℕ) (s : List ℕ) (c : Bool)
     → number_from g (Some m) s ≡ cond (all_ascii_digits s) (Some (min (n * 10 ^ length s + decimal_value s) g)) None
     → option_and_then (λ k. number_from g (Some k) s) (cond c (Some m) None)
     ≡ cond (c && all_ascii_digits s) (Some (min (n * 10 ^ length s + decimal_value s) g)) None
-digit_step g n m b s true h = h
-digit_step g n m b s false h = refl
+digit_step g n m b s c h = grind arith
 
 number_some : (g n m : ℕ) (s : List ℕ) → m ≡ min n g
     → number_from g (Some m) s ≡ cond (all_ascii_digits s) (Some (min (n * 10 ^ length s + decimal_value s) g)) None
@@ -38,21 +36,14 @@ number_some g n m (b ∷ s) e =
 -- the loop reads the number
 pub number_from-none : (g : ℕ) (s : List ℕ) → number_from g None s ≡ number_within g s
 unfolding number_from
-number_from-none g [] = refl
-number_from-none g (b ∷ s) =
-    let d = b - 48 in
-    let zero_more : 0 * 10 + d ≡ d = omega arith in
-    digit_step g _ _ b s _ (number_some g _ _ s refl) ∙ ap
-    (λ k. cond (is_ascii_digit b && all_ascii_digits s) (Some (min (k * 10 ^ length s + decimal_value s) g)) None)
-    zero_more
+number_from-none g s = grind (arith, digit_step, number_some, is_ascii_digit, all_ascii_digits)
 
 -- the loop's fact, carried over an octet and to the end
 pub number_from-next : (g : ℕ) (m r : Option ℕ) (b : ℕ) (left rest : List ℕ) (all : Option ℕ) → left ≡ b ∷ rest
     → r ≡ with_digit g m b → all ≡ number_from g m left
     → all ≡ option_and_then (λ n. number_from g (Some n) rest) r
 unfolding number_from
-number_from-next g m r b left rest all e d a =
-    a ∙ ap (number_from g m) e ∙ ap (option_and_then (λ n. number_from g (Some n) rest)) (sym d)
+number_from-next g m r b left rest all e d a = grind (arith, option_and_then)
 
 pub number_from-end : (g : ℕ) (m : Option ℕ) (left : List ℕ) (all : Option ℕ) → left ≡ [] → all ≡ number_from g m left
     → all ≡ m

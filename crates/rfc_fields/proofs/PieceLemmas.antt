@@ -1,11 +1,10 @@
 -- Pieces: that there is one, and which of them are whole.
-use Rattle.std.proofs.Common.{◌≡◌, ℕ, Bool, true, false, not, cond, List, [], ◌∷◌, length, refl, sym, ◌∙◌, ap}
-use Rattle.std.{proofs.lemmas.Bool.{and_parts, eqb-true}, specs.Prelude.{◌&&◌, ◌==◌}, specs.List.list_all}
-use Rattle.headers_syntax.specs.Text.{trim}
-use Rattle.rfc_fields.{specs.Grammar.comma, specs.Scan.Member.{Whole, Malformed}, specs.declared.scan.State.State}
-use Rattle.rfc_fields.specs.Scan.{Member, state_after, is_cut, closes, last_member, with_byte, push, pieces}
-use Rattle.rfc_fields.{specs.Members.{is_whole, members_of, members}, specs.declared.scan.State.TheVariants.Outside}
-use Rattle.rfc_fields.{specs.declared.scan.State.TheVariants.{Inside, Escaped}, proofs.GrammarLemmas.false_true}
+use Rattle.std.proofs.Common.{arith, ◌≡◌, ℕ, Bool, true, false, not, cond, List, [], ◌∷◌, length, refl, sym, ◌∙◌, ap}
+use Rattle.std.{proofs.lemmas.Bool.{and_parts, eqb-true}, specs.{Prelude.{◌&&◌, ◌==◌}, List.list_all}}
+use Rattle.{headers_syntax.specs.Text.trim, rfc_fields.specs.{Grammar.comma, Scan.{Member, state_after, is_cut}}}
+use Rattle.rfc_fields.specs.Scan.{closes, last_member, with_byte, push, pieces, Member.{Whole, Malformed}}
+use Rattle.rfc_fields.specs.{declared.scan.State.{State, TheVariants.Outside}, Members.{is_whole, members_of, members}}
+use Rattle.rfc_fields.proofs.GrammarLemmas.{false_true}
 
 -- some pieces, of which there's one at least
 pub record SomePieces (ps : List Member) : Type 0 where
@@ -18,21 +17,16 @@ unfolding push
 some_push b ps h = record { head = with_byte b h.head; tail = h.tail; is = ap (push b) h.is }
 
 some_step : (c : Bool) (x y : List Member) → SomePieces x → SomePieces y → SomePieces (cond c x y)
-some_step true x y h k = h
-some_step false x y h k = k
+some_step c x y h k = grind arith
 
 pub some_pieces : (sep : ℕ) (q : Bool) (st : State) (s : List ℕ) → SomePieces (pieces sep q st s)
 unfolding pieces
 some_pieces sep q st [] = record { head = last_member st; tail = []; is = refl }
-some_pieces sep q st (b ∷ s) = some_step _ _ _
-    (record { head = Whole []; tail = pieces sep q Outside s; is = refl })
-    (some_push b _ (some_pieces sep q (state_after q st b) s))
+some_pieces sep q st (b ∷ s) = grind (arith, some_step, some_push, some_pieces sep q (state_after q st b) s)
 
 pub whole_push : (b : ℕ) (ps : List Member) → list_all is_whole (push b ps) ≡ list_all is_whole ps
 unfolding push
-whole_push b [] = refl
-whole_push b (Whole s ∷ ps) = refl
-whole_push b (Malformed ∷ ps) = refl
+whole_push b ps = grind arith
 
 -- blanks and empty members make no difference
 pub whole_members_of : (ps : List Member) → list_all is_whole (members_of ps) ≡ list_all is_whole ps
@@ -48,26 +42,18 @@ whole_members_of (Whole s ∷ ps) = whole_kept (not (length (trim s) == 0)) (tri
 -- behind a separator that cuts, the scan is outside
 pub cut_outside : (sep : ℕ) (q : Bool) (st : State) (b : ℕ) → (sep == 34) ≡ false → is_cut sep st b ≡ true
     → state_after q st b ≡ Outside
-cut_outside sep q Outside b g h =
-    let e : b ≡ sep = eqb-true b sep (and_parts (b == sep) true h).0 in
-    ap (state_after q Outside) e ∙ ap (λ c. cond c Inside Outside) g
-cut_outside sep q Inside b g h = absurd (false_true (and_parts (b == sep) false h).1)
-cut_outside sep q Escaped b g h = absurd (false_true (and_parts (b == sep) false h).1)
+cut_outside sep q st b g h = grind (arith, eqb-true, and_parts, false_true)
 
 whole_last : (q : Bool) (st : State) → list_all is_whole (last_member st ∷ []) ≡ closes q st []
 unfolding closes
-whole_last q Outside = refl
-whole_last q Inside = refl
-whole_last q Escaped = refl
+whole_last q st = grind arith
 
 whole_step : (sep : ℕ) (q : Bool) (st : State) (b : ℕ) (s : List ℕ) (c : Bool) → is_cut sep st b ≡ c
     → (sep == 34) ≡ false
     → list_all is_whole (pieces sep q (state_after q st b) s) ≡ closes q (state_after q st b) s
     → list_all is_whole (cond c (Whole [] ∷ pieces sep q Outside s) (push b (pieces sep q (state_after q st b) s)))
     ≡ closes q (state_after q st b) s
-whole_step sep q st b s true e g h =
-    ap (λ t. list_all is_whole (pieces sep q t s)) (sym (cut_outside sep q st b g e)) ∙ h
-whole_step sep q st b s false e g h = whole_push b (pieces sep q (state_after q st b) s) ∙ h
+whole_step sep q st b s c e g h = grind (arith, cut_outside, whole_push)
 
 -- each piece is whole exactly if each quote has its end
 pub whole_pieces : (sep : ℕ) (q : Bool) (st : State) (s : List ℕ) → (sep == 34) ≡ false
@@ -90,11 +76,9 @@ pub well_formed_by : (s : List ℕ) (initial left : List Member) → initial ≡
 well_formed_by s initial left e same = sym same ∙ ap (list_all is_whole) e ∙ whole_members true s
 
 and_false : (c d : Bool) → c ≡ false → (c && d) ≡ false
-and_false true d e = absurd (false_true (sym e))
-and_false false d e = refl
+and_false c d e = grind (arith, false_true)
 
 pub malformed_by : (s : List ℕ) (initial left : List Member) → initial ≡ members true s
     → list_all is_whole initial ≡ list_all is_whole left → (m : Member) (rest : List Member) → left ≡ m ∷ rest
     → is_whole m ≡ false → false ≡ closes true Outside s
-malformed_by s initial left e same m rest is bad =
-    sym (ap (list_all is_whole) is ∙ and_false _ _ bad) ∙ well_formed_by s initial left e same
+malformed_by s initial left e same m rest is bad = grind (arith, is, and_false, well_formed_by)

@@ -1,11 +1,10 @@
 -- What stands between quotes, and its octets.
 use Rattle.std.proofs.Common.{◌≡◌, ℕ, Bool, true, false, not, cond, List, [], ◌∷◌, Some, None, refl, ◌∙◌, ap}
-use Rattle.std.{proofs.lemmas.Bool.{and_parts, eqb-true}, specs.Prelude.{◌&&◌, ◌==◌}, specs.Option.option_map_or}
-use Rattle.std.specs.List.{flat_map, list_all}
-use Rattle.http_header.specs.Token.{is_value_byte}
-use Rattle.rfc_fields.{specs.Grammar.{Octet, is_octet, octet_text}, specs.Grammar.Octet.{Plain, Pair}}
-use Rattle.rfc_fields.{specs.Laws.{QuotedTextsParse, QuotedTextsAreOctets}, specs.Values.{escape_after, is_quoted_text}}
-use Rattle.rfc_fields.{specs.Values.{is_qdtext, octets_from}, proofs.GrammarLemmas.{false_true, not_true}}
+use Rattle.std.{proofs.lemmas.Bool.{and_parts, eqb-true}, specs.{Prelude.{◌&&◌, ◌==◌}, Option.option_map_or}}
+use Rattle.{std.specs.List.{flat_map, list_all}, http_header.specs.Token.is_value_byte, rfc_fields.specs.Grammar.Octet}
+use Rattle.rfc_fields.specs.{Grammar.{is_octet, octet_text, Octet.{Plain, Pair}}, Laws.QuotedTextsParse}
+use Rattle.rfc_fields.specs.{Laws.QuotedTextsAreOctets, Values.{is_quoted_text, is_qdtext, octets_from}}
+use Rattle.rfc_fields.proofs.GrammarLemmas.{false_true, not_true}
 
 octets-plain : (b : ℕ) (s : List ℕ) → (b == 92) ≡ false → octets_from false (b ∷ s) ≡ b ∷ octets_from false s
 unfolding octets_from

@@ -1,12 +1,10 @@
 -- A well formed text is a list by the grammar.
-use Rattle.std.proofs.Common.{◌≡◌, ℕ, Bool, true, false, not, cond, List, [], ◌∷◌, ◌++◌, refl, sym, ◌∙◌, ap}
-use Rattle.std.{proofs.lemmas.Bool.{and_parts, eqb-true}, proofs.lemmas.List.append_assoc, specs.Prelude.{◌&&◌, ◌==◌}}
-use Rattle.std.specs.List.{flat_map, list_all}
-use Rattle.http_header.specs.Token.{is_value_byte}
-use Rattle.rfc_fields.specs.Grammar.{Octet, Part, Element, is_octet, octet_text, is_part, part_text, is_element}
-use Rattle.rfc_fields.{specs.Grammar.{element_text, list_text, IsList}, specs.Grammar.Octet.{Plain, Pair}}
-use Rattle.rfc_fields.{specs.Grammar.Part.{Byte, Quoted}, specs.Scan.{state_after, closes}, specs.Laws.HasAReading}
-use Rattle.rfc_fields.{specs.declared.scan.State.State, specs.declared.scan.State.TheVariants.{Outside, Inside}}
+use Rattle.std.proofs.Common.{arith, ◌≡◌, ℕ, Bool, true, false, not, cond, List, [], ◌∷◌, ◌++◌, refl, sym, ◌∙◌, ap}
+use Rattle.std.{proofs.lemmas.{Bool.{and_parts, eqb-true}, List.append_assoc}, specs.Prelude.{◌&&◌, ◌==◌}}
+use Rattle.{std.specs.List.{flat_map, list_all}, http_header.specs.Token.is_value_byte, rfc_fields.specs.Grammar.Octet}
+use Rattle.rfc_fields.specs.Grammar.{Part, Element, is_octet, octet_text, is_part, part_text, is_element, element_text}
+use Rattle.rfc_fields.specs.{Grammar.{list_text, IsList, Octet.{Plain, Pair}, Part.{Byte, Quoted}}, Scan.state_after}
+use Rattle.rfc_fields.specs.{Scan.closes, Laws.HasAReading, declared.scan.State.{State, TheVariants.{Outside, Inside}}}
 use Rattle.rfc_fields.{specs.declared.scan.State.TheVariants.Escaped, proofs.GrammarLemmas.false_true}
 
 -- s is the rest of what stands between two quotes, and then of a list
@@ -109,16 +107,11 @@ inside_byte sep p b s v q k r =
 
 outside_case : (sep : ℕ) (p : Bool) (b : ℕ) (s : List ℕ) (q k : Bool) → (b == 34) ≡ q → (b == sep) ≡ k
     → is_value_byte b ≡ true → Reading sep p (cond q Inside Outside) s → IsList sep p (b ∷ s)
-outside_case sep p b s true k e f v r = outside_quote sep p b s (eqb-true b 34 e) r
-outside_case sep p b s false true e f v r = outside_separator sep p b s (eqb-true b sep f) r
-outside_case sep p b s false false e f v r = outside_byte sep p b s v e f r
+outside_case sep p b s q k e f v r = grind (arith, outside_quote, eqb-true, outside_separator, outside_byte)
 
 inside_case : (sep : ℕ) (p : Bool) (b : ℕ) (s : List ℕ) (q k : Bool) → (b == 34) ≡ q → (p && b == 92) ≡ k
     → is_value_byte b ≡ true → Reading sep p (cond q Outside (cond k Escaped Inside)) s → EndsQuoted sep p (b ∷ s)
-inside_case sep p b s true k e f v r = inside_quote sep p b s (eqb-true b 34 e) r
-inside_case sep p b s false true e f v r =
-    let x = and_parts p (b == 92) f in inside_backslash sep p b s x.0 (eqb-true b 92 x.1) r
-inside_case sep p b s false false e f v r = inside_byte sep p b s v e f r
+inside_case sep p b s q k e f v r = grind (arith, inside_quote, eqb-true, and_parts, inside_backslash, inside_byte)
 
 pub reading : (sep : ℕ) (p : Bool) (st : State) (s : List ℕ) → list_all is_value_byte s ≡ true → closes p st s ≡ true
     → Reading sep p st s

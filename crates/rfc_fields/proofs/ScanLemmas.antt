@@ -1,40 +1,29 @@
 -- The steps of the loop over a text, and what the end of its first element makes of its pieces.
 use Rattle.std.proofs.Common.{◌≡◌, ℕ, zero, suc, ◌+◌, ◌<◌, ◌≤◌, Bool, true, false, cond, List, [], ◌∷◌, length, get_or}
 use Rattle.std.proofs.Common.{take, drop, Some, None, refl, sym, ◌∙◌, ap, subst, add-one, arith}
-use Rattle.std.proofs.{lemmas.Bool.false_from_ne_true, lemmas.Bool.or_parts, lemmas.List.drop_all, Math.Seq.drop-cons}
-use Rattle.std.specs.Prelude.{◌&&◌, ◌==◌}
-use Rattle.memchr.specs.Find.{IsFirstByte, is_byte2}
-use Rattle.rfc_fields.specs.Scan.{state_after, is_cut, end_of, end_from, push, pieces, FindsEnd}
-use Rattle.rfc_fields.specs.{Scan.Member.Whole, Scan.Member.Malformed, declared.scan.State.State, declared.scan.End.End}
-use Rattle.rfc_fields.specs.declared.scan.State.TheVariants.{Outside, Inside, Escaped}
-use Rattle.rfc_fields.specs.declared.scan.End.TheVariants.{Cut, Closed, Open}
+use Rattle.std.proofs.{lemmas.{Bool.{false_from_ne_true, or_parts}, List.drop_all}, Math.Seq.drop-cons}
+use Rattle.{std.specs.Prelude.{◌&&◌, ◌==◌}, memchr.specs.Find.{IsFirstByte, is_byte2}}
+use Rattle.rfc_fields.specs.Scan.{state_after, is_cut, end_of, end_from, push, pieces, FindsEnd, Member.Whole}
+use Rattle.rfc_fields.specs.{Scan.Member.Malformed, declared.scan.State.{State, TheVariants.{Outside, Inside}}}
+use Rattle.rfc_fields.specs.declared.scan.End.{End, TheVariants.{Cut, Closed, Open}}
 
 pub end_from-step : (sep : ℕ) (q : Bool) (st : State) (i : ℕ) (s : List ℕ) → i < length s
     → end_from sep q st i (drop i s)
     ≡ cond (is_cut sep st (get_or s i 0)) (Cut i) (end_from sep q (state_after q st (get_or s i 0)) (i + 1)
     (drop (i + 1) s))
 unfolding end_from
-end_from-step sep q st i s h =
-    ap (end_from sep q st i) (drop-cons s i 0 h)
-    ∙ ap (λ n. cond (is_cut sep st (get_or s i 0)) (Cut i) (end_from sep q (state_after q st (get_or s i 0)) (i + 1)
-    (drop n s)))
-    (sym (add-one i))
+end_from-step sep q st i s h = grind (arith, drop-cons, add-one)
 
 -- the loop's fact, carried over a byte and to the end
 pub end_from-next : (sep : ℕ) (q : Bool) (st st' : State) (i : ℕ) (s : List ℕ) (all : End) → i < length s
     → is_cut sep st (get_or s i 0) ≡ false → st' ≡ state_after q st (get_or s i 0)
     → all ≡ end_from sep q st i (drop i s)
     → all ≡ end_from sep q st' (i + 1) (drop (i + 1) s)
-end_from-next sep q st st' i s all h e n a =
-    a ∙ end_from-step sep q st i s h
-    ∙ ap (λ v. cond v (Cut i) (end_from sep q (state_after q st (get_or s i 0)) (i + 1) (drop (i + 1) s))) e
-    ∙ ap (λ v. end_from sep q v (i + 1) (drop (i + 1) s)) (sym n)
+end_from-next sep q st st' i s all h e n a = grind (arith, end_from-step)
 
 pub end_from-here : (sep : ℕ) (q : Bool) (st : State) (i : ℕ) (s : List ℕ) (all : End) → i < length s
     → is_cut sep st (get_or s i 0) ≡ true → all ≡ end_from sep q st i (drop i s) → all ≡ Cut i
-end_from-here sep q st i s all h e a =
-    a ∙ end_from-step sep q st i s h
-    ∙ ap (λ v. cond v (Cut i) (end_from sep q (state_after q st (get_or s i 0)) (i + 1) (drop (i + 1) s))) e
+end_from-here sep q st i s all h e a = grind (arith, end_from-step)
 
 pub end_from-end : (sep : ℕ) (q : Bool) (st : State) (i : ℕ) (s : List ℕ) (all : End) → length s ≤ i
     → all ≡ end_from sep q st i (drop i s) → all ≡ end_of st
@@ -49,17 +38,12 @@ pieces-cons sep q st b s = refl
 -- a byte that doesn't cut is one of the first piece
 pub pieces-push : (sep : ℕ) (q : Bool) (st st' : State) (b : ℕ) (s : List ℕ) → is_cut sep st b ≡ false
     → state_after q st b ≡ st' → pieces sep q st (b ∷ s) ≡ push b (pieces sep q st' s)
-pieces-push sep q st st' b s e n =
-    pieces-cons sep q st b s
-    ∙ ap (λ c. cond c (Whole [] ∷ pieces sep q Outside s) (push b (pieces sep q (state_after q st b) s))) e
-    ∙ ap (λ t. push b (pieces sep q t s)) n
+pieces-push sep q st st' b s e n = grind (arith, pieces-cons)
 
 -- a byte that cuts ends it
 pub pieces-cut : (sep : ℕ) (q : Bool) (st : State) (b : ℕ) (s : List ℕ) → is_cut sep st b ≡ true
     → pieces sep q st (b ∷ s) ≡ Whole [] ∷ pieces sep q Outside s
-pieces-cut sep q st b s e =
-    pieces-cons sep q st b s
-    ∙ ap (λ c. cond c (Whole [] ∷ pieces sep q Outside s) (push b (pieces sep q (state_after q st b) s))) e
+pieces-cut sep q st b s e = grind (arith, pieces-cons)
 
 -- the cut is k places after place i, and splits the pieces
 pub record Splits (sep : ℕ) (q : Bool) (st : State) (i : ℕ) (s : List ℕ) (n : ℕ) : Type 0 where
@@ -75,9 +59,7 @@ Finds sep q st i s Open = pieces sep q st s ≡ Malformed ∷ []
 
 finds_end_of : (sep : ℕ) (q : Bool) (st : State) (i : ℕ) → Finds sep q st i [] (end_of st)
 unfolding pieces
-finds_end_of sep q Outside i = refl
-finds_end_of sep q Inside i = refl
-finds_end_of sep q Escaped i = refl
+finds_end_of sep q st i = grind arith
 
 finds_later : (sep : ℕ) (q : Bool) (st : State) (i b : ℕ) (s : List ℕ) (r : End) → is_cut sep st b ≡ false
     → Finds sep q (state_after q st b) (i + 1) s r → Finds sep q st i (b ∷ s) r
@@ -95,9 +77,7 @@ finds_later sep q st i b s (Cut n) e h =
 finds_step : (sep : ℕ) (q : Bool) (st : State) (i b : ℕ) (s : List ℕ) (c : Bool) → is_cut sep st b ≡ c
     → Finds sep q (state_after q st b) (i + 1) s (end_from sep q (state_after q st b) (i + 1) s)
     → Finds sep q st i (b ∷ s) (cond c (Cut i) (end_from sep q (state_after q st b) (i + 1) s))
-finds_step sep q st i b s true e h =
-    record { k = 0; at = omega arith; within = omega arith; split = pieces-cut sep q st b s e }
-finds_step sep q st i b s false e h = finds_later sep q st i b s (end_from sep q (state_after q st b) (i + 1) s) e h
+finds_step sep q st i b s c e h = grind (arith, pieces-cut, finds_later)
 
 finds : (sep : ℕ) (q : Bool) (st : State) (i : ℕ) (s : List ℕ) → Finds sep q st i s (end_from sep q st i s)
 unfolding end_from
@@ -105,16 +85,7 @@ finds sep q st i [] = finds_end_of sep q st i
 finds sep q st i (b ∷ s) = finds_step sep q st i b s (is_cut sep st b) refl (finds sep q (state_after q st b) (i + 1) s)
 
 from_finds : (sep : ℕ) (q : Bool) (s : List ℕ) (r : End) → Finds sep q Outside 0 s r → FindsEnd sep q s r
-from_finds sep q s Closed h = h
-from_finds sep q s Open h = h
-from_finds sep q s (Cut n) h =
-    let same : h.k ≡ n = omega (arith, h.at) in
-    let e : suc h.k ≡ n + 1 = omega (arith, h.at) in
-    record {
-      within = omega (arith, h.within, h.at);
-      split = h.split ∙ ap (λ m. Whole (take m s) ∷ pieces sep q Outside (drop (suc h.k) s)) same
-          ∙ ap (λ m. Whole (take n s) ∷ pieces sep q Outside (drop m s)) e;
-    }
+from_finds sep q s r h = grind arith
 
 -- over bytes that are neither a quote nor the separator, the scan stays outside
 skipped : (sep : ℕ) (q : Bool) (i k : ℕ) (s : List ℕ) → k ≤ length s

@@ -1,10 +1,9 @@
 -- Digits of a weight, and the parts of a text.
 use Rattle.std.proofs.Common.{◌≡◌, ℕ, suc, ◌+◌, ◌-◌, ◌*◌, ◌^◌, ◌<◌, ◌≤◌, Bool, true, false, cond, List, [], ◌∷◌, length}
-use Rattle.std.{proofs.Common.{Some, None, refl, sym, ◌∙◌, ap, arith, option_map}, proofs.Math.Nat.pow-suc}
-use Rattle.std.{proofs.Math.Nat.mul-le-mul_left, proofs.lemmas.Bool.{and_parts, leb-true, le-leb}, specs.Prelude.◌&&◌}
-use Rattle.std.{specs.Prelude.{min, nat_le}, specs.Char.is_ascii_digit, specs.Str.all_ascii_digits}
-use Rattle.headers_syntax.specs.Number.{decimal_value}
-use Rattle.rfc_fields.{specs.Numbers.number_within, specs.Weights.thousandths}
+use Rattle.std.proofs.{Common.{Some, None, refl, sym, ◌∙◌, ap, arith, option_map}, Math.Nat.{pow-suc, mul-le-mul_left}}
+use Rattle.std.{proofs.lemmas.Bool.{and_parts, leb-true, le-leb}, specs.Prelude.{◌&&◌, min, nat_le}}
+use Rattle.{std.specs.{Char.is_ascii_digit, Str.all_ascii_digits}, headers_syntax.specs.Number.decimal_value}
+use Rattle.rfc_fields.specs.{Numbers.number_within, Weights.thousandths}
 
 -- what k digits write is below 10 ^ k
 below : (s : List ℕ) → all_ascii_digits s ≡ true → decimal_value s < 10 ^ length s

@@ -1,46 +1,31 @@
 -- A whole member is well formed by itself.
 use Rattle.std.proofs.Common.{◌≡◌, ℕ, zero, suc, ◌+◌, ◌-◌, ◌≤◌, Bool, true, false, not, cond, List, [], ◌∷◌, ◌++◌}
 use Rattle.std.proofs.Common.{length, get_or, take, drop, refl, sym, ◌∙◌, ap, subst, arith, inl, inr}
-use Rattle.std.proofs.{Math.Seq.take-suc, lemmas.List.take_all}
-use Rattle.std.proofs.lemmas.Bool.{and_parts, cases_Bool, eqb-true, or_cases}
-use Rattle.std.proofs.lemmas.List.Sums.{suffix_len-take_yes, suffix_len-take_no}
-use Rattle.std.specs.{Prelude.◌&&◌, Prelude.◌==◌, List.list_all, List.prefix_len, List.suffix_len}
-use Rattle.headers_syntax.specs.Text.{trim, trim_start, is_blank}
-use Rattle.rfc_fields.specs.{Grammar.comma, Scan.Member.Whole, Scan.Member.Malformed, Members.members_of}
-use Rattle.rfc_fields.specs.{Members.closes_member, Laws.PartsAreWhole, Laws.WholeMembersAreWellFormed}
-use Rattle.rfc_fields.specs.{declared.scan.State.State}
-use Rattle.rfc_fields.specs.Scan.{Member, is_outside, state_after, is_cut, closes, last_member, push, pieces}
+use Rattle.std.proofs.{Math.Seq.take-suc, lemmas.List.{take_all, Sums.{suffix_len-take_yes, suffix_len-take_no}}}
+use Rattle.std.{proofs.lemmas.Bool.{and_parts, cases_Bool, eqb-true, or_cases}, specs.Prelude.{◌&&◌, ◌==◌}}
+use Rattle.{std.specs.List.{list_all, prefix_len, suffix_len}, headers_syntax.specs.Text.{trim, trim_start, is_blank}}
+use Rattle.rfc_fields.specs.{Grammar.comma, Scan.{Member, is_outside, state_after, is_cut, closes, last_member, push}}
+use Rattle.rfc_fields.specs.{Scan.{pieces, Member.{Whole, Malformed}}, Members.{members_of, closes_member}}
+use Rattle.rfc_fields.specs.{Laws.{PartsAreWhole, WholeMembersAreWellFormed}, declared.scan.State.State}
 use Rattle.rfc_fields.specs.declared.scan.State.TheVariants.{Outside, Inside, Escaped}
 use Rattle.rfc_fields.proofs.{PieceLemmas.whole_pieces, GrammarLemmas.false_true}
 
 -- a blank leaves the state as it is, but behind a backslash
 blank_outside : (q : Bool) (b : ℕ) → is_blank b ≡ true → state_after q Outside b ≡ Outside
-blank_outside q b h =
-    elim (or_cases (b == 9) (b == 32) h) [
-      | inl tab ↦ ap (state_after q Outside) (eqb-true b 9 tab)
-      | inr space ↦ ap (state_after q Outside) (eqb-true b 32 space)
-    ]
+blank_outside q b h = grind (arith, or_cases, eqb-true)
 
 inside_step : (q : Bool) → cond (q && false) Escaped Inside ≡ Inside
-inside_step true = refl
-inside_step false = refl
+inside_step q = grind arith
 
 blank_inside : (q : Bool) (b : ℕ) → is_blank b ≡ true → state_after q Inside b ≡ Inside
-blank_inside q b h =
-    elim (or_cases (b == 9) (b == 32) h) [
-      | inl tab ↦ ap (state_after q Inside) (eqb-true b 9 tab) ∙ inside_step q
-      | inr space ↦ ap (state_after q Inside) (eqb-true b 32 space) ∙ inside_step q
-    ]
+blank_inside q b h = grind (arith, or_cases, eqb-true, inside_step)
 
 -- blanks at the start make no difference
 leading_case : (q : Bool) (b : ℕ) (s : List ℕ) (c : Bool) → is_blank b ≡ c
     → closes q Outside (drop (prefix_len is_blank s) s) ≡ closes q Outside s
     → closes q Outside (drop (cond c (1 + prefix_len is_blank s) 0) (b ∷ s)) ≡ closes q Outside (b ∷ s)
 unfolding closes
-leading_case q b s true e h =
-    let n : 1 + prefix_len is_blank s ≡ suc (prefix_len is_blank s) = omega arith in
-    ap (λ k. closes q Outside (drop k (b ∷ s))) n ∙ h ∙ ap (λ t. closes q t s) (sym (blank_outside q b e))
-leading_case q b s false e h = refl
+leading_case q b s c e h = grind (arith, blank_outside)
 
 leading : (q : Bool) (s : List ℕ) → closes q Outside (trim_start s) ≡ closes q Outside s
 leading q [] = refl
@@ -49,9 +34,7 @@ leading q (b ∷ s) = leading_case q b s (is_blank b) refl (leading q s)
 -- and one at the end of a well formed text is behind its last quote
 strip_one : (q : Bool) (st : State) (b : ℕ) → is_blank b ≡ true → closes q st (b ∷ []) ≡ true → closes q st [] ≡ true
 unfolding closes
-strip_one q Outside b h e = refl
-strip_one q Inside b h e = absurd (false_true (sym (ap is_outside (blank_inside q b h)) ∙ e))
-strip_one q Escaped b h e = absurd (false_true e)
+strip_one q st b h e = grind (arith, false_true, blank_inside)
 
 strip_last : (q : Bool) (st : State) (s : List ℕ) (b : ℕ) → is_blank b ≡ true → closes q st (s ++ b ∷ []) ≡ true
     → closes q st s ≡ true
@@ -61,9 +44,7 @@ strip_last q st (x ∷ s) b h e = strip_last q (state_after q st x) s b h e
 
 trailing : (q : Bool) (st : State) (s : List ℕ) (n : ℕ) → n ≤ length s → closes q st (take n s) ≡ true
     → closes q st (take (n - suffix_len is_blank (take n s)) s) ≡ true
-trailing q st s zero h e =
-    let same : 0 ≡ 0 - suffix_len is_blank (take 0 s) = omega arith in
-    subst (λ (k : ℕ). closes q st (take k s) ≡ true) same e
+trailing q st s zero h e = grind (arith)
 trailing q st s (suc m) h e =
     elim (cases_Bool (is_blank (get_or s m 0))) [
       | inl blank ↦
@@ -101,16 +82,12 @@ PiecesClose q st (m ∷ ms) = PieceCloses q st m × PiecesClose q Outside ms
 
 last_closes : (q : Bool) (st : State) → PieceCloses q st (last_member st)
 unfolding closes
-last_closes q Outside = refl
-last_closes q Inside = tt
-last_closes q Escaped = tt
+last_closes q st = grind arith
 
 push_closes : (q : Bool) (st : State) (b : ℕ) (ps : List Member) → PiecesClose q (state_after q st b) ps
     → PiecesClose q st (push b ps)
 unfolding push closes
-push_closes q st b [] h = tt
-push_closes q st b (Whole s ∷ ps) h = h
-push_closes q st b (Malformed ∷ ps) h = h
+push_closes q st b ps h = grind arith
 
 closed_at_cut : (sep : ℕ) (q : Bool) (st : State) (b : ℕ) → is_cut sep st b ≡ true → closes q st [] ≡ true
 unfolding closes
@@ -120,8 +97,7 @@ step_closes : (sep : ℕ) (q : Bool) (st : State) (b : ℕ) (s : List ℕ) (c : 
     → PiecesClose q Outside (pieces sep q Outside s) → PiecesClose q (state_after q st b)
     (pieces sep q (state_after q st b) s)
     → PiecesClose q st (cond c (Whole [] ∷ pieces sep q Outside s) (push b (pieces sep q (state_after q st b) s)))
-step_closes sep q st b s true e h k = (closed_at_cut sep q st b e, h)
-step_closes sep q st b s false e h k = push_closes q st b (pieces sep q (state_after q st b) s) k
+step_closes sep q st b s c e h k = grind (arith, closed_at_cut, push_closes)
 
 pub pieces_close : (sep : ℕ) (q : Bool) (st : State) (s : List ℕ) → PiecesClose q st (pieces sep q st s)
 unfolding pieces

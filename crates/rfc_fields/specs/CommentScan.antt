@@ -1,35 +1,33 @@
 -- Where a comment ends, byte by byte.
 use Rattle.std.specs.Prelude.{ℕ, zero, suc, Bool, true, false, ◌==◌, List, [], ◌∷◌, Option, Some, None, if◌then◌else◌}
-use Rattle.http_header.specs.Token.{is_value_byte}
-use Rattle.rfc_fields.specs.{Grammar.backslash, declared.comments.Nesting.Nesting, declared.comments.Progress.Progress}
-use Rattle.rfc_fields.specs.Comments.{open_paren, close_paren}
-use Rattle.rfc_fields.specs.declared.comments.Progress.TheVariants.{Within, Closed, Never}
+use Rattle.{http_header.specs.Token.is_value_byte, rfc_fields.specs.Grammar.backslash}
+use Rattle.rfc_fields.specs.{declared.comments.{Nesting.Nesting, Progress.Progress}, Comments.{open_paren, close_paren}}
 
 -- what follows the parenthesis that closes the innermost comment
 abbrev pub closing : ℕ → Progress
-closing zero = Closed
-closing (suc outer) = Within (record { outer = outer; is_escaped = false })
+closing zero = Progress.Closed
+closing (suc outer) = Progress.Within (record { outer = outer; is_escaped = false })
 
 -- what follows a byte outside quoted-pairs
 abbrev pub after_plain : ℕ → ℕ → Progress
 after_plain outer b =
-    if b == backslash then Within (record { outer = outer; is_escaped = true })
-    else (if b == open_paren then Within (record { outer = suc outer; is_escaped = false })
-    else (if b == close_paren then closing outer else Within (record { outer = outer; is_escaped = false })))
+    if b == backslash then Progress.Within (record { outer = outer; is_escaped = true })
+    else (if b == open_paren then Progress.Within (record { outer = suc outer; is_escaped = false })
+    else (if b == close_paren then closing outer else Progress.Within (record { outer = outer; is_escaped = false })))
 
 abbrev pub after_any : ℕ → Bool → ℕ → Progress
-after_any outer true b = Within (record { outer = outer; is_escaped = false })
+after_any outer true b = Progress.Within (record { outer = outer; is_escaped = false })
 after_any outer false b = after_plain outer b
 
 -- what follows a byte of a comment
 abbrev pub after : Nesting → ℕ → Progress
-after n b = if is_value_byte b then after_any n.outer n.is_escaped b else Never
+after n b = if is_value_byte b then after_any n.outer n.is_escaped b else Progress.Never
 
 -- what remains of the next bytes after this progress, where `within` says it for the open comments
 abbrev pub lead : Progress → List ℕ → (Nesting → Option (List ℕ)) → Option (List ℕ)
-lead (Within n) s within = within n
-lead Closed s within = Some s
-lead Never s within = None
+lead (Progress.Within n) s within = within n
+lead Progress.Closed s within = Some s
+lead Progress.Never s within = None
 
 -- what follows the outermost comment that is open, if it ends
 unfoldable pub behind : Nesting → List ℕ → Option (List ℕ)

@@ -1,7 +1,6 @@
 -- RFC 9110, section 5.6.5: comment = "(" *( ctext / quoted-pair / comment ) ")"
 use Rattle.std.specs.Prelude.{◌≡◌, ℕ, Bool, true, ◌&&◌, ◌==◌, not, List, [], ◌∷◌, ◌++◌}
-use Rattle.http_header.specs.Token.{is_value_byte}
-use Rattle.rfc_fields.specs.Grammar.{backslash}
+use Rattle.{http_header.specs.Token.is_value_byte, rfc_fields.specs.Grammar.backslash}
 
 -- b'('
 abbrev pub open_paren : ℕ

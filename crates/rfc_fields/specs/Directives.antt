@@ -1,13 +1,11 @@
 -- Directives and parameters: a name, and perhaps a value (RFC 9111, section 5.2; RFC 9110, section 5.6.6).
 use Rattle.std.specs.Prelude.{◌≡◌, ℕ, ◌-◌, Bool, true, false, ◌&&◌, List, [], ◌∷◌, ◌++◌, length, take, drop, map, find}
-use Rattle.std.{specs.Prelude.{Option, None, Some, option_map, bytes_eq, if◌then◌else◌}, specs.List.list_all}
-use Rattle.std.specs.List.{prefix_len}
-use Rattle.http_header.specs.Token.{is_token_byte}
-use Rattle.headers_syntax.{specs.AsciiCase.same_name, specs.Lines.Line, specs.Text.trim}
-use Rattle.rfc_fields.{specs.Grammar.semicolon, specs.Scan.{Member, pieces}, specs.Scan.Member.{Whole, Malformed}}
-use Rattle.rfc_fields.{specs.Members.{field_members, members_of}, specs.Values.ValueParts.{TokenText, QuotedText}}
-use Rattle.rfc_fields.{specs.declared.directives.Directive.Directive, specs.declared.scan.State.TheVariants.Outside}
-use Rattle.rfc_fields.specs.Values.{ValueParts, is_token, is_value, value_text, value_parts}
+use Rattle.std.specs.{Prelude.{Option, None, Some, option_map, bytes_eq, if◌then◌else◌}, List.{list_all, prefix_len}}
+use Rattle.{http_header.specs.Token.is_token_byte, headers_syntax.specs.{AsciiCase.same_name, Lines.Line, Text.trim}}
+use Rattle.rfc_fields.specs.{Grammar.semicolon, Scan.{Member, pieces, Member.{Whole, Malformed}}, Members.field_members}
+use Rattle.rfc_fields.specs.{Members.members_of, Values.{ValueParts, is_token, is_value, value_text, value_parts}}
+use Rattle.rfc_fields.specs.{Values.ValueParts.{TokenText, QuotedText}, declared.directives.Directive.Directive}
+use Rattle.rfc_fields.specs.declared.scan.State.TheVariants.{Outside}
 
 -- b'='
 abbrev pub equals : ℕ

@@ -1,13 +1,12 @@
 -- Theorems about the definitions alone.
-use Rattle.std.{specs.Prelude.{◌≡◌, ℕ, Bool, true, false, List, [], ◌∷◌, ◌++◌, map}, specs.List.{flat_map, list_all}}
-use Rattle.http_header.specs.Token.{is_value_byte}
-use Rattle.headers_syntax.specs.Lines.{Line}
-use Rattle.rfc_fields.specs.Grammar.{Octet, is_octet, octet_text, octet_value, Element, is_element, element_text}
-use Rattle.rfc_fields.{specs.Grammar.{list_text, IsList, IsSeparator, comma, semicolon, space}, specs.Scan.closes}
-use Rattle.rfc_fields.{specs.Scan.pieces, specs.Scan.Member.{Whole, Malformed}, specs.Values.is_quoted_text}
-use Rattle.rfc_fields.{specs.Values.octets_from, specs.declared.scan.State.TheVariants.Outside, specs.Members.members}
-use Rattle.rfc_fields.specs.Members.{field_members, closes_member, combined, is_whole, is_well_formed}
-use Rattle.rfc_fields.specs.Directives.{DirectiveParts, IsDirective, AreDirectives, IsClearOf}
+use Rattle.std.specs.{Prelude.{◌≡◌, ℕ, Bool, true, false, List, [], ◌∷◌, ◌++◌, map}, List.{flat_map, list_all}}
+use Rattle.{http_header.specs.Token.is_value_byte, headers_syntax.specs.Lines.Line, rfc_fields.specs.Grammar.Octet}
+use Rattle.rfc_fields.specs.Grammar.{is_octet, octet_text, octet_value, Element, is_element, element_text, list_text}
+use Rattle.rfc_fields.specs.{Grammar.{IsList, IsSeparator, comma, semicolon, space}, Scan.{closes, pieces}}
+use Rattle.rfc_fields.specs.{Scan.Member.{Whole, Malformed}, Values.{is_quoted_text, octets_from}}
+use Rattle.rfc_fields.specs.{declared.scan.State.TheVariants.Outside, Members.{members, field_members, closes_member}}
+use Rattle.rfc_fields.specs.{Members.{combined, is_whole, is_well_formed}, Directives.{DirectiveParts, IsDirective}}
+use Rattle.rfc_fields.specs.Directives.{AreDirectives, IsClearOf}
 
 -- A list by the grammar is well formed, and is cut into its elements, whichever they are. So it has no others.
 abbrev pub ParsesOneWay : Type 0

@@ -1,11 +1,9 @@
 -- The members of a field, and the state of an iterator over them as a contract sees it.
 use Rattle.std.specs.Prelude.{ℕ, Bool, true, false, List, [], ◌∷◌, ◌++◌, length, map, filter, not, ◌==◌, Result, Ok}
-use Rattle.std.{specs.Prelude.{Err, if◌then◌else◌}, specs.List.flat_map}
+use Rattle.{std.specs.{Prelude.{Err, if◌then◌else◌}, List.flat_map}, http_header.specs.FieldValue.FieldValue}
+use Rattle.{headers_syntax.specs.{Lines.{Line, lines_of}, Text.trim}, rfc_fields.specs.Grammar.{comma, space}}
+use Rattle.rfc_fields.specs.{Scan.{Member, closes, pieces, Member.{Whole, Malformed}}, declared.scan.State.State}
 use denote.Ref.{Bor}
-use Rattle.http_header.specs.FieldValue.{FieldValue}
-use Rattle.headers_syntax.specs.{Lines.Line, Lines.lines_of, Text.trim}
-use Rattle.rfc_fields.specs.{Grammar.comma, Grammar.space, Scan.Member, Scan.closes, Scan.pieces, Scan.Member.Whole}
-use Rattle.rfc_fields.specs.{Scan.Member.Malformed, declared.scan.State.TheVariants.Outside}
 
 -- the member without the blanks around it
 abbrev pub trimmed : Member → Member
@@ -23,7 +21,7 @@ is_whole Malformed = false
 
 -- each quote of a whole member has its end in it
 abbrev pub closes_member : Bool → Member → Bool
-closes_member pairs (Whole s) = closes pairs Outside s
+closes_member pairs (Whole s) = closes pairs State.Outside s
 closes_member pairs Malformed = true
 
 -- the trimmed pieces that aren't empty (RFC 9110, section 5.6.1)
@@ -32,7 +30,7 @@ members_of ps = filter is_member (map trimmed ps)
 
 -- the members of a field line; if `pairs` is false, of a line of entity tags without quoted-pairs (section 8.8.3)
 abbrev pub members : Bool → Line → List Member
-members pairs line = members_of (pieces comma pairs Outside line)
+members pairs line = members_of (pieces comma pairs State.Outside line)
 
 -- the members of all lines of a field, each line parsed by itself
 abbrev pub field_members : Bool → List Line → List Member
@@ -40,7 +38,7 @@ field_members pairs lines = flat_map (members pairs) lines
 
 -- each quote of the line has its end
 abbrev pub is_well_formed : Line → Bool
-is_well_formed line = closes true Outside line
+is_well_formed line = closes true State.Outside line
 
 -- the lines as one, joined by a comma and a space (section 5.3)
 abbrev pub combined : List Line → Line
@@ -61,7 +59,7 @@ pub record MembersState : Type 0 where
   pub is_done : Bool
 
 abbrev pub pieces_left : MembersState → List Member
-pieces_left s = if s.is_done then [] else pieces s.separator s.pairs Outside s.rest
+pieces_left s = if s.is_done then [] else pieces s.separator s.pairs State.Outside s.rest
 
 abbrev pub members_left : MembersState → List Member
 members_left s = members_of (pieces_left s)

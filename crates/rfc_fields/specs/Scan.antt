@@ -1,9 +1,7 @@
 -- Where the text between two quotes ends, and where a list is cut, byte by byte.
 use Rattle.std.specs.Prelude.{◌≡◌, ℕ, ◌+◌, Bool, true, false, ◌&&◌, ◌==◌, List, [], ◌∷◌, ◌<◌, length, take, drop}
-use Rattle.std.specs.Prelude.{if◌then◌else◌}
-use Rattle.rfc_fields.specs.{Grammar.quote, Grammar.backslash, declared.scan.State.State, declared.scan.End.End}
-use Rattle.rfc_fields.specs.declared.scan.State.TheVariants.{Outside, Inside, Escaped}
-use Rattle.rfc_fields.specs.declared.scan.End.TheVariants.{Cut, Closed, Open}
+use Rattle.{std.specs.Prelude.if◌then◌else◌, rfc_fields.specs.{Grammar.{quote, backslash}, declared.scan.State.State}}
+use Rattle.rfc_fields.specs.declared.scan.{State.TheVariants.{Outside, Inside, Escaped}, End.End}
 
 -- what a list has between two separators: a whole element, or, after its last separator, a text whose last quote has
 -- no end
@@ -54,13 +52,13 @@ pieces separator pairs state (b ∷ s) =
 
 -- how an element ends if its text ends in that state
 abbrev pub end_of : State → End
-end_of state = if is_outside state then Closed else Open
+end_of state = if is_outside state then End.Closed else End.Open
 
 -- where the first element of s ends, if s begins at place i in that state
 unfoldable pub end_from : ℕ → Bool → State → ℕ → List ℕ → End
 end_from separator pairs state i [] = end_of state
 end_from separator pairs state i (b ∷ s) =
-    if is_cut separator state b then Cut i else end_from separator pairs (state_after pairs state b) (i + 1) s
+    if is_cut separator state b then End.Cut i else end_from separator pairs (state_after pairs state b) (i + 1) s
 
 -- the first separator of s that cuts is at place k
 pub record SplitsAt (separator : ℕ) (pairs : Bool) (s : List ℕ) (k : ℕ) : Type 0 where
@@ -69,6 +67,6 @@ pub record SplitsAt (separator : ℕ) (pairs : Bool) (s : List ℕ) (k : ℕ) : 
 
 -- where the first element of s ends
 abbrev pub FindsEnd : ℕ → Bool → List ℕ → End → Type 0
-FindsEnd separator pairs s (Cut k) = SplitsAt separator pairs s k
-FindsEnd separator pairs s Closed = pieces separator pairs Outside s ≡ Whole s ∷ []
-FindsEnd separator pairs s Open = pieces separator pairs Outside s ≡ Malformed ∷ []
+FindsEnd separator pairs s (End.Cut k) = SplitsAt separator pairs s k
+FindsEnd separator pairs s End.Closed = pieces separator pairs Outside s ≡ Whole s ∷ []
+FindsEnd separator pairs s End.Open = pieces separator pairs Outside s ≡ Malformed ∷ []

@@ -1,9 +1,8 @@
 -- Tokens, quoted-strings and what they mean (RFC 9110, sections 5.6.2 and 5.6.4).
 use Rattle.std.specs.Prelude.{◌≡◌, ℕ, Bool, true, false, ◌&&◌, ◌==◌, not, List, [], ◌∷◌, ◌++◌, length, Option, None}
-use Rattle.std.{specs.Prelude.{Some, if◌then◌else◌}, specs.Option.option_map_or, specs.List.list_all}
-use Rattle.http_header.specs.Token.{is_token_byte, is_value_byte}
-use Rattle.rfc_fields.{specs.Grammar.{quote, backslash, is_octet}, specs.Grammar.Octet.Plain}
-use Rattle.rfc_fields.{specs.declared.values.Value.Value, specs.declared.values.Value.TheVariants.{Token, Quoted}}
+use Rattle.std.specs.{Prelude.{Some, if◌then◌else◌}, Option.option_map_or, List.list_all}
+use Rattle.{http_header.specs.Token.{is_token_byte, is_value_byte}, rfc_fields.specs.Grammar.{quote, backslash}}
+use Rattle.rfc_fields.specs.{Grammar.{is_octet, Octet.Plain}, declared.values.Value.Value}
 
 -- token = 1*tchar
 abbrev pub is_token : List ℕ → Bool
@@ -60,8 +59,8 @@ pub record IsValue (text : List ℕ) (v : ValueParts) : Type 0 where
 
 -- the parts of a `Value`
 abbrev pub value_parts : Value → ValueParts
-value_parts (Token s) = TokenText s.now
-value_parts (Quoted s) = QuotedText s.now
+value_parts (Value.Token s) = TokenText s.now
+value_parts (Value.Quoted s) = QuotedText s.now
 
 -- what an iterator over octets has left: a text, and whether its backslashes begin quoted-pairs
 pub record OctetsState : Type 0 where

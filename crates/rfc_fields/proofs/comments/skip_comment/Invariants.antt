@@ -1,5 +1,4 @@
-use Rattle.std.proofs.Common.{◌≡◌, ◌<◌, false, drop}
-use Rattle.rfc_fields.specs.CommentScan.{behind}
+use Rattle.{std.proofs.Common.{◌≡◌, ◌<◌, false, drop}, rfc_fields.specs.CommentScan.behind}
 use Rattle.rfc_fields.proofs.comments.skip_comment.Given as goal
 
 abbrev pub invariant-loop-place : goal.invariant-loop-place

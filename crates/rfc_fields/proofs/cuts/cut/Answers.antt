@@ -1,6 +1,5 @@
 use Rattle.std.proofs.Common.{◌+◌, ◌-◌, List, ℕ, Some, None, ap, arith, drop, length, length-drop, refl, take}
-use Rattle.std.proofs.lemmas.List.{take_all}
-use Rattle.rfc_fields.proofs.CutLemmas.{place_found}
+use Rattle.{std.proofs.lemmas.List.take_all, rfc_fields.proofs.CutLemmas.place_found}
 use Rattle.rfc_fields.proofs.cuts.cut.Goals as goal
 
 pub returns-in-Some : goal.returns-in-Some

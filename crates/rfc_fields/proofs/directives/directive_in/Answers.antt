@@ -1,5 +1,4 @@
-use Rattle.std.proofs.Common.{sym}
-use Rattle.rfc_fields.proofs.DirectiveInLemmas.{directive_in-from, directive_in-none}
+use Rattle.{std.proofs.Common.sym, rfc_fields.proofs.DirectiveInLemmas.{directive_in-from, directive_in-none}}
 use Rattle.rfc_fields.proofs.directives.directive_in.Goals as goal
 
 pub returns-in-Ok : goal.returns-in-Ok

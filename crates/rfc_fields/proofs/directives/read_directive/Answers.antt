@@ -1,5 +1,4 @@
-use Rattle.std.proofs.Common.{sym, ◌∙◌, arith}
-use Rattle.rfc_fields.proofs.DirectiveLemmas.{no_name, argument_at, directive_at}
+use Rattle.{std.proofs.Common.{sym, ◌∙◌, arith}, rfc_fields.proofs.DirectiveLemmas.{no_name, argument_at, directive_at}}
 use Rattle.rfc_fields.proofs.directives.read_directive.Goals as goal
 
 pub returns-then-end-eq0 : goal.returns-then-end-eq0

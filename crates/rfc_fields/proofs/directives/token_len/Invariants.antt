@@ -1,5 +1,4 @@
-use Rattle.std.{proofs.Common.{◌≡◌, ◌+◌, drop}, specs.List.prefix_len}
-use Rattle.http_header.specs.Token.{is_token_byte}
+use Rattle.{std.{proofs.Common.{◌≡◌, ◌+◌, drop}, specs.List.prefix_len}, http_header.specs.Token.is_token_byte}
 use Rattle.rfc_fields.proofs.directives.token_len.Given as goal
 
 abbrev pub invariant-loop-place : goal.invariant-loop-place

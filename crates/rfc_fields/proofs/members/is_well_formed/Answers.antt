@@ -1,6 +1,5 @@
-use Rattle.std.{proofs.Common.{sym, ◌∙◌, ap}, specs.List.list_all}
-use Rattle.rfc_fields.{specs.Members.{is_whole, member_of, members_left}, proofs.PieceLemmas.well_formed_by}
-use Rattle.rfc_fields.proofs.PieceLemmas.{malformed_by}
+use Rattle.{std.{proofs.Common.{sym, ◌∙◌, ap}, specs.List.list_all}, rfc_fields.specs.Members.{is_whole, member_of}}
+use Rattle.rfc_fields.{specs.Members.members_left, proofs.PieceLemmas.{well_formed_by, malformed_by}}
 use Rattle.rfc_fields.proofs.members.is_well_formed.Goals as goal
 
 pub returns-in-Err : goal.returns-in-Err

@@ -1,5 +1,4 @@
-use Rattle.std.{proofs.Common.{◌≡◌, length}, specs.List.list_all}
-use Rattle.rfc_fields.specs.Members.{is_whole, members_left}
+use Rattle.{std.{proofs.Common.{◌≡◌, length}, specs.List.list_all}, rfc_fields.specs.Members.{is_whole, members_left}}
 use Rattle.rfc_fields.proofs.members.is_well_formed.Given as goal
 
 abbrev pub invariant-loop-member : goal.invariant-loop-member

@@ -1,5 +1,4 @@
-use Rattle.std.proofs.Common.{sym, ◌∙◌}
-use Rattle.rfc_fields.proofs.ScanLemmas.{end_from-next, end_from-here, end_from-end}
+use Rattle.{std.proofs.Common.{sym, ◌∙◌}, rfc_fields.proofs.ScanLemmas.{end_from-next, end_from-here, end_from-end}}
 use Rattle.rfc_fields.proofs.scan.end_from.Goals as goal
 
 pub returns-then-is_cut : goal.returns-then-is_cut

@@ -1,5 +1,4 @@
-use Rattle.std.proofs.Common.{◌≡◌, drop}
-use Rattle.rfc_fields.specs.{Scan.end_from, declared.scan.State.TheVariants.Outside}
+use Rattle.{std.proofs.Common.{◌≡◌, drop}, rfc_fields.specs.{Scan.end_from, declared.scan.State.TheVariants.Outside}}
 use Rattle.rfc_fields.proofs.scan.end_from.Given as goal
 
 abbrev pub invariant-loop-place : goal.invariant-loop-place

@@ -1,5 +1,4 @@
-use Rattle.std.proofs.Common.{None, sym}
-use Rattle.rfc_fields.proofs.ValueLemmas.{quoted-next, quoted-end}
+use Rattle.{std.proofs.Common.{None, sym}, rfc_fields.proofs.ValueLemmas.{quoted-next, quoted-end}}
 use Rattle.rfc_fields.proofs.values.is_quoted_text.Goals as goal
 
 pub returns-in-None : goal.returns-in-None

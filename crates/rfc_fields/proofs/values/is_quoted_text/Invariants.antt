@@ -1,5 +1,4 @@
-use Rattle.std.proofs.Common.{◌≡◌, drop, false}
-use Rattle.rfc_fields.specs.Values.{is_quoted_text}
+use Rattle.{std.proofs.Common.{◌≡◌, drop, false}, rfc_fields.specs.Values.is_quoted_text}
 use Rattle.rfc_fields.proofs.values.is_quoted_text.Given as goal
 
 abbrev pub invariant-loop-byte : goal.invariant-loop-byte

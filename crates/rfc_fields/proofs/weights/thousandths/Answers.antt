@@ -1,5 +1,4 @@
-use Rattle.std.proofs.Common.{◌≡◌, ◌*◌, Some, refl, ◌∙◌, ap, option_map, arith}
-use Rattle.rfc_fields.proofs.WeightLemmas.{scaled}
+use Rattle.{std.proofs.Common.{◌≡◌, ◌*◌, Some, refl, ◌∙◌, ap, option_map, arith}, rfc_fields.proofs.WeightLemmas.scaled}
 use Rattle.rfc_fields.proofs.weights.thousandths.Goals as goal
 
 pub returns-in-Some-number_within-clause-value : goal.returns-in-Some-number_within-clause-value

@@ -1,5 +1,4 @@
-use Rattle.std.proofs.Common.{true, ap, ◌∙◌, ◌++◌}
-use Rattle.headers_syntax.specs.Lines.{lines_of}
+use Rattle.{std.proofs.Common.{true, ap, ◌∙◌, ◌++◌}, headers_syntax.specs.Lines.lines_of}
 use Rattle.rfc_fields.{specs.Members.field_members, proofs.PieceLemmas.no_members}
 use Rattle.rfc_fields.proofs.members.FieldMembers.new.Goals as goal
 

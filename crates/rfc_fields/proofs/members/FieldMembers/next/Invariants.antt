@@ -1,5 +1,4 @@
-use Rattle.std.proofs.Common.{◌≡◌, length, []}
-use Rattle.rfc_fields.specs.Members.{FieldState, members_left, field_left}
+use Rattle.{std.proofs.Common.{◌≡◌, length, []}, rfc_fields.specs.Members.{FieldState, members_left, field_left}}
 use Rattle.rfc_fields.proofs.members.FieldMembers.next.Given as goal
 
 abbrev pub invariant-loop-value : goal.invariant-loop-value

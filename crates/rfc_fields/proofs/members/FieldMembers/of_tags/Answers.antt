@@ -1,5 +1,4 @@
-use Rattle.std.proofs.Common.{false, ap, ◌∙◌, ◌++◌}
-use Rattle.headers_syntax.specs.Lines.{lines_of}
+use Rattle.{std.proofs.Common.{false, ap, ◌∙◌, ◌++◌}, headers_syntax.specs.Lines.lines_of}
 use Rattle.rfc_fields.{specs.Members.field_members, proofs.PieceLemmas.no_members}
 use Rattle.rfc_fields.proofs.members.FieldMembers.of_tags.Goals as goal
 

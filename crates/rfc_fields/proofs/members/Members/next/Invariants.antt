@@ -1,5 +1,4 @@
-use Rattle.std.proofs.Common.{◌≡◌, length}
-use Rattle.rfc_fields.specs.Members.{members_left, pieces_left}
+use Rattle.{std.proofs.Common.{◌≡◌, length}, rfc_fields.specs.Members.{members_left, pieces_left}}
 use Rattle.rfc_fields.proofs.members.Members.next.Given as goal
 
 abbrev pub invariant-loop-piece : goal.invariant-loop-piece

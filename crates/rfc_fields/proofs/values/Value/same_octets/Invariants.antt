@@ -1,5 +1,4 @@
-use Rattle.std.proofs.Common.{◌≡◌, ◌↔◌}
-use Rattle.rfc_fields.specs.Values.{octets_left, octets_of, value_parts}
+use Rattle.{std.proofs.Common.{◌≡◌, ◌↔◌}, rfc_fields.specs.Values.{octets_left, octets_of, value_parts}}
 use Rattle.rfc_fields.proofs.values.Value.same_octets.Given as goal
 
 -- the octets are equal exactly if what is left of them is
