@@ -128,7 +128,7 @@ pub extern "C" fn typed_headers_connection_field(
     room: &mut [u8],
     written: &mut usize,
 ) -> u8
-    ensures { Shows (Field name) connection.old.held connection.new.held
+    ensures { Shows (Field name.entry) connection.old.held connection.new.held
         room.old room.new written.old written.new result }
 {
     write_text(alloc, connection, Text::Field(name), room, written)
