@@ -1,12 +1,11 @@
 -- What is before and after the first semicolon of a text.
 use Rattle.std.proofs.Common.{◌≡◌, ◌∙◌, ◌≢◌, ℕ, ◌+◌, ◌≤◌, Bool, true, List, [], ◌∷◌, length, refl, sym, ap, arith, inl}
-use Rattle.std.{proofs.Common.{inr, Option, Some, None}, proofs.lemmas.Bool.cases_Bool, specs.Prelude.{filter, not}}
-use Rattle.std.specs.List.{cons_option}
-use Rattle.rfc_fields.{specs.Directives.HasParameters, specs.Grammar.semicolon, specs.Scan.Member.{Whole, Malformed}}
-use Rattle.rfc_fields.{specs.Members.{is_member, members, members_of, trimmed}, specs.Scan.{Member, is_cut, pieces}}
-use Rattle.rfc_fields.specs.Scan.{push, state_after}
+use Rattle.std.{proofs.{Common.{inr, Option, Some, None}, lemmas.Bool.cases_Bool}, specs.Prelude.{filter, not}}
+use Rattle.{std.specs.List.cons_option, rfc_fields.specs.{Directives.HasParameters, Grammar.semicolon, Scan.Member}}
+use Rattle.rfc_fields.specs.{Scan.{is_cut, pieces, push, state_after, Member.{Whole, Malformed}}, Members.is_member}
+use Rattle.rfc_fields.specs.Members.{members, members_of, trimmed}
 use Rattle.decide_negotiation.specs.Elements.{between_semicolons, first_of, members_after, others_of, own_parameters}
-use Rattle.decide_negotiation.{specs.Elements.value_of, specs.Parameters.{ParameterParts, is_weight, parameter_of}}
+use Rattle.decide_negotiation.specs.{Elements.value_of, Parameters.{ParameterParts, is_weight, parameter_of}}
 use Rattle.decide_negotiation.proofs.ParameterLemmas.{own, read}
 
 pub no_members : members true [] ≡ []
@@ -68,11 +67,7 @@ pieces-length separator pairs (b ∷ s) state =
 
 trimmed-length : (ms : List Member) → length (members_of ms) ≤ length ms
 trimmed-length [] = omega arith
-trimmed-length (m ∷ ms) =
-    elim (cases_Bool (is_member (trimmed m))) [
-      | inl kept ↦ rw kept (omega (arith, trimmed-length ms))
-      | inr empty ↦ rw empty (omega (arith, trimmed-length ms))
-    ]
+trimmed-length (m ∷ ms) = grind (arith, cases_Bool, trimmed-length ms)
 
 others-length : (ms : List Member) → length (others_of ms) + 1 ≤ length ms + 1
 others-length [] = omega arith
@@ -95,10 +90,4 @@ own-length (m ∷ ms) = by (parameter_of m) (own-length ms)
 -- a text has no more parameters than bytes
 pub own_parameters-length : (text : List ℕ) → length (own_parameters text) ≤ length text + 1
 unfolding members_after
-own_parameters-length text =
-    omega (
-      arith,
-      own-length (others_of (between_semicolons text)),
-      others-length (between_semicolons text),
-      pieces-length semicolon true text,
-    )
+own_parameters-length text = grind (arith, own-length, others-length, pieces-length)

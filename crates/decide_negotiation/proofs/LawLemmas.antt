@@ -1,31 +1,27 @@
 -- What the definitions say, in the words of the RFCs.
 use Rattle.std.proofs.Common.{◌≡◌, ◌∙◌, ◌⊎◌, ℕ, zero, suc, ◌<◌, ◌≤◌, Bool, true, false, List, [], ◌∷◌, ◌++◌, get_or}
 use Rattle.std.proofs.Common.{Option, Some, None, inl, inr, refl, sym, ap, subst, arith, codes, fold, rules, tests}
-use Rattle.std.{proofs.Math.Bool.or-true, proofs.lemmas.Slice.Eq.bytes_eq-Decides, proofs.lemmas.Bool.and_parts}
-use Rattle.std.{proofs.lemmas.Bool.{cases_Bool, eqb-true, leb-false, leb-true, or_cases}, specs.Prelude.{Any, Contains}}
-use Rattle.std.{specs.Prelude.{filter_map, ◌&&◌, ◌==◌, nat_le, option_and_then}, specs.Bool.MatchBool}
-use Rattle.std.specs.List.{cons_option, list_all, list_any}
-use Rattle.http_header.{specs.FieldValue.FieldValue, specs.Token.lowercase}
-use Rattle.headers_syntax.{specs.AsciiCase.{SameButForCase, same_name}, specs.Lines.Line}
-use Rattle.rfc_fields.{specs.Members.{field_members, members}, specs.Scan.Member, specs.Scan.Member.Malformed}
-use Rattle.rfc_fields.specs.Values.{octets_of}
+use Rattle.std.proofs.{Math.Bool.or-true, lemmas.{Slice.Eq.bytes_eq-Decides, Bool.{and_parts, cases_Bool, eqb-true}}}
+use Rattle.std.{proofs.lemmas.Bool.{leb-false, leb-true, or_cases}, specs.Prelude.{Any, Contains, filter_map, ◌&&◌}}
+use Rattle.std.specs.{Prelude.{◌==◌, nat_le, option_and_then}, Bool.MatchBool, List.{cons_option, list_all, list_any}}
+use Rattle.{http_header.specs.{FieldValue.FieldValue, Token.lowercase}, headers_syntax.specs.AsciiCase.SameButForCase}
+use Rattle.{headers_syntax.specs.{AsciiCase.same_name, Lines.Line}, rfc_fields.specs.Members.{field_members, members}}
+use Rattle.rfc_fields.specs.{Scan.{Member, Member.Malformed}, Values.octets_of}
 use Rattle.decide_negotiation.specs.Choice.{Chooses, IsFirstOfGreatest, Picks, first_place, offer_rank}
 use Rattle.decide_negotiation.specs.Codings.{coding_quality, coding_says, encoding_quality, is_same_coding}
 use Rattle.decide_negotiation.specs.Codings.{member_quality, quality_of_all, quality_or, says_of, unlisted}
-use Rattle.decide_negotiation.{specs.Elements.{ElementParts, bare_element_of}, specs.Preferences.strongest}
-use Rattle.decide_negotiation.specs.declared.acceptability.Quality.{Quality}
-use Rattle.decide_negotiation.{specs.declared.preference.Preference.Preference, specs.Languages.{covers, hyphen}}
-use Rattle.decide_negotiation.{specs.Languages.is_front, specs.Laws.{EachCodingIsAccepted, ExcludesIdentity}}
-use Rattle.decide_negotiation.specs.Laws.{HasOneChoice, HasOneLookup, HasTwoNames, IdentityIsExcludedByName}
-use Rattle.decide_negotiation.specs.Laws.{IsSameParameter, IsStarOrSame, ListedComesFirst, Matches, MostSpecificDecides}
-use Rattle.decide_negotiation.{specs.Laws.{RangesCover, RangesMatch, TakesTheFirst}, specs.Lookup.{Finds, IsDefault}}
-use Rattle.decide_negotiation.specs.Lookup.{IsLookedUp, LooksUp, LooksUpIn, accepts_any, offer_nearness, range_weight}
-use Rattle.decide_negotiation.specs.MediaRanges.{are_had, is_star, is_star_or_same, matches}
-use Rattle.decide_negotiation.specs.Parameters.{ParameterParts, is_same_parameter, is_same_value}
-use Rattle.decide_negotiation.specs.Qualities.{least, quality_in, rank, weighed}
-use Rattle.decide_negotiation.specs.declared.acceptability.Quality.TheVariants.{NotAcceptable, Unlisted, Weight}
-use Rattle.decide_negotiation.{proofs.ChoiceLemmas.{at_place, picks_one, picks_some}, proofs.LookupLemmas.no_element}
-use Rattle.decide_negotiation.proofs.LookupLemmas.{range_finds_nothing, star_finds_nothing}
+use Rattle.decide_negotiation.specs.{Elements.{ElementParts, bare_element_of}, Preferences.strongest}
+use Rattle.decide_negotiation.specs.declared.{acceptability.Quality.Quality, preference.Preference.Preference}
+use Rattle.decide_negotiation.specs.{Languages.{covers, hyphen, is_front}, Laws.EachCodingIsAccepted}
+use Rattle.decide_negotiation.specs.Laws.{ExcludesIdentity, HasOneChoice, HasOneLookup, HasTwoNames}
+use Rattle.decide_negotiation.specs.Laws.{IdentityIsExcludedByName, IsSameParameter, IsStarOrSame, ListedComesFirst}
+use Rattle.decide_negotiation.specs.Laws.{Matches, MostSpecificDecides, RangesCover, RangesMatch, TakesTheFirst}
+use Rattle.decide_negotiation.specs.Lookup.{Finds, IsDefault, IsLookedUp, LooksUp, LooksUpIn, accepts_any}
+use Rattle.decide_negotiation.specs.{Lookup.{offer_nearness, range_weight}, MediaRanges.{are_had, is_star}}
+use Rattle.decide_negotiation.specs.{MediaRanges.{is_star_or_same, matches}, Parameters.ParameterParts}
+use Rattle.decide_negotiation.specs.{Parameters.{is_same_parameter, is_same_value}, Qualities.{least, quality_in, rank}}
+use Rattle.decide_negotiation.{specs.Qualities.weighed, proofs.ChoiceLemmas.{at_place, picks_one, picks_some}}
+use Rattle.decide_negotiation.proofs.LookupLemmas.{no_element, range_finds_nothing, star_finds_nothing}
 use Rattle.decide_negotiation.proofs.PreferenceLemmas.{one_best, strongest_is_best}
 
 pub most_specific : MostSpecificDecides
@@ -47,13 +43,7 @@ one_choice gives =
 -- of things of one score the first is picked
 picks_first : {A : Type 0} (xs : List A) → Picks (λ (x : A). 1001) xs (first_place xs)
 picks_first [] = λ k other low. absurd (omega (arith, low))
-picks_first (x ∷ xs) =
-    record {
-      within = omega arith;
-      positive = λ other. omega arith;
-      greatest = λ k other low. omega arith;
-      first = λ k other low. absurd (omega (arith, low));
-    }
+picks_first (x ∷ xs) = grind (arith)
 
 pub chooses_first : (gives : List Member → List ℕ → Quality) → TakesTheFirst gives
 chooses_first gives offers choice h =
@@ -77,8 +67,7 @@ module _ {A : Type 0} (f : A → Bool) where
 
   all_by : (xs : List A) → ((x : A) → Contains xs x → f x ≡ true) → list_all f xs ≡ true
   all_by [] h = refl
-  all_by (y ∷ ys) h =
-      rw (h y (0, omega arith, refl)) (all_by ys (λ x c. h x (suc c.0, omega (arith, c.1), c.2)))
+  all_by (y ∷ ys) h = grind (arith, all_by ys (λ x c. h x (suc c.0, omega (arith, c.1), c.2)))
 
   any_at : (xs : List A) → list_any f xs ≡ true → Any (λ x. f x ≡ true) xs
   any_at [] h = absurd (cc h)
@@ -92,8 +81,7 @@ module _ {A : Type 0} (f : A → Bool) where
   any_by : (xs : List A) → Any (λ x. f x ≡ true) xs → list_any f xs ≡ true
   any_by [] (k, x, low, is, e) = absurd (omega (arith, low))
   any_by (y ∷ ys) (zero, x, low, is, e) = rw (ap f is ∙ e) refl
-  any_by (y ∷ ys) (suc k, x, low, is, e) =
-      rw (any_by ys (k, x, omega (arith, low), is, e)) (or-true (f y))
+  any_by (y ∷ ys) (suc k, x, low, is, e) = grind (arith, or-true, any_by ys (k, x, omega (arith, low), is, e))
 
 Any-more : {A : Type 0} (P Q : A → Type 0) → ((x : A) → P x → Q x) → (xs : List A) → Any P xs → Any Q xs
 Any-more P Q f xs h = (h.0, h.1, h.2, h.3, f h.1 h.4)
@@ -104,30 +92,17 @@ both a b e f = rw (e, f) refl
 -- ---- media ranges
 
 name_matches : (name other : List ℕ) → is_star_or_same name other ≡ true → IsStarOrSame name other
-name_matches name other e =
-    elim (or_cases (is_star name) (same_name name other) e) [
-      | inl star ↦ inl ((bytes_eq-Decides name (codes "*")).0 star)
-      | inr same ↦ inr ((bytes_eq-Decides (lowercase name) (lowercase other)).0 same)
-    ]
+name_matches name other e = grind (arith, or_cases, bytes_eq-Decides, lowercase)
 
 name_matching : (name other : List ℕ) → IsStarOrSame name other → is_star_or_same name other ≡ true
 name_matching name other (inl star) = rw ((bytes_eq-Decides name (codes "*")).1 star) refl
-name_matching name other (inr same) =
-    rw ((bytes_eq-Decides (lowercase name) (lowercase other)).1 same) (or-true (is_star name))
+name_matching name other (inr same) = grind (arith, bytes_eq-Decides, lowercase, or-true)
 
 same_parameter : (p q : ParameterParts) → is_same_parameter p q ≡ true → IsSameParameter p q
-same_parameter p q e =
-    let parts = and_parts (same_name p.name q.name) (is_same_value p.value q.value) e in
-    record {
-      name = (bytes_eq-Decides (lowercase p.name) (lowercase q.name)).0 parts.0;
-      value = (bytes_eq-Decides (lowercase (octets_of p.value)) (lowercase (octets_of q.value))).0 parts.1;
-    }
+same_parameter p q e = grind (arith, and_parts, bytes_eq-Decides, lowercase)
 
 parameter_same : (p q : ParameterParts) → IsSameParameter p q → is_same_parameter p q ≡ true
-parameter_same p q h =
-    both (same_name p.name q.name) (is_same_value p.value q.value)
-    ((bytes_eq-Decides (lowercase p.name) (lowercase q.name)).1 h.name)
-    ((bytes_eq-Decides (lowercase (octets_of p.value)) (lowercase (octets_of q.value))).1 h.value)
+parameter_same p q h = grind (arith, both, bytes_eq-Decides, lowercase)
 
 pub ranges_match : RangesMatch
 ranges_match r t = (forward, back)
@@ -171,18 +146,10 @@ unfolding coding_quality is_same_coding
 two_names = record { gzip = λ field. refl; compress = λ field. refl }
 
 least-left : (q r : Quality) → rank (least q r) ≤ rank q
-least-left q r =
-    elim (cases_Bool (nat_le (rank q) (rank r))) [
-      | inl low ↦ rw low (omega arith)
-      | inr high ↦ rw high (omega (arith, leb-false (rank q) (rank r) high))
-    ]
+least-left q r = grind (arith, cases_Bool, nat_le, leb-false)
 
 least-right : (q r : Quality) → rank (least q r) ≤ rank r
-least-right q r =
-    elim (cases_Bool (nat_le (rank q) (rank r))) [
-      | inl low ↦ rw low (leb-true (rank q) (rank r) low)
-      | inr high ↦ rw high (omega arith)
-    ]
+least-right q r = grind (arith, cases_Bool, nat_le, leb-true)
 
 module _ (field : List Member) where
   abbrev lesser : Quality → Member → Quality
@@ -190,23 +157,18 @@ module _ (field : List Member) where
 
   fold_least : (q : Quality) (cs : List Member) → rank (fold lesser q cs) ≤ rank q
   fold_least q [] = omega arith
-  fold_least q (c ∷ cs) =
-      omega (arith, fold_least (lesser q c) cs, least-left q (member_quality field c))
+  fold_least q (c ∷ cs) = grind (arith, least-left, fold_least (lesser q c) cs)
 
   fold_each : (q : Quality) (cs : List Member) (c : Member) → Contains cs c
       → rank (fold lesser q cs) ≤ rank (member_quality field c)
   fold_each q [] c h = absurd (omega (arith, h.1))
-  fold_each q (d ∷ cs) c (zero, low, is) =
-      subst (λ (m : Member). rank (fold lesser (lesser q d) cs) ≤ rank (member_quality field m)) is
-      (omega (arith, fold_least (lesser q d) cs, least-right q (member_quality field d)))
+  fold_each q (d ∷ cs) c (zero, low, is) = grind (arith, fold, fold_least, least-right)
   fold_each q (d ∷ cs) c (suc k, low, is) = fold_each (lesser q d) cs c (k, omega (arith, low), is)
 
   all_each : (cs : List Member) (c : Member) → Contains cs c
       → rank (quality_of_all field cs) ≤ rank (member_quality field c)
   all_each [] c h = absurd (omega (arith, h.1))
-  all_each (d ∷ cs) c (zero, low, is) =
-      subst (λ (m : Member). rank (fold lesser (member_quality field d) cs) ≤ rank (member_quality field m)) is
-      (fold_least (member_quality field d) cs)
+  all_each (d ∷ cs) c (zero, low, is) = grind (arith, fold, fold_least)
   all_each (d ∷ cs) c (suc k, low, is) = fold_each (member_quality field d) cs c (k, omega (arith, low), is)
 
 pub each_coding : EachCodingIsAccepted
@@ -232,56 +194,17 @@ said_by f (member ∷ field) p h = by (f member) refl (said_by f field p) h
     by (Some first) e later (suc k, low, is) =
         Any-later (λ (other : Member). f other ≡ Some p) member field (later (k, omega (arith, low), is))
 
-weighed-zero : (n : ℕ) → weighed n ≡ NotAcceptable → n ≡ 0
-weighed-zero n e =
-    elim (cases_Bool (n == 0)) [
-      | inl none ↦ eqb-true n 0 none
-      | inr some ↦ let no : Weight n ≡ NotAcceptable = rw some at e in absurd (cc no)
-    ]
+weighed-zero : (n : ℕ) → weighed n ≡ Quality.NotAcceptable → n ≡ 0
+weighed-zero n e = grind (arith, cases_Bool, eqb-true)
 
 names_identity : (name : List ℕ) → is_same_coding name (codes "identity") ≡ true
     → SameButForCase name (codes "identity")
 unfolding is_same_coding
-names_identity name e =
-    elim (cases_Bool (same_name name (codes "x-gzip"))) [
-      | inl gzip ↦ let no : false ≡ true = rw gzip at e in absurd (cc no)
-      | inr other ↦
-          elim (cases_Bool (same_name name (codes "x-compress"))) [
-            | inl compress ↦ let no : false ≡ true = rw (other, compress) at e in absurd (cc no)
-            | inr another ↦
-                let same : same_name name (codes "identity") ≡ true = rw (other, another) at e in
-                (bytes_eq-Decides (lowercase name) (lowercase (codes "identity"))).0 same
-          ]
-    ]
+names_identity name e = grind (arith, cases_Bool, bytes_eq-Decides, lowercase)
 
 excluding : (member : Member) (p : Preference) (e : ElementParts) → bare_element_of member ≡ Some e
     → says_of (codes "identity") e ≡ Some p → p.quality ≡ 0 → ExcludesIdentity member
-excluding member p e is says none =
-    elim (cases_Bool (is_star e.range)) [
-      | inl star ↦
-          let said : Some (record { names = 0; extent = 0; quality = e.weight }) ≡ Some p = rw star at says in
-          let same : record { names = 0; extent = 0; quality = e.weight } ≡ p = cc said in
-          record {
-            element = e;
-            is = is;
-            weight = ap (λ (q : Preference). q.quality) same ∙ none;
-            range = inl ((bytes_eq-Decides e.range (codes "*")).0 star);
-          }
-      | inr named ↦
-          elim (cases_Bool (is_same_coding e.range (codes "identity"))) [
-            | inl coding ↦
-                let said : Some (record { names = 1; extent = 0; quality = e.weight }) ≡ Some p =
-                rw (named, coding) at says in
-                let same : record { names = 1; extent = 0; quality = e.weight } ≡ p = cc said in
-                record {
-                  element = e;
-                  is = is;
-                  weight = ap (λ (q : Preference). q.quality) same ∙ none;
-                  range = inr (names_identity e.range coding);
-                }
-            | inr other ↦ let no : None ≡ Some p = rw (named, other) at says in absurd (cc no)
-          ]
-    ]
+excluding member p e is says none = grind (arith, cases_Bool, bytes_eq-Decides, names_identity)
 
 excluding_member : (member : Member) (p : Preference) → coding_says (codes "identity") member ≡ Some p
     → p.quality ≡ 0 → ExcludesIdentity member
@@ -297,8 +220,8 @@ unfolding coding_quality
 identity_excluded field e = by (strongest (coding_says (codes "identity")) field) refl e
   where
     by : (best : Option Preference) → strongest (coding_says (codes "identity")) field ≡ best
-        → quality_or best (unlisted (codes "identity")) ≡ NotAcceptable → Any ExcludesIdentity field
-    by None is e = let no : Unlisted ≡ NotAcceptable = e in absurd (cc no)
+        → quality_or best (unlisted (codes "identity")) ≡ Quality.NotAcceptable → Any ExcludesIdentity field
+    by None is e = let no : Quality.Unlisted ≡ Quality.NotAcceptable = e in absurd (cc no)
     by (Some p) is e =
         let best = rw is at (strongest_is_best (coding_says (codes "identity")) field) in
         Any-more (λ (member : Member). coding_says (codes "identity") member ≡ Some p) ExcludesIdentity
@@ -313,12 +236,7 @@ front_is [] [] e = inl refl
 front_is [] (b ∷ text) e = inr (text, ap (λ (c : ℕ). c ∷ text) (eqb-true b hyphen e))
 front_is (a ∷ front) [] e = absurd (cc e)
 front_is (a ∷ front) (b ∷ text) e =
-    let parts = and_parts (a == b) (is_front front text) e in
-    let same : b ≡ a = sym (eqb-true a b parts.0) in
-    elim (front_is front text parts.1) [
-      | inl is ↦ inl (ap (λ (c : ℕ). c ∷ text) same ∙ ap (λ (s : List ℕ). a ∷ s) is)
-      | inr is ↦ inr (is.0, ap (λ (c : ℕ). c ∷ text) same ∙ ap (λ (s : List ℕ). a ∷ s) is.1)
-    ]
+    grind (arith, and_parts, eqb-true, front_is front text (and_parts (a == b) (is_front front text) e).1)
 
 eqb-same : (a : ℕ) → (a == a) ≡ true
 eqb-same a = search (rules, tests)
@@ -354,9 +272,7 @@ module _ (field : List Member) (offers : List FieldValue) where
       cc places
 
   not_both : (a : ℕ) → IsLookedUp field offers a → ¬ (Finds field offers None)
-  not_both a h none =
-      let apart : None ≡ Some h.index =
-      picks_one (range_weight field offers) field None (Some h.index) none h.first in cc apart
+  not_both a h none = grind (arith, picks_one)
 
   default_one : (a b : Option ℕ) → IsDefault field offers a → IsDefault field offers b → a ≡ b
   default_one a b = by (accepts_any field)

@@ -1,13 +1,12 @@
 -- What the ranges of a field find.
 use Rattle.std.proofs.Common.{◌≡◌, ◌∙◌, ℕ, zero, suc, ◌+◌, ◌<◌, ◌≤◌, Bool, true, false, List, [], ◌∷◌, length, drop}
 use Rattle.std.proofs.Common.{get_or, Option, Some, None, refl, sym, ap, subst, arith, length-drop}
-use Rattle.std.proofs.{Math.Seq.drop-cons, Math.Bool.or-true, lemmas.Bool.ltb-true, lemmas.Bool.lt-ltb}
-use Rattle.std.specs.{Prelude.⊤, Prelude.nat_lt, Prelude.if◌then◌else◌, List.list_any, Option.option_map_or}
-use Rattle.http_header.specs.FieldValue.{FieldValue}
-use Rattle.rfc_fields.specs.Scan.{Member}
-use Rattle.decide_negotiation.specs.{Choice.IsFirstOfGreatest, Choice.Picks, Choice.led, Elements.ElementParts}
-use Rattle.decide_negotiation.specs.{Elements.bare_element_of, MediaRanges.is_star, declared.choice.Leader.Leader}
-use Rattle.decide_negotiation.specs.Lookup.{Finds, FoundBy, finds, offer_nearness, range_weight, weight_if_found}
+use Rattle.std.{proofs.{Math.{Seq.drop-cons, Bool.or-true}, lemmas.Bool.{ltb-true, lt-ltb}}, specs.Prelude.{⊤, nat_lt}}
+use Rattle.std.specs.{Prelude.if◌then◌else◌, List.list_any, Option.option_map_or}
+use Rattle.{http_header.specs.FieldValue.FieldValue, rfc_fields.specs.Scan.Member}
+use Rattle.decide_negotiation.specs.{Choice.{IsFirstOfGreatest, Picks, led}, Elements.{ElementParts, bare_element_of}}
+use Rattle.decide_negotiation.specs.{MediaRanges.is_star, declared.choice.Leader.Leader, Lookup.{Finds, FoundBy, finds}}
+use Rattle.decide_negotiation.specs.Lookup.{offer_nearness, range_weight, weight_if_found}
 use Rattle.decide_negotiation.proofs.ChoiceLemmas.{IsLeading, at_place, leading_on, leader_is_picked, none_leads}
 
 -- ---- whether anything has a score

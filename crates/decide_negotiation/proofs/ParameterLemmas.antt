@@ -1,7 +1,6 @@
 -- What the parameters of a text are, one after the other.
-use Rattle.std.proofs.Common.{◌≡◌, ◌∙◌, List, ◌∷◌, Some, None, ap}
-use Rattle.std.specs.{Prelude.not, Prelude.filter, Prelude.filter_map, List.cons_option}
-use Rattle.rfc_fields.specs.Scan.{Member}
+use Rattle.std.{proofs.Common.{◌≡◌, ◌∙◌, List, ◌∷◌, Some, None, ap}, specs.Prelude.{not, filter, filter_map}}
+use Rattle.{std.specs.List.cons_option, rfc_fields.specs.Scan.Member}
 use Rattle.decide_negotiation.specs.Parameters.{ParameterParts, is_weight, parameter_of}
 
 -- the parameters among members

@@ -1,12 +1,11 @@
 -- The order of what elements say, and the strongest of a list.
 use Rattle.std.proofs.Common.{◌≡◌, ◌⊎◌, ℕ, zero, suc, ◌<◌, ◌≤◌, Bool, true, false, List, [], ◌∷◌, length, Option, Some}
-use Rattle.std.{proofs.Common.{None, inl, inr, refl, sym, ◌∙◌, ap, arith}, proofs.lemmas.Bool.{and_cases, and_parts}}
+use Rattle.std.proofs.{Common.{None, inl, inr, refl, sym, ◌∙◌, ap, arith}, lemmas.Bool.{and_cases, and_parts}}
 use Rattle.std.proofs.lemmas.Bool.{cases_order, eqb-false, eqb-true, ltb-false, ltb-true, or_cases, or_parts}
 use Rattle.std.proofs.lemmas.List.Elements.{All-cons, All-contains, All-head, All-nil, All-tail}
-use Rattle.std.{specs.Prelude.{Contains, filter_map, nat_lt, ◌==◌, ◌&&◌, if◌then◌else◌}, specs.List.fold}
-use Rattle.rfc_fields.specs.Scan.{Member}
-use Rattle.decide_negotiation.specs.Preferences.{AtMost, IsBest, IsStrongest, is_below, is_below_or, stronger}
-use Rattle.decide_negotiation.{specs.Preferences.strongest, specs.Qualities.{preferred, weighed}}
+use Rattle.std.specs.{Prelude.{Contains, filter_map, nat_lt, ◌==◌, ◌&&◌, if◌then◌else◌}, List.fold}
+use Rattle.{rfc_fields.specs.Scan.Member, decide_negotiation.specs.Preferences.{AtMost, IsBest, IsStrongest, is_below}}
+use Rattle.decide_negotiation.specs.{Preferences.{is_below_or, stronger, strongest}, Qualities.{preferred, weighed}}
 use Rattle.decide_negotiation.specs.declared.preference.Preference.{Preference}
 
 -- x is below y, or they are the same and the rest decides
@@ -14,30 +13,10 @@ abbrev BelowOr : ℕ → ℕ → Type 0 → Type 0
 BelowOr x y Rest = (x < y) ⊎ ((x ≡ y) × Rest)
 
 below_or-true : (x y : ℕ) (rest : Bool) → is_below_or x y rest ≡ true → BelowOr x y (rest ≡ true)
-below_or-true x y rest e =
-    elim (or_cases (nat_lt x y) (x == y && rest) e) [
-      | inl low ↦ inl (ltb-true x y low)
-      | inr same ↦
-          let both : ((x == y) ≡ true) × (rest ≡ true) = and_parts (x == y) rest same in
-          inr (eqb-true x y both.0, both.1)
-    ]
+below_or-true x y rest e = grind (arith, or_cases, nat_lt, ltb-true, and_parts, eqb-true)
 
 below_or-false : (x y : ℕ) (rest : Bool) → is_below_or x y rest ≡ false → BelowOr y x (rest ≡ false)
-below_or-false x y rest e =
-    let neither : (nat_lt x y ≡ false) × ((x == y && rest) ≡ false) = or_parts (nat_lt x y) (x == y && rest) e in
-    let high : y ≤ x = ltb-false x y neither.0 in
-    elim (cases_order y x) [
-      | inl same ↦
-          elim (and_cases (x == y) rest neither.1) [
-            | inl other ↦ absurd (eqb-false x y other (sym same))
-            | inr rest_fails ↦ inr (same, rest_fails)
-          ]
-      | inr apart ↦
-          elim apart [
-            | inl low ↦ inl low
-            | inr up ↦ absurd (omega (arith, high, up))
-          ]
-    ]
+below_or-false x y rest e = grind (arith, nat_lt, or_parts, ltb-false, cases_order, and_cases, eqb-false)
 
 map_below_or : (x y : ℕ) (P Q : Type 0) → (P → Q) → BelowOr x y P → BelowOr x y Q
 map_below_or x y P Q f (inl low) = inl low
@@ -55,27 +34,15 @@ at_most_itself : (a : Preference) → AtMost a a
 at_most_itself a = inr (refl, inr (refl, omega arith))
 
 at_most_along : (a b c : Preference) → AtMost a b → AtMost b c → AtMost a c
-at_most_along a b c =
-    join_below_or _ _ _ _ _ _
-    (join_below_or _ _ _ _ _ _ (λ (h : a.quality ≤ b.quality) (k : b.quality ≤ c.quality). omega (arith, h, k)))
+at_most_along a b c = grind (arith, join_below_or)
 
 is_below-true : (a b : Preference) → is_below a b ≡ true → AtMost a b
 unfolding is_below
-is_below-true a b e =
-    map_below_or a.names b.names _ _
-    (λ (f : is_below_or a.extent b.extent (nat_lt a.quality b.quality) ≡ true).
-    map_below_or a.extent b.extent _ _
-    (λ (g : nat_lt a.quality b.quality ≡ true).
-    let low : a.quality < b.quality = ltb-true a.quality b.quality g in omega (arith, low))
-    (below_or-true a.extent b.extent (nat_lt a.quality b.quality) f))
-    (below_or-true a.names b.names (is_below_or a.extent b.extent (nat_lt a.quality b.quality)) e)
+is_below-true a b e = grind (arith, map_below_or, ltb-true, below_or-true)
 
 is_below-false : (a b : Preference) → is_below a b ≡ false → AtMost b a
 unfolding is_below
-is_below-false a b e =
-    map_below_or _ _ _ _ (λ (f : is_below_or a.extent b.extent (nat_lt a.quality b.quality) ≡ false). map_below_or _ _ _
-    _ (λ (g : nat_lt a.quality b.quality ≡ false). ltb-false a.quality b.quality g) (below_or-false _ _ _ f))
-    (below_or-false _ _ _ e)
+is_below-false a b e = grind (arith, map_below_or, ltb-false, below_or-false)
 
 -- two that are at most each other have one quality
 same_quality : (a b : Preference) → AtMost a b → AtMost b a → a.quality ≡ b.quality
@@ -131,19 +98,12 @@ widen x y xs p h = by (is_below x y) refl h
 
 best_of_more : (x y : Preference) (xs : List Preference) (best : Option Preference)
     → IsBest ((if is_below x y then y else x) ∷ xs) best → IsBest (x ∷ y ∷ xs) best
-best_of_more x y xs None h =
-    let n : suc (length xs) ≡ 0 = ap length h in absurd (omega (arith, n))
+best_of_more x y xs None h = grind (arith)
 best_of_more x y xs (Some p) h = widen x y xs p h
 
 strongest_fold : (x : Preference) (xs : List Preference) → IsBest (x ∷ xs) (fold stronger (Some x) xs)
 unfolding stronger
-strongest_fold x [] =
-    record {
-      among = (0, omega arith, refl);
-      greatest =
-          All-cons (λ (other : Preference). AtMost other x) x [] (at_most_itself x)
-          (All-nil (λ (other : Preference). AtMost other x));
-    }
+strongest_fold x [] = grind (arith, at_most_itself)
 strongest_fold x (y ∷ xs) = best_of_more x y xs _ (strongest_fold (if is_below x y then y else x) xs)
 
 -- what is kept of a list is its strongest
@@ -159,9 +119,7 @@ unfolding strongest
 strongest_is_best says field = best_of_fold (filter_map says field)
 
 none_among : (said : List Preference) (p : Preference) → IsStrongest said p → said ≡ [] → ⊥
-none_among said p h e =
-    let low : h.among.0 < length said = h.among.1 in
-    let none : length said ≡ 0 = ap length e in omega (arith, low, none)
+none_among said p h e = grind (arith)
 
 -- and two that are the strongest of a list give one quality
 pub one_best : (said : List Preference) (a b : Option Preference) → IsBest said a → IsBest said b
@@ -169,7 +127,4 @@ pub one_best : (said : List Preference) (a b : Option Preference) → IsBest sai
 one_best said None None h k = refl
 one_best said None (Some q) h k = absurd (none_among said q k h)
 one_best said (Some p) None h k = absurd (none_among said p h k)
-one_best said (Some p) (Some q) h k =
-    ap weighed
-    (same_quality p q (All-contains (λ (other : Preference). AtMost other q) said p k.greatest h.among)
-    (All-contains (λ (other : Preference). AtMost other p) said q h.greatest k.among))
+one_best said (Some p) (Some q) h k = grind (arith, same_quality)

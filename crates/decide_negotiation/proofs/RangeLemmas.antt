@@ -1,27 +1,22 @@
 -- No weight is above 1.
 use Rattle.std.proofs.Common.{◌≡◌, ℕ, ◌-◌, ◌≤◌, ◌*◌, ◌^◌, Bool, true, false, List, [], ◌∷◌, length, Option, Some, None}
-use Rattle.std.{proofs.Common.{refl, arith, codes}, proofs.lemmas.Bool.{and_parts, eqb-false, leb-true}}
-use Rattle.std.specs.Prelude.{⊤, IfSome, filter_map, find, fold, nat_le, option_and_then, option_map, ◌&&◌, ◌==◌}
-use Rattle.std.{specs.Prelude.if◌then◌else◌, specs.Char.is_ascii_digit, specs.List.cons_option}
-use Rattle.std.{specs.Str.all_ascii_digits, specs.Option.option_map_or}
-use Rattle.headers_syntax.specs.Number.{decimal_value}
-use Rattle.rfc_fields.{specs.Members.members, specs.Scan.Member, specs.Scan.Member.{Whole, Malformed}}
-use Rattle.rfc_fields.{specs.Values.{ValueParts, is_token}, specs.Values.ValueParts.{TokenText, QuotedText}}
-use Rattle.rfc_fields.specs.Weights.{fraction, one, thousandths, weight}
+use Rattle.std.{proofs.{Common.{refl, arith, codes}, lemmas.Bool.{and_parts, eqb-false, leb-true}}, specs.Prelude.⊤}
+use Rattle.std.specs.Prelude.{IfSome, filter_map, find, fold, nat_le, option_and_then, option_map, ◌&&◌, ◌==◌}
+use Rattle.std.specs.{Prelude.if◌then◌else◌, Char.is_ascii_digit, List.cons_option, Str.all_ascii_digits}
+use Rattle.{std.specs.Option.option_map_or, headers_syntax.specs.Number.decimal_value, rfc_fields.specs.Members.members}
+use Rattle.rfc_fields.specs.{Scan.{Member, Member.{Whole, Malformed}}, Values.{ValueParts, is_token}}
+use Rattle.rfc_fields.specs.{Values.ValueParts.{TokenText, QuotedText}, Weights.{fraction, one, thousandths, weight}}
 use Rattle.decide_negotiation.specs.Codings.{coding_quality, coding_says, encoding_quality, member_quality}
 use Rattle.decide_negotiation.specs.Codings.{quality_of_all, quality_or, says_of, unlisted, is_same_coding}
 use Rattle.decide_negotiation.specs.Elements.{ElementParts, bare, bare_element_of, element_in, element_of}
 use Rattle.decide_negotiation.specs.Elements.{excluding_nothing, has_only_parameters, parameters_of, weight_in}
-use Rattle.decide_negotiation.specs.Elements.{weight_of, weight_or_least}
-use Rattle.decide_negotiation.specs.Languages.{covers, language_says, says_of as language_says_of}
-use Rattle.decide_negotiation.specs.Laws.{IsInRange, WeightsAreInRange}
+use Rattle.decide_negotiation.specs.{Elements.{weight_of, weight_or_least}, Languages.{covers, language_says}}
+use Rattle.decide_negotiation.specs.{Languages.says_of as language_says_of, Laws.{IsInRange, WeightsAreInRange}}
 use Rattle.decide_negotiation.specs.MediaRanges.{MediaRangeParts, if_range, is_range, is_star, matches, media_range_in}
 use Rattle.decide_negotiation.specs.MediaRanges.{media_type_in, media_type_says, names_in, says_of as media_says_of}
-use Rattle.decide_negotiation.specs.Parameters.{ParameterParts, is_weight}
-use Rattle.decide_negotiation.specs.Preferences.{is_below, stronger, strongest}
-use Rattle.decide_negotiation.specs.Qualities.{least, preferred, rank, weighed}
-use Rattle.decide_negotiation.specs.{declared.acceptability.Quality.Quality, declared.preference.Preference.Preference}
-use Rattle.decide_negotiation.specs.declared.acceptability.Quality.TheVariants.{NotAcceptable, Unlisted, Weight}
+use Rattle.decide_negotiation.specs.{Parameters.{ParameterParts, is_weight}, Preferences.{is_below, stronger}}
+use Rattle.decide_negotiation.specs.{Preferences.strongest, Qualities.{least, preferred, rank, weighed}}
+use Rattle.decide_negotiation.specs.declared.{acceptability.Quality.Quality, preference.Preference.Preference}
 
 module _ {A : Type 0} (P : A → Type 0) where
   either : (test : Bool) (x y : Option A) → IfSome x P → IfSome y P → IfSome (if test then x else y) P
@@ -54,15 +49,9 @@ digit b h = let high : b ≤ 57 = leb-true b 57 (and_parts _ _ h).1 in omega (ar
 digits_range : (digits : List ℕ) → all_ascii_digits digits ≡ true → length digits ≤ 3
     → decimal_value digits * 10 ^ (3 - length digits) ≤ 999
 digits_range [] h low = omega arith
-digits_range (a ∷ []) h low =
-    let x = and_parts (is_ascii_digit a) true h in omega (arith, digit a x.0)
-digits_range (a ∷ b ∷ []) h low =
-    let x = and_parts (is_ascii_digit a) (all_ascii_digits (b ∷ [])) h in
-    let y = and_parts (is_ascii_digit b) true x.1 in omega (arith, digit a x.0, digit b y.0)
-digits_range (a ∷ b ∷ c ∷ []) h low =
-    let x = and_parts (is_ascii_digit a) (all_ascii_digits (b ∷ c ∷ [])) h in
-    let y = and_parts (is_ascii_digit b) (all_ascii_digits (c ∷ [])) x.1 in
-    let z = and_parts (is_ascii_digit c) true y.1 in omega (arith, digit a x.0, digit b y.0, digit c z.0)
+digits_range (a ∷ []) h low = grind (arith, and_parts, is_ascii_digit, digit)
+digits_range (a ∷ b ∷ []) h low = grind (arith, and_parts, is_ascii_digit, all_ascii_digits, digit)
+digits_range (a ∷ b ∷ c ∷ []) h low = grind (arith, and_parts, is_ascii_digit, all_ascii_digits, digit)
 digits_range (a ∷ b ∷ c ∷ d ∷ digits) h low = absurd (omega (arith, low))
 
 thousandths_range : (digits : List ℕ) → IfSome (thousandths digits) (UpTo 999)
@@ -77,8 +66,7 @@ thousandths_range digits = by (nat_le (length digits) 3 && all_ascii_digits digi
 
 fraction_range : (text : List ℕ) → IfSome (fraction text) (UpTo 999)
 fraction_range [] = omega arith
-fraction_range (b ∷ digits) =
-    either (UpTo 999) (b == 46) (thousandths digits) None (thousandths_range digits) tt
+fraction_range (b ∷ digits) = grind (arith, either, thousandths_range)
 
 up_to_999 : (o : Option ℕ) → IfSome o (UpTo 999) → IfSome o (UpTo 1000)
 up_to_999 None h = tt
@@ -90,9 +78,7 @@ one_range (Some n) = either (UpTo 1000) (n == 0) (Some 1000) None (omega arith) 
 
 weight_range : (text : List ℕ) → IfSome (weight text) (UpTo 1000)
 weight_range [] = tt
-weight_range (b ∷ text) =
-    either (UpTo 1000) (b == 48) (fraction text) _ (up_to_999 (fraction text) (fraction_range text))
-    (either (UpTo 1000) (b == 49) (one (fraction text)) None (one_range (fraction text)) tt)
+weight_range (b ∷ text) = grind (arith, either, up_to_999, fraction_range, one_range)
 
 value_range : (v : ValueParts) → IfSome (weight_of v) (UpTo 1000)
 value_range (TokenText text) = weight_range text
@@ -120,15 +106,11 @@ excluding_nothing_range e = either IsUpTo1 (e.weight == 0) None _ tt (omega arit
 
 element_range : (text : List ℕ) → IfSome (element_in text) IsUpTo1
 unfolding element_in
-element_range text =
-    either IsUpTo1 (has_only_parameters text) (Some (element_of text)) (excluding_nothing (element_of text))
-    (weight_in_range (parameters_of text)) (excluding_nothing_range (element_of text))
+element_range text = grind (arith, either, weight_in_range, excluding_nothing_range)
 
 bare_range : (member : Member) → IfSome (bare_element_of member) IsUpTo1
 bare_range Malformed = tt
-bare_range (Whole text) =
-    then_some IsUpTo1 bare IsUpTo1 (element_in text) (element_range _) (λ e low. either IsUpTo1 (is_token e.range) _
-    None (either IsUpTo1 (length e.parameters == 0) (Some e) (excluding_nothing e) low (excluding_nothing_range e)) tt)
+bare_range (Whole text) = grind (arith, then_some, element_range, either, excluding_nothing_range)
 
 -- ---- what is said
 
@@ -197,7 +179,7 @@ module _ (says : Member → Option Preference) (range : (member : Member) → If
 weighed_range : (n : ℕ) → n ≤ 1000 → IsInRange (weighed n)
 weighed_range n low = by (n == 0) refl
   where
-    by : (none : Bool) → (n == 0) ≡ none → IsInRange (if none then NotAcceptable else Weight n)
+    by : (none : Bool) → (n == 0) ≡ none → IsInRange (if none then Quality.NotAcceptable else Quality.Weight n)
     by true e = tt
     by false e = let some = eqb-false n 0 e in (omega arith, low)
 
@@ -208,7 +190,7 @@ preferred_range (Some p) h = weighed_range p.quality h
 unlisted_range : (coding : List ℕ) → IsInRange (unlisted coding)
 unlisted_range coding = by _
   where
-    by : (listed : Bool) → IsInRange (if listed then Unlisted else NotAcceptable)
+    by : (listed : Bool) → IsInRange (if listed then Quality.Unlisted else Quality.NotAcceptable)
     by true = tt
     by false = tt
 
@@ -240,17 +222,11 @@ all_range field q (coding ∷ codings) h =
 
 of_all_range : (field codings : List Member) → IsInRange (quality_of_all field codings)
 of_all_range field [] = coding_quality_range field (codes "identity")
-of_all_range field (coding ∷ codings) =
-    all_range field (member_quality field coding) codings (member_range field coding)
+of_all_range field (coding ∷ codings) = grind (arith, all_range, member_range)
 
 encoding_range : (field : List Member) (offer : List ℕ) → IsInRange (encoding_quality field offer)
 unfolding encoding_quality
 encoding_range field offer = of_all_range field (members true offer)
 
 pub weights_in_range : WeightsAreInRange
-weights_in_range =
-    record {
-      media = λ field offer. preferred_range _ (strongest_range (media_type_says offer) (media_range _) field);
-      encoding = encoding_range;
-      language = λ field offer. preferred_range _ (strongest_range (language_says offer) (language_range _) field);
-    }
+weights_in_range = grind (arith, preferred_range, strongest_range, media_range, encoding_range, language_range)

@@ -1,12 +1,10 @@
 -- Content codings (RFC 9110, sections 8.4.1 and 12.5.3).
 use Rattle.std.specs.Prelude.{ℕ, Bool, true, List, [], ◌∷◌, Option, Some, None, codes, fold, option_and_then}
-use Rattle.std.specs.Prelude.{if◌then◌else◌}
-use Rattle.headers_syntax.specs.AsciiCase.{same_name}
-use Rattle.rfc_fields.{specs.Members.members, specs.Scan.Member, specs.Scan.Member.{Whole, Malformed}}
-use Rattle.decide_negotiation.{specs.Elements.{ElementParts, bare_element_of}, specs.MediaRanges.is_star}
-use Rattle.decide_negotiation.{specs.Preferences.strongest, specs.declared.preference.Preference.Preference}
-use Rattle.decide_negotiation.{specs.declared.acceptability.Quality.Quality, specs.Qualities.{least, weighed}}
-use Rattle.decide_negotiation.specs.declared.acceptability.Quality.TheVariants.{NotAcceptable, Unlisted}
+use Rattle.{std.specs.Prelude.if◌then◌else◌, headers_syntax.specs.AsciiCase.same_name, rfc_fields.specs.Members.members}
+use Rattle.{rfc_fields.specs.Scan.{Member, Member.{Whole, Malformed}}, decide_negotiation.specs.Elements.ElementParts}
+use Rattle.decide_negotiation.specs.{Elements.bare_element_of, MediaRanges.is_star, Preferences.strongest}
+use Rattle.decide_negotiation.specs.declared.{preference.Preference.Preference, acceptability.Quality.Quality}
+use Rattle.decide_negotiation.specs.Qualities.{least, weighed}
 
 -- `x-gzip` and `x-compress` are other names of `gzip` and `compress` (sections 8.4.1.1 and 8.4.1.3)
 abbrev pub registered : List ℕ → List ℕ
@@ -29,7 +27,7 @@ coding_says coding member = option_and_then (says_of coding) (bare_element_of me
 
 -- a coding that no element matches isn't acceptable, except `identity`
 abbrev pub unlisted : List ℕ → Quality
-unlisted coding = if same_name coding (codes "identity") then Unlisted else NotAcceptable
+unlisted coding = if same_name coding (codes "identity") then Quality.Unlisted else Quality.NotAcceptable
 
 abbrev pub quality_or : Option Preference → Quality → Quality
 quality_or None quality = quality
@@ -42,7 +40,7 @@ coding_quality field coding = quality_or (strongest (coding_says coding) field) 
 -- the quality of one coding of an offer
 abbrev pub member_quality : List Member → Member → Quality
 member_quality field (Whole coding) = coding_quality field coding
-member_quality field Malformed = NotAcceptable
+member_quality field Malformed = Quality.NotAcceptable
 
 -- Content with several codings is acceptable if each of them is, so its quality is the least of theirs. Content without
 -- a coding is `identity`.

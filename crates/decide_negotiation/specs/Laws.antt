@@ -1,18 +1,15 @@
 -- Theorems about the definitions, in the words of the RFCs.
 use Rattle.std.specs.Prelude.{⊤, ◌≡◌, ◌⊎◌, ◌↔◌, ℕ, ◌≤◌, ◌<◌, true, List, [], ◌∷◌, ◌++◌, Any, Contains, filter_map}
-use Rattle.std.specs.Prelude.{codes, Option, Some, get_or, length}
-use Rattle.http_header.specs.{FieldValue.FieldValue, Token.lowercase}
-use Rattle.headers_syntax.specs.{AsciiCase.SameButForCase, Lines.Line}
-use Rattle.rfc_fields.specs.{Members.members, Scan.Member, Values.octets_of}
-use Rattle.decide_negotiation.specs.{Choice.Chooses, Choice.first_place, Elements.ElementParts}
-use Rattle.decide_negotiation.specs.{Elements.bare_element_of, Lookup.LooksUp, Parameters.ParameterParts}
-use Rattle.decide_negotiation.specs.{Preferences.IsBest, Preferences.strongest, declared.acceptability.Quality.Quality}
-use Rattle.decide_negotiation.specs.{declared.preference.Preference.Preference}
-use Rattle.decide_negotiation.specs.Codings.{coding_quality, encoding_quality, member_quality}
-use Rattle.decide_negotiation.specs.Languages.{covers, hyphen, language_says}
-use Rattle.decide_negotiation.specs.MediaRanges.{MediaRangeParts, MediaTypeParts, matches, media_type_says}
-use Rattle.decide_negotiation.specs.Qualities.{preferred, quality_by, quality_in, rank}
-use Rattle.decide_negotiation.specs.declared.acceptability.Quality.TheVariants.{NotAcceptable, Unlisted, Weight}
+use Rattle.{std.specs.Prelude.{codes, Option, Some, get_or, length}, http_header.specs.FieldValue.FieldValue}
+use Rattle.{http_header.specs.Token.lowercase, headers_syntax.specs.{AsciiCase.SameButForCase, Lines.Line}}
+use Rattle.{rfc_fields.specs.{Members.members, Scan.Member, Values.octets_of}, decide_negotiation.specs.Choice.Chooses}
+use Rattle.decide_negotiation.specs.{Choice.first_place, Elements.{ElementParts, bare_element_of}, Lookup.LooksUp}
+use Rattle.decide_negotiation.specs.{Parameters.ParameterParts, Preferences.{IsBest, strongest}}
+use Rattle.decide_negotiation.specs.declared.{acceptability.Quality.Quality, preference.Preference.Preference}
+use Rattle.decide_negotiation.specs.{Codings.{coding_quality, encoding_quality, member_quality}, Languages.covers}
+use Rattle.decide_negotiation.specs.{Languages.{hyphen, language_says}, MediaRanges.{MediaRangeParts, MediaTypeParts}}
+use Rattle.decide_negotiation.specs.{MediaRanges.{matches, media_type_says}, Qualities.{preferred, quality_by}}
+use Rattle.decide_negotiation.specs.Qualities.{quality_in, rank}
 
 -- ---- which element decides (RFC 9110, section 12.5.1)
 
@@ -66,7 +63,7 @@ pub record ExcludesIdentity (member : Member) : Type 0 where
 
 -- content without a coding is acceptable unless an element excludes it
 abbrev pub IdentityIsExcludedByName : Type 0
-IdentityIsExcludedByName = (field : List Member) → coding_quality field (codes "identity") ≡ NotAcceptable
+IdentityIsExcludedByName = (field : List Member) → coding_quality field (codes "identity") ≡ Quality.NotAcceptable
     → Any ExcludesIdentity field
 
 -- both names of a coding have one quality
@@ -79,8 +76,8 @@ pub record HasTwoNames : Type 0 where
 abbrev pub ListedComesFirst : Type 0
 ListedComesFirst = (lines : List Line) (offers : List FieldValue) (place k : ℕ) (offer other : FieldValue)
     → Chooses (quality_in encoding_quality lines) offers (Some place)
-    → quality_in encoding_quality lines (get_or offers place offer).bytes ≡ Unlisted → k < length offers
-    → rank (quality_in encoding_quality lines (get_or offers k other).bytes) ≤ rank Unlisted
+    → quality_in encoding_quality lines (get_or offers place offer).bytes ≡ Quality.Unlisted → k < length offers
+    → rank (quality_in encoding_quality lines (get_or offers k other).bytes) ≤ rank Quality.Unlisted
 
 -- content with several codings is at most as acceptable as each of them
 abbrev pub EachCodingIsAccepted : Type 0
@@ -103,9 +100,9 @@ pub record HasOneLookup : Type 0 where
 
 -- a weight is 1 to 1000 thousandths
 abbrev pub IsInRange : Quality → Type 0
-IsInRange NotAcceptable = ⊤
-IsInRange Unlisted = ⊤
-IsInRange (Weight thousandths) = (0 < thousandths) × (thousandths ≤ 1000)
+IsInRange Quality.NotAcceptable = ⊤
+IsInRange Quality.Unlisted = ⊤
+IsInRange (Quality.Weight thousandths) = (0 < thousandths) × (thousandths ≤ 1000)
 
 pub record WeightsAreInRange : Type 0 where
   pub media : (field : List Member) (offer : List ℕ) → IsInRange (quality_by media_type_says field offer)

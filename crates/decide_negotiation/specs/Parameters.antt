@@ -1,8 +1,7 @@
 -- Parameters: a name and a value (RFC 9110, section 5.6.6).
 use Rattle.std.specs.Prelude.{ℕ, Bool, ◌&&◌, List, codes, Option, None, option_and_then, option_map}
-use Rattle.headers_syntax.specs.AsciiCase.{same_name}
-use Rattle.rfc_fields.specs.{Directives.DirectiveParts, Directives.directive_in, Scan.Member, Scan.Member.Whole}
-use Rattle.rfc_fields.specs.{Scan.Member.Malformed, Values.ValueParts, Values.octets_of, Values.value_parts}
+use Rattle.{headers_syntax.specs.AsciiCase.same_name, rfc_fields.specs.Directives.{DirectiveParts, directive_in}}
+use Rattle.rfc_fields.specs.{Scan.{Member, Member.{Whole, Malformed}}, Values.{ValueParts, octets_of, value_parts}}
 use Rattle.decide_negotiation.specs.declared.parameter.Parameter.{Parameter}
 
 pub record ParameterParts : Type 0 where

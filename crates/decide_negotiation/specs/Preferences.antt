@@ -1,8 +1,7 @@
 -- The preferences of elements for an offer, and which of them decides (RFC 9110, section 12.5.1).
 use Rattle.std.specs.Prelude.{◌≡◌, ◌⊎◌, ℕ, ◌<◌, ◌≤◌, Bool, ◌&&◌, ◌||◌, ◌==◌, List, [], All, Contains, filter_map}
-use Rattle.std.{specs.Prelude.{Option, Some, None, MatchOption, nat_lt, if◌then◌else◌}, specs.List.fold}
-use Rattle.rfc_fields.specs.Scan.{Member}
-use Rattle.decide_negotiation.specs.declared.preference.Preference.{Preference}
+use Rattle.std.specs.{Prelude.{Option, Some, None, MatchOption, nat_lt, if◌then◌else◌}, List.fold}
+use Rattle.{rfc_fields.specs.Scan.Member, decide_negotiation.specs.declared.preference.Preference.Preference}
 
 -- the first is less specific than the second, or equally specific with no greater quality
 abbrev pub AtMost : Preference → Preference → Type 0

@@ -1,9 +1,8 @@
-use Rattle.std.proofs.Common.{◌≡◌, ◌∙◌, ℕ, List, length, ap, arith, Some}
-use Rattle.http_header.specs.{FieldValue.FieldValue, HeaderMap.get_all}
-use Rattle.headers_syntax.specs.Lines.{lines_of}
-use Rattle.decide_negotiation.specs.{Choice.led, Choice.offer_rank, Qualities.quality_in, Qualities.rank}
-use Rattle.decide_negotiation.specs.{declared.acceptability.Quality.Quality}
-use Rattle.decide_negotiation.proofs.ChoiceLemmas.{leader_is_picked, leading_on}
+use Rattle.{std.proofs.Common.{◌≡◌, ◌∙◌, ℕ, List, length, ap, arith, Some}, http_header.specs.FieldValue.FieldValue}
+use Rattle.{http_header.specs.HeaderMap.get_all, headers_syntax.specs.Lines.lines_of}
+use Rattle.decide_negotiation.specs.{Choice.{led, offer_rank}, Qualities.{quality_in, rank}}
+use Rattle.decide_negotiation.{specs.declared.acceptability.Quality.Quality, proofs.ChoiceLemmas.leader_is_picked}
+use Rattle.decide_negotiation.proofs.ChoiceLemmas.{leading_on}
 use Rattle.decide_negotiation.proofs.dimension.negotiate.Goals as goal
 
 pub loop-place-preserved : goal.loop-place-preserved

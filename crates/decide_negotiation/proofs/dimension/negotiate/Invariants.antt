@@ -1,6 +1,5 @@
-use Rattle.http_header.specs.HeaderMap.{get_all}
-use Rattle.headers_syntax.specs.Lines.{lines_of}
-use Rattle.decide_negotiation.{specs.Choice.offer_rank, specs.Qualities.quality_in, proofs.ChoiceLemmas.IsLeading}
+use Rattle.{http_header.specs.HeaderMap.get_all, headers_syntax.specs.Lines.lines_of}
+use Rattle.decide_negotiation.{specs.{Choice.offer_rank, Qualities.quality_in}, proofs.ChoiceLemmas.IsLeading}
 use Rattle.decide_negotiation.proofs.dimension.negotiate.Given as goal
 
 abbrev pub invariant-loop-place : goal.invariant-loop-place

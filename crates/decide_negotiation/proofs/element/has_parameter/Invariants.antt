@@ -1,6 +1,5 @@
-use Rattle.std.{proofs.Common.◌≡◌, specs.List.list_any}
-use Rattle.rfc_fields.specs.Members.{members_left}
-use Rattle.decide_negotiation.{specs.Elements.parameters_of, specs.Parameters.{is_same_parameter, parameter_parts}}
+use Rattle.{std.{proofs.Common.◌≡◌, specs.List.list_any}, rfc_fields.specs.Members.members_left}
+use Rattle.decide_negotiation.specs.{Elements.parameters_of, Parameters.{is_same_parameter, parameter_parts}}
 use Rattle.decide_negotiation.proofs.ParameterLemmas.{read}
 use Rattle.decide_negotiation.proofs.element.has_parameter.Given as goal
 

@@ -1,6 +1,5 @@
-use Rattle.std.proofs.Common.{◌≡◌}
-use Rattle.rfc_fields.specs.Members.{members_left}
-use Rattle.decide_negotiation.specs.{Elements.own_parameters, Elements.parameters_of, MediaRanges.are_had}
+use Rattle.{std.proofs.Common.◌≡◌, rfc_fields.specs.Members.members_left}
+use Rattle.decide_negotiation.specs.{Elements.{own_parameters, parameters_of}, MediaRanges.are_had}
 use Rattle.decide_negotiation.proofs.ParameterLemmas.{own}
 use Rattle.decide_negotiation.proofs.element.has_parameters_of.Given as goal
 

@@ -1,5 +1,4 @@
-use Rattle.std.proofs.Common.{◌≡◌, ◌+◌, length}
-use Rattle.rfc_fields.specs.Members.{members_left}
+use Rattle.{std.proofs.Common.{◌≡◌, ◌+◌, length}, rfc_fields.specs.Members.members_left}
 use Rattle.decide_negotiation.{specs.Elements.own_parameters, proofs.ParameterLemmas.own}
 use Rattle.decide_negotiation.proofs.element.parameter_count.Given as goal
 

@@ -1,5 +1,4 @@
-use Rattle.std.proofs.Common.{sym}
-use Rattle.decide_negotiation.proofs.ElementLemmas.{value_of-none, value_of-read}
+use Rattle.{std.proofs.Common.sym, decide_negotiation.proofs.ElementLemmas.{value_of-none, value_of-read}}
 use Rattle.decide_negotiation.proofs.element.value_of.Goals as goal
 
 pub returns-in-Ok : goal.returns-in-Ok

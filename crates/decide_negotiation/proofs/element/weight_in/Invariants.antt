@@ -1,5 +1,4 @@
-use Rattle.std.proofs.Common.{◌≡◌}
-use Rattle.rfc_fields.specs.Members.{members_left}
+use Rattle.{std.proofs.Common.◌≡◌, rfc_fields.specs.Members.members_left}
 use Rattle.decide_negotiation.{specs.Elements.{parameters_of, weight_in}, proofs.ParameterLemmas.read}
 use Rattle.decide_negotiation.proofs.element.weight_in.Given as goal
 

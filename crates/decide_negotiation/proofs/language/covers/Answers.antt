@@ -1,5 +1,4 @@
-use Rattle.std.proofs.Common.{◌∙◌, sym}
-use Rattle.decide_negotiation.proofs.LanguageLemmas.{covers-end}
+use Rattle.{std.proofs.Common.{◌∙◌, sym}, decide_negotiation.proofs.LanguageLemmas.covers-end}
 use Rattle.decide_negotiation.proofs.language.covers.Goals as goal
 
 pub returns-in_default : goal.returns-in_default

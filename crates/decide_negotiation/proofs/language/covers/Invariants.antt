@@ -1,5 +1,4 @@
-use Rattle.std.proofs.Common.{◌≡◌, drop}
-use Rattle.decide_negotiation.specs.Languages.{covers}
+use Rattle.{std.proofs.Common.{◌≡◌, drop}, decide_negotiation.specs.Languages.covers}
 use Rattle.decide_negotiation.proofs.language.covers.Given as goal
 
 abbrev pub invariant-loop-byte : goal.invariant-loop-byte

@@ -1,6 +1,5 @@
-use Rattle.std.proofs.Common.{◌∙◌, List, None, true, ap, sym, subst}
-use Rattle.headers_syntax.specs.Lines.{lines_of}
-use Rattle.rfc_fields.specs.{Members.field_left, Members.field_members, Scan.Member}
+use Rattle.{std.proofs.Common.{◌∙◌, List, None, true, ap, sym, subst}, headers_syntax.specs.Lines.lines_of}
+use Rattle.rfc_fields.specs.{Members.{field_left, field_members}, Scan.Member}
 use Rattle.decide_negotiation.proofs.LookupLemmas.{SoFar, so_far_end, so_far_more, so_far_none}
 use Rattle.decide_negotiation.proofs.lookup.found.Goals as goal
 

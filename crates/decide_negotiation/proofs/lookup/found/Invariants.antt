@@ -1,7 +1,5 @@
-use Rattle.std.proofs.Common.{true}
-use Rattle.headers_syntax.specs.Lines.{lines_of}
-use Rattle.rfc_fields.specs.Members.{field_left, field_members}
-use Rattle.decide_negotiation.proofs.LookupLemmas.{SoFar}
+use Rattle.{std.proofs.Common.true, headers_syntax.specs.Lines.lines_of, rfc_fields.specs.Members.field_left}
+use Rattle.{rfc_fields.specs.Members.field_members, decide_negotiation.proofs.LookupLemmas.SoFar}
 use Rattle.decide_negotiation.proofs.lookup.found.Given as goal
 
 abbrev pub invariant-loop-member : goal.invariant-loop-member

@@ -1,8 +1,7 @@
-use Rattle.std.proofs.Common.{◌≡◌, ◌∙◌, true, false, Some, sym}
-use Rattle.headers_syntax.specs.Lines.{lines_of}
-use Rattle.rfc_fields.specs.Members.{field_members, member_of}
-use Rattle.decide_negotiation.specs.{Elements.bare_element_of, Elements.element_parts, MediaRanges.is_star}
-use Rattle.decide_negotiation.proofs.LookupLemmas.{finds_nothing, range_finds, range_finds_nothing}
+use Rattle.{std.proofs.Common.{◌≡◌, ◌∙◌, true, false, Some, sym}, headers_syntax.specs.Lines.lines_of}
+use Rattle.{rfc_fields.specs.Members.{field_members, member_of}, decide_negotiation.specs.Elements.bare_element_of}
+use Rattle.decide_negotiation.{specs.{Elements.element_parts, MediaRanges.is_star}, proofs.LookupLemmas.finds_nothing}
+use Rattle.decide_negotiation.proofs.LookupLemmas.{range_finds, range_finds_nothing}
 use Rattle.decide_negotiation.proofs.lookup.found_by.Goals as goal
 
 pub returns-in-Some-nearest : goal.returns-in-Some-nearest

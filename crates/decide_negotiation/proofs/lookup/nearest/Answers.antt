@@ -1,7 +1,6 @@
 use Rattle.std.proofs.Common.{◌≡◌, ◌∙◌, true, length, ap, arith, Some, option_copied}
-use Rattle.headers_syntax.specs.Lines.{lines_of}
-use Rattle.rfc_fields.specs.Members.{field_members}
-use Rattle.decide_negotiation.specs.{Choice.led, Lookup.nearness, Lookup.offer_nearness}
+use Rattle.{headers_syntax.specs.Lines.lines_of, rfc_fields.specs.Members.field_members}
+use Rattle.decide_negotiation.specs.{Choice.led, Lookup.{nearness, offer_nearness}}
 use Rattle.decide_negotiation.proofs.ChoiceLemmas.{leader_is_picked, leading_on}
 use Rattle.decide_negotiation.proofs.lookup.nearest.Goals as goal
 

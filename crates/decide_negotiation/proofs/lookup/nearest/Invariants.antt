@@ -1,7 +1,6 @@
-use Rattle.std.proofs.Common.{true, option_copied}
-use Rattle.headers_syntax.specs.Lines.{lines_of}
-use Rattle.rfc_fields.specs.Members.{field_members}
-use Rattle.decide_negotiation.{specs.Lookup.offer_nearness, proofs.ChoiceLemmas.IsLeading}
+use Rattle.{std.proofs.Common.{true, option_copied}, headers_syntax.specs.Lines.lines_of}
+use Rattle.{rfc_fields.specs.Members.field_members, decide_negotiation.specs.Lookup.offer_nearness}
+use Rattle.decide_negotiation.proofs.ChoiceLemmas.{IsLeading}
 use Rattle.decide_negotiation.proofs.lookup.nearest.Given as goal
 
 abbrev pub invariant-loop-place : goal.invariant-loop-place

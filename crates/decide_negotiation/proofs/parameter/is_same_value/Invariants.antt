@@ -1,7 +1,5 @@
-use Rattle.std.proofs.Common.{◌≡◌}
-use Rattle.headers_syntax.specs.AsciiCase.{same_name}
-use Rattle.rfc_fields.specs.Values.{octets_left, value_parts}
-use Rattle.decide_negotiation.specs.Parameters.{is_same_value}
+use Rattle.{std.proofs.Common.◌≡◌, headers_syntax.specs.AsciiCase.same_name, rfc_fields.specs.Values.octets_left}
+use Rattle.{rfc_fields.specs.Values.value_parts, decide_negotiation.specs.Parameters.is_same_value}
 use Rattle.decide_negotiation.proofs.parameter.is_same_value.Given as goal
 
 -- the octets are the same exactly if what is left of them is

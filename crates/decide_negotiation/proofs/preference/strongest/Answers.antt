@@ -1,8 +1,7 @@
-use Rattle.std.proofs.Common.{rules, tests}
-use Rattle.std.proofs.lemmas.Iterator.Consumers.{YieldsList-at, YieldsList-from_filter_map, YieldsList-from_first}
-use Rattle.std.proofs.lemmas.Iterator.Consumers.{fold_from_yields_List}
-use Rattle.rfc_fields.specs.Members.{field_left, member_of}
-use Rattle.decide_negotiation.specs.Preferences.{stronger, strongest}
+use Rattle.std.proofs.{Common.{rules, tests}, lemmas.Iterator.Consumers.{YieldsList-at, YieldsList-from_filter_map}}
+use Rattle.std.proofs.lemmas.Iterator.Consumers.{YieldsList-from_first, fold_from_yields_List}
+use Rattle.{rfc_fields.specs.Members.{field_left, member_of}, decide_negotiation.specs.Preferences.stronger}
+use Rattle.decide_negotiation.specs.Preferences.{strongest}
 use Rattle.decide_negotiation.proofs.preference.strongest.Goals as goal
 
 pub returns : goal.returns

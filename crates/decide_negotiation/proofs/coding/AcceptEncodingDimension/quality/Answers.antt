@@ -1,9 +1,8 @@
 use Rattle.std.proofs.Common.{◌∙◌, true, ap, refl, sym, rules, tests, fold}
 use Rattle.std.proofs.lemmas.Iterator.Consumers.{YieldsList-from_first, fold_from_yields_List}
-use Rattle.headers_syntax.specs.Lines.{lines_of}
-use Rattle.rfc_fields.specs.{Members.field_members, Members.member_of, Members.members_left, Scan.Member}
-use Rattle.decide_negotiation.specs.Codings.{encoding_quality, member_quality, quality_of_all}
-use Rattle.decide_negotiation.specs.{Qualities.least, declared.acceptability.Quality.Quality}
+use Rattle.{headers_syntax.specs.Lines.lines_of, rfc_fields.specs.Members.{field_members, member_of, members_left}}
+use Rattle.{rfc_fields.specs.Scan.Member, decide_negotiation.specs.Codings.{encoding_quality, member_quality}}
+use Rattle.decide_negotiation.specs.{Codings.quality_of_all, Qualities.least, declared.acceptability.Quality.Quality}
 use Rattle.decide_negotiation.proofs.coding.AcceptEncodingDimension.quality.Goals as goal
 
 pub returns-in-Some : goal.returns-in-Some
