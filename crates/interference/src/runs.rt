@@ -73,7 +73,8 @@ pub fn one_slot_mixes_up_private_pages()
 pub fn ignoring_authorization_mixes_up_pages()
     ensures says { SaysWhatItDependsOn members }
     ensures strong { HasStrongTags members }
-    ensures anothers { GetsAnothers members (run (with_caches IgnoresAuthorization members by_credentials) (then_asks ann bob)) }
+    ensures anothers { GetsAnothers members
+        (run (with_caches IgnoresAuthorization members by_credentials) (then_asks ann bob)) }
     ensures right { told bob (run (with_caches Right members by_credentials) (then_asks ann bob)).received ≡ [] }
 {}
 

@@ -926,7 +926,8 @@ module _ {H : Type 0} (plans : Plans H) (gives : H → Gives) where
           asked first h new (after p) (x.rest.phase ∙ is) (
             answered_out first p z.0,
             subst HasRequest (sym (λ i. record (cored p i) { body = body_of (x.rest.request i) }))
-                (asked_out (core_asking old p) (after_sent (history_of old p) count) refl refl refl refl (same_out p) z.1),
+                (asked_out (core_asking old p) (after_sent (history_of old p) count) refl refl refl refl (same_out p)
+                z.1),
           )
 
   -- bytes of the range at the front are handed out,
@@ -1034,8 +1035,8 @@ module _ {H : Type 0} (plans : Plans H) (gives : H → Gives) where
       (sends_range (gives h) x.3 bytes x.4 x.6 x.7)
 
   -- and handed out before the connection is cut off,
-  pub offered_cut : {old mid new : Machine} (h : H) (bytes : List ℕ) → old.output.items ≡ [] → Offers (gives h) old bytes
-      → IsPopped old mid → CutsOff mid new → Moves plans gives old h [] bytes new h
+  pub offered_cut : {old mid new : Machine} (h : H) (bytes : List ℕ) → old.output.items ≡ []
+      → Offers (gives h) old bytes → IsPopped old mid → CutsOff mid new → Moves plans gives old h [] bytes new h
   offered_cut {old} {mid} {new} h bytes none offers popped cut =
       let x = offers_range old h bytes none offers in
       let y = subst (λ (m : Machine). CutsOff m new) popped cut in

@@ -28,9 +28,10 @@ HasEnded plans gives config last now h true =
 HasEnded plans gives config last now h false = IsServed config h ⊎ Sends plans gives last now config h
 
 -- All bytes that were sent are known literally. For each request, in order, they are the interim response if one was
--- sent, the head that `http1` writes for the application's plan, the content and what ends it. After them follows nothing,
--- or the response that says why the next request was rejected. Where the connection ended with an error, the last of
--- these bytes may not have been sent; or the response to the next request was being sent after them, and its front was.
+-- sent, the head that `http1` writes for the application's plan, the content and what ends it. After them follows
+-- nothing, or the response that says why the next request was rejected. Where the connection ended with an error, the
+-- last of these bytes may not have been sent; or the response to the next request was being sent after them, and its
+-- front was.
 abbrev pub IsSentLiterally : {H : Type 0} → Plans H → (H → Gives) → Config → H → H → H → History → Bool → Type 0
 IsSentLiterally plans gives config first last now h true =
     IsLiteral plans gives config first last h.state h.received h.calls h.sent
@@ -39,8 +40,8 @@ IsSentLiterally plans gives config first last now h false =
     ⊎ ((x : Sends plans gives last now config h)
     × SendsCalls plans gives config first last h.received h.calls x.text x.rest)
 
--- Of the bytes that were received these were sent. Each response that was sent whole carries out a plan of the application
--- for its request.
+-- Of the bytes that were received these were sent. Each response that was sent whole carries out a plan of the
+-- application for its request.
 pub record Exchanged {H : Type 0} (plans : Plans H) (gives : H → Gives) (config : Config) (first now : H)
     (received sent : List ℕ) (is_whole : Bool) : Type 0 where
   pub history : History
@@ -72,8 +73,8 @@ pub data IsReached {H : Type 0} (plans : Plans H) (gives : H → Gives) (config 
       Moves plans gives old before more_received more_sent new now →
       IsReached plans gives config first new now (received ++ more_received) (sent ++ more_sent)
 
--- After those bytes the connection needs input: the input goes on, each whole request that was received is answered, and
--- the request after those was invited to go on if it waits for `100 Continue`. Nothing waits to be handed out.
+-- After those bytes the connection needs input: the input goes on, each whole request that was received is answered,
+-- and the request after those was invited to go on if it waits for `100 Continue`. Nothing waits to be handed out.
 pub record HasRested {H : Type 0} (plans : Plans H) (gives : H → Gives) (first : H) (m : Machine) (now : H)
     (received sent : List ℕ) : Type 0 where
   pub past : Past

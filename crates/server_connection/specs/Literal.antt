@@ -10,8 +10,8 @@ use Rattle.server_connection.{specs.declared.plan.Plan.Plan, specs.Encoding.Fram
 use Rattle.server_connection.specs.Plan.{HasHeadOf, Plans, sent_pieces}
 
 -- The stream begins with the request of the call, and the text is all that was sent for it. Its response carries out a
--- plan of the application, and is literally these bytes: the head that `http1` writes for the plan, with what goes before
--- the content; the bytes of the plan's pieces, or none to HEAD; and what goes after the content.
+-- plan of the application, and is literally these bytes: the head that `http1` writes for the plan, with what goes
+-- before the content; the bytes of the plan's pieces, or none to HEAD; and what goes after the content.
 pub record SendsCall {H : Type 0} (plans : Plans H) (gives : H → Gives) (config : Config) (before now : H)
     (stream : List ℕ) (c : Call) (text rest : List ℕ) : Type 0 where
   pub stays : Bool

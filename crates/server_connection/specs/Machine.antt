@@ -60,8 +60,8 @@ core m p = record {
 abbrev pub core_asking : Machine → Past → Core
 core_asking m p = record (core m p) { body = body_of m.request }
 
--- The response to the next request is being sent, by the plan of an application that was in one state before it and is in
--- another one since. Its head and the front of its content are out, but for what was lost.
+-- The response to the next request is being sent, by the plan of an application that was in one state before it and is
+-- in another one since. Its head and the front of its content are out, but for what was lost.
 pub record Sends {H : Type 0} (plans : Plans H) (gives : H → Gives) (before now : H) (config : Config) (h : History)
     : Type 0 where
   pub text : List ℕ
@@ -152,8 +152,8 @@ pub record IsLaid {H : Type 0} (plans : Plans H) (gives : H → Gives) (first la
   pub serves : a.state ≡ Open → Serves a.config a.received a.calls literal.text literal.rest
   pub between : a.state ≡ Open → a.has_head ≡ false → literal.later ≡ []
 
--- The exchanges lead to a state of the application: to the one now, unless the connection was aborted. The output is known
--- literally.
+-- The exchanges lead to a state of the application: to the one now, unless the connection was aborted. The output is
+-- known literally.
 abbrev pub HasAnswered : {H : Type 0} → Plans H → (H → Gives) → H → H → Machine → Past → Type 0
 HasAnswered {H} plans gives first now m p =
     (last : H) × Chain (Answers plans gives) first p.calls last × (m.state ≢ Aborted → last ≡ now)
@@ -170,7 +170,8 @@ RunsAt Responding {H} plans gives first m now p =
 abbrev pub Runs : {H : Type 0} → Plans H → (H → Gives) → H → Machine → H → Past → Type 0
 Runs plans gives first m now p = RunsAt m.phase plans gives first m now p
 
--- a step leads from one state of the connection and the application to another: nothing is read and nothing is handed out
+-- a step leads from one state of the connection and the application to another: nothing is read and nothing is handed
+-- out
 pub record Leads {H : Type 0} (plans : Plans H) (gives : H → Gives) (old : Machine) (before : H) (new : Machine)
     (now : H)
     : Type 0 where

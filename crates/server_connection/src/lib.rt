@@ -1,8 +1,8 @@
 //! One connection of an HTTP/1.1 server.
 //!
 //! `Connection` has no input and output of its own. Its host passes in what it received, and writes what it is offered:
-//! literal bytes, and ranges of what the application has open. `serve_exchanges` is such a host, over a reader and a writer
-//! that block. A handler answers each request with a plan, and its ranges are read in pieces of at most 64 KiB.
+//! literal bytes, and ranges of what the application has open. `serve_exchanges` is such a host, over a reader and a
+//! writer that block. A handler answers each request with a plan, and its ranges are read in pieces of at most 64 KiB.
 #![tactic(auto)]
 
 mod application;

@@ -151,8 +151,8 @@ impl Machine {
 
     // How many bytes of a content that was rejected for its length are still to be read and dropped, at most. If its
     // length was known, a client that waits for `100 Continue` sends none. Of chunks no end is looked for: the client
-    // ends the connection once it reads that the server does (RFC 9112, section 9.6). After other rejections it may send
-    // nothing, and wait.
+    // ends the connection once it reads that the server does (RFC 9112, section 9.6). After other rejections it may
+    // send nothing, and wait.
     fn unwanted(&self) -> u64
         ensures { 0 < result → (self.now.state ≡ Closing (Refused BodyTooLarge)) × (self.now.phase ≡ Phase.Receiving) }
     {

@@ -35,4 +35,12 @@ loses guard first last =
 pub reads_milk : (w : World) → Has w.received (record { request = Get ann (eggs ∷ []); response = Status200 milk })
     → ReadsOlder w
 reads_milk w h =
-    record { client = ann; written = eggs ∷ []; own = eggs; version = milk; got = h; knew = inl refl; older = omega arith }
+    record {
+      client = ann;
+      written = eggs ∷ [];
+      own = eggs;
+      version = milk;
+      got = h;
+      knew = inl refl;
+      older = omega arith;
+    }

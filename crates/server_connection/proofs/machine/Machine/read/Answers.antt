@@ -43,7 +43,8 @@ returns-in-Data-clause-stays g c = λ now.
 pub returns-in-End-clause-stays : goal.returns-in-End-clause-stays
 returns-in-End-clause-stays g c = λ now.
     step_asks g.A.Application.plans g.A.Application.gives c.args.self.now _ _ now refl c.requires.phase c.requires.state
-    (λ p x. subst (λ t. HasRequest (with_server (core c.args.self.now p) c.read.new.self t)) (sym c.advance.ensures.items)
+    (λ p x. subst (λ t. HasRequest (with_server (core c.args.self.now p) c.read.new.self t))
+    (sym c.advance.ensures.items)
     (after_event (core c.args.self.now p) c.read.new.headers c.read.new.self c.in-Ok.read _ c.in-End.is
     c.requires.state (rw c.as_slice.ensures at c.in-Ok.ensures.ok) x))
     c.ask.ensures.asks
