@@ -1,5 +1,6 @@
 //! How acceptable offers are.
-ghost use Rattle.{std.specs.Prelude.◌≡◌, decide_negotiation.specs.Qualities.{least, preferred, rank, weighed}};
+ghost use Rattle.std.specs.Prelude.◌≡◌;
+ghost use Rattle.decide_negotiation.specs.Qualities.{least, preferred, rank, weighed};
 
 use crate::preference::Preference;
 

@@ -1,6 +1,7 @@
 //! What all lines of a field mean together.
 ghost use Rattle.std.specs.{Prelude.{◌≡◌, ◌<◌, [], length, true, MatchResult}, Bool.MatchBool, Option.option_map};
-ghost use Rattle.{std.specs.List.{list_all, list_any}, headers_syntax.specs.Lines.{lines_of, only_line}};
+ghost use Rattle.std.specs.List.{list_all, list_any};
+ghost use Rattle.headers_syntax.specs.Lines.{lines_of, only_line};
 ghost use Rattle.rfc_fields.specs.{Members.{field_members, member_of}, Directives.{DirectiveParts, FindsDirective}};
 ghost use Rattle.rfc_fields.specs.Directives.{HasOtherThanDirectives, IsClearOf, IsMemberDirective, directive_parts};
 ghost use Rattle.rfc_fields.specs.Directives.{is_same_token, is_token_member, or_named};

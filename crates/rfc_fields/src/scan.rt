@@ -1,5 +1,6 @@
 //! The ends of quotes and of elements.
-ghost use Rattle.{std.specs.Prelude.{◌≡◌, ◌≤◌, length, drop}, rfc_fields.specs.Scan.{FindsEnd, end_from, end_of}};
+ghost use Rattle.std.specs.Prelude.{◌≡◌, ◌≤◌, length, drop};
+ghost use Rattle.rfc_fields.specs.Scan.{FindsEnd, end_from, end_of};
 ghost use Rattle.rfc_fields.specs.{Scan.{is_cut, is_outside, state_after}, declared.scan.State.TheVariants.Outside};
 
 use memchr::memchr2;

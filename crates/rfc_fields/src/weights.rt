@@ -1,5 +1,6 @@
 //! Weights (RFC 9110, section 12.4.2).
-ghost use Rattle.{std.specs.Prelude.{◌≡◌, ◌≤◌, IfSome}, rfc_fields.specs.Weights.{fraction, one, thousandths, weight}};
+ghost use Rattle.std.specs.Prelude.{◌≡◌, ◌≤◌, IfSome};
+ghost use Rattle.rfc_fields.specs.Weights.{fraction, one, thousandths, weight};
 
 use crate::numbers::number_within;
 use crate::values::Value;
