@@ -1,6 +1,6 @@
 -- How a request arrived, and what is known of the next connection, as a caller hands it in.
-use Rattle.std.specs.Prelude.{◌⊎◌, Bool, List, [], ◌∷◌, Option, Some, None, Result, Ok, Err, codes, if◌then◌else◌}
-use Rattle.headers.{specs.LineMap.LineMap, specs.Lines.Line}
+use Rattle.std.specs.Prelude.{◌⊎◌, Bool, Option, Some, None, Result, Ok, Err, codes, if◌then◌else◌}
+use Rattle.headers.{specs.LineMap.LineMap, specs.Lines.{Line, first_line}}
 use Rattle.gateway_hops.{specs.Arrivals.ArrivalParts, specs.declared.arrival.Scheme.Scheme}
 use Rattle.gateway_hops.specs.declared.arrival.Scheme.TheVariants.{Http, Https}
 use Rattle.gateway_hops.specs.declared.fields.Forwarding.{Forwarding}
@@ -40,11 +40,6 @@ forwarding_of options =
 
 abbrev pub scheme_of : Bool → Scheme
 scheme_of is_secure = if is_secure then Https else Http
-
--- the first field line, if there is one
-abbrev pub first_line : List Line → Option Line
-first_line [] = None
-first_line (line ∷ lines) = Some line
 
 -- the host to which the request came: that of a target in absolute-form, which takes the place of Host (RFC 9112,
 -- section 3.2.2), else that of Host

@@ -1,10 +1,11 @@
 -- Hosts and origins, as C sees them.
-use Rattle.std.specs.Prelude.{◌≡◌, ℕ, ◌^◌, ◌-◌, ◌==◌, Bool, true, false, ◌&&◌, ◌||◌, nat_lt, List, [], ◌∷◌, ◌++◌}
+use Rattle.std.specs.Prelude.{◌≡◌, ℕ, ◌^◌, ◌-◌, ◌==◌, Bool, true, ◌&&◌, ◌||◌, List, [], ◌∷◌, ◌++◌}
 use Rattle.std.{specs.Prelude.{length, drop, Option, Some, None, bytes_eq, codes}, specs.List.starts_with}
 use Rattle.http_uri.{specs.Grammar.authority_host, specs.Port.{IsPortNumberOf, IsPortNumberOfSome}}
 use Rattle.headers.{specs.Host.host_bytes, specs.Origin.{origin_authority, origin_host, origin_is_null, origin_scheme}}
 use Rattle.headers.{specs.Origin.{origin_text, tuple_text}, specs.declared.Host.Host, specs.declared.Origin.Origin}
 use Rattle.rfc_fields.specs.Numbers.{number_within}
+use Rattle.decide_cors.specs.SentOrigins.{is_port_number}
 use Rattle.c_decisions.specs.Flags.{flag_of}
 use Rattle.c_typed.{specs.declared.hosts.HostText.HostText, specs.declared.hosts.OriginText.OriginText}
 use Rattle.c_typed.specs.declared.hosts.PortNumber.{PortNumber}
@@ -14,10 +15,6 @@ port_shown None = record { number = 0; is_set = 0 }
 port_shown (Some number) = record { number = number; is_set = 1 }
 
 -- decimal digits of a number below 65,536
-abbrev pub is_port_number : Option ℕ → Bool
-is_port_number None = false
-is_port_number (Some number) = nat_lt number 65536
-
 abbrev pub is_port : List ℕ → Bool
 is_port digits = is_port_number (number_within (2 ^ 64 - 1) digits)
 

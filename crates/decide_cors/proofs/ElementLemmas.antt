@@ -1,45 +1,21 @@
 -- A list of methods or names encodes to a value whose elements are exactly these.
 use Rattle.std.proofs.Common.{◌≡◌, ℕ, ◌-◌, true, false, List, [], ◌∷◌, length, map, Some, IsTrue, refl, ap, subst, ◌∙◌}
-use Rattle.std.{proofs.Common.{inl, inr, arith, leb}, proofs.Math.Seq.take-length, proofs.lemmas.Bool.Decides.nat_tests}
+use Rattle.std.{proofs.Common.{inl, inr, arith, leb}, proofs.Math.Seq.take-length}
 use Rattle.std.{proofs.lemmas.List.Elements.All-weaker, proofs.lemmas.Bool.{and_from, and_parts, cases_Bool, leb-true}}
-use Rattle.std.{proofs.lemmas.Bool.{ltb-true, ne_eqb}, proofs.lemmas.List.Splits.{slice_split_at, slice_split_none}}
-use Rattle.std.proofs.lemmas.List.Sums.{AllPass-from_list_all, list_all-from_AllPass, suffix_len_is}
-use Rattle.std.{specs.Prelude.{codes, filter, nat_lt, ◌==◌}, specs.List.{list_all, prefix_len, slice_split, suffix_len}}
+use Rattle.std.{proofs.lemmas.Bool.{ne_eqb}, proofs.lemmas.List.Splits.{slice_split_at, slice_split_none}}
+use Rattle.std.{specs.Prelude.{codes, filter, nat_lt, ◌==◌}, specs.List.{list_all, slice_split}}
 use Rattle.http_header.{specs.Token.{IsToken, is_token_byte, lowercase}, proofs.TokenLemmas.IsHeaderName-lowercase}
-use Rattle.headers.{specs.Lines.Line, specs.Merge.merge, specs.Places.comma, specs.Text.{is_blank, trim}}
-use Rattle.headers.{specs.ListItem.{IsListOf, is_token, method_of, name_of, values}, proofs.TextLemmas.token_no_blank}
+use Rattle.headers.{specs.Lines.Line, specs.Merge.merge, specs.Places.comma, specs.Text.{trim}}
+use Rattle.headers.{specs.ListItem.{IsListOf, is_token, method_of, name_of, values}}
+use Rattle.headers.proofs.ReadingLemmas.{is_token-from, is_token-of}
+use Rattle.headers.proofs.RoundTripLemmas.{token_back, token_front, token_trim}
 use Rattle.decide_cors.{specs.Browser.{extracted, star}, specs.Elements.{elements, is_filled}}
-
-is_token-from : (item : List ℕ) → is_token item ≡ true → IsToken item
-is_token-from item e =
-    let parts = and_parts _ _ e in (ltb-true _ _ parts.0, AllPass-from_list_all is_token_byte item parts.1)
-
-is_token-of : (item : List ℕ) → IsToken item → is_token item ≡ true
-is_token-of item t =
-    let some = t.0 in
-    and_from _ _ (grind (arith, nat_tests)) (list_all-from_AllPass is_token_byte item t.1)
 
 -- no byte of a token is a comma
 no_comma : (b : ℕ) → IsTrue (is_token_byte b) → (b == comma) ≡ false
 unfolding is_token_byte
 no_comma b t = ne_eqb _ _ (λ e. let f : IsTrue (is_token_byte comma) =
     subst (λ (x : ℕ). IsTrue (is_token_byte x)) e t in absurd (cc f))
-
-token_front : (x : List ℕ) → IsToken x → prefix_len is_blank x ≡ 0
-token_front [] t = absurd (omega (arith, t.0))
-token_front (b ∷ bs) t = let no : is_blank b ≡ false = token_no_blank b (t.1 0 0 t.0) in rw no refl
-
-token_back : (x : List ℕ) → IsToken x → suffix_len is_blank x ≡ 0
-token_back x t =
-    let some = t.0 in
-    suffix_len_is is_blank x (length x) 0 (omega arith) (λ k a b. absurd (omega (arith, a, b)))
-    (λ h. token_no_blank _ (t.1 (length x - 1) 0 (omega arith)))
-    ∙ (let z : length x - length x ≡ 0 = omega arith in z)
-
-token_trim : (x : List ℕ) → IsToken x → trim x ≡ x
-token_trim x t =
-    let whole : length x - 0 ≡ length x = omega arith in
-    rw (token_front x t) (rw (token_back x t) (rw whole (take-length x)))
 
 token_trim_behind : (x : List ℕ) → IsToken x → trim (32 ∷ x) ≡ x
 token_trim_behind x t =

@@ -1,14 +1,9 @@
 -- The field lines that vectors of methods and of names encode to.
-use Rattle.std.{proofs.Common.{◌≡◌, ℕ, List, [], ◌∷◌, length, sym, ◌∙◌}, proofs.lemmas.Iterator.items_from_drains}
-use Rattle.std.{proofs.lemmas.Iterator.Adapters.YieldsList-from_vec, proofs.lemmas.List.map-id, specs.Iterator.Drains}
+use Rattle.std.{proofs.Common.{◌≡◌, ℕ, List, [], ◌∷◌, length, ◌∙◌}}
+use Rattle.std.{proofs.lemmas.List.map-id}
 use Rattle.std.{specs.declared.vec.IntoIter.IntoIter, specs.Vec.Iter.{into_iter_items, into_iter_len, into_iter_steps}}
+use Rattle.headers.proofs.RoundTripLemmas.{drained}
 use Rattle.headers.specs.ListItem.{Reading, IsListOf, Lists, ListsValues}
-
--- a vector's iterator gives its elements
-drained : {X Z : Type 0} (s : IntoIter X Z) (xs given : List X) → into_iter_items s ≡ xs
-    → into_iter_len s ≡ length xs → Drains into_iter_steps s given → given ≡ xs
-drained s xs given e l d =
-    sym (map-id given) ∙ items_from_drains given (d.1.0, d.1.1, λ _. (d.0, d.1.2)) (YieldsList-from_vec xs e l)
 
 -- a list that was made of a vector encodes to the vector's elements, joined
 moved : (reading : Reading) (given xs : List (List ℕ)) (value line : List ℕ) → IsListOf reading given value
