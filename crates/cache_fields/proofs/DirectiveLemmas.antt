@@ -6,7 +6,7 @@ use Rattle.std.{specs.List.list_any, proofs.lemmas.Bool.{cases_Bool, or_left, or
 use Rattle.headers_map.specs.LineMap.{LineMap}
 use Rattle.rfc_fields.{specs.Directives.{DirectiveParts, is_named}, specs.Scan.Member}
 use Rattle.cache_fields.specs.Directives.{IsMalformed, Says, all_said, directed, directed_by, asks_always}
-use Rattle.cache_fields.specs.Directives.{directed_by_members, directs, is_argued, members, nothing, said_in}
+use Rattle.cache_fields.specs.Directives.{directs, is_argued, members, nothing, said_in}
 use Rattle.cache_fields.specs.Directives.{stores_nothing, strictest, with_later}
 use Rattle.cache_fields.specs.declared.directives.Directives.{Directives}
 
@@ -71,14 +71,6 @@ with_later-nothing a =
       option_none a.stale_if_error,
     ) refl
 
-pub directed-begun : (all : List Member) → directed_by_members all ≡ directed_after nothing all
-directed-begun all = by (all_said all)
-  where
-    by : (o : Option (List DirectiveParts)) → option_map_or directed_by o strictest
-        ≡ option_map_or (λ directives. with_later nothing (directed_by directives)) o strictest
-    by None = refl
-    by (Some directives) = refl
-
 pub directed-next : (first : Directives) (directive : DirectiveParts) (member : Member) (left : List Member)
     → said_in member ≡ Some directive
     → directed_after first (member ∷ left) ≡ directed_after (with_later first (directs directive)) left
@@ -91,10 +83,6 @@ directed-next first directive member left e = rw e (by (all_said left))
         strictest
     by None = refl
     by (Some rest) = with_later-assoc first (directs directive) (directed_by rest)
-
-pub directed-stops : (first : Directives) (member : Member) (left : List Member) → said_in member ≡ None
-    → directed_after first (member ∷ left) ≡ strictest
-directed-stops first member left e = rw e refl
 
 pub directed-ends : (first : Directives) → directed_after first [] ≡ first
 directed-ends first = with_later-nothing first

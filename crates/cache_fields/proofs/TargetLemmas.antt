@@ -55,15 +55,3 @@ lines-next told after line lines e = by (dictionary (trim line)) e
         let same : told_after told members ≡ after = (let h : Some (told_after told members) ≡ Some after = f in cc) in
         lines-both told members (all_members lines)
         ∙ ap (λ (d : Directives). option_map (told_after d) (all_members lines)) same
-
-pub lines-malformed : (told : Directives) (line : Line) (lines : List Line)
-    → option_map (told_after told) (dictionary (trim line)) ≡ None
-    → option_map (told_after told) (all_members (line ∷ lines)) ≡ None
-lines-malformed told line lines e = by (dictionary (trim line)) e
-  where
-    by : (o : Option (List MemberParts)) → option_map (told_after told) o ≡ None
-        → option_map (told_after told)
-        (option_and_then (λ members. option_map (λ others. members ++ others) (all_members lines)) o)
-        ≡ None
-    by None f = refl
-    by (Some members) f = absurd (let h : Some (told_after told members) ≡ None = f in cc)
