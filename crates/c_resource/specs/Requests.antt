@@ -1,5 +1,6 @@
 -- A request, by what a caller hands in.
-use Rattle.std.specs.Prelude.{◌≡◌, ◌⊎◌, ℕ, ◌==◌, Bool, false, ◌||◌, List, Option, Some, None, Result, Ok, Err, drop, take}
+use Rattle.std.specs.Prelude.{◌≡◌, ◌⊎◌, ℕ, ◌==◌, Bool, false, ◌||◌, List, Option, Some, None, Result, Ok, Err, drop}
+use Rattle.std.specs.Prelude.{take}
 use Rattle.std.specs.Prelude.{if◌then◌else◌}
 use Rattle.http_header.specs.FieldValue.{FieldValue}
 use Rattle.gateway_messages.{specs.Targets.{authority_len, scheme_len}, specs.declared.protocol.Protocol.Protocol}
@@ -12,7 +13,8 @@ use Rattle.decide_resource.specs.declared.request.RequestContent.TheVariants.{Ab
 use Rattle.c_decisions.specs.Numbers.{known}
 use Rattle.c_parts.{specs.declared.status.Failure.Failure, specs.declared.status.Failure.TheVariants.Refused}
 use Rattle.c_resource.{specs.Values.IsFilledValue, specs.declared.request.DenialParts.DenialParts}
-use Rattle.c_resource.{specs.declared.request.GivenRequest.GivenRequest, specs.declared.request.RequestParts.RequestParts}
+use Rattle.c_resource.specs.declared.request.GivenRequest.{GivenRequest}
+use Rattle.c_resource.specs.declared.request.RequestParts.{RequestParts}
 
 -- a request, but for its fields
 pub record Asked : Type 0 where

@@ -7,7 +7,8 @@ use Rattle.decide_resource.{specs.Requests.Request, specs.declared.denied.Denied
 use Rattle.c_decisions.specs.Methods.{IsMethodOf}
 use Rattle.c_parts.specs.declared.status.Failure.TheVariants.{Memory}
 use Rattle.c_resource.specs.Answers.{AnswersBy, IsRequest}
-use Rattle.c_resource.specs.Requests.{Asked, IsAuthorityAnswer, IsDenialAnswer, IsProtocolAnswer, asked_by, authority_of}
+use Rattle.c_resource.specs.Requests.{Asked, IsAuthorityAnswer, IsDenialAnswer, IsProtocolAnswer, asked_by}
+use Rattle.c_resource.specs.Requests.{authority_of}
 use Rattle.c_resource.specs.Requests.{content_of}
 use Rattle.c_resource.proofs.answer.answer_with.Goals as goal
 
