@@ -2,7 +2,8 @@
 use Rattle.std.proofs.Common.{◌≡◌, ℕ, List, [], ◌∷◌, ◌++◌, map, Option, Some, None, refl, sym, ap, subst, inl, inr, ◌∙◌}
 use Rattle.cache_store.{specs.History.{Call, History, Run}, specs.History.Call.Removed, specs.Kept.contents_of}
 use Rattle.cache_pass.specs.Effects.{DoAll, Does, Kept, Settings, kept_of, removals, settings_of}
-use Rattle.cache_pass.{specs.Steps.HasEnded, specs.Worlds.{Acts, Deed, IsStep, Log, Reaches, World, asked_in, asks_of, calls_of}}
+use Rattle.cache_pass.specs.Steps.{HasEnded}
+use Rattle.cache_pass.specs.Worlds.{Acts, Deed, IsStep, Log, Reaches, World, asked_in, asks_of, calls_of}
 use Rattle.cache_pass.{specs.Worlds.Deed.{Begins, Comes, Fails, Ends, Apart}, specs.Worlds.Event.Calls}
 use Rattle.cache_pass.{specs.declared.cache.Cache.Cache, specs.declared.pass.Pass.Pass, specs.declared.pass.Phase.Phase}
 use Rattle.cache_pass.specs.declared.pass.Phase.TheVariants.{Began, Asking, Passing, Ended}

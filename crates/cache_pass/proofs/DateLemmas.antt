@@ -10,7 +10,8 @@ use Rattle.cache_store.specs.History.Call.{Described, Answered, Removed}
 use Rattle.cache_pass.specs.Effects.{DoAll, Does, Kept, Settings, kept_of, removals, settings_of}
 use Rattle.cache_pass.{specs.Passes.{asked_of, key_of, phase_after, phase_first}, specs.Removals.{IsNoted, IsOutdated}}
 use Rattle.cache_pass.{specs.Steps.{HasCome, HasEnded}, specs.Worlds.{Acts, AreCurrent, Deed, IsCurrent, IsStep, Log}}
-use Rattle.cache_pass.{specs.Worlds.{Reaches, StoresAt, World, asked_in, asks_of}, specs.Worlds.Deed.{Begins, Comes, Fails, Ends, Apart}}
+use Rattle.cache_pass.specs.Worlds.{Reaches, StoresAt, World, asked_in, asks_of}
+use Rattle.cache_pass.specs.Worlds.Deed.{Begins, Comes, Fails, Ends, Apart}
 use Rattle.cache_pass.{specs.Worlds.Event.{Asks, Calls}, specs.declared.cache.Cache.Cache}
 use Rattle.cache_pass.{specs.declared.pass.Asked.Asked, specs.declared.pass.Pass.Pass, specs.declared.pass.Phase.Phase}
 use Rattle.cache_pass.specs.declared.pass.Phase.TheVariants.{Began, Asking, Passing, Ended}
@@ -293,8 +294,8 @@ module _ (pass : ℕ) (deed : Deed) (old new : World) (acts : Acts pass deed old
   between = after-calls (settings_of old.cache) (clocks_of old) pass acts.calls old.log (kept_of old.cache)
       (kept_of new.cache)
       (step-does (old.passes pass) old.cache (new.passes pass) new.cache acts.calls deed acts.step) d
-      (step-guarded pass (old.passes pass) old.cache (new.passes pass) new.cache old.log (clocks_of old) refl d acts.calls
-      deed acts.step)
+      (step-guarded pass (old.passes pass) old.cache (new.passes pass) new.cache old.log (clocks_of old) refl d
+      acts.calls deed acts.step)
 
   abbrev Holds : ℕ → ℕ → Log → Type 0
   Holds p clock log = (clock ≤ new.cache.removals.clock)
@@ -316,8 +317,10 @@ module _ (pass : ℕ) (deed : Deed) (old new : World) (acts : Acts pass deed old
         (elim (acts.others p) [
           | inl same ↦ subst (λ (q : ℕ). Holds q clock (asked_in deed pass (new.passes pass).phase ++ made)) (sym same)
               (own-dated clock (subst (λ (q : ℕ). clocks_of new q ≡ Some clock) same is))
-          | inr same ↦ let was = between.dated p clock (ap (λ (q : Pass). clock_of q.phase) (sym same) ∙ is) in
-              (was.0, λ target fine. current-further deed p target pass (new.passes pass).phase made (was.1 target fine))
+          | inr same ↦ let was = between.dated p clock (ap (λ (q : Pass). clock_of q.phase) (sym same) ∙ is) in (
+            was.0,
+            λ target fine. current-further deed p target pass (new.passes pass).phase made (was.1 target fine),
+          )
         ]);
   }
 

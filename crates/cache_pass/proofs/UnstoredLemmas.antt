@@ -6,9 +6,9 @@ use Rattle.headers.specs.LineMap.{lines_at}
 use Rattle.cache_policy.specs.Requests.{Request}
 use Rattle.cache_rules.specs.Errors.{IsFailure}
 use Rattle.cache_store.specs.History.{History}
-use Rattle.cache_pass.{specs.Effects.{Kept, Settings, kept_of, settings_of}, specs.Origin.{IsFailing, IsNext, IsPassedOn}}
+use Rattle.cache_pass.specs.{Effects.{Kept, Settings, kept_of, settings_of}, Origin.{IsFailing, IsNext, IsPassedOn}}
 use Rattle.cache_pass.{specs.Passes.{IsSameRequest, key_of, phase_after, request_of_pass}, specs.Steps.HasCome}
-use Rattle.cache_pass.{specs.Unstored.{AreAlike, AreUnstored, IsUnstored}, specs.Worlds.{Acts, Deed, IsStep, Log, Reaches}}
+use Rattle.cache_pass.specs.{Unstored.{AreAlike, AreUnstored, IsUnstored}, Worlds.{Acts, Deed, IsStep, Log, Reaches}}
 use Rattle.cache_pass.{specs.Worlds.{World, asked_in}, specs.Worlds.Deed.{Begins, Comes, Fails, Ends, Apart}}
 use Rattle.cache_pass.specs.Worlds.Event.{Calls}
 use Rattle.cache_pass.{specs.declared.cache.Cache.Cache, specs.declared.pass.Asked.Asked, specs.declared.pass.Pass.Pass}
@@ -30,7 +30,8 @@ module _ (settings : Settings) (key : List ℕ) (request : Request) (now : ℕ) 
   passed-too (next.PassOn true) wanted = absurd (isnt.unwanted wanted)
   passed-too (next.PassOn false) unwanted = other_isnt.unwanted
 
-  failing-too : (after : Kept) (given : Next) → IsFailing settings key request status (lines_at response) now after given
+  failing-too : (after : Kept) (given : Next)
+      → IsFailing settings key request status (lines_at response) now after given
       → IsFailing settings key request other_status (lines_at other) now after given
   failing-too after (next.Reply reply) is = is
   failing-too after (next.Once fresh answer) none = absurd none

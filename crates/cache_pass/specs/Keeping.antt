@@ -26,8 +26,8 @@ pub record IsNewer (came stored : StoredResponse) : Type 0 where
   pub later : (made_at came < made_at stored)
       ⊎ ((made_at came ≡ made_at stored) × (came.requested < stored.requested))
 
--- A newer one is stored. A cache uses the most recent of those that match (sections 4 and 4.1), so this one would answer
--- nothing that its request is answered by.
+-- A newer one is stored. A cache uses the most recent of those that match (sections 4 and 4.1), so this one would
+-- answer nothing that its request is answered by.
 abbrev pub IsLate : List StoredResponse → StoredResponse → Type 0
 IsLate responses came = IsSomewhere (IsAt (IsNewer came) responses)
 

@@ -1,6 +1,6 @@
 -- Requests for which the origin is asked now: others for the same may wait for one of them (RFC 9111, section 4).
-use Rattle.std.specs.Prelude.{◌≡◌, ◌==◌, ℕ, ◌+◌, ◌&&◌, Bool, List, [], ◌∷◌, ◌++◌, Option, Some, None, bytes_eq, filter, find}
-use Rattle.std.specs.Prelude.{IsSome, is_some, nat_le, nat_lt, not, option_map, string_bytes}
+use Rattle.std.specs.Prelude.{◌≡◌, ◌==◌, ℕ, ◌+◌, ◌&&◌, Bool, List, [], ◌∷◌, ◌++◌, Option, Some, None, bytes_eq}
+use Rattle.std.specs.Prelude.{IsSome, filter, find, is_some, nat_le, nat_lt, not, option_map, string_bytes}
 use Rattle.cache_store.specs.Parts.Answering.{IsForWhole}
 use Rattle.cache_pass.{specs.Passes.{asked_of, request_of_pass}, specs.declared.pass.Pass.Pass}
 use Rattle.cache_pass.{specs.declared.queue.Entry.Entry, specs.declared.queue.Queue.Queue}

@@ -68,8 +68,8 @@ module _ (settings : Settings) (world : World) (pass : Pass) (now : ℕ) where
       (stored : StoredResponse) × IsOfStored reply stored
       × IsValidatedNow update (record { requested = asked.requested; received = now }) stored
 
--- The response with the number is the one that passed on, as it came to this pass and as it is stored. None of those that
--- were stored and match its request is newer.
+-- The response with the number is the one that passed on, as it came to this pass and as it is stored. None of those
+-- that were stored and match its request is newer.
 pub record IsLatest (pass : Pass) (before after : Cache) (content : List ℕ) (now number : ℕ) : Type 0 where
   pub asked : Asked
   pub status : ℕ

@@ -4,8 +4,8 @@ use Rattle.http_header.{specs.FieldValue.FieldValue, specs.HeaderMap.Entries}
 use Rattle.cache_rules.specs.declared.storing.Reception.{Reception}
 use Rattle.cache_store.{specs.History.{Call, History, Removes}, specs.History.Call.{Looked, Arrived, Validated}}
 use Rattle.cache_store.{specs.History.Call.{Described, Answered, Removed}, specs.Kept.contents_of}
-use Rattle.cache_pass.{specs.Effects.{Does, Settings, kept_of, settings_of}, specs.Passes.key_of, specs.Steps.{HasBegun, HasCome}}
-use Rattle.cache_pass.{specs.Steps.{HasEnded, HasFailed}, specs.declared.cache.Cache.Cache}
+use Rattle.cache_pass.{specs.Effects.{Does, Settings, kept_of, settings_of}, specs.Passes.key_of}
+use Rattle.cache_pass.{specs.Steps.{HasBegun, HasCome, HasEnded, HasFailed}, specs.declared.cache.Cache.Cache}
 use Rattle.cache_pass.{specs.declared.pass.Pass.Pass, specs.declared.pass.Phase.Phase}
 use Rattle.cache_pass.specs.declared.pass.Phase.TheVariants.{Began, Asking, Passing, Ended}
 use Rattle.cache_pass.{specs.declared.replying.First.First, specs.declared.replying.Reply.Reply}
@@ -116,4 +116,5 @@ pub record IsNew (settings : Settings) (world : World) : Type 0 where
 -- this comes of a new world by any steps of any passes and calls apart, in any order
 abbrev pub Reaches : Settings → List (ℕ × Deed) → World → Type 0
 Reaches settings [] world = IsNew settings world
-Reaches settings (last ∷ deeds) world = (before : World) × Reaches settings deeds before × Acts last.0 last.1 before world
+Reaches settings (last ∷ deeds) world =
+    (before : World) × Reaches settings deeds before × Acts last.0 last.1 before world

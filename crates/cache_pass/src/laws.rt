@@ -11,10 +11,10 @@ ghost use Rattle.cache_pass.{specs.declared.pass.Phase.TheVariants.Ended, specs.
 ghost use Rattle.cache_pass.{specs.Unstored.AreAlike, specs.Worlds.{Acts, AreCurrent, Deed, Reaches, World}};
 
 /// Theorem: whatever steps of whatever passes come before, in any order, with look-ups and removals between them,
-/// what a step answers is right for its pass. A stored response that it names is stored under the target of this pass, by calls that justify that;
-/// it may be stored, and matches this request by method and Vary. It is fresh at that time, or allowed stale;
-/// or the origin failed at that time, and it is allowed stale then; or a 304 to this very request has just
-/// updated it. Where a step names none, the client gets what the origin answers to this pass. What a step
+/// what a step answers is right for its pass. A stored response that it names is stored under the target of this
+/// pass, by calls that justify that; it may be stored, and matches this request by method and Vary. It is fresh at
+/// that time, or allowed stale; or the origin failed at that time, and it is allowed stale then; or a 304 to this
+/// very request has just updated it. Where a step names none, the client gets what the origin answers to this pass. What a step
 /// stores is that answer, unless one is stored that matches this request and is newer: by Date, or of the same
 /// second and asked for later.
 pub fn answers_are_right()
@@ -24,8 +24,8 @@ pub fn answers_are_right()
 {}
 
 /// Theorem: whatever steps of whatever passes come, in any order, with look-ups and removals between them, a
-/// response that is stored, or updates stored ones, was asked by its pass since its target was last removed (RFC 9111, section 4.4). So no answer that a
-/// PUT has outdated is stored.
+/// response that is stored, or updates stored ones, was asked by its pass since its target was last removed (RFC
+/// 9111, section 4.4). So no answer that a PUT has outdated is stored.
 pub fn what_is_stored_was_asked_since_the_last_removal()
     ensures { (settings : Settings) (deeds : List (ℕ × Deed)) (world : World) → Reaches settings deeds world
         → AreCurrent world.log }

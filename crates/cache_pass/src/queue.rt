@@ -1,5 +1,6 @@
 //! Requests for which the origin is asked now, so that others for the same wait (RFC 9111, section 4).
-ghost use Rattle.std.{specs.Prelude.{◌≡◌, [], ◌∷◌, ◌++◌, if◌then◌else◌, filter, find, option_copied}, specs.Bool.MatchBool};
+ghost use Rattle.std.specs.Prelude.{◌≡◌, [], ◌∷◌, ◌++◌, if◌then◌else◌, filter, find, option_copied};
+ghost use Rattle.std.specs.Bool.{MatchBool};
 ghost use Rattle.cache_store.specs.Parts.Answering.{IsForWhole};
 ghost use Rattle.cache_policy.specs.Requests.{request_of};
 ghost use Rattle.cache_pass.specs.Queue.{Collapses, Enters, HasLeft, is_ahead, is_named, is_open, is_within};

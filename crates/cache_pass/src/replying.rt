@@ -99,7 +99,8 @@ impl Cache {
         request: &RequestHead<'_>,
         now: u64,
     ) -> First
-        ensures first { IsFirst (settings_of self.old) (request_of request.now) now (stored_at key.now self.new) result }
+        ensures first { IsFirst (settings_of self.old) (request_of request.now) now (stored_at key.now self.new)
+            result }
         ensures does { Does (settings_of self.old) (Looked key.now) (kept_of self.old) (kept_of self.new) }
         ensures settings { settings_of self.new ≡ settings_of self.old }
     {

@@ -22,4 +22,5 @@ returns-then-is_newer c = (
 pub returns : goal.returns
 returns c = λ late.
     c.loop-one.invariant late.0 late.1.0
-    (omega (arith, c.loop-one-test.false, slice_get_within c.args.stored.now late.0 late.1.0 late.1.1)) late.1.1 late.1.2
+    (omega (arith, c.loop-one-test.false, slice_get_within c.args.stored.now late.0 late.1.0 late.1.1)) late.1.1
+    late.1.2

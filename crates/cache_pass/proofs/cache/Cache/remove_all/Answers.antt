@@ -23,8 +23,8 @@ loop-url-preserved c =
           (kept_of c.remove.new.self)) (sym calls) (
             kept_of c.loop-url.self,
             c.loop-url.invariant.does,
-            subst (λ (s : Settings). Does s (Removed (serialize url)) (kept_of c.loop-url.self) (kept_of c.remove.new.self))
-                c.loop-url.invariant.settings
+            subst (λ (s : Settings). Does s (Removed (serialize url)) (kept_of c.loop-url.self)
+                (kept_of c.remove.new.self)) c.loop-url.invariant.settings
                 (subst (λ (t : List ℕ). Does (settings_of c.loop-url.self) (Removed t) (kept_of c.loop-url.self)
                 (kept_of c.remove.new.self)) c.as_str.ensures.value c.remove.ensures.does),
           );
@@ -33,6 +33,6 @@ loop-url-preserved c =
 
 pub returns-clause-does : goal.returns-clause-does
 returns-clause-does c =
-    subst (λ (l : List Parts). DoAll (settings_of c.args.self.now) (removals (map serialize l)) (kept_of c.args.self.now)
-    (kept_of c.loop-url.self)) (take_all c.loop-url.url-index c.args.urls.now c.loop-url-test.false)
-    c.loop-url.invariant.does
+    subst (λ (l : List Parts). DoAll (settings_of c.args.self.now) (removals (map serialize l))
+    (kept_of c.args.self.now) (kept_of c.loop-url.self))
+    (take_all c.loop-url.url-index c.args.urls.now c.loop-url-test.false) c.loop-url.invariant.does
