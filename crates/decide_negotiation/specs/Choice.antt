@@ -1,6 +1,7 @@
 -- Which of a server's offers is chosen; its preferred one is the first (RFC 9110, sections 12.1 and 12.4).
 use Rattle.std.specs.Prelude.{◌≡◌, ℕ, ◌<◌, ◌≤◌, List, [], ◌∷◌, length, get_or, Option, Some, None, nat_lt}
-use Rattle.{std.specs.Prelude.if◌then◌else◌, http_header.specs.FieldValue.FieldValue}
+use Rattle.std.specs.Prelude.{if◌then◌else◌}
+use Rattle.http_header.specs.FieldValue.{FieldValue}
 use Rattle.decide_negotiation.specs.{Qualities.rank, declared.{choice.Leader.Leader, acceptability.Quality.Quality}}
 
 module _ {A : Type 0} (score : A → ℕ) (xs : List A) where

@@ -1,6 +1,7 @@
 -- Content codings (RFC 9110, sections 8.4.1 and 12.5.3).
 use Rattle.std.specs.Prelude.{ℕ, Bool, true, List, [], ◌∷◌, Option, Some, None, codes, fold, option_and_then}
-use Rattle.{std.specs.Prelude.if◌then◌else◌, headers_syntax.specs.AsciiCase.same_name, rfc_fields.specs.Members.members}
+use Rattle.std.specs.Prelude.{if◌then◌else◌}
+use Rattle.{headers_syntax.specs.AsciiCase.same_name, rfc_fields.specs.Members.members}
 use Rattle.{rfc_fields.specs.Scan.{Member, Member.{Whole, Malformed}}, decide_negotiation.specs.Elements.ElementParts}
 use Rattle.decide_negotiation.specs.{Elements.bare_element_of, MediaRanges.is_star, Preferences.strongest}
 use Rattle.decide_negotiation.specs.declared.{preference.Preference.Preference, acceptability.Quality.Quality}

@@ -1,6 +1,7 @@
 -- Language ranges and tags (RFC 9110, section 12.5.4; RFC 4647).
 use Rattle.std.specs.Prelude.{ℕ, Bool, ◌&&◌, ◌==◌, true, false, List, [], ◌∷◌, length, Option, Some, None}
-use Rattle.{std.specs.Prelude.{option_and_then, if◌then◌else◌}, http_header.specs.Token.lowercase}
+use Rattle.std.specs.Prelude.{option_and_then, if◌then◌else◌}
+use Rattle.http_header.specs.Token.{lowercase}
 use Rattle.{rfc_fields.specs.Scan.Member, decide_negotiation.specs.Elements.{ElementParts, bare_element_of}}
 use Rattle.decide_negotiation.specs.{MediaRanges.is_star, declared.preference.Preference.Preference}
 

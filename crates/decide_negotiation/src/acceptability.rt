@@ -1,5 +1,5 @@
 //! How acceptable offers are.
-ghost use Rattle.std.specs.Prelude.◌≡◌;
+ghost use Rattle.std.specs.Prelude.{◌≡◌};
 ghost use Rattle.decide_negotiation.specs.Qualities.{least, preferred, rank, weighed};
 
 use crate::preference::Preference;

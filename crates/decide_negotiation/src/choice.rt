@@ -1,6 +1,6 @@
 //! The first item with the greatest score.
-ghost use Rattle.std.specs.Prelude.◌≡◌;
-ghost use Rattle.decide_negotiation.specs.Choice.led;
+ghost use Rattle.std.specs.Prelude.{◌≡◌};
+ghost use Rattle.decide_negotiation.specs.Choice.{led};
 
 /// The first place with the greatest score so far, if there is any score, and the score.
 #[derive(Clone, Copy)]

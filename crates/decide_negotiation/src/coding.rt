@@ -2,7 +2,7 @@
 ghost use Rattle.std.specs.Prelude.{◌≡◌, true, codes};
 ghost use Rattle.headers_syntax.specs.{AsciiCase.same_name, Lines.lines_of};
 ghost use Rattle.rfc_fields.specs.Members.{field_members, member_of};
-ghost use Rattle.decide_negotiation.specs.Codings.coding_quality;
+ghost use Rattle.decide_negotiation.specs.Codings.{coding_quality};
 ghost use Rattle.decide_negotiation.specs.Codings.{encoding_quality, is_same_coding, member_quality, registered};
 ghost use Rattle.decide_negotiation.specs.{Codings.{says_of, unlisted}, Elements.element_parts};
 

@@ -1,10 +1,10 @@
 //! The choice among a server's offers.
 ghost use Rattle.std.specs.Prelude.{◌≡◌, ℕ, true, List};
-ghost use Rattle.http_header.specs.FieldValue.plain_value;
-ghost use Rattle.http_header.specs.HeaderMap.get_all;
-ghost use Rattle.headers_syntax.specs.Lines.lines_of;
+ghost use Rattle.http_header.specs.FieldValue.{plain_value};
+ghost use Rattle.http_header.specs.HeaderMap.{get_all};
+ghost use Rattle.headers_syntax.specs.Lines.{lines_of};
 ghost use Rattle.rfc_fields.specs.{Members.field_members, Scan.Member};
-ghost use Rattle.decide_negotiation.specs.Choice.Chooses;
+ghost use Rattle.decide_negotiation.specs.Choice.{Chooses};
 ghost use Rattle.decide_negotiation.specs.{Qualities.quality_in, declared.acceptability.Quality.Quality};
 
 use crate::acceptability::Quality;

@@ -1,9 +1,9 @@
 //! Lookup of a language (RFC 4647, section 3.4).
 ghost use Rattle.std.specs.{Prelude.{◌≡◌, true, false, codes, option_copied}, Option.option_map_or};
-ghost use Rattle.http_header.specs.HeaderMap.get_all;
-ghost use Rattle.headers_syntax.specs.Lines.lines_of;
+ghost use Rattle.http_header.specs.HeaderMap.{get_all};
+ghost use Rattle.headers_syntax.specs.Lines.{lines_of};
 ghost use Rattle.rfc_fields.specs.Members.{field_members, member_of};
-ghost use Rattle.decide_negotiation.specs.Choice.Picks;
+ghost use Rattle.decide_negotiation.specs.Choice.{Picks};
 ghost use Rattle.decide_negotiation.specs.{Choice.first_place, Elements.{bare_element_of, element_parts}, Lookup.Finds};
 ghost use Rattle.decide_negotiation.specs.Lookup.{FoundBy, IsDefault, LooksUp, LooksUpIn, accepts_any, ends_single};
 ghost use Rattle.decide_negotiation.specs.Lookup.{excludes, is_any, is_excluded, is_truncation, nearness};

@@ -1,6 +1,6 @@
 //! The preferences of elements for an offer, and which of them decides.
 ghost use Rattle.std.specs.Prelude.{◌≡◌, true, List, ℕ, Option};
-ghost use Rattle.headers_syntax.specs.Lines.lines_of;
+ghost use Rattle.headers_syntax.specs.Lines.{lines_of};
 ghost use Rattle.rfc_fields.specs.{Members.{field_members, member_of}, Scan.Member};
 ghost use Rattle.decide_negotiation.specs.Preferences.{is_below, stronger, strongest};
 ghost use Rattle.decide_negotiation.specs.declared.preference.Preference.{Preference};

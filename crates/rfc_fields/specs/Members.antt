@@ -1,6 +1,7 @@
 -- The members of a field, and the state of an iterator over them as a contract sees it.
 use Rattle.std.specs.Prelude.{ℕ, Bool, true, false, List, [], ◌∷◌, ◌++◌, length, map, filter, not, ◌==◌, Result, Ok}
-use Rattle.{std.specs.{Prelude.{Err, if◌then◌else◌}, List.flat_map}, http_header.specs.FieldValue.FieldValue}
+use Rattle.std.specs.{Prelude.{Err, if◌then◌else◌}, List.flat_map}
+use Rattle.http_header.specs.FieldValue.{FieldValue}
 use Rattle.{headers_syntax.specs.{Lines.{Line, lines_of}, Text.trim}, rfc_fields.specs.Grammar.{comma, space}}
 use Rattle.rfc_fields.specs.{Scan.{Member, closes, pieces, Member.{Whole, Malformed}}, declared.scan.State.State}
 use denote.Ref.{Bor}

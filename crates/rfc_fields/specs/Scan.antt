@@ -1,6 +1,7 @@
 -- Where the text between two quotes ends, and where a list is cut, byte by byte.
 use Rattle.std.specs.Prelude.{◌≡◌, ℕ, ◌+◌, Bool, true, false, ◌&&◌, ◌==◌, List, [], ◌∷◌, ◌<◌, length, take, drop}
-use Rattle.{std.specs.Prelude.if◌then◌else◌, rfc_fields.specs.{Grammar.{quote, backslash}, declared.scan.State.State}}
+use Rattle.std.specs.Prelude.{if◌then◌else◌}
+use Rattle.rfc_fields.specs.{Grammar.{quote, backslash}, declared.scan.State.State}
 use Rattle.rfc_fields.specs.declared.scan.{State.TheVariants.{Outside, Inside, Escaped}, End.End}
 
 -- what a list has between two separators: a whole element, or, after its last separator, a text whose last quote has

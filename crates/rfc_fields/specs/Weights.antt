@@ -1,6 +1,7 @@
 -- Weights (RFC 9110, section 12.4.2).
 use Rattle.std.specs.Prelude.{ℕ, ◌-◌, ◌*◌, ◌^◌, ◌&&◌, ◌==◌, nat_le, List, [], ◌∷◌, length, Option, None, Some}
-use Rattle.{std.specs.{Prelude.if◌then◌else◌, Str.all_ascii_digits}, headers_syntax.specs.Number.decimal_value}
+use Rattle.std.specs.{Prelude.if◌then◌else◌, Str.all_ascii_digits}
+use Rattle.headers_syntax.specs.Number.{decimal_value}
 
 -- 0*3DIGIT after a point, in thousandths
 abbrev pub thousandths : List ℕ → Option ℕ

@@ -1,6 +1,6 @@
 //! A text cut at a byte.
 ghost use Rattle.std.specs.Prelude.{◌≡◌, option_map};
-ghost use Rattle.rfc_fields.specs.Cuts.cut;
+ghost use Rattle.rfc_fields.specs.Cuts.{cut};
 
 use memchr::memchr;
 

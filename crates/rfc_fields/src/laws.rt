@@ -1,6 +1,6 @@
 //! Theorems about the definitions alone. To cite one in a proof, call it.
 ghost use Rattle.std.specs.Prelude.{◌≡◌, ◌↔◌, ℕ, List, Some};
-ghost use Rattle.rfc_fields.specs.Comments.CommentsParseOneWay;
+ghost use Rattle.rfc_fields.specs.Comments.{CommentsParseOneWay};
 ghost use Rattle.rfc_fields.specs.{Directives.{DirectiveParts, IsDirective, directive_in}, Laws.HasAReading};
 ghost use Rattle.rfc_fields.specs.Laws.{JoinKeepsMembers, KeepsMembersBefore, MalformedComesLast};
 ghost use Rattle.rfc_fields.specs.Laws.{DirectivesParseOneWay, JoinKeepsDirectives, MalformedIsClearOfNone};

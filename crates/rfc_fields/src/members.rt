@@ -1,6 +1,6 @@
 //! The members of a field line, and of all lines of a field.
 ghost use Rattle.std.specs.{Prelude.{◌≡◌, true, false}, List.list_all, Iterator.{YieldsFirstBy, item_count}};
-ghost use Rattle.headers_syntax.specs.Lines.lines_of;
+ghost use Rattle.headers_syntax.specs.Lines.{lines_of};
 ghost use Rattle.rfc_fields.specs.Members.{field_left, field_members, is_whole};
 ghost use Rattle.rfc_fields.specs.Members.{is_well_formed, member_of, members, members_left, pieces_left};
 ghost use Rattle.rfc_fields.specs.{Grammar.semicolon, Scan.pieces, declared.scan.State.TheVariants.Outside};
