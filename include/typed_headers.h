@@ -230,7 +230,8 @@ struct typed_headers_cache_options {
     size_t variants;
     /* How many responses there may be in all. */
     size_t responses;
-    /* How many bytes of content there may be in all. */
+    /* How many bytes there may be in all, of targets, contents and fields: 256 for each field line of a response and its
+       request, and 1,024 for each response, count too. */
     size_t bytes;
     /* For how many seconds a response is guessed to be fresh at most, if it states no lifetime (RFC 9111, section
        4.2.2); 0 for none. */

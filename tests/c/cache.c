@@ -103,7 +103,7 @@ static struct typed_headers_cache_request request_for(const char *target, const 
 }
 
 static bool opens(const char *targets, uint64_t wait, uint8_t wanted) {
-    const struct typed_headers_cache_options options = {4, 16, 1000, 60, true};
+    const struct typed_headers_cache_options options = {4, 16, 1000000, 60, true};
     const struct typed_headers_cache_extensions extensions = {text(targets ? targets : ""), true, wait};
     CALL(targets ? typed_headers_cache_new_with(&cache, &options, &extensions, &KEYS)
                  : typed_headers_cache_new(&cache, &options, &KEYS));

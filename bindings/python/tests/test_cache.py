@@ -215,8 +215,8 @@ class CacheTest(unittest.TestCase):
         self.assertEqual(cache.begin("GET", A, {}, now=1000).step, Ask())
 
     def test_stays_within_its_limits(self) -> None:
-        cache = filled(most=8)
-        self.assertFalse(store(cache, b"too long.", target=B))
+        cache = filled(most=3000)
+        self.assertFalse(store(cache, bytes(3000), target=B))
         self.assertFalse(store(cache, b"half", target=B, complete=False))
         self.assertEqual(got(cache), b"hello")
         self.assertTrue(store(cache, b"long", target=B))

@@ -47,9 +47,7 @@ class Memory(unittest.TestCase):
         with Cache(shared=True, responses=16) as cache:
             self.assertLess(self.taken(cache, 1500, fields, b"", [], **LARGE), 16 * MIB)
 
-    @unittest.expectedFailure
     def test_fields_of_many_responses(self) -> None:
-        """(the bound of content doesn't count fields, nor those of the requests)"""
         fields = [*LARGE.items(), ("Cache-Control", "max-age=60")]
         with Cache(shared=True, content=MIB) as cache:
             self.assertLess(self.taken(cache, 1500, fields, b"", [], **LARGE), 16 * MIB)

@@ -429,7 +429,8 @@ class Pass:
 class Cache:
     """What a cache has stored of responses, in bounded memory (RFC 9111). Requests go through it as passes.
 
-    Limits are responses under one target, responses in all, and bytes of content in all. If a response states no
+    Limits are responses under one target, responses in all, and bytes in all: a response counts as its
+    `content`, target and fields, 256 for each field of it and its request, and 1,024. If a response states no
     lifetime, at most `guess` seconds are guessed (section 4.2.2). A cache may be used by several threads.
 
     With `immutable`, a fresh response with that directive isn't validated for `max-age` of a request (RFC 8246).

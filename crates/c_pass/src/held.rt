@@ -13,7 +13,7 @@ pub struct Shared {
     pub queue: Queue,
     /// The keys of the maps of sections.
     pub keys: HashKeys,
-    /// How many bytes of content the store may have in all: a pass keeps no more of what comes.
+    /// How many bytes the store may have in all: a pass keeps no more of what comes.
     pub most: usize,
 }
 

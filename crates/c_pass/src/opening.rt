@@ -20,7 +20,7 @@ pub struct CacheOptions {
     pub variants: usize,
     /// How many responses there may be in all.
     pub responses: usize,
-    /// How many bytes of content there may be in all.
+    /// How many bytes there may be in all, of targets, contents and fields.
     pub bytes: usize,
     /// For how many seconds a response is guessed to be fresh at most, if it states no lifetime, or 0 for none.
     pub guess: u64,

@@ -122,7 +122,7 @@ last-named cache target left fresh rest put =
     let same : stored_at target cache ≡ left ++ fresh ∷ [] =
     ap (responses_at target) put ∙ at-put target (left ++ fresh ∷ []) rest in
     numbered-at (stored_at target cache) (length left) fresh
-    (distinct-at cache.store.next target (contents_of cache.store) cache.store.numbered)
+    (distinct-at cache.store.next target (contents_of cache.store) cache.store.counted.numbered)
     (subst (λ (l : List StoredResponse). slice_get l (length left) ≡ Some fresh) (sym same) (slice-last left fresh))
 
 -- ---- a step

@@ -1,12 +1,11 @@
 -- What calls leave of numbers.
-use Rattle.std.proofs.Common.{◌≡◌, ◌⊎◌, ℕ, ◌≤◌, List, [], ◌∷◌, ◌++◌, Option, Some, None, option_to_list, sym, ap, subst}
-use Rattle.std.proofs.Common.{arith, inl, inr, ◌∙◌}
-use Rattle.cache_rules.specs.{Stored.request_of_stored, declared.stored.StoredResponse.StoredResponse}
-use Rattle.cache_store.specs.{Changes.IsFront, Changes.IsInserted, History.GoOn, History.Has, History.HasUnder}
-use Rattle.cache_store.specs.{Numbers.IsSameOrNumbered, declared.limits.Limits.Limits}
-use Rattle.cache_store.specs.Contents.{Contents, Target, responses_at, used, with_target, without}
-use Rattle.cache_store.proofs.HistoryLemmas.{Has-append, Has-drop, Has-rest, Has-take, Has-used, Has-without}
-use Rattle.cache_store.proofs.HistoryLemmas.{HasUnder-responses_at, HasUnder-weaker, under-put, under-with_target}
+use Rattle.std.proofs.Common.{[], ◌++◌, ◌∷◌, ◌≡◌, ◌≤◌, ◌⊎◌, ap, arith, inl, List, None, Option, Some, subst, sym, ℕ}
+use Rattle.{std.proofs.Common.{◌∙◌, inr, option_to_list}, cache_store.specs.declared.limits.Limits.Limits}
+use Rattle.cache_rules.specs.{declared.stored.StoredResponse.StoredResponse, Stored.request_of_stored}
+use Rattle.cache_store.specs.{Contents.{Contents, responses_at, Target, used, with_target, without}, Changes.IsFront}
+use Rattle.cache_store.specs.{History.{GoOn, Has, HasUnder}, Changes.IsInserted, Numbers.IsSameOrNumbered}
+use Rattle.cache_store.proofs.HistoryLemmas.{Has-append, Has-take, Has-used, HasUnder-responses_at, under-put}
+use Rattle.cache_store.proofs.HistoryLemmas.{Has-drop, Has-rest, Has-without, HasUnder-weaker, under-with_target}
 
 -- those that are left so far, and one more
 pub kept-next : (all left next others these : List StoredResponse) (one : StoredResponse)

@@ -1,23 +1,20 @@
 -- What the calls of a store leave is justified by them.
-use Rattle.std.proofs.Common.{◌≡◌, ◌≢◌, ◌⊎◌, ℕ, zero, suc, Bool, true, false, not, cond, List, [], ◌∷◌, ◌++◌, take}
-use Rattle.std.proofs.Common.{drop, Option, Some, None, refl, sym, ap, subst, arith, filter, remove, slice_get, inl}
-use Rattle.std.{proofs.Common.{inr, ◌∙◌}, proofs.lemmas.Option.same_Some, proofs.lemmas.Slice.Eq.bytes_eq-Decides}
-use Rattle.headers.specs.LineMap.{Field, LineMap}
-use Rattle.cache_policy.{specs.Decisions.IsGoodEnough, specs.declared.decision.Decision.Decision}
-use Rattle.cache_policy.{specs.Requests.Request, specs.Policies.{Policy, asks, tells}}
-use Rattle.cache_rules.{specs.Stored.{fields_of_stored, request_of_stored}, specs.Freshening.IsReusable}
-use Rattle.cache_rules.{specs.declared.freshening.Exchange.Exchange, specs.declared.storing.Reception.Reception}
-use Rattle.cache_rules.specs.declared.stored.StoredResponse.{StoredResponse}
-use Rattle.cache_store.{specs.Changes.{IsFront, IsRefreshedTo, IsRest}, specs.Updates.{AreLeft, BecomesBeside}}
-use Rattle.cache_store.{specs.Updates.BecomesByHead, specs.declared.limits.Limits.Limits, specs.Numbers.numbered}
-use Rattle.cache_store.{specs.Served.{IsRightlyServed, Serves}, specs.declared.lookup.Lookup.Lookup}
-use Rattle.cache_store.specs.Contents.{Contents, Target, is_for, responses_at, used, with_target, without}
-use Rattle.cache_store.{specs.History.{Call, Has, HasUnder, History, IsJustified, Run, Step}, specs.History.Call.Looked}
-use Rattle.cache_store.specs.History.Call.{Arrived, Validated, Described, Answered, Removed}
-use Rattle.cache_store.specs.declared.freshening.Refreshed.TheVariants.{Absent, Unchanged, Stored, Once}
-use Rattle.cache_store.specs.Lookups.{IsAnswer, IsFound, age_of_stored, freshness_of}
-use Rattle.cache_store.specs.declared.lookup.Lookup.TheVariants.{Serve, ServeAndRevalidate, Validate, ValidateOrServe}
-use Rattle.cache_store.specs.declared.lookup.Lookup.TheVariants.{Unavailable, Forward}
+use Rattle.std.proofs.Common.{◌≡◌, ◌≢◌, arith, Bool, cond, false, filter, Option, remove, slice_get, subst, true, zero}
+use Rattle.std.proofs.Common.{[], ◌++◌, ◌∙◌, ◌∷◌, ◌⊎◌, ap, drop, inl, inr, List, None, not, Some, suc, sym, take, ℕ}
+use Rattle.{cache_rules.specs.{Freshening.IsReusable, Stored.request_of_stored}, std.proofs.Common.refl}
+use Rattle.{headers.specs.LineMap.{Field, LineMap}, std.proofs.lemmas.{Option.same_Some, Slice.Eq.bytes_eq-Decides}}
+use Rattle.{cache_policy.specs.Decisions.IsGoodEnough, cache_store.specs.declared.limits.Limits.Limits}
+use Rattle.cache_policy.specs.{declared.decision.Decision.Decision, Requests.Request, Policies.{asks, Policy, tells}}
+use Rattle.cache_rules.specs.{declared.stored.StoredResponse.StoredResponse, Stored.fields_of_stored}
+use Rattle.cache_rules.specs.declared.{freshening.Exchange.Exchange, storing.Reception.Reception}
+use Rattle.cache_store.specs.{Changes.{IsFront, IsRefreshedTo, IsRest}, History.IsJustified, Numbers.numbered}
+use Rattle.cache_store.specs.{Updates.{AreLeft, BecomesBeside, BecomesByHead}, Served.{IsRightlyServed, Serves}}
+use Rattle.cache_store.specs.declared.lookup.Lookup.{Lookup, TheVariants.{Forward, Serve, Validate}}
+use Rattle.cache_store.specs.declared.lookup.Lookup.TheVariants.{ServeAndRevalidate, Unavailable, ValidateOrServe}
+use Rattle.cache_store.specs.{declared.freshening.Refreshed.TheVariants.{Absent, Once, Stored, Unchanged}, History.Has}
+use Rattle.cache_store.specs.Contents.{Contents, is_for, responses_at, Target, used, with_target, without}
+use Rattle.cache_store.specs.History.{HasUnder, Call, Call.{Answered, Arrived, Described, Looked, Removed, Validated}}
+use Rattle.cache_store.specs.{Lookups.{age_of_stored, freshness_of, IsAnswer, IsFound}, History.{History, Run, Step}}
 use Rattle.cache_policy.specs.declared.decision.Decision.TheVariants as decisions
 
 -- ---- elements of lists

@@ -1,15 +1,13 @@
 -- What follows of each stored response that calls justify.
-use Rattle.std.proofs.Common.{◌≡◌, ℕ, Bool, true, false, List, [], ◌∷◌, ◌++◌, sym, ap, subst, codes, inl, inr, ◌∙◌}
-use Rattle.headers.specs.{LineMap.LineMap, Typed.HasLine}
-use Rattle.cache_policy.specs.{Directives.directed, Requests.Request, Freshness.HasExpires, Policies.MayStoreUnder}
-use Rattle.cache_policy.specs.{Policies.Policy, Storing.IsSuited, Storing.StoresBy, Targets.governing}
-use Rattle.cache_policy.specs.{declared.Governing.Governing}
-use Rattle.cache_rules.proofs.StoringLemmas.{expires_stays, governing_stays}
-use Rattle.cache_rules.specs.Stored.{fields_of_stored, request_of_stored}
-use Rattle.cache_rules.specs.{declared.storing.Reception.Reception, declared.stored.StoredResponse.StoredResponse}
-use Rattle.cache_store.specs.{Changes.IsStoredAs, Changes.IsToStore, Contents.Contents, declared.limits.Limits.Limits}
-use Rattle.cache_store.specs.History.{Call, HasCome, HasUnder, History, IsJustified, Removes, Run}
-use Rattle.cache_store.specs.History.Call.{Looked, Arrived, Validated, Described, Answered, Removed}
+use Rattle.std.proofs.Common.{[], ◌++◌, ◌∙◌, ◌∷◌, ◌≡◌, ap, Bool, codes, false, inl, inr, List, subst, sym, true, ℕ}
+use Rattle.{headers.specs.{LineMap.LineMap, Typed.HasLine}, cache_rules.specs.Stored.fields_of_stored}
+use Rattle.cache_policy.specs.{Directives.directed, Storing.{IsSuited, StoresBy}, Targets.governing, Requests.Request}
+use Rattle.cache_policy.specs.{Freshness.HasExpires, Policies.{MayStoreUnder, Policy}, declared.Governing.Governing}
+use Rattle.cache_rules.{proofs.StoringLemmas.{expires_stays, governing_stays}, specs.Stored.request_of_stored}
+use Rattle.cache_rules.specs.declared.{stored.StoredResponse.StoredResponse, storing.Reception.Reception}
+use Rattle.cache_store.specs.{Changes.{IsStoredAs, IsToStore}, History.{Call, HasCome, HasUnder, History, IsJustified}}
+use Rattle.cache_store.specs.{Contents.Contents, History.{Removes, Run, Call.{Arrived, Described, Looked, Validated}}}
+use Rattle.cache_store.specs.{declared.limits.Limits.Limits, History.Call.{Answered, Removed}}
 use Rattle.cache_store.proofs.HistoryLemmas.{run-justified}
 
 -- ---- what may be stored

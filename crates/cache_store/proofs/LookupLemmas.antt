@@ -1,18 +1,14 @@
 -- What a lookup answers.
-use Rattle.std.proofs.Common.{◌≡◌, ◌≢◌, ◌≤◌, ℕ, List, Some, get_or, refl, ap, subst, inl, inr, ◌∙◌}
-use Rattle.std.proofs.lemmas.Option.{get_or_from_slice_get}
-use Rattle.headers.specs.LineMap.{LineMap}
-use Rattle.cache_policy.specs.{Decisions.Answers, Decisions.counted, Age.age_at, Directives.directed, Fields.capped}
-use Rattle.cache_policy.specs.{Requests.Request, Targets.governing, declared.Governing.Governing}
-use Rattle.cache_policy.specs.{declared.decision.Decision.Decision, Policies.AnswersUnder, Policies.Policy}
-use Rattle.cache_rules.specs.{Selection.IsChosen, Stored.fields_of_stored, Stored.times_of}
-use Rattle.cache_rules.specs.{declared.stored.StoredResponse.StoredResponse}
+use Rattle.std.proofs.Common.{◌∙◌, ◌≡◌, ◌≢◌, ◌≤◌, ap, get_or, inl, inr, List, refl, Some, subst, ℕ}
+use Rattle.{cache_rules.specs.Selection.IsChosen, std.proofs.lemmas.Option.get_or_from_slice_get}
+use Rattle.{cache_policy.specs.{declared.Governing.Governing, Directives.directed}, headers.specs.LineMap.LineMap}
+use Rattle.cache_policy.specs.{Decisions.{Answers, counted}, Age.age_at, Fields.capped, Targets.governing}
+use Rattle.cache_policy.specs.{declared.decision.Decision.Decision, Policies.{AnswersUnder, Policy}, Requests.Request}
+use Rattle.cache_rules.specs.{declared.stored.StoredResponse.StoredResponse, Stored.{fields_of_stored, times_of}}
 use Rattle.cache_store.specs.Lookups.{HasFields, IsAnswer, IsDecisionOf, IsFound, IsFreshBy, IsFreshFor, IsLookupOf}
-use Rattle.cache_store.specs.Lookups.{freshness_of}
-use Rattle.cache_store.specs.{Numbers.numbered, Numbers.times_in, declared.lookup.Lookup.Lookup}
+use Rattle.cache_store.specs.{declared.lookup.Lookup.{Lookup, TheVariants.{Forward, Unavailable}}, Lookups.freshness_of}
+use Rattle.cache_store.{specs.Numbers.{numbered, times_in}, proofs.NumberLemmas.numbered-at}
 use Rattle.cache_store.specs.declared.lookup.Lookup.TheVariants.{Serve, ServeAndRevalidate, Validate, ValidateOrServe}
-use Rattle.cache_store.specs.declared.lookup.Lookup.TheVariants.{Unavailable, Forward}
-use Rattle.cache_store.proofs.NumberLemmas.{numbered-at}
 use Rattle.cache_policy.specs.declared.decision.Decision.TheVariants as decisions
 
 -- how old a stored response is at a present

@@ -1,8 +1,6 @@
 -- The targets that field lines name, line by line.
-use Rattle.std.proofs.Common.{◌≡◌, List, [], ◌∷◌, ◌++◌, Option, refl, sym, ap, subst, append_assoc, option_to_list, ◌∙◌}
-use Rattle.std.proofs.lemmas.List.{append-nil}
-use Rattle.url.specs.Parts.{Parts}
-use Rattle.headers.specs.Lines.{Line}
+use Rattle.std.proofs.Common.{[], ◌++◌, ◌∙◌, ◌∷◌, ◌≡◌, ap, append_assoc, List, Option, option_to_list, refl, subst, sym}
+use Rattle.{headers.specs.Lines.Line, std.proofs.lemmas.List.append-nil, url.specs.Parts.Parts}
 use Rattle.cache_store.specs.Named.{AreNamedBy, Names}
 
 module _ (base : Parts) (all : List Line) where

@@ -1,12 +1,11 @@
 -- What a number shows after any calls.
-use Rattle.std.proofs.Common.{◌≡◌, ◌⊎◌, ℕ, ◌<◌, ◌≤◌, List, [], ◌∷◌, Option, Some, None, refl, sym, ap, subst, arith}
-use Rattle.std.{proofs.Common.{inl, inr, ◌∙◌}, proofs.lemmas.Bool.cases_lt}
-use Rattle.cache_policy.specs.Policies.{Policy}
-use Rattle.cache_rules.specs.declared.stored.StoredResponse.{StoredResponse}
-use Rattle.cache_store.{specs.Contents.{Contents, Target, responses_at}, specs.declared.limits.Limits.Limits}
-use Rattle.cache_store.{specs.History.{Has, HasUnder, History, RunFrom, State}, specs.Numbers.{AreNumbered, numbered}}
-use Rattle.cache_store.{specs.Numbers.{times_in, times_used}, proofs.HistoryLemmas.HasUnder-responses_at}
-use Rattle.cache_store.proofs.NumberLemmas.{Has-numbered, times-cons, times-has, used-cons}
+use Rattle.std.proofs.Common.{[], ◌<◌, ◌∷◌, ◌≡◌, ◌≤◌, ◌⊎◌, ap, arith, List, None, Option, refl, Some, subst, sym, ℕ}
+use Rattle.{std.proofs.{Common.{◌∙◌, inl, inr}, lemmas.Bool.cases_lt}, cache_policy.specs.Policies.Policy}
+use Rattle.{cache_rules.specs.declared.stored.StoredResponse.StoredResponse, cache_store.specs.Contents.Contents}
+use Rattle.cache_store.specs.{Contents.{responses_at, Target}, declared.limits.Limits.Limits, History.{Has, HasUnder}}
+use Rattle.cache_store.specs.{History.{History, RunFrom, State}, Numbers.{AreNumbered, numbered, times_in, times_used}}
+use Rattle.cache_store.proofs.{HistoryLemmas.HasUnder-responses_at, NumberLemmas.{Has-numbered, times-cons, times-has}}
+use Rattle.cache_store.proofs.NumberLemmas.{used-cons}
 
 -- ---- a run
 

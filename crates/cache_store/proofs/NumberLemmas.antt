@@ -1,13 +1,11 @@
 -- Which response a number names.
-use Rattle.std.proofs.Common.{◌≡◌, ◌≢◌, ℕ, zero, suc, ◌+◌, ◌-◌, ◌<◌, ◌≤◌, Bool, true, false, cond, List, [], ◌∷◌, ◌++◌}
-use Rattle.std.proofs.Common.{Option, Some, None, refl, sym, ap, arith, inl, inr, slice_get, remove, length, get_or}
-use Rattle.std.proofs.Common.{option_to_list, take, drop, ◌∙◌}
-use Rattle.std.proofs.{lemmas.Bool.cases_lt, lemmas.Option.same_Some}
+use Rattle.std.proofs.Common.{[], ◌++◌, ◌+◌, ◌-◌, ◌<◌, ◌∷◌, ◌≡◌, ◌≢◌, ◌≤◌, Bool, cond, false, List, suc, true, zero, ℕ}
+use Rattle.std.proofs.Common.{ap, arith, get_or, inl, inr, length, None, Option, refl, remove, slice_get, Some, sym}
+use Rattle.std.proofs.{Common.{◌∙◌, drop, option_to_list, take}, lemmas.{Bool.cases_lt, Option.same_Some}}
 use Rattle.std.proofs.lemmas.List.Sums.{sum_by-append, sum_by-cons, sum_by-remove, sum_by-take-drop}
-use Rattle.cache_rules.specs.declared.stored.StoredResponse.{StoredResponse}
-use Rattle.cache_store.specs.{Contents.Contents, Contents.Target, Contents.is_for, Contents.responses_at, History.Has}
-use Rattle.cache_store.specs.Numbers.{AreNumbered, AreNumberedWith, AreRenumbered, IsSameOrNumbered, has_number}
-use Rattle.cache_store.specs.Numbers.{numbered, times_in, times_used}
+use Rattle.{cache_rules.specs.declared.stored.StoredResponse.StoredResponse, cache_store.specs.History.Has}
+use Rattle.cache_store.specs.{Contents.{Contents, is_for, responses_at, Target}, Numbers.{AreNumbered, AreNumberedWith}}
+use Rattle.cache_store.specs.Numbers.{AreRenumbered, has_number, IsSameOrNumbered, numbered, times_in, times_used}
 
 -- a response counts once under its own number, and not under another
 abbrev one_if : Bool → ℕ

@@ -1,20 +1,17 @@
 -- What a validating response leaves.
-use Rattle.std.proofs.Common.{◌≡◌, ℕ, suc, ◌<◌, List, [], ◌∷◌, ◌++◌, Some, None, refl, length, get_or, remove, sym, ap}
-use Rattle.std.{proofs.Common.{drop, subst, take, arith, ◌+◌, ◌∙◌}, proofs.lemmas.List.Edits.length-remove}
-use Rattle.std.proofs.lemmas.List.Elements.{All-append, All-contains, All-contains_itself, All-drop, All-take}
-use Rattle.std.{proofs.lemmas.List.Elements.Contains-get_or, proofs.lemmas.Option.get_or_from_slice_get}
-use Rattle.std.{proofs.lemmas.Option.slice_get_within, specs.List.Contains}
-use Rattle.headers.specs.LineMap.{Field, LineMap}
-use Rattle.cache_policy.{specs.Requests.Request, specs.Policies.Policy}
-use Rattle.cache_rules.{specs.Fields.IsTooSmallFor, specs.Identifying.IsUpdatedAnswer, specs.Stored.fields_of_stored}
-use Rattle.cache_rules.specs.declared.freshening.Exchange.{Exchange}
-use Rattle.cache_rules.{specs.declared.stored.StoredResponse.StoredResponse, specs.Freshening.IsFreshened}
-use Rattle.cache_rules.specs.Freshening.{IsFreshenedAs, IsReusable}
+use Rattle.std.proofs.Common.{[], ◌++◌, ◌+◌, ◌<◌, ◌∷◌, ◌≡◌, ap, arith, get_or, length, List, remove, subst, suc, sym, ℕ}
+use Rattle.{cache_policy.specs.{Policies.Policy, Requests.Request}, std.{proofs.Common.Some, specs.List.Contains}}
+use Rattle.std.proofs.{Common.{◌∙◌, drop, None, refl, take}, lemmas.Option.{get_or_from_slice_get, slice_get_within}}
+use Rattle.std.proofs.lemmas.List.{Edits.length-remove, Elements.All-take}
+use Rattle.std.proofs.lemmas.List.Elements.{All-append, All-contains, All-contains_itself, All-drop, Contains-get_or}
+use Rattle.{headers.specs.LineMap.{Field, LineMap}, cache_store.specs.Contents.{Contents, with_target, without}}
+use Rattle.cache_rules.specs.{declared.freshening.Exchange.Exchange, Fields.IsTooSmallFor, Identifying.IsUpdatedAnswer}
+use Rattle.cache_rules.specs.{Freshening.{IsFreshened, IsFreshenedAs, IsReusable}, Stored.fields_of_stored}
+use Rattle.cache_rules.specs.declared.stored.StoredResponse.{StoredResponse}
 use Rattle.cache_store.specs.Changes.{IsLetGo, IsRefreshed, IsRefreshedByHead, IsRefreshedTo, IsRestored, IsUnrefreshed}
-use Rattle.cache_store.{specs.Contents.{Contents, responses_at, with_target, without}, specs.Numbers.renumbered}
-use Rattle.cache_store.{specs.declared.freshening.Refreshed.Refreshed, specs.Updates.{AreLeft, Becomes}}
-use Rattle.cache_store.{specs.Updates.IsOneTooSmallFor, specs.declared.updating.By.TheVariants.{NotModified, Head}}
-use Rattle.cache_store.specs.declared.freshening.Refreshed.TheVariants.{Absent, Unchanged, Stored, Once}
+use Rattle.cache_store.specs.{Updates.{AreLeft, Becomes, IsOneTooSmallFor}, Numbers.renumbered, Contents.responses_at}
+use Rattle.cache_store.specs.declared.{updating.By.TheVariants.{Head, NotModified}, freshening.Refreshed.Refreshed}
+use Rattle.cache_store.specs.declared.freshening.Refreshed.TheVariants.{Absent, Once, Stored, Unchanged}
 use Rattle.cache_rules.specs.declared.freshening.Freshened.TheVariants as outcomes
 
 -- the place of the response that answers

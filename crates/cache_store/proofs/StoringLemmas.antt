@@ -1,38 +1,31 @@
 -- What a new response takes away.
-use Rattle.std.proofs.Common.{◌≡◌, ◌≢◌, ℕ, ◌+◌, ◌-◌, ◌<◌, List, [], ◌∷◌, ◌++◌, drop, length, get_or, Result, Option, Ok}
-use Rattle.std.{proofs.Common.{Some, refl, sym, ap, subst, arith, remove, inl, inr, ◌∙◌}, proofs.lemmas.List.drop-drop}
-use Rattle.std.{proofs.lemmas.List.Sums.sum_by-remove, proofs.lemmas.Option.get_or_from_slice_get}
-use Rattle.cache_policy.specs.Requests.{Request}
-use Rattle.cache_rules.{specs.Selection.IsChosen, specs.Stored.request_of_stored}
-use Rattle.cache_rules.specs.declared.stored.StoredResponse.{StoredResponse}
-use Rattle.cache_store.{specs.Changes.{FitsAlone, IsInserted, IsRest, IsTrimmed}, specs.Contents.{Contents, IsAbsent}}
-use Rattle.cache_store.{specs.Contents.{bytes_of, responses_at, size_of, without}, specs.Room.IsLongestWithRoom}
+use Rattle.std.proofs.Common.{[], ◌++◌, ◌+◌, ◌-◌, ◌<◌, ◌∷◌, ◌≡◌, ◌≢◌, drop, get_or, length, List, Ok, Option, Result, ℕ}
+use Rattle.std.proofs.{Common.{◌∙◌, ap, arith, inl, inr, refl, remove, Some, subst, sym}, lemmas.List.drop-drop}
+use Rattle.{cache_policy.specs.Requests.Request, std.proofs.lemmas.Option.get_or_from_slice_get}
+use Rattle.cache_rules.specs.{Selection.IsChosen, Stored.request_of_stored}
+use Rattle.{cache_rules.specs.declared.stored.StoredResponse.StoredResponse, cache_store.specs.Changes.FitsAlone}
+use Rattle.cache_store.specs.{Changes.{IsInserted, IsRest, IsTrimmed}, Contents.{bytes_at, Contents, IsAbsent}}
+use Rattle.cache_store.specs.{Contents.{responses_at, size_at, without}, Room.IsLongestWithRoom}
 use Rattle.cache_store.{specs.declared.limits.Limits.Limits, proofs.EntryLemmas.{IsAbsent-take, IsAbsent-without}}
-
--- ---- bytes
-
-pub bytes_of-remove : (xs : List StoredResponse) (i : ℕ) (d : StoredResponse) → i < length xs → bytes_of (remove xs i)
-    + size_of (get_or xs i d) ≡ bytes_of xs
-bytes_of-remove xs i d within = sum_by-remove size_of xs i d within
 
 -- ---- those of the same target
 
 pub drop-one-more : {X : Type 0} (n : ℕ) (xs : List X) → remove (drop n xs) 0 ≡ drop (n + 1) xs
 drop-one-more n xs = drop-drop 1 n xs
 
-module _ (limits : Limits) (size : ℕ) where
+module _ (limits : Limits) (target : List ℕ) (size : ℕ) where
   -- so many go, and one fewer would leave too little room
   pub record IsTrimming (old new : List StoredResponse) : Type 0 where
     pub count : ℕ
     pub left : new ≡ drop count old
-    pub fewest : 0 < count → ¬ (FitsAlone limits (length (drop (count - 1) old) + 1) (bytes_of (drop (count - 1) old)
+    pub fewest : 0 < count → ¬ (FitsAlone limits (length (drop (count - 1) old) + 1) (bytes_at target (drop (count - 1) old)
         + size))
 
   pub trim-none : (old : List StoredResponse) → IsTrimming old old
   trim-none old = record { count = 0; left = refl; fewest = λ some. absurd (omega (arith, some)) }
 
   pub trim-some : FitsAlone limits 1 size → (mid : List StoredResponse) → ¬ (FitsAlone limits (length mid + 1)
-      (bytes_of mid + size))
+      (bytes_at target mid + size))
       → 0 < length mid
   trim-some alone [] cramped = absurd (cramped (record {
     variants = alone.variants;
@@ -43,19 +36,19 @@ module _ (limits : Limits) (size : ℕ) where
   trim-some alone (x ∷ mid) cramped = omega arith
 
   pub trim-next : (old mid new : List StoredResponse) → IsTrimming old mid → ¬ (FitsAlone limits (length mid + 1)
-      (bytes_of mid + size))
+      (bytes_at target mid + size))
       → new ≡ remove mid 0 → IsTrimming old new
   trim-next old mid new trimming cramped left =
       record {
         count = trimming.count + 1;
         left = left ∙ ap (λ l. remove l 0) trimming.left ∙ drop-one-more trimming.count old;
-        fewest = λ _ fits. cramped (subst (λ l. FitsAlone limits (length l + 1) (bytes_of l + size))
+        fewest = λ _ fits. cramped (subst (λ l. FitsAlone limits (length l + 1) (bytes_at target l + size))
             (ap (λ n. drop n old) (omega arith) ∙ sym trimming.left) fits);
       }
 
-  pub trim-done : (old new : List StoredResponse) → IsTrimming old new → FitsAlone limits (length new + 1) (bytes_of
+  pub trim-done : (old new : List StoredResponse) → IsTrimming old new → FitsAlone limits (length new + 1) (bytes_at target
       new + size)
-      → IsTrimmed limits size old new
+      → IsTrimmed limits target size old new
   trim-done old new trimming fits =
       record { count = trimming.count; left = trimming.left; fits = fits; fewest = trimming.fewest }
 
@@ -88,8 +81,8 @@ pub inserted : (limits own : Limits) (target : List ℕ) (new : StoredResponse) 
     (taken others kept : List StoredResponse) (request : Request) (size count bytes : ℕ)
     → own ≡ limits → other ≡ without target old → taken ≡ responses_at target old
     → request ≡ request_of_stored new → IsRest request taken others
-    → size ≡ size_of new → IsTrimmed own size others kept
-    → count ≡ length kept + 1 → bytes ≡ bytes_of kept + size_of new → IsLongestWithRoom own count bytes other rest
+    → size ≡ size_at target new → IsTrimmed own target size others kept
+    → count ≡ length kept + 1 → bytes ≡ bytes_at target kept + size_at target new → IsLongestWithRoom own count bytes other rest
     → contents ≡ (target, kept ++ new ∷ []) ∷ rest → IsInserted limits target new old contents
 inserted limits own target new old other rest contents taken others kept request size count bytes
     is_own is_other is_taken is_request beside is_size trimmed is_count is_bytes room put =

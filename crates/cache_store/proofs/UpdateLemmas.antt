@@ -1,18 +1,10 @@
 -- What is left of stored responses that another one validates.
-use Rattle.std.proofs.Common.{◌≡◌, ℕ, ◌+◌, ◌<◌, ◌≤◌, List, [], ◌∷◌, ◌++◌, length, Option, Some, None, refl, sym, ap}
-use Rattle.std.proofs.Common.{subst, arith, append_assoc, inl, inr, remove, get_or, option_to_list, length-append, ◌∙◌}
-use Rattle.std.proofs.{lemmas.List.append-nil, lemmas.List.Edits.length-remove, lemmas.List.Elements.All-head}
-use Rattle.std.proofs.lemmas.List.Sums.{sum_by-append, sum_by-cons}
-use Rattle.std.specs.List.{All, Contains}
-use Rattle.headers.specs.LineMap.{Field, LineMap}
-use Rattle.cache_policy.specs.{Requests.Request, Policies.Policy}
-use Rattle.cache_rules.specs.{Fields.IsTooSmallFor, Freshening.IsFreshened, Freshening.IsFreshenedAs}
-use Rattle.cache_rules.specs.{declared.freshening.Exchange.Exchange, declared.stored.StoredResponse.StoredResponse}
-use Rattle.cache_store.specs.Contents.{Contents, bytes_of, size_of}
-use Rattle.cache_store.specs.{Room.HasRoom, declared.limits.Limits.Limits, declared.updating.By.By}
-use Rattle.cache_store.specs.Updates.{AreLeft, Becomes, BecomesUpdated, IsOneTooSmallFor}
-use Rattle.cache_store.specs.declared.updating.By.TheVariants.{NotModified, Head}
-use Rattle.cache_store.proofs.StoringLemmas.{bytes_of-remove}
+use Rattle.std.proofs.Common.{◌+◌, ◌≡◌, ◌≤◌, append_assoc, arith, length, length-append, List, option_to_list, subst, ℕ}
+use Rattle.{headers.specs.LineMap.{Field, LineMap}, std.proofs.Common.{[], ◌++◌, ◌∷◌, ap, None, Option, Some, sym}}
+use Rattle.{std.proofs.{lemmas.List.{append-nil, Elements.All-head}, Common.refl}, cache_policy.specs.Requests.Request}
+use Rattle.{cache_store.specs.Updates.{AreLeft, BecomesUpdated, IsOneTooSmallFor}, std.specs.List.{All, Contains}}
+use Rattle.{cache_policy.specs.Policies.Policy, cache_rules.specs.{Fields.IsTooSmallFor, Freshening.IsFreshenedAs}}
+use Rattle.cache_rules.specs.declared.{freshening.Exchange.Exchange, stored.StoredResponse.StoredResponse}
 use Rattle.cache_rules.specs.declared.freshening.Freshened.TheVariants as outcomes
 
 module _ (B : StoredResponse → Option StoredResponse → Type 0) (all : List StoredResponse) where
@@ -44,32 +36,7 @@ next_too_small all these others one fields split among small =
       small = small;
     }
 
--- ---- sizes
-
 module _ (policy : Policy) (request : Request) (update : LineMap) (exchange : Exchange) (old : StoredResponse) where
-  pub size-freshened : (new : StoredResponse) → IsFreshened old update exchange new → size_of new ≡ size_of old
-  size-freshened new freshened = ap (λ content. length content.items) freshened.content
-
-  updated-size : (new : StoredResponse) → BecomesUpdated policy request update exchange old (Some new)
-      → size_of new ≡ size_of old
-  updated-size new becomes = size-freshened new becomes.0
-
-  same-size : (new : StoredResponse) → Some new ≡ Some old → size_of new ≡ size_of old
-  same-size new same = grind (arith, same)
-
-  pub becomes-size : (by : By) (new : StoredResponse) → Becomes policy request update exchange old by (Some new)
-      → size_of new ≡ size_of old
-  becomes-size NotModified new (inl is) = updated-size new is.1
-  becomes-size NotModified new (inr is) = same-size new is.1
-  becomes-size Head new (inl is) = updated-size new is.2
-  becomes-size Head new (inr (inl is)) = absurd (grind (arith, is.2))
-  becomes-size Head new (inr (inr is)) = same-size new is.1
-
-  pub becomes-light : (by : By) (fate : Option StoredResponse) → Becomes policy request update exchange old by fate
-      → bytes_of (option_to_list fate) ≤ size_of old
-  becomes-light by None is = omega arith
-  becomes-light by (Some new) is = omega (arith, becomes-size by new is, sum_by-cons size_of new [])
-
   -- what is left of the response after `freshen`
   pub becomes-stored : (new : StoredResponse) → IsFreshenedAs policy old request update exchange (outcomes.Stored new)
       → BecomesUpdated policy request update exchange old (Some new)
@@ -90,35 +57,3 @@ module _ (left next others these : List StoredResponse) (one : StoredResponse) (
   pub fewer-next : (n : ℕ) → length left + length these ≤ n → length next + length others ≤ n
   fewer-next n before =
       omega (arith, before, ap length split, ap length put, length-append left (option_to_list fate), short fate)
-
-  pub lighter-next : (n : ℕ) → bytes_of (option_to_list fate) ≤ size_of one
-      → bytes_of left + bytes_of these ≤ n → bytes_of next + bytes_of others ≤ n
-  lighter-next n light before =
-      omega (
-        arith,
-        before,
-        light,
-        ap bytes_of split ∙ sum_by-cons size_of one others,
-        ap bytes_of put ∙ sum_by-append size_of left (option_to_list fate),
-      )
-
--- ---- room
-
--- what is left of the others, and the response in place of the one that was taken, have room where all had
-module _ (limits : Limits) (rest : Contents) (all left : List StoredResponse) (place : ℕ) (d : StoredResponse)
-    (within : place < length all) (room : HasRoom limits (length all) (bytes_of all) rest)
-    (fewer : length left ≤ length (remove all place)) (lighter : bytes_of left ≤ bytes_of (remove all place)) where
-  pub room_again : (size : ℕ) → size ≡ size_of (get_or all place d)
-      → HasRoom limits (length left + 1) (bytes_of left + size) rest
-  room_again size same =
-      record {
-        few = omega (arith, length-remove all place within, fewer, room.few);
-        light = omega (arith, bytes_of-remove all place d within, lighter, same, room.light);
-      }
-
-  pub room_without : HasRoom limits (length left) (bytes_of left) rest
-  room_without =
-      record {
-        few = omega (arith, length-remove all place within, fewer, room.few);
-        light = omega (arith, bytes_of-remove all place d within, lighter, room.light);
-      }

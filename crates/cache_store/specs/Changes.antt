@@ -1,18 +1,15 @@
 -- What the calls of a store make of what it has (RFC 9111, sections 3, 4.3.4 and 4.4).
-use Rattle.std.specs.Prelude.{◌≡◌, ◌≢◌, ◌⊎◌, ℕ, ◌+◌, ◌-◌, ◌<◌, ◌≤◌, List, [], ◌∷◌, ◌++◌, Some, None, length, take, drop}
-use Rattle.std.specs.Prelude.{remove}
-use Rattle.headers.specs.LineMap.{LineMap}
-use Rattle.cache_policy.specs.{Requests.Request, Policies.Policy}
-use Rattle.cache_rules.specs.{Fields.IsTooSmallFor, Identifying.IsIdentified, declared.freshening.Exchange.Exchange}
-use Rattle.cache_rules.specs.{declared.storing.Reception.Reception, declared.stored.StoredResponse.StoredResponse}
-use Rattle.cache_rules.specs.Freshening.{IsFreshened, IsReusable}
+use Rattle.std.specs.Prelude.{[], ◌++◌, ◌+◌, ◌-◌, ◌<◌, ◌∷◌, ◌≡◌, ◌≢◌, ◌≤◌, ◌⊎◌, drop, length, List, None, Some, take, ℕ}
+use Rattle.{cache_policy.specs.Requests.Request, headers.specs.LineMap.LineMap, std.specs.Prelude.remove}
+use Rattle.{cache_policy.specs.Policies.Policy, cache_rules.specs.{Fields.IsTooSmallFor, Identifying.IsIdentified}}
+use Rattle.cache_rules.specs.declared.{freshening.Exchange.Exchange, storing.Reception.Reception}
+use Rattle.cache_rules.specs.{declared.stored.StoredResponse.StoredResponse, Freshening.{IsFreshened, IsReusable}}
 use Rattle.cache_rules.specs.Selection.{IsCandidate, IsChosen, IsMostRecent, IsSelected, IsSought}
-use Rattle.cache_rules.specs.Stored.{fields_of_stored, request_of_stored}
-use Rattle.cache_rules.specs.Storing.{IsAsStored, IsStored, storing_fields}
-use Rattle.cache_store.specs.Contents.{Contents, bytes_of, responses_at, size_of, with_target, without}
-use Rattle.cache_store.specs.{Room.IsLongestWithRoom, Updates.AreLeft, Updates.BecomesBeside, Updates.BecomesByHead}
-use Rattle.cache_store.specs.{declared.limits.Limits.Limits, declared.freshening.Refreshed.Refreshed}
-use Rattle.cache_store.specs.declared.freshening.Refreshed.TheVariants.{Absent, Unchanged, Stored, Once}
+use Rattle.cache_rules.specs.{Stored.{fields_of_stored, request_of_stored}, Storing.{IsAsStored, IsStored}}
+use Rattle.{cache_rules.specs.Storing.storing_fields, cache_store.specs.Contents.{bytes_at, Contents, responses_at}}
+use Rattle.cache_store.specs.{Contents.{size_at, with_target, without}, Room.IsLongestWithRoom, Updates.AreLeft}
+use Rattle.cache_store.specs.{Updates.{BecomesBeside, BecomesByHead}, declared.limits.Limits.Limits}
+use Rattle.cache_store.specs.declared.freshening.Refreshed.{Refreshed, TheVariants.{Absent, Once, Stored, Unchanged}}
 
 -- the first targets of these, in their order: what an error leaves
 pub record IsFront (old new : Contents) : Type 0 where
@@ -46,6 +43,12 @@ pub record FitsAlone (limits : Limits) (responses bytes : ℕ) : Type 0 where
   pub few : responses ≤ limits.responses
   pub light : bytes ≤ limits.bytes
 
+-- the response is larger than the limits under the target, as it came or as it is stored
+abbrev pub IsTooLarge : Limits → List ℕ → StoredResponse → Type 0
+IsTooLarge limits target came =
+    (¬ (FitsAlone limits 1 (size_at target came)))
+    ⊎ ((stored : StoredResponse) × IsStoredAs came stored × ¬ (FitsAlone limits 1 (size_at target stored)))
+
 -- What is left of the responses of a target beside one to a new request: without the one that was selected for that
 -- request so far, if it has the same method (section 4.3.3).
 abbrev pub IsRest : Request → List StoredResponse → List StoredResponse → Type 0
@@ -55,13 +58,13 @@ IsRest request all rest =
     × (((found.response.method ≡ request.method) × (rest ≡ remove all place))
     ⊎ ((found.response.method ≢ request.method) × (rest ≡ all))))
 
--- the oldest of the responses go, as few as leave room for one more of this size
-pub record IsTrimmed (limits : Limits) (size : ℕ) (old new : List StoredResponse) : Type 0 where
+-- the oldest of the responses of the target go, as few as leave room for one more of this size
+pub record IsTrimmed (limits : Limits) (target : List ℕ) (size : ℕ) (old new : List StoredResponse) : Type 0 where
   pub count : ℕ
   pub left : new ≡ drop count old
-  pub fits : FitsAlone limits (length new + 1) (bytes_of new + size)
-  pub fewest : 0 < count → ¬ (FitsAlone limits (length (drop (count - 1) old) + 1) (bytes_of (drop (count - 1) old) +
-      size))
+  pub fits : FitsAlone limits (length new + 1) (bytes_at target new + size)
+  pub fewest : 0 < count → ¬ (FitsAlone limits (length (drop (count - 1) old) + 1)
+      (bytes_at target (drop (count - 1) old) + size))
 
 -- The new response is stored under the target, which becomes the most recently used; the least recently used others go,
 -- as few as leave room.
@@ -71,8 +74,8 @@ pub record IsInserted (limits : Limits) (target : List ℕ) (new : StoredRespons
     pub kept : List StoredResponse
     pub rest : Contents
     pub beside : IsRest (request_of_stored new) (responses_at target old) others
-    pub trimmed : IsTrimmed limits (size_of new) others kept
-    pub room : IsLongestWithRoom limits (length kept + 1) (bytes_of kept + size_of new) (without target old) rest
+    pub trimmed : IsTrimmed limits target (size_at target new) others kept
+    pub room : IsLongestWithRoom limits (length kept + 1) (bytes_at target kept + size_at target new) (without target old) rest
     pub put : contents ≡ (target, kept ++ new ∷ []) ∷ rest
 
 -- ---- a response that validates stored ones

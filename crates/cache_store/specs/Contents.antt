@@ -1,6 +1,7 @@
 -- What a store has.
-use Rattle.std.specs.Prelude.{◌≡◌, ℕ, Bool, false, not, List, [], ◌∷◌, ◌++◌, map, length, filter, sum_by, bytes_eq}
-use Rattle.std.{specs.Prelude.{if◌then◌else◌, string_bytes, String, Vec}, specs.List.AllByRecursion}
+use Rattle.std.specs.Prelude.{◌≡◌, ℕ, ◌+◌, ◌-◌, ◌^◌, min, Bool, false, not, List, [], ◌∷◌, ◌++◌, map, length, filter, sum_by}
+use Rattle.std.{specs.Prelude.{bytes_eq, if◌then◌else◌, string_bytes, String, Vec}, specs.List.AllByRecursion}
+use Rattle.http_header.specs.{FieldValue.FieldValue, HeaderMap.pairs}
 use Rattle.cache_rules.specs.declared.stored.StoredResponse.{StoredResponse}
 
 -- a target URI with the responses that are stored under it, in the order in which they were stored
@@ -38,21 +39,31 @@ abbrev pub with_target : List ℕ → List StoredResponse → Contents → Conte
 with_target target [] contents = contents
 with_target target (response ∷ responses) contents = (target, response ∷ responses) ∷ contents
 
--- how much a response counts against the bound: the bytes of its content
-abbrev pub size_of : StoredResponse → ℕ
-size_of stored = length stored.content.items
+-- a field line counts as the bytes of its name and its value, and 256 for what a map stores with them
+abbrev pub line_size : List ℕ × FieldValue → ℕ
+line_size line = length line.0 + length line.1.bytes + 256
 
-abbrev pub bytes_of : List StoredResponse → ℕ
-bytes_of = sum_by size_of
+-- How much a response that is stored under the target counts against the bound of bytes: the target, the content, the
+-- fields of the request and of the response, and 1,024 for what is stored with them. At most 2^64 - 1.
+unfoldable pub size_at : List ℕ → StoredResponse → ℕ
+size_at target stored =
+    min (length target + length stored.content.items + sum_by line_size (pairs stored.request)
+    + sum_by line_size (pairs stored.response) + 1024) (2 ^ 64 - 1)
+
+abbrev pub bytes_at : List ℕ → List StoredResponse → ℕ
+bytes_at target = sum_by (size_at target)
 
 -- how many responses are stored
 abbrev pub response_count : Contents → ℕ
 response_count = sum_by (λ entry. length entry.1)
 
--- how many bytes of content are stored
+-- how much they count as
 abbrev pub byte_count : Contents → ℕ
-byte_count = sum_by (λ entry. bytes_of entry.1)
+byte_count = sum_by (λ entry. bytes_at entry.0 entry.1)
 
 -- what entries of the code's map are
+abbrev pub shown_entry : {Y Z : Type 0} → String Y × Vec StoredResponse Z → Target
+shown_entry entry = (string_bytes entry.0, entry.1.items)
+
 abbrev pub shown : {Y Z : Type 0} → List (String Y × Vec StoredResponse Z) → Contents
-shown = map (λ entry. (string_bytes entry.0, entry.1.items))
+shown = map shown_entry

@@ -1,14 +1,12 @@
 -- What a list of calls lets a store have (RFC 9111).
-use Rattle.std.specs.Prelude.{◌≡◌, ◌≢◌, ◌⊎◌, ◌≤◌, ℕ, List, [], ◌∷◌}
-use Rattle.headers.specs.LineMap.{LineMap}
-use Rattle.cache_policy.specs.{Requests.Request, Updating.IsUpdated, Policies.Policy}
-use Rattle.cache_rules.specs.Freshening.{IsFreshened, IsHeadOf, IsReusable}
-use Rattle.cache_rules.specs.{Invalidation.Invalidates, Selection.IsCandidate, Stored.fields_of_stored}
-use Rattle.cache_rules.specs.{declared.freshening.Exchange.Exchange, declared.storing.Reception.Reception}
-use Rattle.cache_rules.specs.{declared.stored.StoredResponse.StoredResponse}
+use Rattle.{std.specs.Prelude.{[], ◌∷◌, ◌≡◌, ◌≢◌, ◌≤◌, ◌⊎◌, List, ℕ}, headers.specs.LineMap.LineMap}
+use Rattle.cache_policy.specs.{Policies.Policy, Requests.Request, Updating.IsUpdated}
+use Rattle.cache_rules.specs.{Freshening.{IsFreshened, IsHeadOf, IsReusable}, Invalidation.Invalidates}
+use Rattle.cache_rules.specs.{declared.freshening.Exchange.Exchange, Selection.IsCandidate, Stored.fields_of_stored}
+use Rattle.cache_rules.specs.declared.{stored.StoredResponse.StoredResponse, storing.Reception.Reception}
 use Rattle.cache_store.specs.Changes.{IsFront, IsInserted, IsRefreshed, IsRefreshedByHead, IsStoredAs, IsToStore}
-use Rattle.cache_store.specs.{Contents.Contents, Contents.used, Contents.without, Numbers.AreNumbered, Updates.IsGetFor}
-use Rattle.cache_store.specs.{declared.freshening.Refreshed.Refreshed, declared.limits.Limits.Limits}
+use Rattle.cache_store.specs.{Contents.{Contents, used, without}, Numbers.AreNumbered, Updates.IsGetFor}
+use Rattle.cache_store.specs.declared.{freshening.Refreshed.Refreshed, limits.Limits.Limits}
 
 -- a call of a store, with the target that it is for
 pub data Call : Type 0 where

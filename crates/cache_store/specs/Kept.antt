@@ -1,7 +1,6 @@
 -- What a store's fields are.
-use Rattle.cache_policy.specs.{Policies.Policy, declared.Kind.Kind}
-use Rattle.cache_store.specs.Contents.{Contents, shown}
-use Rattle.cache_store.specs.{declared.making.Options.Options, declared.store.Store.Store}
+use Rattle.{cache_policy.specs.{declared.Kind.Kind, Policies.Policy}, cache_store.specs.Contents.{Contents, shown}}
+use Rattle.cache_store.specs.declared.{making.Options.Options, store.Store.Store}
 
 -- what a store has
 abbrev pub contents_of : Store → Contents

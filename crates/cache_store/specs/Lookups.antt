@@ -1,16 +1,14 @@
 -- What a store answers to a request (RFC 9111, section 4).
-use Rattle.std.specs.Prelude.{◌≡◌, ◌≢◌, ◌⊎◌, ℕ, List, [], ◌∷◌, Option, Some, None, codes, decimal, min, unwrap_or}
-use Rattle.headers.specs.LineMap.{Field, LineMap, field_of, fields_of}
-use Rattle.cache_policy.specs.{Age.age_at, Decisions.AnswersUnstored, Fields.capped, Freshness.HasHeuristicBy}
-use Rattle.cache_policy.specs.{Freshness.HasLifetimeBy, Policies.AnswersUnder, Policies.Policy, Requests.Request}
-use Rattle.cache_policy.specs.{Targets.governing, Validating.validation_fields, declared.Governing.Governing}
-use Rattle.cache_policy.specs.{declared.Kind.Kind, declared.decision.Decision.Decision}
-use Rattle.cache_policy.specs.{declared.decision.Freshness.Freshness}
-use Rattle.cache_rules.specs.Selection.{IsCandidate, IsChosen, IsSelected}
-use Rattle.cache_rules.specs.{Stored.fields_of_stored, Stored.times_of, declared.stored.StoredResponse.StoredResponse}
-use Rattle.cache_store.specs.{Numbers.numbered, declared.lookup.Lookup.Lookup}
-use Rattle.cache_store.specs.declared.lookup.Lookup.TheVariants.{Serve, ServeAndRevalidate, Validate, ValidateOrServe}
-use Rattle.cache_store.specs.declared.lookup.Lookup.TheVariants.{Unavailable, Forward}
+use Rattle.std.specs.Prelude.{[], ◌∷◌, ◌≡◌, ◌≢◌, ◌⊎◌, codes, decimal, List, min, None, Option, Some, unwrap_or, ℕ}
+use Rattle.{headers.specs.LineMap.{Field, field_of, fields_of, LineMap}, cache_policy.specs.Age.age_at}
+use Rattle.cache_policy.specs.{Decisions.AnswersUnstored, Fields.capped, Freshness.{HasHeuristicBy, HasLifetimeBy}}
+use Rattle.cache_policy.specs.{Policies.{AnswersUnder, Policy}, Requests.Request, Targets.governing}
+use Rattle.cache_policy.specs.{Validating.validation_fields, declared.{Governing.Governing, Kind.Kind}}
+use Rattle.cache_policy.specs.declared.decision.{Decision.Decision, Freshness.Freshness}
+use Rattle.cache_rules.specs.{Selection.{IsCandidate, IsChosen, IsSelected}, Stored.{fields_of_stored, times_of}}
+use Rattle.{cache_rules.specs.declared.stored.StoredResponse.StoredResponse, cache_store.specs.Numbers.numbered}
+use Rattle.cache_store.specs.declared.lookup.Lookup.{Lookup, TheVariants.{Serve, ServeAndRevalidate, Validate}}
+use Rattle.cache_store.specs.declared.lookup.Lookup.TheVariants.{Forward, Unavailable, ValidateOrServe}
 use Rattle.cache_policy.specs.declared.decision.Decision.TheVariants as decisions
 
 -- Age with so many seconds (section 5.1)

@@ -1,13 +1,10 @@
 -- What is served of a store (RFC 9111, section 4).
-use Rattle.std.specs.Prelude.{◌≡◌, ℕ, List, Some}
-use Rattle.headers.specs.LineMap.{Field, field_of}
-use Rattle.cache_policy.specs.{Decisions.IsGoodEnough, Policies.Policy, Policies.asks, Policies.tells, Requests.Request}
-use Rattle.cache_rules.specs.{Selection.IsCandidate, Stored.fields_of_stored}
-use Rattle.cache_rules.specs.{declared.stored.StoredResponse.StoredResponse}
-use Rattle.cache_store.specs.{History.History, History.IsJustified, Numbers.numbered, declared.lookup.Lookup.Lookup}
-use Rattle.cache_store.specs.Lookups.{IsFreshFor, age_of_stored, freshness_of}
-use Rattle.cache_store.specs.declared.lookup.Lookup.TheVariants.{Serve, ServeAndRevalidate, Validate, ValidateOrServe}
-use Rattle.cache_store.specs.declared.lookup.Lookup.TheVariants.{Unavailable, Forward}
+use Rattle.{cache_rules.specs.{Selection.IsCandidate, Stored.fields_of_stored}, std.specs.Prelude.{◌≡◌, List, Some, ℕ}}
+use Rattle.{cache_rules.specs.declared.stored.StoredResponse.StoredResponse, headers.specs.LineMap.{Field, field_of}}
+use Rattle.cache_policy.specs.{Policies.{asks, Policy, tells}, Requests.Request, Decisions.IsGoodEnough}
+use Rattle.cache_store.specs.{declared.lookup.Lookup.{Lookup, TheVariants.ServeAndRevalidate}, History.History}
+use Rattle.cache_store.specs.{Lookups.{age_of_stored, freshness_of, IsFreshFor}, Numbers.numbered, History.IsJustified}
+use Rattle.cache_store.specs.declared.lookup.Lookup.TheVariants.{Forward, Serve, Unavailable, Validate, ValidateOrServe}
 
 -- the answer is the stored response with the number, with this field Age
 abbrev pub Serves : Lookup → ℕ → Field → Type 0

@@ -1,13 +1,10 @@
 -- What a response that validates stored ones makes of them (RFC 9111, sections 4.3.4 and 4.3.5).
-use Rattle.std.specs.Prelude.{◌≡◌, ◌⊎◌, List, [], ◌++◌, ◌∷◌, Option, Some, None, codes, option_to_list}
-use Rattle.std.specs.List.{Contains}
-use Rattle.headers.specs.LineMap.{Field, LineMap}
-use Rattle.cache_policy.specs.{Requests.Request, Updating.HasStrongTag, Policies.Policy}
-use Rattle.cache_rules.specs.{Fields.IsTooSmallFor, Selection.IsCandidate, Selection.IsSought, Stored.fields_of_stored}
-use Rattle.cache_rules.specs.{declared.freshening.Exchange.Exchange, declared.stored.StoredResponse.StoredResponse}
-use Rattle.cache_rules.specs.Freshening.{IsFreshened, IsHeadOf, IsReusable}
-use Rattle.cache_store.specs.declared.updating.By.{By}
-use Rattle.cache_store.specs.declared.updating.By.TheVariants.{NotModified, Head}
+use Rattle.std.specs.{Prelude.{[], ◌++◌, ◌∷◌, ◌≡◌, ◌⊎◌, codes, List, None, Option, option_to_list, Some}, List.Contains}
+use Rattle.{headers.specs.LineMap.{Field, LineMap}, cache_rules.specs.{Fields.IsTooSmallFor, Stored.fields_of_stored}}
+use Rattle.cache_policy.specs.{Policies.Policy, Requests.Request, Updating.HasStrongTag}
+use Rattle.cache_rules.specs.{Selection.{IsCandidate, IsSought}, Freshening.{IsFreshened, IsHeadOf, IsReusable}}
+use Rattle.cache_rules.specs.declared.{freshening.Exchange.Exchange, stored.StoredResponse.StoredResponse}
+use Rattle.cache_store.specs.declared.updating.By.{By, TheVariants.{Head, NotModified}}
 
 -- What is left of stored responses, in their order, if this may become of each: a response in its place, or nothing.
 abbrev pub AreLeft : (StoredResponse → Option StoredResponse → Type 0) → List StoredResponse → List StoredResponse

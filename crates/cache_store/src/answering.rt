@@ -1,5 +1,5 @@
 //! How a stored response answers the conditions of a client.
-ghost use Rattle.std.specs.Prelude.{◌≡◌, None, IfOk, IsSomeAnd, OnErr, MatchOption};
+ghost use Rattle.std.specs.Prelude.{◌≡◌, IfOk, IsSomeAnd, MatchOption, None, OnErr};
 ghost use Rattle.cache_policy.specs.Requests.{request_of};
 ghost use Rattle.cache_rules.specs.Conditions.{IsStoredAnswer};
 ghost use Rattle.cache_store.specs.{Contents.responses_at, Kept.contents_of, Numbers.numbered};

@@ -1,12 +1,11 @@
 //! Updates of stored responses by a validating response.
-ghost use Rattle.std.specs.Prelude.{◌≡◌, ◌<◌, IfOk, IsErrOf, OnErr, OnOk, length};
+ghost use Rattle.std.specs.Prelude.{◌<◌, ◌≡◌, IfOk, IsErrOf, length, OnErr, OnOk};
 ghost use Rattle.headers.specs.LineMap.{lines_at};
 ghost use Rattle.cache_policy.specs.Requests.{request_of};
 ghost use Rattle.cache_rules.specs.{Freshening.renewing_fields, Identifying.IsIdentified, Selection.IsSomewhere};
-ghost use Rattle.cache_store.specs.Changes.{IsRefreshed, IsRefreshedByHead, IsUnrefreshed};
-ghost use Rattle.cache_store.specs.{Contents.responses_at, Contents.without, History.Call.Described};
-ghost use Rattle.cache_store.specs.{History.Call.Validated, History.GoOn, History.Step, Kept.contents_of};
-ghost use Rattle.cache_store.specs.{Kept.policy_of_store, Updates.IsOneTooSmallFor};
+ghost use Rattle.cache_store.specs.{Changes.{IsRefreshed, IsRefreshedByHead, IsUnrefreshed}, Contents.responses_at};
+ghost use Rattle.cache_store.specs.{Contents.without, History.{GoOn, Step, Call.{Described, Validated}}};
+ghost use Rattle.cache_store.specs.{Kept.{contents_of, policy_of_store}, Updates.IsOneTooSmallFor};
 
 use crate::store::Store;
 use crate::updating::{By, left_of, renumber};
@@ -48,9 +47,10 @@ impl Store {
     /// The others that it names are updated as well. Those that may no longer be reused are
     /// removed.
     ///
-    /// Fails only if an allocation fails, if no numbers are left, or with `InsertError::Full` if
-    /// the map of a response that is stored under the target has no room for the fields. Each needs
-    /// a stored response that the 304 updates. Then nothing is stored under the target.
+    /// Fails only if an allocation fails, if no numbers are left, if what is updated has more bytes than
+    /// there is room for, or with `InsertError::Full` if the map of a response that is stored under the
+    /// target has no room for the fields. Each needs a stored response that the 304 updates. Then
+    /// nothing is stored under the target.
     pub fn freshen(
         &mut self,
         alloc: Global,
@@ -104,9 +104,10 @@ impl Store {
     /// `cache_rules` says that the 200 is about it. If it isn't, or if its new fields
     /// forbid the reuse, the stored response is removed.
     ///
-    /// Fails only if an allocation fails, if no numbers are left, or with `InsertError::Full` if
-    /// the map of a response that is stored under the target has no room for the fields. Each needs
-    /// a stored response of the target. Then nothing is stored under the target.
+    /// Fails only if an allocation fails, if no numbers are left, if what is updated has more bytes than
+    /// there is room for, or with `InsertError::Full` if the map of a response that is stored under the
+    /// target has no room for the fields. Each needs a stored response of the target. Then nothing is
+    /// stored under the target.
     pub fn freshen_by_head(
         &mut self,
         alloc: Global,

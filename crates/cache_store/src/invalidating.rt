@@ -1,8 +1,8 @@
 //! Removal of what is stored, by a request that isn't safe.
 ghost use Rattle.std.specs.Prelude.{◌≡◌};
 ghost use Rattle.cache_rules.specs.Invalidation.{Invalidates};
-ghost use Rattle.cache_store.specs.{Contents.without, History.Call.Answered, History.Call.Removed, History.GoOn};
-ghost use Rattle.cache_store.specs.{History.Step, Kept.contents_of, Kept.policy_of_store};
+ghost use Rattle.cache_store.specs.{Contents.without, History.{GoOn, Step, Call.{Answered, Removed}}, Kept.contents_of};
+ghost use Rattle.cache_store.specs.Kept.{policy_of_store};
 
 use crate::store::Store;
 use cache_rules::invalidates;

@@ -1,14 +1,13 @@
 //! Theorems about every list of calls. To cite one in a proof, call it.
-ghost use Rattle.std.specs.Prelude.{◌≡◌, ◌⊎◌, ◌<◌, ◌≤◌, ℕ, List, ◌∷◌, ◌++◌, Some, None};
+ghost use Rattle.cache_policy.specs.{Policies.{MayStoreUnder, Policy}, Requests.Request};
+ghost use Rattle.std.specs.Prelude.{◌++◌, ◌<◌, ◌∷◌, ◌≡◌, ◌≤◌, ◌⊎◌, List, None, Some, ℕ};
 ghost use Rattle.headers.specs.LineMap.{Field};
-ghost use Rattle.cache_policy.specs.{Requests.Request, Policies.MayStoreUnder, Policies.Policy};
-ghost use Rattle.cache_rules.specs.Stored.{fields_of_stored, request_of_stored};
-ghost use Rattle.cache_rules.specs.declared.stored.StoredResponse.{StoredResponse};
-ghost use Rattle.cache_store.specs.{Contents.Contents, Contents.responses_at, Lookups.IsAnswer, Numbers.AreNumbered};
-ghost use Rattle.cache_store.specs.{Numbers.numbered, Served.IsRightlyServed, Served.Serves};
-ghost use Rattle.cache_store.specs.{declared.limits.Limits.Limits, declared.lookup.Lookup.Lookup};
-ghost use Rattle.cache_store.specs.History.{Call, HasCome, HasUnder, History, IsJustified, Removes, Run, RunFrom};
-ghost use Rattle.cache_store.specs.History.{State};
+ghost use Rattle.cache_rules.specs.{declared.stored.StoredResponse.StoredResponse, Stored.fields_of_stored};
+ghost use Rattle.cache_rules.specs.Stored.{request_of_stored};
+ghost use Rattle.cache_store.specs.{declared.{limits.Limits.Limits, lookup.Lookup.Lookup}, Contents.responses_at};
+ghost use Rattle.cache_store.specs.{Contents.Contents, Served.{IsRightlyServed, Serves}, History.{Call, History}};
+ghost use Rattle.cache_store.specs.History.{HasCome, HasUnder, IsJustified, Removes, Run, RunFrom, State};
+ghost use Rattle.cache_store.specs.{Numbers.{AreNumbered, numbered}, Lookups.IsAnswer};
 
 /// Theorem: after any calls of a new store, each stored response is one that the calls justify. It
 /// came from the origin for a request to its target, may be stored, and has its fields as they

@@ -1,13 +1,12 @@
 //! The answer of a store to a request.
-ghost use Rattle.std.specs.Prelude.{◌≡◌, ◌≢◌, ◌≤◌, ℕ, IfOk, OnErr, option_copied};
+ghost use Rattle.std.specs.Prelude.{◌≡◌, ◌≢◌, ◌≤◌, IfOk, OnErr, option_copied, ℕ};
 ghost use Rattle.headers.specs.LineMap.{lines_at};
 ghost use Rattle.cache_policy.specs.{Age.age_at, Fields.capped, Policies.policy_of, Requests.request_of};
-ghost use Rattle.cache_policy.specs.declared.decision.Decision.TheVariants as decisions;
 ghost use Rattle.cache_rules.specs.Stored.{fields_of_stored, times_of};
-ghost use Rattle.cache_store.specs.{Contents.responses_at, Contents.used, History.Call.Looked, History.GoOn};
-ghost use Rattle.cache_store.specs.{History.Step, Kept.contents_of, Kept.policy_of_store, Numbers.numbered};
-ghost use Rattle.cache_store.specs.{Numbers.times_in};
-ghost use Rattle.cache_store.specs.Lookups.{HasFields, IsAnswer, IsDecisionOf, IsFreshBy, IsLookupOf};
+ghost use Rattle.cache_store.specs.{Contents.{responses_at, used}, History.{Call.Looked, GoOn, Step}, Kept.contents_of};
+ghost use Rattle.cache_store.specs.{Kept.policy_of_store, Numbers.{numbered, times_in}, Lookups.{HasFields, IsAnswer}};
+ghost use Rattle.cache_store.specs.Lookups.{IsDecisionOf, IsFreshBy, IsLookupOf};
+ghost use Rattle.cache_policy.specs.declared.decision.Decision.TheVariants as decisions;
 
 use crate::store::Store;
 use cache_policy::{

@@ -1,7 +1,7 @@
 //! A new store.
-ghost use Rattle.std.specs.Prelude.{◌≡◌, [], IfOk};
+ghost use Rattle.std.specs.Prelude.{[], ◌≡◌, IfOk};
 ghost use Rattle.cache_policy.specs.Policies.{plain};
-ghost use Rattle.cache_store.specs.{History.Run, Kept.contents_of, Kept.policy_of_store, Kept.policy_with};
+ghost use Rattle.cache_store.specs.{History.Run, Kept.{contents_of, policy_of_store, policy_with}};
 
 use crate::limits::Limits;
 use crate::store::Store;

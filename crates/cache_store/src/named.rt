@@ -1,9 +1,9 @@
 //! The further targets that a response invalidates: those in its Location and Content-Location (RFC
 //! 9111, section 4.4).
-ghost use Rattle.std.specs.Prelude.{◌≡◌, ◌++◌, List, option_to_list, IfErr, IfOk, MatchOption, OnOk, Ok, Some};
+ghost use Rattle.std.specs.Prelude.{◌++◌, ◌≡◌, IfErr, IfOk, List, MatchOption, Ok, OnOk, option_to_list, Some};
 ghost use Rattle.std.specs.Bool.{MatchBool};
 ghost use Rattle.headers.specs.LineMap.{lines_at};
-ghost use Rattle.url.specs.{Parser.IsOutOfRoom, Parser.parse_url, Parts.Parts};
+ghost use Rattle.url.specs.{Parser.{IsOutOfRoom, parse_url}, Parts.Parts};
 ghost use Rattle.cache_store.specs.Named.{AreNamed, AreNamedBy, IsSameOrigin, Names};
 
 use headers::{HeaderMap, HeaderName, HeaderValue};

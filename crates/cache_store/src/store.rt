@@ -1,6 +1,6 @@
 //! The store.
-ghost use Rattle.std.specs.Prelude.{◌≡◌, ◌<◌, ◌≤◌, ◌-◌, ◌^◌};
-ghost use Rattle.cache_store.specs.{Contents.byte_count, Contents.response_count, Contents.shown, Numbers.AreNumbered};
+ghost use Rattle.std.specs.Prelude.{◌-◌, ◌^◌, ◌≡◌};
+ghost use Rattle.cache_store.specs.{Contents.shown, Room.IsCounted};
 
 use crate::limits::Limits;
 use cache_policy::Kind;
@@ -22,10 +22,5 @@ pub struct Store {
     // The number of the next response.
     pub(crate) next: u64,
     pub ghost unbounded: { targets.cap ≡ 2 ^ 64 - 1 },
-    pub ghost counted: { responses ≡ response_count (shown targets.entries) },
-    pub ghost weighed: { bytes ≡ byte_count (shown targets.entries) },
-    pub ghost few: { responses ≤ limits.responses },
-    pub ghost light: { bytes ≤ limits.bytes },
-    pub ghost sized: { limits.bytes < 2 ^ 64 },
-    pub ghost numbered: { AreNumbered next (shown targets.entries) },
+    pub ghost counted: { IsCounted limits responses bytes next (shown targets.entries) },
 }

@@ -1,13 +1,13 @@
 //! What is stored.
-ghost use Rattle.std.specs.Prelude.{◌≡◌, ◌≢◌, ◌⊎◌, ℕ, ◌+◌, ◌<◌, ◌≤◌, ◌^◌, IfOk, IsErrOf, OnOk, OnErr, Some, None};
-ghost use Rattle.std.{specs.Prelude.length, specs.Bool.MatchBool};
+ghost use Rattle.std.specs.Prelude.{◌+◌, ◌<◌, ◌^◌, ◌≡◌, ◌≢◌, ◌≤◌, ◌⊎◌, IfOk, IsErrOf, List, None, OnErr, OnOk, Some, ℕ};
+ghost use Rattle.std.specs.Bool.{MatchBool};
 ghost use Rattle.cache_policy.specs.Requests.{request_of};
-ghost use Rattle.cache_store.specs.Changes.{FitsAlone, IsFront, IsInserted, IsRest, IsStoredAs, IsToStore, IsTrimmed};
-ghost use Rattle.cache_store.{specs.Changes.IsTooSmallToStore, specs.Contents.{bytes_of, size_of, without}};
-ghost use Rattle.cache_store.{specs.History.Call.Arrived, specs.History.{GoOn, Step}, specs.Kept.contents_of};
-ghost use Rattle.cache_store.{specs.Kept.policy_of_store, specs.Numbers.{times_in, times_used}};
+ghost use Rattle.cache_store.specs.Changes.{FitsAlone, IsFront, IsInserted, IsRest, IsStoredAs, IsTooLarge, IsToStore};
+ghost use Rattle.cache_store.specs.{Changes.{IsTooSmallToStore, IsTrimmed}, Contents.{bytes_at, size_at, without}};
+ghost use Rattle.cache_store.specs.{History.{Call.Arrived, GoOn, Step}, Kept.{contents_of, policy_of_store}};
+ghost use Rattle.cache_store.specs.Numbers.{times_in, times_used};
 
-use crate::entries::bytes_of;
+use crate::entries::{bytes_at, size_at};
 use crate::limits::Limits;
 use crate::store::Store;
 use cache_policy::RequestHead;
@@ -33,17 +33,15 @@ fn as_stored(
     Ok(stored)
 }
 
-// Whether there may be one more response of this size beside these.
-fn fits(responses: &[StoredResponse], size: usize, limits: Limits) -> bool
-    requires { bytes_of responses.now < 2 ^ 64 }
-    ensures { MatchBool result
-        (FitsAlone limits (length responses.now + 1) (bytes_of responses.now + size))
-        (¬ (FitsAlone limits (length responses.now + 1) (bytes_of responses.now + size))) }
+// Whether there may be one more response of this size beside so many with so many bytes.
+fn fits(count: usize, bytes: usize, size: usize, limits: Limits) -> bool
+    ensures { MatchBool result (FitsAlone limits (count + 1) (bytes + size))
+        (¬ (FitsAlone limits (count + 1) (bytes + size))) }
 {
-    responses.len() < limits.variants
-        && responses.len() < limits.responses
+    count < limits.variants
+        && count < limits.responses
         && size <= limits.bytes
-        && bytes_of(responses) <= limits.bytes - size
+        && bytes <= limits.bytes - size
 }
 
 // Whether the stored response answered a request with this method.
@@ -56,7 +54,7 @@ fn has_method(stored: &StoredResponse, method: &Method) -> bool
 // Removes the response that one to a new request supersedes.
 fn supersede(responses: &mut Vec<StoredResponse>, request: &RequestHead<'_>)
     ensures rest { IsRest (request_of request.now) responses.old.items responses.new.items }
-    ensures lighter { bytes_of responses.new.items ≤ bytes_of responses.old.items }
+    ensures lighter { (target : List ℕ) → bytes_at target responses.new.items ≤ bytes_at target responses.old.items }
     ensures numbers { (number : ℕ) → times_in number responses.new.items ≤ times_in number responses.old.items }
 {
     if let Some(place) = select(responses, request) {
@@ -66,15 +64,20 @@ fn supersede(responses: &mut Vec<StoredResponse>, request: &RequestHead<'_>)
     }
 }
 
-// Removes the oldest responses, until there may be one more of this size.
-fn trim(responses: &mut Vec<StoredResponse>, size: usize, limits: Limits)
+// Removes the oldest responses, until there may be one more of this size. Returns the bytes of those
+// that are left.
+fn trim(target: &str, responses: &mut Vec<StoredResponse>, size: usize, limits: Limits) -> usize
     requires alone { FitsAlone limits 1 size }
-    requires light { bytes_of responses.old.items < 2 ^ 64 }
-    ensures { IsTrimmed limits size responses.old.items responses.new.items }
+    requires light { bytes_at target.now responses.old.items < 2 ^ 64 }
+    ensures trimmed { IsTrimmed limits target.now size responses.old.items responses.new.items }
+    ensures bytes { result ≡ bytes_at target.now responses.new.items }
 {
-    while !fits(responses, size, limits) {
-        responses.remove(0);
+    let mut bytes = bytes_at(target, responses);
+    while !fits(responses.len(), bytes, size, limits) {
+        let oldest = responses.remove(0);
+        bytes -= size_at(target, &oldest);
     }
+    bytes
 }
 
 impl Store {
@@ -103,13 +106,13 @@ impl Store {
             × IsInserted self.old.limits target.now stored (contents_of self.old) (contents_of self.new) }
         ensures number { (number : ℕ) → result ≡ Ok (Some number) → number ≡ self.old.next }
         ensures unstored { result ≡ Ok None
-            → ((¬ (IsToStore (policy_of_store self.old) came reception)) ⊎ (¬ (FitsAlone self.old.limits 1
-            (size_of came))))
+            → ((¬ (IsToStore (policy_of_store self.old) came reception)) ⊎ IsTooLarge self.old.limits target.now came)
             × (contents_of self.new ≡ contents_of self.old) }
         ensures err { OnErr result ((contents_of self.new ≡ contents_of self.old)
             ⊎ IsFront (without target.now (contents_of self.old)) (contents_of self.new)) }
         ensures memory { OnErr result
-            (IsToStore (policy_of_store self.old) came reception × FitsAlone self.old.limits 1 (size_of came)) }
+            (IsToStore (policy_of_store self.old) came reception
+            × FitsAlone self.old.limits 1 (size_at target.now came)) }
         ensures full { IsErrOf result InsertError.Full → IsTooSmallToStore came }
         ensures step { Step (policy_of_store self.old) self.old.limits (Arrived target.now came reception)
             (contents_of self.old)
@@ -119,12 +122,16 @@ impl Store {
         ensures limits { self.new.limits ≡ self.old.limits }
     {
         let is_stored = self.is_to_store(&came, reception);
-        if !is_stored || !fits(&[], came.content.len(), self.limits) {
+        if !is_stored || !fits(0, 0, size_at(target, &came), self.limits) {
             return Ok(None);
         }
         let number = self.take_numbers(1)?;
         let stored = as_stored(alloc, came, number)?;
-        match self.insert(alloc, target, stored) {
+        let size = size_at(target, &stored);
+        if !fits(0, 0, size, self.limits) {
+            return Ok(None);
+        }
+        match self.insert(alloc, target, stored, size) {
             Ok(()) => Ok(Some(number)),
             Err(AllocError) => Err(InsertError::Memory),
         }
@@ -144,9 +151,16 @@ impl Store {
         )
     }
 
-    // Stores a response.
-    fn insert(&mut self, alloc: Global, target: &str, new: StoredResponse) -> Result<(), AllocError>
-        requires fits { FitsAlone self.old.limits 1 (size_of new) }
+    // Stores a response of this size.
+    fn insert(
+        &mut self,
+        alloc: Global,
+        target: &str,
+        new: StoredResponse,
+        size: usize,
+    ) -> Result<(), AllocError>
+        requires size { size ≡ size_at target.now new }
+        requires fits { FitsAlone self.old.limits 1 size }
         requires last { self.old.next ≡ new.number + 1 }
         requires unused { times_used new.number (contents_of self.old) ≡ 0 }
         ensures ok { OnOk result
@@ -158,9 +172,8 @@ impl Store {
     {
         let mut responses = self.take_out(alloc, target);
         supersede(&mut responses, &new.head());
-        trim(&mut responses, new.content.len(), self.limits);
-        let bytes = bytes_of(&responses) + new.content.len();
-        self.make_room(responses.len() + 1, bytes);
+        let bytes = trim(target, &mut responses, size, self.limits);
+        self.make_room(responses.len() + 1, bytes + size);
         self.put_with(alloc, target, responses, new)
     }
 }

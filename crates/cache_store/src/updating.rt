@@ -1,12 +1,10 @@
 //! What a response that validates stored ones makes of them.
-ghost use Rattle.std.specs.Prelude.{◌≡◌, ◌⊎◌, ◌+◌, ◌<◌, ◌≤◌, ◌^◌, ◌++◌, IfOk, IsErrOf, OnErr, OnOk, length};
-ghost use Rattle.std.specs.Prelude.{option_to_list};
-ghost use Rattle.std.specs.Bool.{MatchBool};
+ghost use Rattle.std.specs.Prelude.{◌++◌, ◌+◌, ◌<◌, ◌^◌, ◌≡◌, ◌≤◌, ◌⊎◌, IfOk, IsErrOf, length, OnErr, OnOk};
+ghost use Rattle.std.specs.{Bool.MatchBool, Prelude.option_to_list};
 ghost use Rattle.headers.specs.LineMap.{lines_at};
 ghost use Rattle.cache_policy.specs.{Policies.policy_of, Requests.request_of, Updating.IsUpdated};
 ghost use Rattle.cache_rules.specs.{Fields.IsTooSmallFor, Freshening.renewing_fields, Stored.fields_of_stored};
-ghost use Rattle.cache_store.specs.{Contents.bytes_of, History.Has};
-ghost use Rattle.cache_store.specs.Numbers.{AreRenumbered, IsNumbered, IsSameOrNumbered, renumbered};
+ghost use Rattle.cache_store.specs.{History.Has, Numbers.{AreRenumbered, IsNumbered, IsSameOrNumbered, renumbered}};
 ghost use Rattle.cache_store.specs.Updates.{AreLeft, Becomes, BecomesUpdated, IsGetFor, IsOneTooSmallFor, IsUpdatedToo};
 
 use cache_policy::{Policy, RequestHead, has_strong_tag, is_updated, matches};
@@ -138,7 +136,6 @@ pub(crate) fn left_of(
         AreLeft (λ old. Becomes (policy_of policy.now) (request_of request.now) (lines_at update.now) exchange old by)
         responses.items left.items) }
     ensures fewer { IfOk result (λ left. length left.items ≤ length responses.items) }
-    ensures lighter { IfOk result (λ left. bytes_of left.items ≤ bytes_of responses.items) }
     ensures numbers { IfOk result (λ left.
         AreRenumbered first (first + length responses.items) responses.items left.items) }
     ensures kept { IfOk result (λ left. (stored : StoredResponse) → Has left.items stored

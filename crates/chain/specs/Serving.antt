@@ -2,8 +2,8 @@
 use Rattle.std.specs.Prelude.{◌≡◌, ◌⊎◌, ⊤, ℕ, Bool, true, false, List, [], ◌∷◌, OnErr, Option, Some, None, Result, Ok}
 use Rattle.std.{specs.Prelude.{codes, string_bytes}, specs.List.list_any}
 use Rattle.headers.{specs.LineMap.{LineMap, field_of, lines_at}, specs.Lines.Line}
-use Rattle.cache_store.{specs.Changes.{FitsAlone, IsInserted, IsStoredAs, IsToStore}, specs.Contents.Contents}
-use Rattle.cache_store.{specs.Contents.size_of, specs.History.Step, specs.History.Call.Arrived}
+use Rattle.cache_store.{specs.Changes.{FitsAlone, IsInserted, IsStoredAs, IsToStore, IsTooLarge}}
+use Rattle.cache_store.{specs.Contents.{Contents, size_at}, specs.History.{Step, Call.Arrived}}
 use Rattle.cache_store.{specs.declared.limits.Limits.Limits, specs.declared.lookup.Lookup.Lookup}
 use Rattle.cache_policy.specs.Policies.{Policy}
 use Rattle.cache_rules.{specs.declared.storing.Reception.Reception, specs.declared.stored.StoredResponse.StoredResponse}
@@ -78,5 +78,6 @@ pub record IsTaken {E : Type 0} (policy : Policy) (limits : Limits) (target : Li
   pub stored : (number : ℕ) → result ≡ Ok (Some number) → (kept : StoredResponse) × IsToStore policy came reception
       × IsStoredAs came kept × (kept.number ≡ number) × IsInserted limits (key_of target request) kept old new
   pub unstored : result ≡ Ok None
-      → ((¬ (IsToStore policy came reception)) ⊎ (¬ (FitsAlone limits 1 (size_of came)))) × (new ≡ old)
-  pub memory : OnErr result (IsToStore policy came reception × FitsAlone limits 1 (size_of came))
+      → ((¬ (IsToStore policy came reception)) ⊎ IsTooLarge limits (key_of target request) came) × (new ≡ old)
+  pub memory : OnErr result
+      (IsToStore policy came reception × FitsAlone limits 1 (size_at (key_of target request) came))

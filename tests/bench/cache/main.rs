@@ -119,7 +119,7 @@ fn main(rt: HostRuntime) -> Result<()> {
     let limits = Limits {
         variants: 4,
         responses: count,
-        bytes: 1 << 30,
+        bytes: 1 << 40,
     };
     let options = options(alloc, options_word.as_str() == "all")?;
     let keys = RandomState::new(&rt)?;

@@ -59,7 +59,7 @@ class Player:
 
     def __init__(self, draw: random.Random, option: str) -> None:
         self.draw, self.now, self.count = draw, BEGIN, 0
-        limits = (draw.choice([1, 2, 3, 4, 8]), draw.choice([1, 2, 3, 4, 6, 16]), draw.choice([10, 40, 100, 1000]))
+        limits = (draw.choice([1, 2, 3, 4, 8]), draw.choice([1, 2, 3, 4, 6, 16]))
         is_shared = draw.random() < 0.5
         self.is_immutable = option in ("immutable", "all")
         self.guesses = option in ("guessed lifetimes", "all")

@@ -268,12 +268,12 @@ class Cache:
     """The stored responses by target, the most recently used target last. Those of a target are in the order in which
     they were stored."""
 
-    def __init__(self, is_shared: bool, variants: int, responses: int, content: int, is_immutable: bool = False,
+    def __init__(self, is_shared: bool, variants: int, responses: int, is_immutable: bool = False,
                  targeted: tuple[str, ...] = ()) -> None:
         self.is_shared = is_shared
         # Options: `immutable` counts (RFC 8246), and the names of targeted fields (RFC 9213).
         self.is_immutable, self.targeted = is_immutable, targeted
-        self.variants, self.responses, self.content = variants, responses, content
+        self.variants, self.responses = variants, responses
         self.targets: dict[str, list[Stored]] = {}
 
     def at(self, target: str) -> list[Stored]:
@@ -329,32 +329,22 @@ class Cache:
 
     def store(self, target: str, came: Stored, is_complete: bool) -> Answer:
         """Sections 3, 3.1, 3.3 and 4.3.3."""
-        size = len(came.content)
         if not (is_complete and is_fair(came.fields, self.targeted) and self.may_store(came.request, came.status, came.fields)
-                and self.fits([], size)):
+                and self.responses):
             return Answer("unstored")
         new = replace(came, fields=with_date(without_connection(came.fields), came.received))
         kept = list(self.at(target))
         chosen = self.chosen(target, came.request)
         if chosen and selected(chosen).request.method == came.request.method:
             kept = [it for it in kept if it is not selected(chosen)]
-        while not self.fits(kept, size):
-            kept.pop(0)
+        kept = kept[max(0, len(kept) + 1 - min(self.variants, self.responses)):]
         self.put(target, [*kept, new])
         self.make_room(target)
         return Answer("stored")
 
-    def fits(self, kept: list[Stored], size: int) -> bool:
-        """Whether one more response of this size may be beside these of its target."""
-        return (len(kept) < min(self.variants, self.responses)
-                and sum(len(it.content) for it in kept) + size <= self.content)
-
     def make_room(self, target: str) -> None:
         """Removes the least recently used targets, as few as have to go."""
-        while True:
-            every = [it for found in self.targets.values() for it in found]
-            if len(every) <= self.responses and sum(len(it.content) for it in every) <= self.content:
-                return
+        while sum(len(found) for found in self.targets.values()) > self.responses:
             del self.targets[next(it for it in self.targets if it != target)]
 
     def is_reusable(self, stored: Stored, new: Stored, request: Request, update: Fields) -> bool:

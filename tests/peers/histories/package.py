@@ -24,7 +24,7 @@ class Package:
         self.headers = products.library()
         own = player.cache
         self.cache = self.headers.Cache(
-            shared=own.is_shared, variants=own.variants, responses=own.responses, content=own.content, guess=GUESS,
+            shared=own.is_shared, variants=own.variants, responses=own.responses, guess=GUESS,
             immutable=own.is_immutable, targets=own.targeted)
         self.passes: dict[str, Any] = {}
         self.methods: dict[str, str] = {}

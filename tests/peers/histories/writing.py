@@ -8,10 +8,9 @@ from common.rows import map_words, word
 from histories.model import Answer, Request, Stored
 
 
-def head(is_shared: bool, variants: int, responses: int, content: int, is_immutable: bool,
-         targeted: tuple[str, ...]) -> str:
+def head(is_shared: bool, variants: int, responses: int, is_immutable: bool, targeted: tuple[str, ...]) -> str:
     """The line that begins a history."""
-    limits = f"cache {'shared' if is_shared else 'private'} {variants} {responses} {content}"
+    limits = f"cache {'shared' if is_shared else 'private'} {variants} {responses} 1000000"
     if not is_immutable and not targeted:
         return limits
     return " ".join([limits, "immutable" if is_immutable else "plain", *targeted])

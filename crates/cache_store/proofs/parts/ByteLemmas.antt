@@ -1,9 +1,9 @@
 -- What holds of each byte of two parts, at its position, holds of each byte of their combination.
-use Rattle.std.proofs.Common.{◌≡◌, ◌∙◌, ◌⊎◌, ℕ, zero, suc, ◌+◌, ◌-◌, ◌≤◌, List, [], ◌∷◌, ◌++◌, length, take, drop, min}
-use Rattle.std.proofs.Common.{Some, ap, subst, arith, inl, inr, slice_get, length-append}
+use Rattle.std.proofs.Common.{[], ◌++◌, ◌+◌, ◌-◌, ◌∙◌, ◌∷◌, ◌≡◌, ◌≤◌, ◌⊎◌, drop, length, List, min, suc, take, zero, ℕ}
+use Rattle.std.proofs.Common.{ap, arith, inl, inr, length-append, slice_get, Some, subst}
 use Rattle.std.{proofs.lemmas.List.{length-drop, length-take, length-take-le}, proofs.lemmas.Option.slice_get_within}
-use Rattle.cache_store.{specs.Parts.Answers.{IsWithin, bytes_within}, specs.declared.parts.extent.Extent.Extent}
-use Rattle.cache_store.specs.Parts.Extents.{Touch, joined, joint, size}
+use Rattle.cache_store.{specs.Parts.Answers.{bytes_within, IsWithin}, specs.declared.parts.extent.Extent.Extent}
+use Rattle.cache_store.specs.Parts.Extents.{joined, joint, size, Touch}
 
 -- each byte has the property at its position, if the first one is at this position
 abbrev pub AllAt : (ℕ → ℕ → Type 0) → ℕ → List ℕ → Type 0

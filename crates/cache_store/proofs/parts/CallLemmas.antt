@@ -1,23 +1,18 @@
 -- What the calls of a store of parts return and leave.
-use Rattle.std.proofs.Common.{◌≡◌, ◌∙◌, ◌⊎◌, ℕ, Bool, true, false, List, Some, Result, Ok, Err, IfOk, OnErr, refl, sym}
-use Rattle.std.proofs.Common.{subst, inl, inr, get_or}
-use Rattle.std.proofs.lemmas.Option.{get_or_from_slice_get, same_Some}
-use Rattle.std.specs.Bool.{MatchBool}
-use Rattle.headers.specs.LineMap.{Field}
-use Rattle.cache_store.specs.{Changes.IsFront, Numbers.numbered, declared.limits.Limits.Limits}
-use Rattle.cache_store.specs.{Parts.History.PartCall.Received, Parts.History.Step, Parts.Received.IsPart}
-use Rattle.cache_store.specs.{declared.parts.extent.Extent.Extent, declared.parts.store_answering.PartLookup.PartLookup}
-use Rattle.cache_store.specs.{declared.parts.store_recording.Recorded.Recorded}
-use Rattle.cache_store.specs.Contents.{Contents, responses_at, without}
-use Rattle.cache_store.specs.Lookups.{IsFound, IsServed as IsFoundServed}
+use Rattle.std.proofs.Common.{◌∙◌, ◌≡◌, ◌⊎◌, Bool, Err, false, get_or, IfOk, List, Ok, refl, Result, Some, sym, true, ℕ}
+use Rattle.std.proofs.{lemmas.Option.{get_or_from_slice_get, same_Some}, Common.{inl, inr, OnErr, subst}}
+use Rattle.{cache_rules.specs.Selection.IsChosen, headers.specs.LineMap.Field, std.specs.Bool.MatchBool}
+use Rattle.cache_store.specs.{Parts.{History.Step, Received.IsPart}, Numbers.numbered, Changes.IsFront, Lookups.IsFound}
+use Rattle.cache_store.specs.declared.{limits.Limits.Limits, parts.store_recording.Recorded.Recorded}
+use Rattle.cache_store.specs.{declared.parts.extent.Extent.Extent, Parts.History.PartCall.Received}
+use Rattle.cache_store.specs.declared.parts.store_answering.PartLookup.{PartLookup, TheVariants.Forward}
+use Rattle.cache_store.specs.declared.parts.store_answering.PartLookup.TheVariants.{Complete, Serve, Unavailable}
+use Rattle.cache_store.specs.declared.parts.store_recording.Recorded.TheVariants.{Once, Stored, Unstored, Whole}
 use Rattle.cache_store.specs.Parts.Answering.{IsAsked, IsDecided, IsLookedUp, IsReuse, IsReused, IsValidation}
 use Rattle.cache_store.specs.Parts.Recording.{IsKeptAs, IsMerged, IsRecordedAs, IsSelectedPart, IsTaken, IsTakenAlone}
-use Rattle.cache_store.specs.declared.parts.store_answering.PartLookup.TheVariants.{Serve, Complete, Unavailable}
-use Rattle.cache_store.specs.declared.parts.store_answering.PartLookup.TheVariants.{Forward}
-use Rattle.cache_store.specs.declared.parts.store_recording.Recorded.TheVariants.{Unstored, Stored, Whole, Once}
-use Rattle.cache_policy.specs.{Policies.Policy, Requests.Request, declared.decision.Decision.Decision}
-use Rattle.cache_rules.specs.Selection.{IsChosen}
-use Rattle.cache_rules.specs.{declared.storing.Reception.Reception, declared.stored.StoredResponse.StoredResponse}
+use Rattle.cache_store.specs.{Contents.{Contents, responses_at, without}, Lookups.IsServed as IsFoundServed}
+use Rattle.cache_policy.specs.{declared.decision.Decision.Decision, Policies.Policy, Requests.Request}
+use Rattle.cache_rules.specs.declared.{stored.StoredResponse.StoredResponse, storing.Reception.Reception}
 use Rattle.cache_policy.specs.declared.decision.Decision.TheVariants as decisions
 use Rattle.cache_store.specs.declared.parts.combining.Combined.TheVariants as combined
 

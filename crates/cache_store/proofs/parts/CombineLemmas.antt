@@ -1,17 +1,13 @@
 -- What updated fields and joined bytes make of a stored part.
-use Rattle.std.proofs.Common.{◌≡◌, ◌∙◌, ℕ, List, inr, refl, sym, ap, subst}
-use Rattle.http_header.specs.{FieldValue.FieldValue, HeaderMap.Entries}
-use Rattle.headers.specs.LineMap.{Field, LineMap, lines_at}
-use Rattle.cache_policy.specs.{Freshening.freshened, Policies.Policy, Requests.Request}
-use Rattle.cache_rules.specs.{Fields.IsTooSmallFor, Freshening.IsForOthers, Freshening.IsFreshened, Freshening.IsReusable}
-use Rattle.cache_rules.specs.Freshening.{MayBeReused, aged_anew}
-use Rattle.cache_rules.specs.{Stored.fields_of_stored, Stored.request_of_stored, declared.freshening.Exchange.Exchange}
-use Rattle.cache_rules.specs.{declared.storing.Reception.Reception, declared.stored.StoredResponse.StoredResponse}
-use Rattle.cache_store.specs.Parts.Combining.{AreCombinable, IsCombination, IsCombinedAs, IsExtended, IsHeadOfStored}
-use Rattle.cache_store.specs.Parts.Combining.{IsTooSmallToCombine, exchange_of}
-use Rattle.cache_store.specs.Parts.Extents.{extent_fields, joined, joint}
-use Rattle.cache_store.specs.declared.parts.combining.Combined.TheVariants.{Stored, Once}
-use Rattle.cache_store.specs.declared.parts.extent.Extent.{Extent}
+use Rattle.{headers.specs.LineMap.{Field, LineMap, lines_at}, std.proofs.Common.{◌∙◌, ◌≡◌, ap, inr, List, subst, sym}}
+use Rattle.{cache_policy.specs.{Freshening.freshened, Policies.Policy, Requests.Request}, std.proofs.Common.{refl, ℕ}}
+use Rattle.{http_header.specs.{FieldValue.FieldValue, HeaderMap.Entries}, cache_rules.specs.Stored.request_of_stored}
+use Rattle.cache_rules.specs.{declared.freshening.Exchange.Exchange, Fields.IsTooSmallFor, Stored.fields_of_stored}
+use Rattle.cache_rules.specs.Freshening.{aged_anew, IsForOthers, IsFreshened, IsReusable, MayBeReused}
+use Rattle.cache_rules.specs.declared.{stored.StoredResponse.StoredResponse, storing.Reception.Reception}
+use Rattle.cache_store.specs.Parts.{Extents.{extent_fields, joined, joint}, Combining.{AreCombinable, IsHeadOfStored}}
+use Rattle.cache_store.specs.Parts.Combining.{exchange_of, IsCombination, IsCombinedAs, IsExtended, IsTooSmallToCombine}
+use Rattle.cache_store.specs.declared.parts.{combining.Combined.TheVariants.{Once, Stored}, extent.Extent.Extent}
 
 -- the response with the content of another one
 abbrev with_content_of : StoredResponse → StoredResponse → StoredResponse

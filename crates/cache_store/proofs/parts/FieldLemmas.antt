@@ -1,23 +1,19 @@
 -- What the fields of stored parts say of them.
-use Rattle.std.proofs.Common.{◌≡◌, ◌≢◌, ◌∙◌, ◌⊎◌, ℕ, ◌+◌, ◌-◌, ◌<◌, ◌≤◌, ◌^◌, ◌==◌, Bool, true, false, ◌&&◌, not, cond}
-use Rattle.std.proofs.Common.{if◌then◌else◌, List, [], ◌∷◌, length, get_or, Option, Some, None, refl, sym, ap, subst}
-use Rattle.std.{proofs.Common.{nat_le, nat_lt, IsSome, IsSomeAnd, codes, arith, inl, inr}, proofs.lemmas.Bool.and_parts}
-use Rattle.std.{proofs.lemmas.Bool.cases_Bool, proofs.lemmas.Bool.Decides.nat_tests, proofs.lemmas.Option.cond_some}
-use Rattle.std.{proofs.lemmas.Option.none-some, specs.Option.option_and_then}
-use Rattle.headers.{specs.ContentBytes.{ContentBytes, FitsContent, content_bytes}, specs.EntityTag.is_tag}
-use Rattle.headers.{specs.LineMap.LineMap, specs.Lines.{Line, only_line}, specs.Typed.HasLine}
-use Rattle.cache_store.{specs.Changes.IsStoredAs, specs.declared.parts.extent.Extent.Extent}
-use Rattle.cache_store.{specs.Parts.Combining.{HaveSameTag, IsCombination}, specs.Parts.Extents.{extent_by, extent_in}}
-use Rattle.cache_store.specs.Parts.Extents.{greatest, is_extent, is_whole, joint, range_line, size, strong_tag}
-use Rattle.cache_store.specs.Parts.Received.{IsRecorded, came_of_part, came_of_whole, is_signed, length_in}
-use Rattle.cache_store.specs.Parts.Received.{received_extent}
-use Rattle.cache_policy.{specs.Freshening.{freshened, is_kept}, specs.Updating.is_weak}
-use Rattle.cache_rules.{specs.Stored.fields_of_stored, specs.Storing.IsAsStored}
-use Rattle.cache_rules.{specs.declared.storing.Reception.Reception, specs.declared.stored.StoredResponse.StoredResponse}
-use Rattle.cache_rules.specs.declared.storing.Reception.TheVariants.{Complete, Incomplete}
-use Rattle.gateway_messages.specs.HopByHop.{connection_options, is_hop_by_hop}
+use Rattle.std.proofs.Common.{◌&&◌, ◌∙◌, ◌≡◌, ◌≢◌, ◌⊎◌, arith, Bool, codes, cond, IsSome, List, nat_lt, not, Some, true}
+use Rattle.std.proofs.Common.{[], ◌==◌, ap, false, get_or, if◌then◌else◌, IsSomeAnd, length, nat_le, Option, subst, ℕ}
+use Rattle.std.proofs.{Common.{◌+◌, ◌-◌, ◌<◌, ◌^◌, ◌∷◌, ◌≤◌, inl, inr, None, refl, sym}, lemmas.Bool.cases_Bool}
+use Rattle.std.proofs.lemmas.{Bool.{and_parts, Decides.nat_tests}, Option.{cond_some, none-some}}
+use Rattle.{cache_policy.specs.{Updating.is_weak, Freshening.{freshened, is_kept}}, std.specs.Option.option_and_then}
+use Rattle.headers.specs.{EntityTag.is_tag, LineMap.LineMap, ContentBytes.{content_bytes, ContentBytes, FitsContent}}
+use Rattle.{cache_store.specs.Changes.IsStoredAs, headers.specs.{Lines.{Line, only_line}, Typed.HasLine}}
+use Rattle.{cache_store.specs.declared.parts.extent.Extent.Extent, headers_syntax.proofs.OptionLemmas.then_parts}
+use Rattle.cache_store.specs.Parts.{Combining.{HaveSameTag, IsCombination}, Extents.{extent_by, extent_in, joint, size}}
+use Rattle.cache_store.specs.Parts.{Received.length_in, Extents.{greatest, is_extent, is_whole, range_line, strong_tag}}
+use Rattle.cache_store.specs.Parts.Received.{came_of_part, came_of_whole, is_signed, IsRecorded, received_extent}
+use Rattle.cache_rules.specs.{declared.stored.StoredResponse.StoredResponse, Stored.fields_of_stored}
+use Rattle.{cache_rules.specs.Storing.IsAsStored, gateway_messages.specs.HopByHop.{connection_options, is_hop_by_hop}}
+use Rattle.cache_rules.specs.declared.storing.Reception.{Reception, TheVariants.{Complete, Incomplete}}
 use Rattle.headers_ranges.specs.ContentRangeLaws.{content_read}
-use Rattle.headers_syntax.proofs.OptionLemmas.{then_parts}
 
 -- ---- what is stored of a field
 

@@ -1,30 +1,24 @@
 -- What a store of parts has after any calls was received.
-use Rattle.std.proofs.Common.{◌≡◌, ◌∙◌, ℕ, ◌+◌, ◌-◌, ◌≤◌, List, [], ◌∷◌, length, slice_get, codes, Option, Some, refl}
-use Rattle.std.proofs.Common.{sym, ap, subst, arith, inl, inr, IsSome, IsSomeAnd, nat_le}
-use Rattle.std.{proofs.lemmas.Bool.and_parts, proofs.lemmas.Bool.Decides.nat_tests, proofs.lemmas.Option.same_Some}
-use Rattle.headers.specs.Lines.{Line}
+use Rattle.std.proofs.Common.{◌+◌, ◌∙◌, ◌≡◌, arith, codes, IsSome, IsSomeAnd, length, List, Option, slice_get, subst, ℕ}
+use Rattle.{cache_policy.specs.{Policies.Policy, Requests.Request}, std.proofs.Common.{[], ◌-◌, ap, nat_le, refl, Some}}
+use Rattle.std.proofs.{lemmas.{Bool.{and_parts, Decides.nat_tests}, Option.same_Some}, Common.{◌∷◌, ◌≤◌, inl, inr, sym}}
+use Rattle.{cache_store.specs.declared.{limits.Limits.Limits, parts.extent.Extent.Extent}, headers.specs.Lines.Line}
 use Rattle.cache_store.proofs.HistoryLemmas.{Has-slice_get, HasUnder-responses_at, run-justified}
-use Rattle.cache_store.{proofs.NumberLemmas.Has-numbered, proofs.parts.ByteLemmas.{AllAt, all-joined, all-within}}
-use Rattle.cache_store.{proofs.parts.ByteLemmas.{length-joined, length-within}, proofs.parts.FieldLemmas.IsPartOf}
-use Rattle.cache_store.proofs.parts.FieldLemmas.{combined-range, combined-tag, extent-is, extent-stored, joint-is}
-use Rattle.cache_store.proofs.parts.FieldLemmas.{received-is, recorded-range, recorded-says, recorded-tag}
-use Rattle.cache_store.proofs.parts.FieldLemmas.{recorded_lines, some-tag, tag-stored, tags-same, whole-lines}
-use Rattle.cache_store.{specs.Changes.IsStoredAs, specs.Numbers.numbered, specs.declared.limits.Limits.Limits}
-use Rattle.cache_store.{specs.Parts.Answering.{HasBytesAt, IsLookedUp}, specs.Parts.Answers.{HasBytes, IsPartAnswer}}
-use Rattle.cache_store.{specs.Parts.Extents.{joint, strong_tag}, specs.Parts.Received.{IsRecorded, received_extent}}
-use Rattle.cache_store.{specs.Parts.Recording.{IsTaken, IsWhole}, specs.declared.parts.extent.Extent.Extent}
-use Rattle.cache_store.specs.declared.parts.store_answering.PartAnswer.{PartAnswer}
-use Rattle.cache_store.{specs.declared.parts.store_answering.PartLookup.TheVariants.Serve, specs.Contents.Contents}
-use Rattle.cache_store.specs.Contents.{responses_at, used, without}
-use Rattle.cache_store.specs.History.Call.{Arrived, Looked as StoreLooked, Removed as StoreRemoved}
-use Rattle.cache_store.specs.History.{Has, History, IsJustified, Run as StoreRun}
-use Rattle.cache_store.specs.Parts.Combining.{AreCombinable, Holds, IsCombination}
-use Rattle.cache_store.specs.Parts.History.PartCall.{Looked, Received, Answered, Removed}
-use Rattle.cache_store.specs.Parts.History.{AreBytesOf, AreReceived, PartCall, PartHistory, Run, Step, WasReceived}
-use Rattle.cache_policy.specs.{Policies.Policy, Requests.Request}
-use Rattle.cache_rules.specs.{Stored.fields_of_stored, declared.storing.Reception.Reception}
-use Rattle.cache_rules.specs.{declared.stored.StoredResponse.StoredResponse}
-use Rattle.cache_rules.specs.declared.storing.Reception.TheVariants.{Complete, Incomplete}
+use Rattle.cache_store.{proofs.NumberLemmas.Has-numbered, specs.declared.parts.store_answering.PartAnswer.PartAnswer}
+use Rattle.cache_store.proofs.parts.ByteLemmas.{all-joined, all-within, AllAt, length-joined, length-within}
+use Rattle.cache_store.proofs.parts.FieldLemmas.{combined-range, IsPartOf, received-is, recorded-says, tags-same}
+use Rattle.cache_store.proofs.parts.FieldLemmas.{combined-tag, extent-is, extent-stored, recorded-range, tag-stored}
+use Rattle.cache_store.proofs.parts.FieldLemmas.{joint-is, recorded-tag, recorded_lines, some-tag, whole-lines}
+use Rattle.cache_store.specs.{Parts.Combining.{AreCombinable, Holds, IsCombination}, Changes.IsStoredAs, Contents.used}
+use Rattle.cache_store.specs.{Parts.Extents.{joint, strong_tag}, Numbers.numbered, History.{Has, History, IsJustified}}
+use Rattle.cache_store.specs.declared.parts.store_answering.PartLookup.TheVariants.{Serve}
+use Rattle.cache_store.specs.Parts.{History.PartCall.{Answered, Received, Removed}, Answering.{HasBytesAt, IsLookedUp}}
+use Rattle.cache_store.specs.Parts.{Recording.{IsTaken, IsWhole}, Answers.{HasBytes, IsPartAnswer}, History.AreReceived}
+use Rattle.cache_store.specs.{Parts.Received.{IsRecorded, received_extent}, Contents.{Contents, responses_at, without}}
+use Rattle.cache_store.specs.Parts.History.{AreBytesOf, PartCall, PartCall.Looked, PartHistory, Run, Step, WasReceived}
+use Rattle.cache_store.specs.History.{Run as StoreRun, Call.{Arrived, Looked as StoreLooked, Removed as StoreRemoved}}
+use Rattle.cache_rules.specs.{declared.stored.StoredResponse.StoredResponse, Stored.fields_of_stored}
+use Rattle.cache_rules.specs.declared.storing.Reception.{Reception, TheVariants.{Complete, Incomplete}}
 
 -- what was received before a call was received before it
 earlier : (call : PartCall) (calls : PartHistory) (key : List ℕ) (tag : Line) (len at byte : ℕ)

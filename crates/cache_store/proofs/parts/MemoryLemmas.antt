@@ -1,15 +1,13 @@
 -- Which responses memory is allocated for.
-use Rattle.std.proofs.Common.{◌≡◌, ◌∙◌, ◌⊎◌, ℕ, List, Some, Result, OnErr, sym, ap, inl, inr, slice_get}
-use Rattle.std.{proofs.lemmas.Option.same_Some, proofs.lemmas.Result.on_err_weaker}
-use Rattle.cache_store.{specs.Contents.{Contents, responses_at}, specs.declared.limits.Limits.Limits}
-use Rattle.cache_store.{specs.Parts.Received.{IsPart, IsSelfContained}, specs.declared.parts.extent.Extent.Extent}
-use Rattle.cache_store.{specs.declared.parts.store_recording.Recorded.Recorded, specs.Parts.Recording.IsCombinable}
-use Rattle.cache_store.specs.Parts.Recording.{IsMerged, IsNotTaken, IsRecordedAs, IsSelectedPart, IsTaken, NeedsMemory}
-use Rattle.cache_store.specs.declared.parts.store_recording.Recorded.TheVariants.{Unstored, Stored, Whole, Once}
-use Rattle.cache_policy.{specs.Policies.Policy, specs.Requests.Request}
-use Rattle.cache_rules.{proofs.SelectionLemmas.one_choice}
-use Rattle.cache_rules.{specs.declared.storing.Reception.Reception, specs.declared.stored.StoredResponse.StoredResponse}
-use Rattle.headers_map.proofs.InsertLemmas.{OnErr-from}
+use Rattle.std.proofs.Common.{◌∙◌, ◌≡◌, ◌⊎◌, ap, inl, inr, List, OnErr, Result, slice_get, Some, sym, ℕ}
+use Rattle.{headers_map.proofs.InsertLemmas.OnErr-from, std.proofs.lemmas.{Option.same_Some, Result.on_err_weaker}}
+use Rattle.cache_store.specs.{declared.limits.Limits.Limits, Contents.{Contents, responses_at}, Parts.Received.IsPart}
+use Rattle.cache_store.specs.declared.parts.{extent.Extent.Extent, store_recording.Recorded.TheVariants.Once}
+use Rattle.cache_store.specs.declared.parts.store_recording.Recorded.{Recorded, TheVariants.{Stored, Unstored, Whole}}
+use Rattle.cache_store.specs.Parts.{Received.IsSelfContained, Recording.IsRecordedAs}
+use Rattle.cache_store.specs.Parts.Recording.{IsCombinable, IsMerged, IsNotTaken, IsSelectedPart, IsTaken, NeedsMemory}
+use Rattle.{cache_rules.proofs.SelectionLemmas.one_choice, cache_policy.specs.{Policies.Policy, Requests.Request}}
+use Rattle.cache_rules.specs.declared.{stored.StoredResponse.StoredResponse, storing.Reception.Reception}
 use Rattle.cache_store.specs.declared.parts.combining.Combined.TheVariants as combined
 
 -- a request selects one part

@@ -1,10 +1,10 @@
 -- The bytes of parts.
-use Rattle.std.proofs.Common.{◌≡◌, ◌∙◌, ℕ, ◌+◌, ◌-◌, ◌≤◌, List, [], ◌++◌, length, take, drop, min, max, sym, ap, arith}
-use Rattle.std.{proofs.Common.{inl, inr, true, nat_le}, proofs.lemmas.Bool.{and_parts, cases_lt}}
-use Rattle.std.{proofs.lemmas.Bool.Decides.nat_tests, proofs.Math.Seq.take-add, proofs.Math.ListN.drop_of_length-le}
+use Rattle.std.proofs.Common.{[], ◌++◌, ◌+◌, ◌-◌, ◌∙◌, ◌≡◌, ◌≤◌, ap, arith, drop, length, List, max, min, sym, take, ℕ}
+use Rattle.std.{proofs.Common.{inl, inr, nat_le, true}, proofs.lemmas.Bool.{and_parts, cases_lt}}
+use Rattle.std.{proofs.lemmas.Bool.Decides.nat_tests, proofs.Math.ListN.drop_of_length-le, proofs.Math.Seq.take-add}
 use Rattle.std.proofs.lemmas.List.{drop-drop, drop-take, length-take, take-take, take_all}
-use Rattle.cache_store.{specs.Parts.Answers.{IsWithin, bytes_within}, specs.declared.parts.extent.Extent.Extent}
-use Rattle.cache_store.specs.Parts.Extents.{IsOf, Touch, bytes_between, is_whole, joined, joint}
+use Rattle.cache_store.{specs.Parts.Answers.{bytes_within, IsWithin}, specs.declared.parts.extent.Extent.Extent}
+use Rattle.cache_store.specs.Parts.Extents.{bytes_between, is_whole, IsOf, joined, joint, Touch}
 
 -- the bytes from one position up to another
 abbrev pub seg : ℕ → ℕ → List ℕ → List ℕ

@@ -1,17 +1,14 @@
 -- What a store of parts answers to a request (RFC 9111, section 3.3).
-use Rattle.std.specs.Prelude.{◌≡◌, ◌⊎◌, ℕ, List, [], ◌∷◌, ◌++◌, Some, None, IsSomeAnd, codes}
-use Rattle.headers.specs.{LineMap.Field, LineMap.fields_of, Typed.HasLine}
-use Rattle.cache_store.specs.Lookups.{IsAnswer, IsFound, age_of_stored}
-use Rattle.cache_store.specs.{Numbers.numbered, Parts.Completing.completing_fields, Parts.Completing.lacking}
-use Rattle.cache_store.specs.{Parts.Extents.extent_in, Parts.Extents.strong_tag, declared.parts.extent.Extent.Extent}
-use Rattle.cache_store.specs.{declared.parts.store_answering.PartAnswer.PartAnswer}
-use Rattle.cache_store.specs.{declared.parts.store_answering.PartLookup.PartLookup}
-use Rattle.cache_store.specs.Parts.Answers.{HasBytes, IsPartAnswer, part_fields}
-use Rattle.cache_store.specs.declared.parts.store_answering.PartLookup.TheVariants.{Serve, Complete, Unavailable}
-use Rattle.cache_store.specs.declared.parts.store_answering.PartLookup.TheVariants.{Forward}
+use Rattle.std.specs.Prelude.{[], ◌++◌, ◌∷◌, ◌≡◌, ◌⊎◌, codes, IsSomeAnd, List, None, Some, ℕ}
+use Rattle.{headers.specs.{LineMap.{Field, fields_of}, Typed.HasLine}, cache_store.specs.Lookups.{IsAnswer, IsFound}}
+use Rattle.cache_store.specs.{Lookups.age_of_stored, Numbers.numbered, Parts.Completing.{completing_fields, lacking}}
+use Rattle.cache_store.specs.Parts.{Extents.{extent_in, strong_tag}, Answers.{HasBytes, IsPartAnswer, part_fields}}
+use Rattle.cache_store.specs.declared.parts.{extent.Extent.Extent, store_answering.PartAnswer.PartAnswer}
+use Rattle.cache_store.specs.declared.parts.store_answering.PartLookup.{PartLookup, TheVariants.{Complete, Serve}}
+use Rattle.cache_store.specs.declared.parts.store_answering.PartLookup.TheVariants.{Forward, Unavailable}
 use Rattle.cache_policy.specs.{Decisions.AnswersUnstored, Policies.Policy, Requests.Request}
-use Rattle.cache_policy.specs.{declared.decision.Decision.Decision}
-use Rattle.cache_rules.specs.{Stored.fields_of_stored, declared.stored.StoredResponse.StoredResponse}
+use Rattle.{cache_policy.specs.declared.decision.Decision.Decision, cache_rules.specs.Stored.fields_of_stored}
+use Rattle.cache_rules.specs.declared.stored.StoredResponse.{StoredResponse}
 use Rattle.cache_store.specs.declared.lookup.Lookup.TheVariants as lookups
 use Rattle.cache_policy.specs.declared.decision.Decision.TheVariants as decisions
 

@@ -1,17 +1,13 @@
 -- Which request a stored part answers (RFC 9111, section 3.3).
-use Rattle.std.specs.Prelude.{◌≡◌, ◌⊎◌, ℕ, ◌-◌, ◌≤◌, ◌&&◌, nat_le, List, [], ◌∷◌, Option, Some, None, IsSome, codes}
-use Rattle.std.specs.Prelude.{decimal, if◌then◌else◌}
-use Rattle.headers.specs.LineMap.{Field}
-use Rattle.cache_policy.specs.Requests.{Request}
-use Rattle.cache_rules.specs.Conditions.{AreValidators, IsForCache, one_part}
-use Rattle.cache_rules.specs.{Stored.fields_of_stored, declared.stored.StoredResponse.StoredResponse}
-use Rattle.decide_preconditions.specs.{Plans.IsPlanned, declared.plan.Plan.Plan}
-use Rattle.decide_preconditions.specs.{declared.resource.Resource.TheVariants.Current}
-use Rattle.decide_preconditions.specs.{declared.resource.Validators.Validators}
-use Rattle.decide_preconditions.specs.declared.plan.Plan.TheVariants.{NotModified, Failed, Full, Single, Multiple}
-use Rattle.decide_preconditions.specs.declared.plan.Plan.TheVariants.{Unsatisfiable}
-use Rattle.cache_store.specs.{Parts.Combining.Holds, declared.parts.extent.Extent.Extent}
-use Rattle.cache_store.specs.Parts.Extents.{bytes_between, range_line, size, strong_tag}
+use Rattle.std.specs.Prelude.{[], ◌&&◌, ◌-◌, ◌∷◌, ◌≡◌, ◌≤◌, ◌⊎◌, codes, IsSome, List, nat_le, None, Option, Some, ℕ}
+use Rattle.{std.specs.Prelude.{decimal, if◌then◌else◌}, headers.specs.LineMap.Field}
+use Rattle.{cache_policy.specs.Requests.Request, cache_rules.specs.Conditions.{AreValidators, IsForCache, one_part}}
+use Rattle.cache_rules.specs.{declared.stored.StoredResponse.StoredResponse, Stored.fields_of_stored}
+use Rattle.decide_preconditions.specs.{Plans.IsPlanned, declared.plan.Plan.{Plan, TheVariants.{Failed, NotModified}}}
+use Rattle.decide_preconditions.specs.declared.plan.Plan.TheVariants.{Full, Multiple, Single, Unsatisfiable}
+use Rattle.decide_preconditions.specs.declared.resource.{Resource.TheVariants.Current, Validators.Validators}
+use Rattle.cache_store.specs.Parts.{Combining.Holds, Extents.{bytes_between, range_line, size, strong_tag}}
+use Rattle.cache_store.specs.declared.parts.extent.Extent.{Extent}
 
 -- one part lies wholly within another of the same whole
 pub record IsWithin (outer inner : Extent) : Type 0 where

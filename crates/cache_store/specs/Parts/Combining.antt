@@ -1,15 +1,12 @@
 -- How a received part and a stored one are combined (RFC 9111, section 3.4; RFC 9110, section 15.3.7.3).
-use Rattle.std.specs.Prelude.{◌≡◌, ◌⊎◌, ℕ, List, Some, IsSomeAnd, length}
-use Rattle.headers.specs.LineMap.{Field, set_all}
-use Rattle.cache_policy.specs.{Policies.Policy, Updating.IsUpdated}
-use Rattle.cache_rules.specs.{Fields.IsTooSmallFor, declared.freshening.Exchange.Exchange}
-use Rattle.cache_rules.specs.{declared.storing.Reception.Reception, declared.stored.StoredResponse.StoredResponse}
-use Rattle.cache_rules.specs.Freshening.{IsFreshened, IsReusable, renewing_fields}
-use Rattle.cache_rules.specs.Stored.{fields_of_stored, request_of_stored}
-use Rattle.cache_store.specs.Parts.Extents.{Touch, extent_fields, extent_in, joined, joint, size, strong_tag}
-use Rattle.cache_store.specs.{Parts.Received.received_extent, declared.parts.combining.Combined.Combined}
-use Rattle.cache_store.specs.{declared.parts.extent.Extent.Extent}
-use Rattle.cache_store.specs.declared.parts.combining.Combined.TheVariants.{Apart, Stored, Once}
+use Rattle.{std.specs.Prelude.{◌≡◌, ◌⊎◌, IsSomeAnd, length, List, Some, ℕ}, headers.specs.LineMap.{Field, set_all}}
+use Rattle.{cache_policy.specs.{Policies.Policy, Updating.IsUpdated}, cache_rules.specs.Fields.IsTooSmallFor}
+use Rattle.cache_rules.specs.declared.{freshening.Exchange.Exchange, storing.Reception.Reception}
+use Rattle.cache_rules.specs.{declared.stored.StoredResponse.StoredResponse, Freshening.{IsFreshened, IsReusable}}
+use Rattle.cache_rules.specs.{Freshening.renewing_fields, Stored.{fields_of_stored, request_of_stored}}
+use Rattle.cache_store.specs.Parts.Extents.{extent_fields, extent_in, joined, joint, size, strong_tag, Touch}
+use Rattle.cache_store.specs.{declared.parts.combining.Combined.Combined, Parts.Received.received_extent}
+use Rattle.cache_store.specs.declared.parts.{combining.Combined.TheVariants.{Apart, Once, Stored}, extent.Extent.Extent}
 
 -- both have the same strong validator (RFC 9110, section 8.8.1)
 abbrev pub HaveSameTag : StoredResponse → StoredResponse → Type 0

@@ -1,9 +1,8 @@
 -- How a cache asks for what a stored part lacks (RFC 9111, section 3.3; RFC 9110, sections 13.1.5 and 14.2).
-use Rattle.std.specs.Prelude.{◌≡◌, ◌+◌, ◌-◌, nat_lt, List, [], ◌∷◌, Option, Some, None, IsSomeAnd, MatchOption, codes}
-use Rattle.std.specs.Prelude.{if◌then◌else◌}
-use Rattle.headers.specs.{ByteRanges.bytes_from_to, Lines.Line, declared.Encoded.Encoded}
-use Rattle.headers.specs.LineMap.{Field, LineMap, fields_of}
-use Rattle.cache_store.specs.{Parts.Extents.strong_tag, declared.parts.extent.Extent.Extent}
+use Rattle.std.specs.Prelude.{[], ◌+◌, ◌-◌, ◌∷◌, ◌≡◌, codes, IsSomeAnd, List, MatchOption, nat_lt, None, Option, Some}
+use Rattle.{std.specs.Prelude.if◌then◌else◌, headers.specs.{ByteRanges.bytes_from_to, Lines.Line}}
+use Rattle.headers.specs.{declared.Encoded.Encoded, LineMap.{Field, fields_of, LineMap}}
+use Rattle.cache_store.specs.{declared.parts.extent.Extent.Extent, Parts.Extents.strong_tag}
 
 -- What a part lacks of the whole: what stands before it, or else what stands after it. One of both is asked for, since
 -- several ranges come as several parts.

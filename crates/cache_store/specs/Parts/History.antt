@@ -1,15 +1,11 @@
 -- What a list of calls lets a store of parts have.
-use Rattle.std.specs.Prelude.{◌≡◌, ◌⊎◌, ℕ, ◌+◌, List, [], ◌∷◌, Some, length, slice_get}
-use Rattle.headers.specs.Lines.{Line}
-use Rattle.cache_store.specs.Changes.{IsFront, IsInserted, IsStoredAs, IsToStore}
-use Rattle.cache_store.specs.Contents.{Contents, responses_at, used, without}
-use Rattle.cache_store.specs.{History.Has, declared.limits.Limits.Limits, Parts.Received.received_extent}
-use Rattle.cache_store.specs.{Parts.Recording.IsTaken, declared.parts.extent.Extent.Extent}
-use Rattle.cache_store.specs.Parts.Extents.{size, strong_tag}
-use Rattle.cache_policy.specs.Policies.{Policy}
-use Rattle.cache_rules.specs.{Invalidation.Invalidates, Stored.fields_of_stored, declared.storing.Reception.Reception}
-use Rattle.cache_rules.specs.{declared.storing.Reception.TheVariants.Complete}
-use Rattle.cache_rules.specs.{declared.stored.StoredResponse.StoredResponse}
+use Rattle.{std.specs.Prelude.{[], ◌+◌, ◌∷◌, ◌≡◌, ◌⊎◌, length, List, slice_get, Some, ℕ}, headers.specs.Lines.Line}
+use Rattle.cache_store.specs.{Changes.{IsFront, IsInserted, IsStoredAs, IsToStore}, Contents.{Contents, responses_at}}
+use Rattle.cache_store.specs.{Contents.{used, without}, History.Has, declared.limits.Limits.Limits}
+use Rattle.cache_store.specs.{declared.parts.extent.Extent.Extent, Parts.{Received.received_extent, Recording.IsTaken}}
+use Rattle.{cache_store.specs.Parts.Extents.{size, strong_tag}, cache_policy.specs.Policies.Policy}
+use Rattle.cache_rules.specs.{declared.storing.Reception.Reception, Invalidation.Invalidates, Stored.fields_of_stored}
+use Rattle.cache_rules.specs.declared.{stored.StoredResponse.StoredResponse, storing.Reception.TheVariants.Complete}
 
 -- a call of a store of parts, with its key
 pub data PartCall : Type 0 where

@@ -1,7 +1,6 @@
 -- What a store of parts has.
-use Rattle.cache_store.specs.{Contents.Contents, Kept.contents_of, Kept.policy_of_store, declared.limits.Limits.Limits}
-use Rattle.cache_store.specs.{declared.parts.store.PartStore.PartStore}
-use Rattle.cache_policy.specs.Policies.{Policy}
+use Rattle.cache_store.specs.{Contents.Contents, Kept.{contents_of, policy_of_store}, declared.limits.Limits.Limits}
+use Rattle.{cache_policy.specs.Policies.Policy, cache_store.specs.declared.parts.store.PartStore.PartStore}
 
 -- each key with its parts, the most recently used first
 abbrev pub parts_of : PartStore → Contents

@@ -1,15 +1,12 @@
 -- Which received responses are parts that a cache may store (RFC 9111, section 3.3).
-use Rattle.std.specs.Prelude.{◌≡◌, ℕ, ◌+◌, ◌-◌, Bool, false, ◌&&◌, ◌==◌, nat_le, nat_lt, List, length, Option, Some}
-use Rattle.std.{specs.Prelude.{None, IsSome, option_and_then, codes, if◌then◌else◌}, specs.List.list_any}
-use Rattle.std.specs.Option.{option_map_or}
-use Rattle.headers.{specs.LineMap.{LineMap, set_all}, specs.Lines.{Line, only_line}, specs.Typed.HasLine}
-use Rattle.rfc_fields.specs.Numbers.{number_within}
-use Rattle.cache_policy.specs.Policies.{Policy}
-use Rattle.cache_rules.{specs.Stored.{fields_of_stored, request_of_stored}, specs.Storing.IsStored}
-use Rattle.cache_rules.{specs.declared.storing.Reception.Reception, specs.declared.stored.StoredResponse.StoredResponse}
-use Rattle.cache_rules.specs.declared.storing.Reception.TheVariants.{Complete, Incomplete}
+use Rattle.std.specs.Prelude.{◌+◌, ◌-◌, ◌≡◌, Bool, codes, false, if◌then◌else◌, nat_le, nat_lt, option_and_then, ℕ}
+use Rattle.std.specs.{Prelude.{◌&&◌, ◌==◌, IsSome, length, List, None, Option, Some}, Option.option_map_or}
+use Rattle.{headers.specs.{Lines.{Line, only_line}, Typed.HasLine, LineMap.{LineMap, set_all}}, std.specs.List.list_any}
+use Rattle.{rfc_fields.specs.Numbers.number_within, cache_rules.specs.Stored.{fields_of_stored, request_of_stored}}
+use Rattle.{cache_policy.specs.Policies.Policy, cache_store.specs.declared.parts.extent.Extent.Extent}
+use Rattle.cache_rules.specs.{declared.stored.StoredResponse.StoredResponse, Storing.IsStored}
+use Rattle.cache_rules.specs.declared.storing.Reception.{Reception, TheVariants.{Complete, Incomplete}}
 use Rattle.cache_store.specs.Parts.Extents.{extent_fields, extent_in, greatest, size, strong_tag}
-use Rattle.cache_store.specs.declared.parts.extent.Extent.{Extent}
 
 -- ---- which part came
 

@@ -1,19 +1,15 @@
 -- What a store of parts makes of a received response (RFC 9111, sections 3.3 and 3.4).
-use Rattle.std.specs.Prelude.{◌≡◌, ◌⊎◌, ℕ, List, Option, Some, None, codes}
-use Rattle.headers.specs.Typed.{HasLine}
-use Rattle.cache_store.specs.Changes.{FitsAlone, IsInserted, IsStoredAs, IsToStore, IsTooSmallToStore}
-use Rattle.cache_store.specs.Contents.{Contents, responses_at, size_of, without}
-use Rattle.cache_store.specs.{declared.limits.Limits.Limits, Parts.Extents.extent_fields}
-use Rattle.cache_store.specs.{declared.parts.combining.Combined.Combined, declared.parts.extent.Extent.Extent}
-use Rattle.cache_store.specs.{declared.parts.store_recording.Recorded.Recorded}
+use Rattle.{std.specs.Prelude.{◌≡◌, ◌⊎◌, codes, List, None, Option, Some, ℕ}, headers.specs.Typed.HasLine}
+use Rattle.cache_store.specs.{Parts.Received.{IsPart, IsRecorded, IsSelfContained}, Changes.{IsInserted, IsStoredAs}}
+use Rattle.cache_store.specs.{Contents.{Contents, responses_at, without}, Changes.{IsTooSmallToStore, IsToStore}}
+use Rattle.{cache_policy.specs.{Policies.Policy, Requests.Request}, cache_store.specs.Changes.IsTooLarge}
+use Rattle.cache_store.specs.{declared.{limits.Limits.Limits, parts.extent.Extent.Extent}, Parts.Extents.extent_fields}
+use Rattle.cache_store.specs.declared.parts.{combining.Combined.Combined, store_recording.Recorded.Recorded}
+use Rattle.cache_store.specs.declared.parts.store_recording.Recorded.TheVariants.{Once, Stored, Unstored, Whole}
 use Rattle.cache_store.specs.Parts.Combining.{AreCombinable, HaveSameTag, IsCombinedAs, IsTooSmallToCombine}
-use Rattle.cache_store.specs.Parts.Received.{IsPart, IsRecorded, IsSelfContained}
-use Rattle.cache_store.specs.declared.parts.store_recording.Recorded.TheVariants.{Unstored, Stored, Whole, Once}
-use Rattle.cache_policy.specs.{Policies.Policy, Requests.Request}
-use Rattle.cache_rules.specs.{Fields.IsTooSmallFor, Stored.fields_of_stored, Stored.request_of_stored}
-use Rattle.cache_rules.specs.{declared.storing.Reception.Reception, declared.storing.Reception.TheVariants.Complete}
-use Rattle.cache_rules.specs.{declared.stored.StoredResponse.StoredResponse}
-use Rattle.cache_rules.specs.Selection.{IsCandidate, IsChosen, IsSelected}
+use Rattle.cache_rules.specs.{declared.storing.Reception.{Reception, TheVariants.Complete}, Fields.IsTooSmallFor}
+use Rattle.cache_rules.specs.{Stored.{fields_of_stored, request_of_stored}, Selection.{IsCandidate, IsSelected}}
+use Rattle.cache_rules.specs.{declared.stored.StoredResponse.StoredResponse, Selection.IsChosen}
 use Rattle.cache_store.specs.declared.parts.combining.Combined.TheVariants as combined
 
 -- the stored part that a request selects (RFC 9111, section 4.1), or none
@@ -120,7 +116,7 @@ module _ (policy : Policy) (limits : Limits) (key : List ℕ) (old : Contents) w
   -- be stored, or is too large. Where it isn't stored, nothing is under the key any more.
   abbrev pub IsKeptAs : StoredResponse → Contents → Recorded → Type 0
   IsKeptAs part new Unstored =
-      (¬ (IsWhole part)) × ((¬ (IsToStore policy part Complete)) ⊎ (¬ (FitsAlone limits 1 (size_of part))))
+      (¬ (IsWhole part)) × ((¬ (IsToStore policy part Complete)) ⊎ IsTooLarge limits key part)
       × (new ≡ without key old)
   IsKeptAs part new Stored =
       (¬ (IsWhole part))

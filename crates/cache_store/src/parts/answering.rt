@@ -1,5 +1,5 @@
 //! Which request a stored part answers, and how.
-ghost use Rattle.std.{specs.Prelude.{◌≡◌, ◌<◌, ◌≤◌, ℕ, List, IfOk, IfSome, OnErr, MatchOption}, specs.Bool.MatchBool};
+ghost use Rattle.std.specs.{Prelude.{◌<◌, ◌≡◌, ◌≤◌, IfOk, IfSome, List, MatchOption, OnErr, ℕ}, Bool.MatchBool};
 ghost use Rattle.headers.specs.LineMap.{fields_of};
 ghost use Rattle.cache_policy.specs.Requests.{request_of};
 ghost use Rattle.cache_store.specs.Parts.Answers.{HasBytes, IsPartAnswer, IsWithin, MayAnswer, part_fields};

@@ -1,11 +1,10 @@
 //! How a received part and a stored one are combined.
-ghost use Rattle.std.{specs.Prelude.{◌≡◌, ◌<◌, ◌≤◌, IfOk, IfSome, IsErrOf, OnErr, MatchOption}, specs.Bool.MatchBool};
+ghost use Rattle.std.specs.{Prelude.{◌<◌, ◌≡◌, ◌≤◌, IfOk, IfSome, IsErrOf, MatchOption, OnErr}, Bool.MatchBool};
 ghost use Rattle.headers.specs.LineMap.{fields_of};
 ghost use Rattle.cache_policy.specs.Policies.{policy_of};
 ghost use Rattle.cache_rules.specs.Fields.{IsTooSmallFor};
-ghost use Rattle.cache_store.specs.Parts.Combining.{AreCombinable, HaveSameTag, Holds, IsCombinedAs, IsExtended};
-ghost use Rattle.cache_store.specs.Parts.Combining.{IsHeadOfStored, IsTooSmallToCombine, Suit, exchange_of};
-ghost use Rattle.cache_store.specs.Parts.Extents.{joined};
+ghost use Rattle.cache_store.specs.Parts.Combining.{AreCombinable, HaveSameTag, Holds, IsCombinedAs, IsExtended, Suit};
+ghost use Rattle.cache_store.specs.Parts.{Combining.{exchange_of, IsHeadOfStored, IsTooSmallToCombine}, Extents.joined};
 
 use crate::parts::extent::{Extent, extent_in, strong_tag};
 use crate::parts::received::received_extent;

@@ -1,7 +1,7 @@
 //! How a cache asks for what a stored part lacks.
-ghost use Rattle.std.specs.Prelude.{◌≡◌, ◌<◌, ◌∷◌, [], IfOk, IsSome, OnErr, Some, codes, option_map};
-ghost use Rattle.headers.specs.{ByteRanges.bytes_from_to, LineMap.field_of, LineMap.lines_at};
-ghost use Rattle.cache_store.specs.{Parts.Completing.IsCompletedBy, Parts.Completing.lacking, Parts.Extents.strong_tag};
+ghost use Rattle.std.specs.Prelude.{[], ◌<◌, ◌∷◌, ◌≡◌, codes, IfOk, IsSome, OnErr, option_map, Some};
+ghost use Rattle.headers.specs.{ByteRanges.bytes_from_to, LineMap.{field_of, lines_at}};
+ghost use Rattle.cache_store.specs.Parts.{Completing.{IsCompletedBy, lacking}, Extents.strong_tag};
 
 use crate::parts::extent::{Extent, strong_tag};
 use headers::{Encoded, HeaderMap, Range, Refused, encoding};

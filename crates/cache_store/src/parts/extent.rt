@@ -1,8 +1,8 @@
 //! Parts of the content of a representation, and what fields say of them.
-ghost use Rattle.std.specs.Prelude.{◌≡◌, ◌<◌, ◌≤◌, ◌∷◌, [], IfOk, IfSome, Some, codes, option_map, if◌then◌else◌};
+ghost use Rattle.std.specs.Prelude.{[], ◌<◌, ◌∷◌, ◌≡◌, ◌≤◌, codes, IfOk, IfSome, if◌then◌else◌, option_map, Some};
 ghost use Rattle.std.specs.Bool.{MatchBool};
-ghost use Rattle.headers.specs.{EntityTag.is_tag, LineMap.field_of, LineMap.fields_of, LineMap.lines_at};
-ghost use Rattle.cache_store.specs.Parts.Extents.{Touch, extent_by, extent_fields, extent_in, is_whole, joint};
+ghost use Rattle.headers.specs.{EntityTag.is_tag, LineMap.{field_of, fields_of, lines_at}};
+ghost use Rattle.cache_store.specs.Parts.Extents.{extent_by, extent_fields, extent_in, is_whole, joint, Touch};
 ghost use Rattle.cache_store.specs.Parts.Extents.{range_line, size, strong_tag};
 ghost use Rattle.cache_policy.specs.Updating.{is_weak};
 

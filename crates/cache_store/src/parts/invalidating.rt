@@ -1,7 +1,6 @@
 //! Removal of what is stored.
 ghost use Rattle.std.specs.Prelude.{◌≡◌};
-ghost use Rattle.cache_store.specs.{Contents.without, Parts.History.Step};
-ghost use Rattle.cache_store.specs.Parts.History.PartCall.{Answered, Removed};
+ghost use Rattle.cache_store.specs.{Contents.without, Parts.History.{Step, PartCall.{Answered, Removed}}};
 ghost use Rattle.cache_store.specs.Parts.Kept.{limits_of_parts, parts_of, policy_of_parts};
 ghost use Rattle.cache_rules.specs.Invalidation.{Invalidates};
 

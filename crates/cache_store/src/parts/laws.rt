@@ -1,20 +1,17 @@
 //! Theorems about the definitions, and about every list of calls of a store. To cite one in a proof, call it.
-ghost use Rattle.std.specs.Prelude.{◌≡◌, ℕ, List, true, false, Some, IsTrue, ◌⊎◌, ◌∷◌, length};
+ghost use Rattle.std.specs.Prelude.{◌∷◌, ◌≡◌, ◌⊎◌, false, IsTrue, length, List, Some, true, ℕ};
 ghost use Rattle.headers.specs.{EntityTag.is_tag, LineMap.LineMap, Lines.Line};
-ghost use Rattle.cache_store.specs.{Contents.Contents, Contents.responses_at, Room.HasRoom};
-ghost use Rattle.cache_store.specs.{declared.limits.Limits.Limits, Numbers.numbered, Parts.Answering.HasBytesAt};
-ghost use Rattle.cache_store.specs.{Parts.Answering.IsLookedUp, Parts.Answers.IsWithin, Parts.Answers.bytes_within};
-ghost use Rattle.cache_store.specs.{Parts.History.PartCall.Received, Parts.Kept.limits_of_parts, Parts.Kept.parts_of};
-ghost use Rattle.cache_store.specs.{declared.parts.extent.Extent.Extent, declared.parts.store.PartStore.PartStore};
-ghost use Rattle.cache_store.specs.{declared.parts.store_answering.PartAnswer.PartAnswer};
-ghost use Rattle.cache_store.specs.{declared.parts.store_answering.PartLookup.TheVariants.Serve};
-ghost use Rattle.cache_store.specs.{declared.parts.store_recording.Recorded.Recorded};
-ghost use Rattle.cache_store.specs.Parts.Extents.{IsOf, Touch, is_whole, joined, joint, strong_tag};
-ghost use Rattle.cache_store.specs.Parts.History.{AreBytesOf, AreReceived, PartHistory, Run};
+ghost use Rattle.cache_store.specs.{declared.limits.Limits.Limits, Numbers.numbered, Contents.{Contents, responses_at}};
+ghost use Rattle.cache_store.specs.{Parts.Extents.{is_whole, IsOf, joined, joint, strong_tag, Touch}, Room.HasRoom};
+ghost use Rattle.cache_store.specs.{Parts.Answers.{bytes_within, IsWithin}, declared.parts.extent.Extent.Extent};
+ghost use Rattle.cache_store.specs.declared.parts.{store.PartStore.PartStore, store_recording.Recorded.Recorded};
+ghost use Rattle.cache_store.specs.declared.parts.store_answering.{PartAnswer.PartAnswer, PartLookup.TheVariants.Serve};
+ghost use Rattle.cache_store.specs.Parts.{Answering.{HasBytesAt, IsLookedUp}, Kept.{limits_of_parts, parts_of}};
+ghost use Rattle.cache_store.specs.Parts.History.{AreBytesOf, AreReceived, PartCall.Received, PartHistory, Run};
 ghost use Rattle.cache_store.specs.Parts.Recording.{IsNotTaken, IsRecordedAs, IsTaken, IsWhole, NeedsMemory};
 ghost use Rattle.cache_policy.specs.{Policies.Policy, Requests.Request, Updating.is_weak};
-ghost use Rattle.cache_rules.specs.{Stored.fields_of_stored, declared.stored.StoredResponse.StoredResponse};
-ghost use Rattle.cache_rules.specs.{declared.storing.Reception.Reception};
+ghost use Rattle.cache_rules.specs.{declared.stored.StoredResponse.StoredResponse, Stored.fields_of_stored};
+ghost use Rattle.cache_rules.specs.declared.storing.Reception.{Reception};
 
 /// If two parts are of one representation, so is their combination. So it has exactly the bytes that
 /// the representation has there, and which part came first makes no difference.

@@ -1,7 +1,7 @@
 //! A new store.
-ghost use Rattle.std.specs.Prelude.{◌≡◌, [], IfOk};
-ghost use Rattle.cache_store.specs.{Kept.policy_with, Parts.History.Run};
-ghost use Rattle.cache_store.specs.Parts.Kept.{limits_of_parts, parts_of, policy_of_parts};
+ghost use Rattle.std.specs.Prelude.{[], ◌≡◌, IfOk};
+ghost use Rattle.cache_store.specs.{Kept.policy_with, Parts.{History.Run, Kept.{limits_of_parts, parts_of}}};
+ghost use Rattle.cache_store.specs.Parts.Kept.{policy_of_parts};
 
 use crate::limits::Limits;
 use crate::making::Options;

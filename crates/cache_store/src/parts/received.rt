@@ -1,9 +1,9 @@
 //! Which received responses are parts that a cache may store.
-ghost use Rattle.std.specs.Prelude.{◌≡◌, ◌<◌, ◌≤◌, IfSome, MatchOption};
-ghost use Rattle.headers.specs.LineMap.{lines_at};
 ghost use Rattle.cache_policy.specs.Policies.{policy_of};
-ghost use Rattle.cache_store.{specs.Parts.Extents.size, specs.Parts.Received.{IsPart, came_of_part, came_of_whole}};
-ghost use Rattle.cache_store.specs.Parts.Received.{has_plus, is_signed, length_in, received_extent};
+ghost use Rattle.std.specs.Prelude.{◌<◌, ◌≡◌, ◌≤◌, IfSome, MatchOption};
+ghost use Rattle.headers.specs.LineMap.{lines_at};
+ghost use Rattle.cache_store.specs.Parts.{Extents.size, Received.{came_of_part, is_signed, length_in, received_extent}};
+ghost use Rattle.cache_store.specs.Parts.Received.{came_of_whole, has_plus, IsPart};
 
 use crate::parts::extent::{Extent, extent_in, strong_tag};
 use cache_policy::Policy;

@@ -1,7 +1,7 @@
 //! How a part is stored.
-ghost use Rattle.std.specs.Prelude.{◌≡◌, ◌<◌, IfOk, IsErrOf};
+ghost use Rattle.std.specs.Prelude.{◌<◌, ◌≡◌, IfOk, IsErrOf};
 ghost use Rattle.cache_rules.specs.Fields.{IsTooSmallFor};
-ghost use Rattle.cache_store.specs.{Parts.Extents.extent_fields, Parts.Received.IsRecorded};
+ghost use Rattle.cache_store.specs.Parts.{Extents.extent_fields, Received.IsRecorded};
 
 use crate::parts::extent::Extent;
 use cache_rules::{StoredResponse, set_fields};

@@ -1,13 +1,12 @@
 //! What a store of parts answers to a request.
-ghost use Rattle.std.specs.Prelude.{◌≡◌, ◌∷◌, ◌++◌, [], IfOk, MatchOption, None, OnErr, Some, option_copied, ℕ, List};
-ghost use Rattle.std.{specs.Prelude.codes, specs.Bool.MatchBool};
+ghost use Rattle.std.specs.Prelude.{[], ◌++◌, ◌∷◌, ◌≡◌, IfOk, List, MatchOption, None, OnErr, option_copied, Some, ℕ};
+ghost use Rattle.std.specs.{Bool.MatchBool, Prelude.codes};
 ghost use Rattle.headers.specs.LineMap.{field_of, fields_of, lines_at};
-ghost use Rattle.cache_store.{specs.Contents.{responses_at, used}, specs.Lookups.HasFields, specs.Numbers.numbered};
-ghost use Rattle.cache_store.{specs.Parts.History.PartCall.Looked, specs.Parts.History.Step};
-ghost use Rattle.cache_store.{specs.declared.parts.extent.Extent.Extent, specs.Parts.Answering.{HasBytesAt, IsAsked}};
-ghost use Rattle.cache_store.specs.Parts.Answering.{IsForWhole, IsLookedUp, IsReused, Lacks};
-ghost use Rattle.cache_store.{specs.Parts.Answers.{IsPartAnswer, part_fields}, specs.Parts.Kept.limits_of_parts};
-ghost use Rattle.cache_store.specs.Parts.Kept.{parts_of, policy_of_parts};
+ghost use Rattle.cache_store.specs.{Contents.{responses_at, used}, Lookups.HasFields, Numbers.numbered};
+ghost use Rattle.cache_store.specs.Parts.{History.{PartCall.Looked, Step}, Answering.{HasBytesAt, IsAsked, IsForWhole}};
+ghost use Rattle.cache_store.specs.Parts.{Answering.{IsLookedUp, IsReused, Lacks}, Answers.{IsPartAnswer, part_fields}};
+ghost use Rattle.cache_store.specs.Parts.Kept.{limits_of_parts, parts_of, policy_of_parts};
+ghost use Rattle.cache_store.specs.declared.parts.extent.Extent.{Extent};
 ghost use Rattle.cache_policy.specs.Requests.{request_of};
 
 use crate::lookup::Lookup;

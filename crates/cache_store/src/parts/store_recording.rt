@@ -1,14 +1,12 @@
 //! What is stored of a received response.
-ghost use Rattle.std.specs.Prelude.{◌≡◌, ◌⊎◌, ◌<◌, IfOk, IsErrOf, MatchOption, None, OnErr, Some};
-ghost use Rattle.std.specs.Bool.{MatchBool};
-ghost use Rattle.cache_store.{specs.Changes.{IsFront, IsTooSmallToStore}, specs.Contents.{responses_at, without}};
-ghost use Rattle.cache_store.{specs.Parts.History.PartCall.Received, specs.Parts.History.Step};
-ghost use Rattle.cache_store.{specs.Parts.Received.IsSelfContained, specs.Parts.Kept.{limits_of_parts, parts_of}};
-ghost use Rattle.cache_store.{specs.Parts.Kept.policy_of_parts, specs.Parts.Recording.{Changes, IsCombinable}};
-ghost use Rattle.cache_store.specs.Parts.Recording.{IsContent, IsCurrent, IsKeptAs, IsLeft, IsMerged, IsRecordedAs};
-ghost use Rattle.cache_store.specs.Parts.Recording.{IsSelectedPart, IsSuperseded, IsTakenAlone, IsTooSmallToMerge};
-ghost use Rattle.cache_store.specs.Parts.Recording.{IsTooSmallToRecord, IsTooSmallToTake, NeedsMemory};
+ghost use Rattle.std.specs.{Prelude.{◌<◌, ◌≡◌, ◌⊎◌, IfOk, IsErrOf, MatchOption, None, OnErr, Some}, Bool.MatchBool};
 ghost use Rattle.cache_rules.specs.Stored.{request_of_stored};
+ghost use Rattle.cache_store.specs.{Changes.{IsFront, IsTooSmallToStore}, Contents.{responses_at, without}};
+ghost use Rattle.cache_store.specs.Parts.{Kept.{limits_of_parts, parts_of, policy_of_parts}, Received.IsSelfContained};
+ghost use Rattle.cache_store.specs.Parts.{History.{PartCall.Received, Step}, Recording.{Changes, IsLeft, IsRecordedAs}};
+ghost use Rattle.cache_store.specs.Parts.Recording.{IsCombinable, IsContent, IsCurrent, IsSuperseded, IsTakenAlone};
+ghost use Rattle.cache_store.specs.Parts.Recording.{IsKeptAs, IsMerged, IsSelectedPart, IsTooSmallToMerge};
+ghost use Rattle.cache_store.specs.Parts.Recording.{IsTooSmallToRecord, IsTooSmallToTake, NeedsMemory};
 
 use crate::parts::combining::{Combined, combine, have_same_tag};
 use crate::parts::extent::Extent;

@@ -1,5 +1,4 @@
-use Rattle.headers.specs.LineMap.{lines_at}
-use Rattle.cache_policy.specs.Policies.{policy_of}
+use Rattle.{cache_policy.specs.Policies.policy_of, headers.specs.LineMap.lines_at}
 use Rattle.cache_store.proofs.LookupLemmas.{decision-by}
 use Rattle.cache_store.proofs.lookup.decision_for.Goals as goal
 

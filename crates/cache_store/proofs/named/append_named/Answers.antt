@@ -1,7 +1,5 @@
-use Rattle.std.proofs.Common.{◌++◌, List, option_to_list, append_assoc, ap, refl, ◌∙◌}
-use Rattle.headers.specs.Lines.{lines_of}
-use Rattle.url.specs.Parts.{Parts}
-use Rattle.cache_store.proofs.NamedLemmas.{continues-end, continues-next}
+use Rattle.{std.proofs.Common.{◌++◌, ◌∙◌, ap, append_assoc, List, option_to_list, refl}, headers.specs.Lines.lines_of}
+use Rattle.{url.specs.Parts.Parts, cache_store.proofs.NamedLemmas.{continues-end, continues-next}}
 use Rattle.cache_store.proofs.named.append_named.Goals as goal
 
 pub loop-value-preserved : goal.loop-value-preserved

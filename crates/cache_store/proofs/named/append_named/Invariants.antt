@@ -1,7 +1,5 @@
-use Rattle.std.proofs.Common.{◌≡◌, ◌++◌, List}
-use Rattle.headers.specs.{LineMap.lines_at, Lines.lines_of}
-use Rattle.url.specs.Parts.{Parts}
-use Rattle.cache_store.proofs.NamedLemmas.{Continues}
+use Rattle.{std.proofs.Common.{◌++◌, ◌≡◌, List}, headers.specs.{LineMap.lines_at, Lines.lines_of}}
+use Rattle.{cache_store.proofs.NamedLemmas.Continues, url.specs.Parts.Parts}
 use Rattle.cache_store.proofs.named.append_named.Given as goal
 
 abbrev pub invariant-loop-value : goal.invariant-loop-value

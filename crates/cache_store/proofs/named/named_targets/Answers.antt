@@ -1,6 +1,4 @@
-use Rattle.std.proofs.Common.{◌++◌, List, ap, ◌∙◌}
-use Rattle.headers.specs.LineMap.{lines_at}
-use Rattle.url.specs.Parts.{Parts}
+use Rattle.{std.proofs.Common.{◌++◌, ◌∙◌, ap, List}, headers.specs.LineMap.lines_at, url.specs.Parts.Parts}
 use Rattle.cache_store.proofs.NamedLemmas.{named-append}
 use Rattle.cache_store.proofs.named.named_targets.Goals as goal
 

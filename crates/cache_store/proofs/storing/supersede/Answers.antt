@@ -1,5 +1,4 @@
-use Rattle.cache_policy.specs.Requests.{request_of}
-use Rattle.cache_store.proofs.StoringLemmas.{superseded, unsuperseded}
+use Rattle.{cache_policy.specs.Requests.request_of, cache_store.proofs.StoringLemmas.{superseded, unsuperseded}}
 use Rattle.cache_store.proofs.storing.supersede.Goals as goal
 
 pub returns-then-has_method-clause-rest : goal.returns-then-has_method-clause-rest

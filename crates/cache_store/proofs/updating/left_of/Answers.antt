@@ -1,12 +1,9 @@
-use Rattle.std.proofs.Common.{◌≡◌, Err, [], ap, length, arith, rules, sym, subst, inr}
-use Rattle.std.{proofs.lemmas.List.nil_from_length, proofs.lemmas.List.Elements.{All-contains_itself, All-rest}}
-use Rattle.std.specs.List.{All, Contains}
-use Rattle.headers.specs.LineMap.{lines_at}
-use Rattle.cache_policy.{specs.Policies.policy_of, specs.Requests.request_of}
-use Rattle.cache_store.{specs.Contents.bytes_of, specs.History.Has, specs.Numbers.AreRenumbered, specs.Updates.Becomes}
-use Rattle.cache_store.{proofs.GoOnLemmas.kept-next, proofs.NumberLemmas.{AreRenumbering, renumbering-end}}
-use Rattle.cache_store.{proofs.NumberLemmas.{renumbering-next, renumbering-none}, proofs.UpdateLemmas.becomes-light}
-use Rattle.cache_store.proofs.UpdateLemmas.{continues-end, continues-next, fewer-next, lighter-next, next_too_small}
+use Rattle.std.proofs.{Common.{[], ◌≡◌, ap, arith, Err, inr, length, rules, subst, sym}, lemmas.List.nil_from_length}
+use Rattle.std.{proofs.lemmas.List.Elements.{All-contains_itself, All-rest}, specs.List.{All, Contains}}
+use Rattle.{headers.specs.LineMap.lines_at, cache_policy.specs.{Policies.policy_of, Requests.request_of}}
+use Rattle.cache_store.{specs.{History.Has, Numbers.AreRenumbered, Updates.Becomes}, proofs.GoOnLemmas.kept-next}
+use Rattle.cache_store.proofs.NumberLemmas.{AreRenumbering, renumbering-end, renumbering-next, renumbering-none}
+use Rattle.cache_store.proofs.UpdateLemmas.{continues-end, continues-next, fewer-next, next_too_small}
 use Rattle.cache_rules.proofs.FullLemmas.{passed_full}
 use Rattle.cache_store.proofs.updating.left_of.Goals as goal
 
@@ -26,7 +23,6 @@ loop-stored-init c =
       rises = omega arith;
       kept = λ stored h. absurd (subst (λ l. Has l stored) c.new-left.ensures.items h);
       there = λ stored h. subst (λ l. Has l stored) c.into_iter-all.ensures.rest h;
-      lighter = search rules;
     }
 
 pub loop-stored-preserved : goal.loop-stored-preserved
@@ -55,12 +51,6 @@ loop-stored-preserved c =
           c.in_ok-fate.ensures.number c.loop-stored.invariant.kept c.loop-stored.invariant.there;
       there = λ stored h. c.loop-stored.invariant.there stored
           (subst (λ l. Has l stored) (sym c.in-Some.ensures.items) (inr h));
-      lighter = lighter-next old new others these c.in-Some.stored c.in_ok-fate.fate c.in-Some.ensures.items
-          c.in_ok-append.ensures (bytes_of c.args.responses.items)
-          (becomes-light
-          (policy_of c.args.policy.now) request update c.args.exchange c.in-Some.stored c.args.by c.in_ok-fate.fate
-          c.in_ok-fate.ensures.becomes)
-          c.loop-stored.invariant.lighter;
     }
 
 pub returns-clause-left : goal.returns-clause-left

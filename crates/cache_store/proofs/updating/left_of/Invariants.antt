@@ -1,9 +1,7 @@
-use Rattle.std.{proofs.Common.{◌≡◌, ◌⊎◌, ◌≤◌, ◌+◌, length}, specs.List.{All, Contains}, specs.Vec.Iter.into_iter_items}
-use Rattle.headers.specs.LineMap.{lines_at}
-use Rattle.cache_policy.{specs.Policies.policy_of, specs.Requests.request_of}
-use Rattle.cache_rules.specs.declared.stored.StoredResponse.{StoredResponse}
-use Rattle.cache_store.{specs.Contents.bytes_of, specs.History.Has, specs.Updates.Becomes}
-use Rattle.cache_store.{proofs.NumberLemmas.AreRenumbering, proofs.UpdateLemmas.Continues}
+use Rattle.std.{proofs.Common.{◌+◌, ◌≡◌, ◌≤◌, ◌⊎◌, length}, specs.{List.{All, Contains}, Vec.Iter.into_iter_items}}
+use Rattle.{headers.specs.LineMap.lines_at, cache_policy.specs.{Policies.policy_of, Requests.request_of}}
+use Rattle.{cache_rules.specs.declared.stored.StoredResponse.StoredResponse, cache_store.specs.History.Has}
+use Rattle.cache_store.{specs.Updates.Becomes, proofs.{NumberLemmas.AreRenumbering, UpdateLemmas.Continues}}
 use Rattle.cache_store.proofs.updating.left_of.Given as goal
 
 abbrev pub invariant-loop-stored : goal.invariant-loop-stored
@@ -21,7 +19,6 @@ invariant-loop-stored l =
       kept : (stored : StoredResponse) → Has l.left.items stored
           → Has l.fn.responses.items stored ⊎ (l.first ≤ stored.number);
       there : (stored : StoredResponse) → Has (into_iter_items l.all) stored → Has l.fn.responses.items stored;
-      lighter : bytes_of l.left.items + bytes_of (into_iter_items l.all) ≤ bytes_of l.fn.responses.items;
     }
 
 abbrev pub decreases-loop-stored : goal.decreases-loop-stored

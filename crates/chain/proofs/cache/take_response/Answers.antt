@@ -34,6 +34,6 @@ returns-clause-taken c = λ target request requested p.
           × (kept.number ≡ number) × IsInserted c.args.store.now.limits key kept (contents_of c.args.store.now)
           (contents_of c.store.new.self))
           (c.deref.ensures ∙ p.key) (c.store.ensures.stored number ok);
-      unstored = c.store.ensures.unstored;
-      memory = c.store.ensures.memory;
+      unstored = rw (c.deref.ensures ∙ p.key) at c.store.ensures.unstored;
+      memory = rw (c.deref.ensures ∙ p.key) at c.store.ensures.memory;
     }

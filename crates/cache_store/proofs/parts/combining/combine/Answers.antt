@@ -1,5 +1,4 @@
-use Rattle.std.proofs.Common.{Err, ap}
-use Rattle.cache_rules.proofs.FullLemmas.{passed_full}
+use Rattle.{std.proofs.Common.{ap, Err}, cache_rules.proofs.FullLemmas.passed_full}
 use Rattle.cache_store.proofs.parts.CombineLemmas.{fresh_too_small, reusable, unusable}
 use Rattle.cache_store.proofs.parts.combining.combine.Goals as goal
 

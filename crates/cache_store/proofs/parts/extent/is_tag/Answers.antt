@@ -1,5 +1,4 @@
-use Rattle.std.proofs.Common.{◌∙◌}
-use Rattle.headers_syntax.proofs.EntityTagLemmas.{is_tag_found}
+use Rattle.{headers_syntax.proofs.EntityTagLemmas.is_tag_found, std.proofs.Common.◌∙◌}
 use Rattle.cache_store.proofs.parts.extent.is_tag.Goals as goal
 
 pub returns : goal.returns

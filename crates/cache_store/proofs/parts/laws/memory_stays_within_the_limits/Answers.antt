@@ -4,6 +4,6 @@ use Rattle.cache_store.proofs.parts.laws.memory_stays_within_the_limits.Goals as
 pub returns : goal.returns
 returns c = λ store.
     record {
-      few = omega (arith, store.store.few, store.store.counted);
-      light = omega (arith, store.store.light, store.store.weighed);
+      few = omega (arith, store.store.counted.few, store.store.counted.counted);
+      light = omega (arith, store.store.counted.light, store.store.counted.weighed);
     }

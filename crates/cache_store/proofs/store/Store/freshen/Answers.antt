@@ -1,14 +1,10 @@
-use Rattle.std.proofs.Common.{length, ap, arith, Err, inl, ◌+◌, ◌∙◌}
-use Rattle.headers.specs.LineMap.{lines_at}
-use Rattle.cache_policy.{specs.Policies.policy_of, specs.Requests.request_of}
+use Rattle.{std.proofs.Common.{◌+◌, ◌∙◌, ap, arith, Err, inl, length}, headers.specs.LineMap.lines_at}
+use Rattle.{cache_policy.specs.{Policies.policy_of, Requests.request_of}, cache_store.proofs.HistoryLemmas.Has-remove}
 use Rattle.cache_rules.{proofs.FullLemmas.passed_full, specs.declared.stored.StoredResponse.StoredResponse}
-use Rattle.cache_store.{specs.Contents.size_of, specs.Kept.{contents_of, policy_of_store}}
-use Rattle.cache_store.{proofs.EntryLemmas.IsAbsent-without, proofs.HistoryLemmas.Has-remove}
-use Rattle.cache_store.{proofs.GoOnLemmas.{goes-again, goes-left, goes-without}, proofs.NumberLemmas.fewer-removed}
-use Rattle.cache_store.{proofs.NumberLemmas.{numbered-again, numbered-left}, proofs.UpdateLemmas.room_again}
-use Rattle.cache_store.{proofs.UpdateLemmas.{room_without, size-freshened}, proofs.RefreshLemmas.let_go}
-use Rattle.cache_store.proofs.RefreshLemmas.{none_refreshed, not_unchanged, one_too_small, other_too_small, one_less}
-use Rattle.cache_store.proofs.RefreshLemmas.{restored, within, within_taken}
+use Rattle.cache_store.{proofs.NumberLemmas.{fewer-removed, numbered-again, numbered-left}, specs.Kept.contents_of}
+use Rattle.cache_store.{proofs.GoOnLemmas.{goes-again, goes-left, goes-without}, specs.Kept.policy_of_store}
+use Rattle.cache_store.proofs.{RefreshLemmas.{let_go, one_less, within, within_taken}, EntryLemmas.IsAbsent-without}
+use Rattle.cache_store.proofs.RefreshLemmas.{none_refreshed, not_unchanged, one_too_small, other_too_small, restored}
 use Rattle.cache_store.specs.declared.freshening.Refreshed.TheVariants as answer
 use Rattle.cache_store.proofs.store.Store.freshen.Goals as goal
 
@@ -135,19 +131,12 @@ left_of-requires c =
     let less = one_less _ _ _ inside c.remove-stored.ensures.items in
     omega (arith, less, c.in_ok-first.ensures.ok, c.len.ensures ∙ c.take_out-responses.result.ok.0)
 
-pub put_with-requires-clause-room : goal.put_with-requires-clause-room
-put_with-requires-clause-room c =
-    let inside = within_taken _ _ _ _ _ c.in-Some.place c.responses.ensures c.take_out-responses.ensures.taken
-    c.in-Some.ensures in
-    room_again c.take_numbers.new.self.limits (contents_of c.take_numbers.new.self) c.take_out-responses.result.items
-    c.in_ok-left.left.items c.in-Some.place c.remove-stored.result inside (rw
-    (← (c.take_numbers.ensures.limits ∙ c.take_out-responses.ensures.limits)) at
-    (rw (← c.take_numbers.ensures.contents) at c.take_out-responses.ensures.room))
-    (rw c.remove-stored.ensures.items at c.in_ok-left.ensures.fewer)
-    (rw c.remove-stored.ensures.items at c.in_ok-left.ensures.lighter) (size_of c.renumber.result) (ap size_of
-    c.renumber.ensures ∙ size-freshened (policy_of c.policy-policy.result) (request_of c.args.request.now)
-    (lines_at c.args.update.now) c.args.exchange c.remove-stored.result c.in-Stored.fresh
-    (rw c.in-Stored.is at c.in_ok-fresh.ensures.freshened).1 ∙ ap size_of c.remove-stored.ensures.value)
+pub put_with-requires-clause-few : goal.put_with-requires-clause-few
+put_with-requires-clause-few c =
+    let inside = within_taken _ _ _ _ _ _ c.responses.ensures c.take_out-responses.ensures.taken c.in-Some.ensures in
+    let less = one_less _ _ _ inside c.remove-stored.ensures.items in
+    rw (c.take_numbers.ensures.limits, c.take_out-responses.ensures.limits, c.take_numbers.ensures.contents)
+    (omega (arith, less, c.in_ok-left.ensures.fewer, c.take_out-responses.ensures.room.few))
 
 pub put_with-requires-clause-numbers : goal.put_with-requires-clause-numbers
 put_with-requires-clause-numbers c =
@@ -157,7 +146,7 @@ put_with-requires-clause-numbers c =
     c.remove-stored.ensures.items in
     rw (← c.take_numbers.ensures.contents) at (numbered-again c.args.self.now.next c.take_numbers.new.self.next
     c.in_ok-first.first (contents_of c.args.self.now) (contents_of c.take_out-responses.new.self)
-    c.take_out-responses.result.items c.remove-stored.new.self.items c.in_ok-left.left.items c.args.self.now.numbered
+    c.take_out-responses.result.items c.remove-stored.new.self.items c.in_ok-left.left.items c.args.self.now.counted.numbered
     c.take_out-responses.ensures.numbers (c.in_ok-first.ensures.ok.0 ∙ c.take_out-responses.ensures.next) (omega (
       arith,
       c.in_ok-first.ensures.ok,
@@ -170,16 +159,12 @@ put_with-requires-clause-numbers c =
     (λ (stored : StoredResponse). stored.number) c.renumber.ensures ∙ ap (λ n. c.in_ok-first.first + n)
     (c.len-2.ensures ∙ c.remove-stored.new.self.ok.0)) less)
 
-pub put_in-requires-clause-room : goal.put_in-requires-clause-room
-put_in-requires-clause-room c =
-    let inside = within_taken _ _ _ _ _ c.in-Some.place c.responses.ensures c.take_out-responses.ensures.taken
-    c.in-Some.ensures in
-    room_without c.take_numbers.new.self.limits (contents_of c.take_numbers.new.self) c.take_out-responses.result.items
-    c.in_ok-left.left.items c.in-Some.place c.remove-stored.result inside (rw
-    (← (c.take_numbers.ensures.limits ∙ c.take_out-responses.ensures.limits)) at
-    (rw (← c.take_numbers.ensures.contents) at c.take_out-responses.ensures.room))
-    (rw c.remove-stored.ensures.items at c.in_ok-left.ensures.fewer)
-    (rw c.remove-stored.ensures.items at c.in_ok-left.ensures.lighter)
+pub put_in-requires-clause-few : goal.put_in-requires-clause-few
+put_in-requires-clause-few c =
+    let inside = within_taken _ _ _ _ _ _ c.responses.ensures c.take_out-responses.ensures.taken c.in-Some.ensures in
+    let less = one_less _ _ _ inside c.remove-stored.ensures.items in
+    rw (c.take_numbers.ensures.limits, c.take_out-responses.ensures.limits, c.take_numbers.ensures.contents)
+    (omega (arith, less, c.in_ok-left.ensures.fewer, c.take_out-responses.ensures.room.few))
 
 pub put_in-requires-clause-numbers : goal.put_in-requires-clause-numbers
 put_in-requires-clause-numbers c =
@@ -189,7 +174,7 @@ put_in-requires-clause-numbers c =
     c.remove-stored.ensures.items in
     rw (← c.take_numbers.ensures.contents) at (numbered-left c.args.self.now.next c.take_numbers.new.self.next
     c.in_ok-first.first (contents_of c.args.self.now) (contents_of c.take_out-responses.new.self)
-    c.take_out-responses.result.items c.remove-stored.new.self.items c.in_ok-left.left.items c.args.self.now.numbered
+    c.take_out-responses.result.items c.remove-stored.new.self.items c.in_ok-left.left.items c.args.self.now.counted.numbered
     c.take_out-responses.ensures.numbers (c.in_ok-first.ensures.ok.0 ∙ c.take_out-responses.ensures.next) (omega (
       arith,
       c.in_ok-first.ensures.ok,

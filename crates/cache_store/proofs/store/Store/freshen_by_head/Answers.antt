@@ -1,7 +1,6 @@
-use Rattle.std.proofs.Common.{ap, length, inl, arith, ◌∙◌}
-use Rattle.headers_map.proofs.InsertLemmas.{OnErr-from}
-use Rattle.cache_store.{specs.Kept.contents_of, proofs.EntryLemmas.IsAbsent-without, proofs.NumberLemmas.numbered-left}
-use Rattle.cache_store.{proofs.RefreshLemmas.head_refreshed, proofs.GoOnLemmas.{goes-left, goes-without}}
+use Rattle.{std.proofs.Common.{◌∙◌, ap, arith, inl, length}, headers_map.proofs.InsertLemmas.OnErr-from}
+use Rattle.cache_store.{specs.Kept.contents_of, proofs.{EntryLemmas.IsAbsent-without, NumberLemmas.numbered-left}}
+use Rattle.cache_store.proofs.{RefreshLemmas.head_refreshed, GoOnLemmas.{goes-left, goes-without}}
 use Rattle.cache_store.proofs.store.Store.freshen_by_head.Goals as goal
 
 pub put_in-requires-clause-absent : goal.put_in-requires-clause-absent
@@ -51,7 +50,7 @@ pub put_in-requires-clause-numbers : goal.put_in-requires-clause-numbers
 put_in-requires-clause-numbers c =
     rw (← c.take_numbers.ensures.contents) at (numbered-left c.args.self.now.next c.take_numbers.new.self.next
     c.in_ok-first.first (contents_of c.args.self.now) (contents_of c.take_out-responses.new.self)
-    c.take_out-responses.result.items c.take_out-responses.result.items c.in_ok-left.left.items c.args.self.now.numbered
+    c.take_out-responses.result.items c.take_out-responses.result.items c.in_ok-left.left.items c.args.self.now.counted.numbered
     c.take_out-responses.ensures.numbers (c.in_ok-first.ensures.ok.0 ∙ c.take_out-responses.ensures.next) (omega (
       arith,
       c.in_ok-first.ensures.ok,

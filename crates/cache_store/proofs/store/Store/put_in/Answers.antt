@@ -1,55 +1,36 @@
-use Rattle.std.proofs.Common.{ap, arith, ◌∙◌}
-use Rattle.cache_store.specs.Contents.{bytes_of}
-use Rattle.cache_store.proofs.EntryLemmas.{bytes-put, count-put, put-absent, shown-put, some-put, times-put}
+use Rattle.std.proofs.Common.{◌∙◌, ◌≡◌, ap, arith}
+use Rattle.cache_store.{specs.Contents.bytes_at, proofs.EntryLemmas.{counted-more, put-absent, some-put}}
 use Rattle.cache_store.proofs.store.Store.put_in.Goals as goal
 
 pub invariant_of-self : goal.invariant_of-self
 invariant_of-self c =
-    let put = (ap (λ m. m.entries) c.in-Ok.ensures.entries ∙ put-absent _
-    _ _ _ (rw (← c.in_ok-key.ensures.ok) at c.requires.absent) (omega (
+    let count = c.len.ensures ∙ c.args.kept.ok.0 in
+    let more : c.in-Some.more ≡ bytes_at c.args.target.now c.args.kept.items =
+    c.in-Some.ensures.0 ∙ ap (bytes_at c.args.target.now) c.deref.ensures.value in
+    let are = c.args.self.now.counted in
+    let put = put-absent c.args.target.now c.args.self.now.targets.entries c.put.new.self.entries c.args.self.now.targets.cap
+    c.in_ok-key.key c.args.kept
+    c.in_ok-key.ensures.ok c.requires.absent (omega (
       arith,
       c.len-targets.ensures.len,
       c.len-targets.ensures.fits,
       c.args.self.now.unbounded,
-    ))) in
+    )) (ap (λ m. m.entries) c.in-Ok.ensures.entries) in
     record {
       unbounded = ap (λ m. m.cap) c.in-Ok.ensures.entries ∙ c.args.self.now.unbounded;
-      counted = omega (
-        arith,
-        count-put _ _ _ _ put,
-        c.len.ensures,
-        c.args.kept.ok.0,
-        c.args.self.now.counted,
-      );
-      weighed = omega (
-        arith,
-        bytes-put _ _ _ _ put,
-        c.bytes_of.ensures ∙ ap bytes_of c.deref.ensures.value,
-        c.args.self.now.weighed,
-      );
-      few = omega (arith, c.requires.room.few, c.len.ensures, c.args.kept.ok.0, c.args.self.now.counted);
-      light = omega (
-        arith,
-        c.requires.room.light,
-        c.bytes_of.ensures ∙ ap bytes_of c.deref.ensures.value,
-        c.args.self.now.weighed,
-      );
-      sized = c.args.self.now.sized;
-      numbered = record {
-        some = c.args.self.now.numbered.some;
-        once = λ number. omega (arith, times-put _ _ _ _ put number, c.requires.numbers.once number);
-        below = λ number past. omega (arith, times-put _ _ _ _ put number, c.requires.numbers.below number past);
-      };
+      counted = rw (count, more) (counted-more are (c.args.target.now, c.args.kept.items) put
+          (omega (arith, c.requires.few)) (omega (arith, c.in-Some.ensures.1, more, are.weighed, are.light))
+          c.requires.numbers);
     }
 
 pub returns-in-Ok-clause-ok : goal.returns-in-Ok-clause-ok
-returns-in-Ok-clause-ok c = let put = (ap (λ m. m.entries) c.in-Ok.ensures.entries ∙ put-absent
-    _ _ _ _ (rw (← c.in_ok-key.ensures.ok) at c.requires.absent) (omega (
+returns-in-Ok-clause-ok c =
+    some-put _ _ _ (grind (arith, c.if-is_empty.false, c.is_empty.ensures, c.args.kept.ok.0))
+    (put-absent c.args.target.now c.args.self.now.targets.entries c.put.new.self.entries c.args.self.now.targets.cap
+    c.in_ok-key.key c.args.kept
+    c.in_ok-key.ensures.ok c.requires.absent (omega (
       arith,
       c.len-targets.ensures.len,
       c.len-targets.ensures.fits,
       c.args.self.now.unbounded,
-    ))) in some-put _
-    _ _ (grind (arith, c.if-is_empty.false, c.is_empty.ensures, c.args.kept.ok.0))
-    (shown-put _ _ _ _ put
-    _ c.in_ok-key.ensures.ok)
+    )) (ap (λ m. m.entries) c.in-Ok.ensures.entries))

@@ -1,5 +1,4 @@
-use Rattle.std.proofs.Common.{arith}
-use Rattle.cache_store.proofs.GoOnLemmas.{goes-without}
+use Rattle.{cache_store.proofs.GoOnLemmas.goes-without, std.proofs.Common.arith}
 use Rattle.cache_store.proofs.store.Store.remove.Goals as goal
 
 pub returns-clause-numbers : goal.returns-clause-numbers

@@ -1,5 +1,4 @@
-use Rattle.std.proofs.Common.{ap, sym, bytes_eq, ◌∙◌}
-use Rattle.cache_store.proofs.EntryLemmas.{first-shown}
+use Rattle.{std.proofs.Common.{◌∙◌, ap, bytes_eq, sym}, cache_store.proofs.EntryLemmas.first-shown}
 use Rattle.cache_store.proofs.store.Store.responses.Goals as goal
 
 pub returns-in-Some : goal.returns-in-Some

@@ -1,5 +1,4 @@
-use Rattle.std.{proofs.Common.{[], ap, ◌∙◌}, specs.Option.option_map_or}
-use Rattle.cache_store.proofs.EntryLemmas.{lookup-shown}
+use Rattle.{std.{proofs.Common.{[], ◌∙◌, ap}, specs.Option.option_map_or}, cache_store.proofs.EntryLemmas.lookup-shown}
 use Rattle.cache_store.proofs.store.Store.responses_by_key.Goals as goal
 
 pub returns-in-Some : goal.returns-in-Some

@@ -1,6 +1,22 @@
-use Rattle.std.proofs.Common.{inl, inr, refl, arith, ◌∙◌}
+use Rattle.std.proofs.Common.{◌∙◌, arith, inl, inr, refl}
 use Rattle.cache_store.proofs.{GoOnLemmas.goes-front, GoOnLemmas.goes-inserted, StoringLemmas.same_number}
+use Rattle.cache_store.specs.{Changes.FitsAlone, Contents.size_at}
 use Rattle.cache_store.proofs.store.Store.store.Goals as goal
+
+pub returns-then-not-fits-2-clause-unstored : goal.returns-then-not-fits-2-clause-unstored
+returns-then-not-fits-2-clause-unstored c = λ _.
+    let unfit = rw (c.size_at-size.ensures, c.take_numbers.ensures.limits) at c.if-not-fits-2.ensures in (
+      inr (inr (
+        c.in_ok-stored.stored,
+        c.in_ok-stored.ensures.stored,
+        λ (fits : FitsAlone c.args.self.now.limits 1 (size_at c.args.target.now c.in_ok-stored.stored)). unfit (record {
+          variants = omega (arith, fits.variants);
+          few = omega (arith, fits.few);
+          light = omega (arith, fits.light);
+        }),
+      )),
+      c.take_numbers.ensures.contents,
+    )
 
 pub returns-in-Ok-clause-stored : goal.returns-in-Ok-clause-stored
 returns-in-Ok-clause-stored c = λ number same. (

@@ -1,6 +1,5 @@
-use Rattle.std.proofs.{Common.◌∙◌, Common.subst, lemmas.Option.same_Some, lemmas.Result.IfOk-weaker}
-use Rattle.cache_policy.specs.Requests.{request_of}
-use Rattle.cache_rules.specs.declared.stored.StoredResponse.{StoredResponse}
+use Rattle.std.proofs.{Common.{◌∙◌, subst}, lemmas.{Option.same_Some, Result.IfOk-weaker}}
+use Rattle.{cache_policy.specs.Requests.request_of, cache_rules.specs.declared.stored.StoredResponse.StoredResponse}
 use Rattle.cache_store.specs.Parts.Answering.{IsAsked}
 use Rattle.cache_store.proofs.parts.store.PartStore.ask.Goals as goal
 

@@ -1,6 +1,5 @@
-use Rattle.std.proofs.Common.{ℕ, List, Option, IsSomeAnd, MatchOption, subst}
-use Rattle.cache_rules.specs.declared.stored.StoredResponse.{StoredResponse}
-use Rattle.cache_store.specs.Parts.Answers.{HasBytes}
+use Rattle.std.proofs.Common.{IsSomeAnd, List, MatchOption, Option, subst, ℕ}
+use Rattle.{cache_rules.specs.declared.stored.StoredResponse.StoredResponse, cache_store.specs.Parts.Answers.HasBytes}
 use Rattle.cache_store.proofs.parts.store.PartStore.bytes.Goals as goal
 
 pub returns : goal.returns

@@ -1,5 +1,4 @@
-use Rattle.std.proofs.Common.{inr}
-use Rattle.cache_store.proofs.parts.CallLemmas.{bool_map}
+use Rattle.{cache_store.proofs.parts.CallLemmas.bool_map, std.proofs.Common.inr}
 use Rattle.cache_store.proofs.parts.store.PartStore.is_superseded.Goals as goal
 
 pub returns-in-Some : goal.returns-in-Some

@@ -1,4 +1,4 @@
-use Rattle.std.proofs.Common.{Ok, ap}
+use Rattle.std.proofs.Common.{ap, Ok}
 use Rattle.cache_store.proofs.parts.store.PartStore.keep.Goals as goal
 
 pub returns-in-Some-clause-kept : goal.returns-in-Some-clause-kept

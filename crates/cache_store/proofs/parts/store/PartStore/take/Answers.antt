@@ -1,5 +1,4 @@
-use Rattle.std.proofs.{Common.inr, lemmas.Result.IfOk-weaker}
-use Rattle.headers_map.proofs.InsertLemmas.{OnErr-from}
+use Rattle.{std.proofs.{Common.inr, lemmas.Result.IfOk-weaker}, headers_map.proofs.InsertLemmas.OnErr-from}
 use Rattle.cache_store.proofs.parts.store.PartStore.take.Goals as goal
 
 pub returns-in_err-part-clause-memory : goal.returns-in_err-part-clause-memory
