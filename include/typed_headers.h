@@ -279,8 +279,7 @@ enum typed_headers_pass_action {
     /* Send the stored response: the status of the facts, the lines of `typed_headers_pass_fields`, and `count` bytes
        of `typed_headers_pass_content`. The pass has ended. */
     TYPED_HEADERS_REPLY = 0,
-    /* The same, and then validate it for nobody: by a new pass for the same request with one more line
-       `cache-control: no-cache`, and without `only-if-cached`. */
+    /* The same, and then validate it for nobody: by a new pass for the request of `typed_headers_pass_validation`. */
     TYPED_HEADERS_REPLY_AND_VALIDATE = 1,
     /* Forward the request as it is. */
     TYPED_HEADERS_ASK = 2,
@@ -1705,6 +1704,16 @@ uint8_t typed_headers_pass_failed(struct typed_headers_cache *cache, struct type
  */
 uint8_t typed_headers_pass_fields(struct typed_headers_pass *pass, uint8_t *room, size_t room_length,
                                   size_t *written);
+
+/*
+ * The request that validates what a pass has sent stale: its field lines, each with a LF (RFC 5861, section 3). A new
+ * pass, which answers nobody, begins with it, of the same method and target, and it is forwarded so. Its fields are the
+ * client's, without conditions and Range; and Cache-Control says `no-cache` alone, and `no-store` if the client's says
+ * it. Absent: the pass is closed. Too large: there are as many names as a map has room for (24,576), and none is
+ * Cache-Control. Memory: nothing is rejected.
+ */
+uint8_t typed_headers_pass_validation(struct typed_headers_pass *pass, uint8_t *room, size_t room_length,
+                                      size_t *written);
 
 /*
  * The content of the stored response that the last step of a pass named, from a position on: as much of it as fits.

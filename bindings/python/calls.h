@@ -356,6 +356,8 @@ CALL(pass_came, MAY(REFUSED) | MAY(ABSENT) | MAY(TOO_LARGE) | MAY(NO_MEMORY), (a
 CALL(pass_failed, MAY(ABSENT) | MAY(NO_MEMORY), (at[0].handle.at, at[1].handle.at, at[2].u64, &at[3].any.pass_facts),
      OF_HANDLE(OPENED, cache), OF_HANDLE(OPENED, pass), OF_KIND(NUMBER, U64), OF_SHAPE(OUT_STRUCT, pass_facts))
 CALL(pass_fields, MAY(ABSENT), (at[0].handle.at, ROOM(at[1])), OF_HANDLE(OPENED, pass), PLAIN(ROOM_OF_BYTES))
+CALL(pass_validation, MAY(ABSENT) | MAY(TOO_LARGE) | MAY(NO_MEMORY), (at[0].handle.at, ROOM(at[1])),
+     OF_HANDLE(OPENED, pass), PLAIN(ROOM_OF_BYTES))
 CALL(pass_content, MAY(ABSENT), (at[0].handle.at, at[1].handle.at, at[2].size, ROOM(at[3])),
      OF_HANDLE(OPENED, cache), OF_HANDLE(OPENED, pass), OF_KIND(NUMBER, SIZE), PLAIN(PIECE))
 CALL(pass_received, MAY(ABSENT) | MAY(NO_MEMORY), (at[0].handle.at, at[1].handle.at, TEXT_OF(at[2])),
@@ -399,5 +401,5 @@ enum { MOST_SLOTS = 11 };
     METHOD(connection_plan_range), METHOD(connection_respond), METHOD(connection_output), METHOD(connection_range), \
     METHOD(connection_sent), METHOD(connection_time_out), METHOD(connection_rejection), METHOD(connection_planned), \
     METHOD(pass_free), METHOD(pass_begin), METHOD(pass_resume), METHOD(pass_came), METHOD(pass_failed), \
-    METHOD(pass_fields), METHOD(pass_content), METHOD(pass_received), METHOD(pass_ended), METHOD(files_free), \
-    METHOD(files_new), METHOD(files_path), METHOD(files_plan)
+    METHOD(pass_fields), METHOD(pass_validation), METHOD(pass_content), METHOD(pass_received), METHOD(pass_ended), \
+    METHOD(files_free), METHOD(files_new), METHOD(files_path), METHOD(files_plan)

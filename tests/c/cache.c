@@ -135,20 +135,27 @@ static bool is_filled(const uint8_t *from, const uint8_t *to) {
     return true;
 }
 
-/* The lines of the last step, with each room from none to one byte more than is wanted. */
-static bool has_fields(const char *lines) {
+typedef uint8_t written_lines(struct typed_headers_pass *, uint8_t *, size_t, size_t *);
+
+/* The lines that a call writes, with each room from none to one byte more than is wanted. */
+static bool writes(written_lines *call, const char *lines) {
     const size_t length = strlen(lines);
     bool holds = true;
     for (size_t room = 0; room <= length + 1; room++) {
         uint8_t *at = areas[7] - room;
         size_t written = ROOM;
         memset(at, FILL, room);
-        CALL(typed_headers_pass_fields(pass, room ? at : NULL, room, &written));
+        CALL(call(pass, room ? at : NULL, room, &written));
         holds &= status_of_call == (room < length ? TYPED_HEADERS_NO_ROOM : TYPED_HEADERS_DONE) && written == length;
         holds &= room < length ? is_filled(at, at + room)
                                : memcmp(at, lines, length) == 0 && is_filled(at + length, at + room);
     }
     return holds;
+}
+
+/* The lines of the last step. */
+static bool has_fields(const char *lines) {
+    return writes(typed_headers_pass_fields, lines);
 }
 
 /* The content of the response that the last step named, in pieces. */
@@ -253,6 +260,8 @@ static void closed(void) {
     want(is_out_of_order() && has_no_content(), "steps of a closed pass");
     want(CALL(typed_headers_pass_fields(pass, NULL, 0, &written)) == TYPED_HEADERS_ABSENT && written == ROOM,
          "fields of a closed pass");
+    want(CALL(typed_headers_pass_validation(pass, NULL, 0, &written)) == TYPED_HEADERS_ABSENT && written == ROOM,
+         "a validation of a closed pass");
     want(CALL(typed_headers_cache_remove(&cache, (const uint8_t *)"/a", 2)) == TYPED_HEADERS_ABSENT,
          "remove in a closed cache");
 }
@@ -365,8 +374,10 @@ static void play(void) {
     AGAIN(begins("/g", "GET", "", 2061, TYPED_HEADERS_VALIDATE)
           && has_fields("if-modified-since: Thu, 01 Jan 1970 00:16:40 GMT\n"), "the end of a guess");
     AGAIN(stores("/h", "", 1000, "cache-control: max-age=10, stale-while-revalidate=60\netag: \"1\"\n", "old"), "store");
-    AGAIN(begins("/h", "GET", "", 1020, TYPED_HEADERS_REPLY_AND_VALIDATE) && has_content("old"), "stale");
-    AGAIN(begins("/h", "GET", "cache-control: no-cache\n", 1020, TYPED_HEADERS_VALIDATE), "its validation");
+    AGAIN(begins("/h", "GET", "x: y\nrange: bytes=0-1\ncache-control: only-if-cached\n", 1020,
+                 TYPED_HEADERS_REPLY_AND_VALIDATE) && has_content("old"), "stale");
+    AGAIN(writes(typed_headers_pass_validation, "x: y\ncache-control: no-cache\n"), "the request of its validation");
+    AGAIN(begins("/h", "GET", "x: y\ncache-control: no-cache\n", 1020, TYPED_HEADERS_VALIDATE), "its validation");
     /* As much as the cache may have, and a byte more. */
     static char large[1002];
     memset(large, 'a', 1000);

@@ -119,7 +119,8 @@ class CacheTest(unittest.TestCase):
         self.assertTrue(served.step.validates)
         validating = served.validation(now=1020)
         assert validating is not None
-        self.assertEqual(validating.step, Ask((("if-none-match", '"1"'),)))
+        fields = (("cache-control", "no-cache"), ("if-none-match", '"1"'))
+        self.assertEqual(validating.step, Ask(fields, ("cache-control",)))
         self.assertIsInstance(validating.came(304, {"ETag": '"1"'}, now=1020), Reply)
         self.assertEqual(got(cache, now=1025), b"hello")
         self.assertIsNone(served.validation(now=1025))
@@ -133,11 +134,13 @@ class CacheTest(unittest.TestCase):
         validating = served.validation(now=1020)
         assert validating is not None
         self.assertEqual(validating.came(200, FRESH, now=1020), PassOn(False))
-        # That only a stored response may be sent is for the client.
-        served = cache.begin("GET", A, {"Cache-Control": "only-if-cached"}, now=1020)
+        # That only a stored response may be sent is for the client, as its range and its conditions are.
+        asked = {"Cache-Control": "only-if-cached", "Range": "bytes=0-0", "If-None-Match": '"0"', "X": "y"}
+        served = cache.begin("GET", A, asked, now=1020)
         validating = served.validation(now=1020)
-        assert validating is not None
-        self.assertEqual(validating.step, Ask((("if-none-match", '"1"'),)))
+        assert validating is not None and isinstance(validating.step, Ask)
+        fields = [("X", "y"), ("cache-control", "no-cache"), ("if-none-match", '"1"')]
+        self.assertEqual(validating.step.apply(asked.items()), fields)
         self.assertEqual(validating.came(200, FRESH, now=1020), PassOn(True))
 
     def test_stores_nothing_that_was_asked_before_a_removal(self) -> None:

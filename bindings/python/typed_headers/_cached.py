@@ -145,7 +145,7 @@ class Turn:
         turn.is_validation = True
         try:
             turn.pass_ = self.pass_.validation(now=self.rules.now())
-        except MemoryError:
+        except (HeaderError, MemoryError):
             pass
         if turn.pass_ is not None and isinstance(turn._next(turn.pass_.step), Ask):
             return turn

@@ -5,8 +5,7 @@ A shared cache serves several users, as a proxy does; a private one serves a sin
 
 import threading
 import time
-from contextlib import suppress
-from dataclasses import dataclass
+from dataclasses import dataclass, field
 from enum import IntEnum
 from typing import Any, Callable, Iterable, List, Optional, Sequence, Set, Tuple, TypeVar, Union
 
@@ -14,7 +13,6 @@ from . import _library
 from ._library import Text, Time
 from .errors import HeaderError
 from .headers import Headers, HeadersLike
-from .values import members
 
 __all__ = [
     "Ask",
@@ -212,13 +210,15 @@ _VALIDATING = ("if-none-match", "if-modified-since")
 class Ask:
     """The origin is asked."""
 
-    #: By the request with these fields in place of its If-None-Match and If-Modified-Since: `None` if as it is.
+    #: By the request of the client with these fields in place of those that are `replaced`: `None` if as it is.
     fields: Optional[FieldLines] = None
+    #: Which fields a validation for nobody replaces.
+    alone: Tuple[str, ...] = field(default=(), repr=False)
 
     @property
     def replaced(self) -> Sequence[str]:
         """The names of the fields that are replaced, in lower case."""
-        return () if self.fields is None else _VALIDATING
+        return () if self.fields is None else (*_VALIDATING, *self.alone)
 
     def apply(self, request: Iterable[Tuple[str, str]]) -> List[Tuple[str, str]]:
         """The fields by which the origin is asked.
@@ -299,8 +299,10 @@ class Pass:
     #: What is done first. `Wait` comes only of a cache with `wait`.
     step: Union[Ask, Reply, Wait]
 
-    def __init__(self, cache: "Cache", method: str, target: str, request: Headers, now: Optional[Time] = None) -> None:
-        self._cache, self._method, self._target, self._request = cache, method, target, request
+    def __init__(
+        self, cache: "Cache", method: str, target: str, request: Headers, now: Optional[Time] = None, alone: Ask = Ask()
+    ) -> None:
+        self._cache, self._method, self._target, self._request, self._alone = cache, method, target, request, alone
         verb, asked = _library.to_bytes(method, "method"), request.section
         with cache._lock:
             given = (target.encode(), verb, asked)
@@ -352,22 +354,22 @@ class Pass:
         return number != 0
 
     def validation(self, *, now: Optional[Time] = None) -> Optional["Pass"]:
-        """A pass by which what was served stale is validated for nobody: the same request with `no-cache`, and without
-        `only-if-cached`, which was for the client.
+        """A pass by which what was served stale is validated for nobody (RFC 5861, section 3).
 
         `None` if what the request would get now needs no validation any more.
         """
-        kept = list(self._request.lines("cache-control"))
-        with suppress(HeaderError):
-            kept = [it for it in members("", *kept) if it.partition("=")[0].strip().lower() != "only-if-cached"]
-        others = [it for it in self._request.pairs() if it[0].lower() != "cache-control"]
-        request = Headers([*others, *(("cache-control", it) for it in [*kept, "no-cache"])])
         with self._cache._lock:
             served = Pass(self._cache, self._method, self._target, self._request, now)
             if not isinstance(served.step, Reply) or not served.step.validates:
                 served.close()
                 return None
-            return Pass(self._cache, self._method, self._target, request, now)
+            ended, text = _library.calls.pass_validation(self._handle)
+            _check(ended)
+            request, own = Headers(text), self._request
+            names = {name for name, _ in (*own.pairs(), *request.pairs())}
+            changed = tuple(sorted(name for name in names if own.lines(name) != request.lines(name)))
+            lines = tuple((name, line) for name in changed for line in request.lines(name))
+            return Pass(self._cache, self._method, self._target, request, now, Ask(lines, changed))
 
     def close(self) -> None:
         """Ends the pass. Nothing more is stored of it, and no other waits for it."""
@@ -401,9 +403,9 @@ class Pass:
         first, count, status, number = facts
         action = _Action(number)
         if action is _Action.ASK:
-            return Ask()
+            return self._alone
         if action is _Action.VALIDATE:
-            return Ask(self._fields())
+            return Ask((*(self._alone.fields or ()), *self._fields()), self._alone.alone)
         if action is _Action.SEND_504:
             return Reply(504, (("content-length", "0"),), b"")
         if action in (_Action.PASS_ON, _Action.PASS_ON_TO_END):

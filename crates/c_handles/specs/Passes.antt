@@ -1,9 +1,9 @@
 -- Calls on the handles of a cache and of a pass.
-use Rattle.std.specs.Prelude.{◌≡◌, ℕ, List, Option, Some, None, Result, Ok, Err}
+use Rattle.std.specs.Prelude.{◌≡◌, ℕ, List, Option, Some, None, Result, Ok, Err, Vec}
 use Rattle.c_parts.{specs.declared.status.Failure.Failure, specs.declared.status.Failure.TheVariants.{Refused, Absent}}
 use Rattle.c_pass.{specs.Steps.{Copies, FailsBegin, IsBegun, response_of}, specs.declared.held.Shared.Shared}
 use Rattle.c_pass.{specs.declared.held.Stepped.Stepped, specs.declared.reading.CacheRequest.CacheRequest}
-use Rattle.c_pass.specs.declared.telling.PassFacts.{PassFacts}
+use Rattle.c_pass.{specs.Validating.ShowsValidation, specs.declared.telling.PassFacts.PassFacts}
 use Rattle.c_handles.specs.declared.held.Held.{Held}
 use Rattle.c_handles.specs.declared.held.Held.TheVariants as held
 
@@ -62,3 +62,8 @@ CopiesContent from old new written cache pass answer = answer ≡ Err Absent
 abbrev pub ShowsFields : Option Stepped → Result (List ℕ) Failure → Type 0
 ShowsFields None answer = answer ≡ Err Absent
 ShowsFields (Some stepped) answer = answer ≡ Ok stepped.text.items
+
+-- the field lines of the request by which what it has sent stale is validated
+abbrev pub ShowsItsValidation : Option Stepped → Result (Vec ℕ) Failure → Type 0
+ShowsItsValidation None answer = answer ≡ Err Absent
+ShowsItsValidation (Some stepped) answer = ShowsValidation stepped.pass answer

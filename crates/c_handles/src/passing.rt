@@ -4,12 +4,12 @@ ghost use Rattle.c_parts.specs.Endings.{Writes, done};
 ghost use Rattle.c_pass.{specs.Caches.Removes, specs.Steps.{Begins, Comes, Ends, Fails, Receives}};
 ghost use Rattle.c_pass.specs.Steps.{Resumes};
 ghost use Rattle.c_handles.{specs.Handles.{cache_in, pass_in}, specs.Passes.{BeginsThrough, CopiesContent, OnBoth}};
-ghost use Rattle.c_handles.specs.Passes.{OnCache, ShowsFields};
+ghost use Rattle.c_handles.specs.Passes.{OnCache, ShowsFields, ShowsItsValidation};
 
 use crate::handle::Handle;
 use crate::held::Held;
 use c_parts::{DONE, Failure, copy_into};
-use c_pass::{CacheRequest, PassFacts, Stepped, copy_content};
+use c_pass::{CacheRequest, PassFacts, Stepped, copy_content, validation_text};
 use std::alloc::Global;
 
 fn begin_in(
@@ -328,6 +328,28 @@ pub fn write_pass_fields(
     let status = write_in(&held, room, written);
     pass.put(held);
     status
+}
+
+fn validation_in(alloc: Global, pass: &Held) -> Result<Vec<u8>, Failure>
+    ensures { ShowsItsValidation (pass_in (Some pass.now)) result }
+{
+    match pass {
+        Held::Pass(stepped) => validation_text(alloc, stepped),
+        _ => Err(Failure::Absent),
+    }
+}
+
+/// The field lines of the request by which what a pass has sent stale is validated for nobody.
+pub fn pass_validation(alloc: Global, pass: &mut Handle) -> Result<Vec<u8>, Failure>
+    ensures text { ShowsItsValidation (pass_in pass.old.held) result }
+    ensures pass { pass.new.held ≡ pass.old.held }
+{
+    let Some(held) = pass.take(alloc) else {
+        return Err(Failure::Absent);
+    };
+    let text = validation_in(alloc, &held);
+    pass.put(held);
+    text
 }
 
 fn remove_in(alloc: Global, cache: &mut Held, target: &[u8]) -> Result<(), Failure>

@@ -4,15 +4,16 @@ ghost use Rattle.c_parts.specs.Endings.{Gives, Writes, done};
 ghost use Rattle.c_pass.{specs.Caches.{IsExtended, IsPlain, Removes}, specs.Steps.{Comes, Ends as EndsPass, Fails}};
 ghost use Rattle.c_pass.specs.Steps.{Receives, Resumes};
 ghost use Rattle.c_handles.{specs.Handles.{Opens, cache_in, pass_in}, specs.Passes.{BeginsThrough, CopiesContent}};
-ghost use Rattle.c_handles.specs.Passes.{IsCacheHeld, OnBoth, OnCache, ShowsFields};
+ghost use Rattle.c_handles.specs.Passes.{IsCacheHeld, OnBoth, OnCache, ShowsFields, ShowsItsValidation};
 ghost use Rattle.c_library.specs.CacheStore.{Ends, TellsNumber, ended};
 
 use crate::giving::give;
 use c_handles::{
     Handle, begin_pass, close, copy_pass_content, open_cache, open_cache_with, pass_came,
-    pass_ended, pass_failed, pass_received, pass_resume, remove_stored, write_pass_fields,
+    pass_ended, pass_failed, pass_received, pass_resume, pass_validation, remove_stored,
+    write_pass_fields,
 };
-use c_parts::{DONE, Failure, HashKeys};
+use c_parts::{DONE, Failure, HashKeys, copy_into};
 use c_pass::{CacheExtensions, CacheOptions, CacheRequest, PassFacts};
 use std::alloc::Global;
 
@@ -163,6 +164,24 @@ pub extern "C" fn typed_headers_pass_fields(
     ensures pass { pass.new.held ≡ pass.old.held }
 {
     write_pass_fields(alloc, pass, room, written)
+}
+
+/// Writes the field lines of the request by which what the pass has sent stale is validated for nobody.
+#[unsafe(no_mangle)]
+pub extern "C" fn typed_headers_pass_validation(
+    alloc: Global,
+    pass: &mut Handle,
+    room: &mut [u8],
+    written: &mut usize,
+) -> u8
+    ensures fields { Writes (λ text. text.items) (λ _. done) (ShowsItsValidation (pass_in pass.old.held))
+        room.old room.new written.old written.new result }
+    ensures pass { pass.new.held ≡ pass.old.held }
+{
+    match pass_validation(alloc, pass) {
+        Ok(text) => copy_into(text.as_slice(), DONE, room, written),
+        Err(failure) => failure.status(),
+    }
 }
 
 /// Copies the content of the stored response that the pass sends, from a position on, as much as fits.

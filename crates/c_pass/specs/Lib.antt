@@ -5,4 +5,5 @@ pub mod Reading
 pub mod Sending
 pub mod Steps
 pub mod Telling
+pub mod Validating
 pub mod Waiting

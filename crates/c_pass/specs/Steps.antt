@@ -1,6 +1,7 @@
 -- The steps of passes, by what a caller hands in: each is the step of `cache_pass` and tells of it.
-use Rattle.std.specs.Prelude.{◌≡◌, ◌≢◌, ◌⊎◌, ℕ, ◌<◌, Bool, true, false, List, [], length, take, drop, Option, Some, None}
-use Rattle.std.specs.Prelude.{IsSomeAnd, Result, Ok, Err, ◌+◌, ◌++◌, ◌&&◌, if◌then◌else◌, is_some, nat_le, option_map, unwrap_or}
+use Rattle.std.specs.Prelude.{◌≡◌, ◌≢◌, ◌⊎◌, ◌+◌, ◌++◌, ◌&&◌, ◌<◌, ℕ, Bool, true, false, List, [], length, take, drop}
+use Rattle.std.specs.Prelude.{Option, Some, None, IsSomeAnd, Result, Ok, Err, if◌then◌else◌, is_some, nat_le}
+use Rattle.std.specs.Prelude.{option_map, unwrap_or}
 use Rattle.http.specs.StatusCode.{IsStatusCode}
 use Rattle.http_header.{specs.FieldValue.FieldValue, specs.HeaderMap.Entries}
 use Rattle.headers_section.specs.Section.{Holds}
@@ -81,7 +82,8 @@ module _ (request : CacheRequest) (now : ℕ) (old new : Shared) where
     pub begins : (IsAhead old.queue stepped.pass now None × IsStarted now old new pass stepped facts)
         ⊎ (IsWaiting now old new pass stepped × (facts ≡ waiting))
 
-  -- What is stored was looked up, and that is all. It may be that others wait for the request, until their time is over.
+  -- What is stored was looked up, and that is all. It may be that others wait for the request, until their time is
+  -- over.
   pub record IsLookedUp : Type 0 where
     pub does : Does (settings_of old.cache) (Looked request.target.now) (kept_of old.cache) (kept_of new.cache)
     pub settings : settings_of new.cache ≡ settings_of old.cache

@@ -13,6 +13,7 @@ mod removing;
 mod sending;
 mod stepping;
 mod telling;
+mod validating;
 mod waiting;
 
 pub use crate::content::copy_content;
@@ -23,3 +24,4 @@ pub use crate::reading::CacheRequest;
 pub use crate::removing::remove;
 pub use crate::stepping::{begin, came, ended, failed, received, resume};
 pub use crate::telling::PassFacts;
+pub use crate::validating::validation_text;

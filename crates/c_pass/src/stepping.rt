@@ -1,5 +1,6 @@
 //! The steps of a pass.
-ghost use Rattle.std.{specs.Prelude.{◌≡◌, ◌<◌, length, IfErr, IfOk, IsErr, Some, None, option_map}, specs.Bool.MatchBool};
+ghost use Rattle.std.specs.Prelude.{◌≡◌, ◌<◌, length, IfErr, IfOk, IsErr, Some, None, option_map};
+ghost use Rattle.std.specs.Bool.{MatchBool};
 ghost use Rattle.cache_pass.specs.Passes.{IsNotPassing};
 ghost use Rattle.c_parts.specs.declared.status.Failure.TheVariants.{Memory};
 ghost use Rattle.c_pass.{specs.Outcomes.named_by, specs.Steps.{Begins, Comes, Ends, Fails, IsSilent, Tells}};

@@ -9,4 +9,5 @@ pub mod Replies
 pub mod Right
 pub mod Steps
 pub mod Unstored
+pub mod Validation
 pub mod Worlds

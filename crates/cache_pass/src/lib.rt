@@ -16,6 +16,7 @@ mod removals;
 mod replying;
 mod revalidating;
 mod steps;
+mod validation;
 
 pub use crate::cache::Cache;
 pub use crate::pass::{Asked, Pass, Phase};

@@ -46,6 +46,28 @@ fn add_reply(
     add_fields(std::slice::from_ref(&reply.age), answer)
 }
 
+// What is done with a request first.
+fn add_first(
+    cache: &mut Cache,
+    pass: &mut Pass,
+    now: u64,
+    answer: &mut Answer,
+) -> Result<(), Failure> {
+    match pass.begin(cache, answer.alloc(), now) {
+        Ok(First::Reply(reply)) => add_reply(cache, pass.key(), "reply", &reply, answer),
+        Ok(First::ReplyAndValidate(reply)) => {
+            add_reply(cache, pass.key(), "reply_and_validate", &reply, answer)
+        }
+        Ok(First::Ask) => Ok(answer.word("ask")?),
+        Ok(First::Validate(fields)) => {
+            answer.word("validate")?;
+            add_fields(&fields, answer)
+        }
+        Ok(First::Unavailable) => Ok(answer.word("unavailable")?),
+        Err(_) => Ok(answer.word("out_of_order")?),
+    }
+}
+
 // NOW URL METHOD REQUEST: what is done with a request first.
 fn call_begin(
     passes: &mut Passes,
@@ -57,29 +79,23 @@ fn call_begin(
     let key = arguments.text()?;
     let Asked { method, fields } = Asked::read(arguments)?;
     let mut pass = Pass::new(key, method, fields);
-    match pass.begin(&mut passes.cache, answer.alloc(), now) {
-        Ok(First::Reply(reply)) => {
-            add_reply(&passes.cache, pass.key(), "reply", &reply, answer)?;
-        }
-        Ok(First::ReplyAndValidate(reply)) => {
-            add_reply(
-                &passes.cache,
-                pass.key(),
-                "reply_and_validate",
-                &reply,
-                answer,
-            )?;
-        }
-        Ok(First::Ask) => answer.word("ask")?,
-        Ok(First::Validate(fields)) => {
-            answer.word("validate")?;
-            add_fields(&fields, answer)?;
-        }
-        Ok(First::Unavailable) => answer.word("unavailable")?,
-        Err(_) => answer.word("out_of_order")?,
-    }
+    add_first(&mut passes.cache, &mut pass, now, answer)?;
     passes.begun.push(Named { name, pass })?;
     Ok(())
+}
+
+// NOW: the fields by which what the pass has sent stale is validated, and what is done with that first.
+fn call_validation(
+    cache: &mut Cache,
+    pass: &mut Pass,
+    arguments: &mut Arguments<'_>,
+    answer: &mut Answer,
+) -> Result<(), Failure> {
+    let now = arguments.number()?;
+    *pass = pass.validation(answer.alloc())?;
+    answer.map(pass.head().fields)?;
+    answer.word("(/)")?;
+    add_first(cache, pass, now, answer)
 }
 
 // NOW STATUS RESPONSE: what is done with a response of the origin.
@@ -165,6 +181,7 @@ pub fn make_step(
         if named.name.as_str() == name {
             return match call {
                 "came" => call_came(cache, &mut named.pass, arguments, answer),
+                "validation" => call_validation(cache, &mut named.pass, arguments, answer),
                 "failed" => call_failed(cache, &mut named.pass, arguments, answer),
                 "ended" => call_ended(cache, &mut named.pass, arguments, answer),
                 _ => Err(Failure::NoCall),

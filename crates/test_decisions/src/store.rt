@@ -429,7 +429,7 @@ pub fn make(
         "invalidate" => call_invalidate(store, target, arguments, answer),
         "named_targets" => call_named_targets(target, arguments, answer),
         "responses" => call_responses(store, target, answer),
-        "begin" | "came" | "failed" | "ended" | "kept" => {
+        "begin" | "validation" | "came" | "failed" | "ended" | "kept" => {
             make_step(&mut caches.passes, name, target, arguments, answer)
         }
         _ => make_part_call(&mut caches.parts, store, name, target, arguments, answer),

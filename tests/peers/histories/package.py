@@ -70,9 +70,10 @@ class Package:
         if isinstance(found, headers.Ask):
             if found.fields is None:
                 return "ask"
-            wanted = [it for it in call.told if tuple(field for field in it.conditions if field[1] is not None) == found.fields
+            own = tuple(it for it in found.fields if it[0] not in found.alone)
+            wanted = [it for it in call.told if tuple(field for field in it.conditions if field[1] is not None) == own
                       and it.word == "validate"]
-            return wanted[0].row() if wanted else f"validate {found.fields}"
+            return wanted[0].row() if wanted else "ask" if found.alone and not own else f"validate {found.fields}"
         if isinstance(found, headers.PassOn):
             return "keep" if found.stores else "pass_on"
         return WORDS.get(found, str(found))

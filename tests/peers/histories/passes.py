@@ -6,11 +6,11 @@ from dataclasses import dataclass
 
 from caching.model import current_ages, has
 from common.dates import imf_fixdate
-from common.fields import Fields, lines_of, members
+from common.fields import Fields, lines_of
 from common.rows import word
 from histories import writing
 from histories.generate import JUMPS, STATUSES, TARGETS, VARIED, Player, trimmed
-from histories.model import SAFE, Request, Stored, answers, is_closed, is_fair, is_for_cache, matches, read
+from histories.model import SAFE, Request, Stored, answers, is_fair, is_for_cache, matches, read
 from histories.writing import Call, Told
 
 OPEN = 8
@@ -18,6 +18,7 @@ LENGTH = 30
 # Choice: the longest lifetime that is guessed.
 GUESS = 60
 FAILURES = (500, 502, 503, 504)
+OF_CLIENT = ("cache-control", "if-match", "if-modified-since", "if-none-match", "if-range", "if-unmodified-since", "range")
 HOST = "http://a.example"
 # What an origin says whose pages are asked for again and again.
 MILD = ["max-age=600", "max-age=60", "max-age=10, stale-while-revalidate=600", "max-age=10, stale-if-error=600",
@@ -159,13 +160,11 @@ class PassPlayer(Player):
         found = self.cache.lookup(it.key, it.request, self.now, GUESS)
         if found.word != "serve_and_revalidate" or not is_for_cache(it.request):
             return [Told("(none)")]
-        # "A cache MUST NOT store any part of either this request or any response to it": no-store stays (section 5.2.1.5),
-        # and only-if-cached, which is for the client, goes.
-        asked = lines_of(it.request.fields, "cache-control")
-        if all(is_closed(line, True) for line in asked):
-            asked = [own for own in members(asked) if own.strip(" \t").lower().partition("=")[0] != "only-if-cached"]
-        fields = [own for own in it.request.fields if own[0].lower() != "cache-control"]
-        it.request = Request(it.request.method, [*fields, *(("cache-control", own) for own in [*asked, "no-cache"])])
+        # "A cache MUST NOT store any part of either this request or any response to it": no-store stays (section 5.2.1.5).
+        # The other directives, the conditions and the range are for the client.
+        asked = "no-cache, no-store" if has(read(it.request.fields), "no-store") else "no-cache"
+        fields = [own for own in it.request.fields if own[0].lower() not in OF_CLIENT]
+        it.request = Request(it.request.method, [*fields, ("cache-control", asked)])
         return self.begun(it)
 
     # What clients and the origin do

@@ -1069,6 +1069,7 @@ extern "C" {
     ) -> u8;
     pub fn typed_headers_pass_failed(cache: *mut Cache, pass: *mut Pass, now: u64, facts: *mut PassFacts) -> u8;
     pub fn typed_headers_pass_fields(pass: *mut Pass, room: *mut u8, room_length: usize, written: *mut usize) -> u8;
+    pub fn typed_headers_pass_validation(pass: *mut Pass, room: *mut u8, room_length: usize, written: *mut usize) -> u8;
     pub fn typed_headers_pass_content(
         cache: *mut Cache,
         pass: *mut Pass,

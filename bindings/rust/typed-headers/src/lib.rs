@@ -227,7 +227,10 @@ mod tests {
         let (mut fourth, _) = cache.begin(&request, 1021).unwrap();
         assert_eq!(fourth.failed(1021), Ok(Some(Step::NoResponse)));
         drop(fourth);
-        drop((first, second, third));
+        let asked = Section::from_bytes("X: y\nCache-Control: no-store\nRange: bytes=0-1\n");
+        let (mut fifth, _) = cache.begin(&CacheRequest { fields: &asked, ..request }, 1021).unwrap();
+        assert_eq!(fifth.validation().unwrap().as_bytes(), b"x: y\ncache-control: no-cache, no-store\n");
+        drop((first, second, third, fifth));
         let cache = std::thread::spawn(move || cache).join();
         assert!(cache.is_ok());
     }

@@ -57,8 +57,7 @@ pub struct Reply {
     pub fields: Section,
     /// Its content, or the part of it that is sent: nothing to HEAD.
     pub content: Vec<u8>,
-    /// Whether it is then validated for nobody: by a new pass for the same request with one more line `cache-control:
-    /// no-cache`, and without `only-if-cached`.
+    /// Whether it is then validated for nobody: by a new pass with the fields of [`Pass::validation`].
     pub validates: bool,
 }
 
@@ -201,6 +200,17 @@ impl Pass<'_> {
             sys::typed_headers_pass_ended(cache, pass, is_complete, now, &mut number)
         }))?;
         Ok(is_done.then_some(number != 0))
+    }
+
+    /// The fields of the request by which what was sent stale is validated for nobody (RFC 5861, section 3): a new pass
+    /// begins with them, of the same method and target, and they are forwarded.
+    pub fn validation(&mut self) -> Result<Section, Error> {
+        let pass = self.handle.alone();
+        // SAFETY: as above.
+        let found = written(512, |room: *mut u8, length, count| unsafe {
+            sys::typed_headers_pass_validation(pass, room, length, count)
+        })?;
+        Ok(Section::from_bytes(found.map_or(Vec::new(), |(lines, _)| lines)))
     }
 
     // Makes a step, and reads what it names while the cache is held.
