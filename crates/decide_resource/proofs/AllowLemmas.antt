@@ -1,10 +1,9 @@
 -- Allow lists the methods that a resource has.
-use Rattle.std.proofs.Common.{◌≡◌, ◌↔◌, ℕ, Bool, true, false, cond, List, [], ◌∷◌, Option, Some, refl, sym, ◌∙◌, ap}
-use Rattle.std.{proofs.Common.bytes_eq, specs.Prelude.{◌||◌, not, Contains, codes, find, flat_map, is_some}}
-use Rattle.std.{specs.Prelude.if◌then◌else◌, specs.Cmp.IsEquivalence, specs.List.list_any}
-use Rattle.std.{proofs.lemmas.List.Folds.list_any-append, proofs.lemmas.Map.Views.Contains-from_any}
-use Rattle.std.{proofs.lemmas.Map.Views.list_any-from_Contains, proofs.lemmas.Slice.Eq.bytes_eq-Decides}
-use Rattle.decide_resource.specs.Applies.{has_method, methods, methods_of, rule_for, ruled}
+use Rattle.std.proofs.Common.{arith, ◌≡◌, ◌↔◌, ℕ, Bool, true, false, cond, List, [], ◌∷◌, Option, Some, refl, sym, ◌∙◌}
+use Rattle.std.proofs.{Common.{ap, bytes_eq}, lemmas.{List.Folds.list_any-append, Map.Views.Contains-from_any}}
+use Rattle.std.{proofs.lemmas.{Map.Views.list_any-from_Contains, Slice.Eq.bytes_eq-Decides}, specs.Prelude.{◌||◌, not}}
+use Rattle.std.specs.{Prelude.{Contains, codes, find, flat_map, is_some, if◌then◌else◌}, Cmp.IsEquivalence}
+use Rattle.{std.specs.List.list_any, decide_resource.specs.Applies.{has_method, methods, methods_of, rule_for, ruled}}
 use Rattle.decide_resource.specs.declared.resource.MethodRule.{MethodRule}
 
 is_equal : (a b : List ℕ) → bytes_eq a b ≡ true → a ≡ b
@@ -43,28 +42,23 @@ rule_lists x m other =
     (bytes_eq m (codes "HEAD")) refl
   where
     by : (b1 : Bool) → bytes_eq x (codes "GET") ≡ b1 → (b2 : Bool) → bytes_eq x (codes "HEAD") ≡ b2 → (b3 : Bool)
-        → bytes_eq x (codes "OPTIONS") ≡ b3 → (h : Bool) → bytes_eq m (codes "HEAD") ≡ h
-        → list_any (bytes_eq m)
+        → bytes_eq x (codes "OPTIONS") ≡ b3 → (h : Bool) → bytes_eq m (codes "HEAD") ≡ h → list_any (bytes_eq m)
         (if b1 then codes "GET" ∷ codes "HEAD" ∷ [] else (if b2 || b3 then [] else x ∷ []))
         ≡ bytes_eq x (if h then codes "GET" else m)
     by true e1 b2 e2 b3 e3 true e4 =
         ap (λ (b : Bool). bytes_eq m (codes "GET") || (b || false)) e4 ∙ or_true (bytes_eq m (codes "GET")) ∙ sym e1
     by true e1 b2 e2 b3 e3 false e4 =
         ap (λ (b : Bool). bytes_eq m (codes "GET") || (b || false)) e4 ∙ or_false (bytes_eq m (codes "GET"))
-        ∙ flip m (codes "GET")
-        ∙ ap (λ (y : List ℕ). bytes_eq y m) (sym (is_equal x (codes "GET") e1))
+        ∙ flip m (codes "GET") ∙ ap (λ (y : List ℕ). bytes_eq y m) (sym (is_equal x (codes "GET") e1))
     by false e1 true e2 b3 e3 true e4 = sym e1
     by false e1 true e2 b3 e3 false e4 =
-        sym
-        (ap (λ (y : List ℕ). bytes_eq y m) (is_equal x (codes "HEAD") e2) ∙ flip (codes "HEAD") m ∙ e4)
+        sym (ap (λ (y : List ℕ). bytes_eq y m) (is_equal x (codes "HEAD") e2) ∙ flip (codes "HEAD") m ∙ e4)
     by false e1 false e2 true e3 true e4 = sym e1
     by false e1 false e2 true e3 false e4 =
-        sym
-        (ap (λ (y : List ℕ). bytes_eq y m) (is_equal x (codes "OPTIONS") e3) ∙ flip (codes "OPTIONS") m ∙ other)
+        sym (ap (λ (y : List ℕ). bytes_eq y m) (is_equal x (codes "OPTIONS") e3) ∙ flip (codes "OPTIONS") m ∙ other)
     by false e1 false e2 false e3 true e4 =
         ap (λ (b : Bool). b || false)
-        (ap (λ (y : List ℕ). bytes_eq y x) (is_equal m (codes "HEAD") e4) ∙ flip (codes "HEAD") x ∙ e2)
-        ∙ sym e1
+        (ap (λ (y : List ℕ). bytes_eq y x) (is_equal m (codes "HEAD") e4) ∙ flip (codes "HEAD") x ∙ e2) ∙ sym e1
     by false e1 false e2 false e3 false e4 = or_false (bytes_eq m x) ∙ flip m x
 
 some_or : (b : Bool) (rule : MethodRule) (found : Option MethodRule)
@@ -77,11 +71,7 @@ rules_list : (rules : List MethodRule) (m : List ℕ) → bytes_eq m (codes "OPT
     ≡ is_some (find (λ (rule : MethodRule). bytes_eq rule.method (ruled m)) rules)
 rules_list [] m other = refl
 rules_list (rule ∷ rules) m other =
-    let q : MethodRule → Bool = λ r. bytes_eq r.method (ruled m) in
-    list_any-append (bytes_eq m) (methods_of rule) (flat_map methods_of rules)
-    ∙ ap (λ (b : Bool). b || list_any (bytes_eq m) (flat_map methods_of rules)) (rule_lists rule.method m other)
-    ∙ ap (λ (b : Bool). q rule || b) (rules_list rules m other)
-    ∙ some_or (q rule) rule (find q rules)
+    grind (arith, bytes_eq, list_any-append, rule_lists, some_or, rules_list rules m other)
 
 -- the methods list just those that the resource has
 pub methods_list : (rules : List MethodRule) (m : List ℕ) → list_any (bytes_eq m) (methods rules) ≡ has_method rules m
@@ -97,12 +87,7 @@ methods_list rules m =
     by false e = or_false (list_any (bytes_eq m) (flat_map methods_of rules)) ∙ rules_list rules m e
 
 bytes_equivalence : IsEquivalence bytes_eq
-bytes_equivalence =
-    record {
-      refl = λ x. (bytes_eq-Decides x x).1 refl;
-      symm = flip;
-      congr = λ x y z e. ap (λ (w : List ℕ). bytes_eq w z) (is_equal x y e);
-    }
+bytes_equivalence = grind (arith, bytes_eq-Decides, flip, bytes_eq, is_equal)
 
 pub allow_lists : (rules : List MethodRule) (m : List ℕ) → Contains (methods rules) m ↔ (has_method rules m ≡ true)
 allow_lists rules m = (
@@ -116,7 +101,4 @@ not_false false = (λ e. cc e, λ e. cc e)
 
 pub allow_is_exact : (rules : List MethodRule) (m : List ℕ)
     → Contains (methods rules) m ↔ (not (has_method rules m) ≡ false)
-allow_is_exact rules m =
-    let lists = allow_lists rules m in
-    let says = not_false (has_method rules m) in
-    (λ h. says.0 (lists.0 h), λ h. lists.1 (says.1 h))
+allow_is_exact rules m = grind (arith, allow_lists, not_false)

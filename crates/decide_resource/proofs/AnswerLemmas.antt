@@ -1,34 +1,24 @@
 -- A request has one answer.
-use Rattle.std.proofs.Common.{◌≡◌, ℕ, Bool, true, false, List, ◌++◌, Option, Some, None, refl, sym, ◌∙◌, ap, subst}
-use Rattle.http_header.specs.FieldValue.{FieldValue}
-use Rattle.headers.{specs.LineMap.{Field, LineMap}, specs.Lines.Line}
-use Rattle.decide_cors.{specs.Policy.Policy, proofs.SameLemmas.same_lines}
+use Rattle.std.proofs.Common.{arith, ◌≡◌, ℕ, Bool, true, false, List, ◌++◌, Option, Some, None, refl, sym, ◌∙◌, ap}
+use Rattle.{std.proofs.Common.subst, http_header.specs.FieldValue.FieldValue, headers.specs.LineMap.{Field, LineMap}}
+use Rattle.{headers.specs.Lines.Line, decide_cors.{specs.Policy.Policy, proofs.SameLemmas.same_lines}}
 use Rattle.decide_negotiation.proofs.ChoiceLemmas.{picks_one, picks_some}
-use Rattle.decide_preconditions.{specs.Contents.{divisible_len, limits_of}, specs.Fields.{fields_sent, is_known_by}}
-use Rattle.decide_preconditions.{specs.Plans.IsSamePlan, specs.Responses.IsAnswered}
-use Rattle.decide_preconditions.{specs.declared.content.Content.Content, specs.declared.plan.Plan.Plan}
-use Rattle.decide_preconditions.specs.declared.plan.Plan.TheVariants.{Multiple}
-use Rattle.decide_preconditions.specs.declared.resource.Resource.{Resource as Target}
+use Rattle.decide_preconditions.specs.{Contents.{divisible_len, limits_of}, Fields.{fields_sent, is_known_by}}
+use Rattle.decide_preconditions.specs.{Plans.IsSamePlan, Responses.IsAnswered, declared.content.Content.Content}
+use Rattle.decide_preconditions.specs.declared.{plan.Plan.Plan, resource.Resource.Resource as Target}
 use Rattle.decide_preconditions.{specs.declared.response.Response.Response, proofs.OnePlanLemmas.one_plan}
 use Rattle.decide_resource.specs.Answers.{AreSame, AreSent, Gives, GivesIf, Goes, GoesOn, IsAnswer, IsSelected}
-use Rattle.decide_resource.specs.Answers.{IsShared, Stops, at_place, content_of, is_admitted, is_sent, place_in}
-use Rattle.decide_resource.specs.Answers.{response_fields, sent_for, status_sent, target_of, varying, with_metadata}
-use Rattle.decide_resource.{specs.Fields.{vary_fields, vary_lines}, specs.Representations.score, specs.Requests.Request}
-use Rattle.decide_resource.{specs.declared.answer.Answer.Answer, specs.declared.answer.Sends.Sends}
-use Rattle.decide_resource.specs.declared.answer.Sends.TheVariants as sends
-use Rattle.decide_resource.specs.declared.reason.Reason.{Reason}
-use Rattle.decide_resource.specs.declared.representation.Representation.{Representation}
+use Rattle.decide_resource.specs.Answers.{IsShared, Stops, at_place, is_admitted, is_sent, place_in, response_fields}
+use Rattle.decide_resource.specs.{Answers.{status_sent, with_metadata}, Fields.{vary_fields, vary_lines}}
+use Rattle.decide_resource.specs.{Representations.score, Requests.Request, declared.answer.{Answer.Answer, Sends.Sends}}
+use Rattle.decide_resource.specs.declared.{reason.Reason.Reason, representation.Representation.Representation}
 use Rattle.decide_resource.{specs.declared.resource.Resource.Resource, proofs.OneReasonLemmas.one_reason}
 use Rattle.decide_resource.proofs.PlanLemmas.{same_by_plan}
+use Rattle.decide_resource.specs.declared.answer.Sends.TheVariants as sends
 
 pub one_place : (resource : Resource) (fields : LineMap) (a b : Option ℕ) → IsSelected resource fields a
     → IsSelected resource fields b → a ≡ b
-one_place resource fields a b h k =
-    let representations = resource.representations.items in
-    h.is
-    ∙ ap (place_in resource.state representations)
-    (picks_one (score resource.negotiation fields) representations h.choice k.choice h.picks k.picks)
-    ∙ sym k.is
+one_place resource fields a b h k = grind (arith, resource, picks_one, fields)
 
 pub some_place : (resource : Resource) (fields : LineMap) → (place : Option ℕ) × IsSelected resource fields place
 some_place resource fields =
@@ -39,10 +29,8 @@ some_place resource fields =
     )
 
 sent_self : (sent : Sends) → AreSent sent sent
-sent_self sends.Nothing = tt
-sent_self sends.Alternatives = tt
 sent_self (sends.Planned place plan) = (refl, (refl, refl))
-sent_self sends.Perform = tt
+sent_self sent = tt
 
 -- ---- what the preconditions make of one representation
 
@@ -57,11 +45,10 @@ module _ (present : ℕ) (method : List ℕ) (fields : LineMap) (target : Target
   all_of plan =
       with_metadata fields representation plan (fields_sent present plan (is_known_by fields) target content multipart)
 
-  several_alike : (rep : Option Representation) (xs ys : _)
-      → with_metadata fields rep (Multiple xs)
-      (fields_sent present (Multiple xs) (is_known_by fields) target content multipart)
-      ≡ with_metadata fields rep (Multiple ys)
-      (fields_sent present (Multiple ys) (is_known_by fields) target content multipart)
+  several_alike : (rep : Option Representation) (xs ys : _) → with_metadata fields rep (Plan.Multiple xs)
+      (fields_sent present (Plan.Multiple xs) (is_known_by fields) target content multipart)
+      ≡ with_metadata fields rep (Plan.Multiple ys)
+      (fields_sent present (Plan.Multiple ys) (is_known_by fields) target content multipart)
   several_alike None xs ys = refl
   several_alike (Some rep) xs ys = refl
 
@@ -84,8 +71,7 @@ module _ (present : ℕ) (method : List ℕ) (fields : LineMap) (target : Target
         sends = λ place. (refl, same);
         has_fields =
             ap (with_metadata fields representation r.plan) h.fields
-            ∙ same_by_plan present method fields target len limits
-            (λ plan. with_metadata fields representation plan
+            ∙ same_by_plan present method fields target len limits (λ plan. with_metadata fields representation plan
             (fields_sent present plan (is_known_by fields) target content multipart))
             (several_alike representation) r.plan s.plan h.plan k.plan same
             ∙ sym (ap (with_metadata fields representation s.plan) k.fields);
@@ -102,28 +88,12 @@ module _ (present : ℕ) (resource : Resource) (request : Request) (st su : Opti
     (fs gs : List Field) where
   stops_same : (reason : Reason) → Stops resource request reason st se fs → Stops resource request reason su sf gs
       → GiveSame st su se sf fs gs
-  stops_same reason h k =
-      record {
-        status = h.has_status ∙ sym k.has_status;
-        sends =
-            subst (λ (sent : Sends). AreSent sent sf) (sym h.sends)
-            (subst (λ (sent : Sends). AreSent (sent_for reason) sent) (sym k.sends) (sent_self (sent_for reason)));
-        fields = h.has_fields ∙ sym k.has_fields;
-      }
+  stops_same reason h k = grind (arith, reason, sent_self)
 
   goes_on_same : (place : Option ℕ) (rep : Option Representation)
       → GoesOn present resource request place rep st se fs → GoesOn present resource request place rep su sf gs
       → GiveSame st su se sf fs gs
-  goes_on_same place rep h k =
-      let same = alike present request.method request.fields (target_of resource.state rep) (content_of rep)
-      resource.boundary rep h.response k.response h.answered k.answered in
-      record {
-        status = h.has_status ∙ same.status ∙ sym k.has_status;
-        sends =
-            subst (λ (sent : Sends). AreSent sent sf) (sym h.sends)
-            (subst (λ (sent : Sends). AreSent (is_sent place h.response) sent) (sym k.sends) (same.sends place));
-        fields = h.has_fields ∙ same.has_fields ∙ sym k.has_fields;
-      }
+  goes_on_same place rep h k = grind (arith, alike, resource)
 
   goes_same : Goes present resource request st se fs → Goes present resource request su sf gs
       → GiveSame st su se sf fs gs
@@ -142,9 +112,7 @@ module _ (present : ℕ) (resource : Resource) (request : Request) (st su : Opti
 pub shared_same : (policy : Option Policy) (request : Request) (lines : List Line) (fs gs : List Field)
     → IsShared policy request lines fs → IsShared policy request lines gs → fs ≡ gs
 shared_same None request lines fs gs h k = h ∙ sym k
-shared_same (Some policy) request lines fs gs h k =
-    h.2 ∙ same_lines policy request.method request.fields request.fields (varying lines) h.0 k.0 h.1 k.1 refl refl
-    ∙ sym k.2
+shared_same (Some policy) request lines fs gs h k = grind (arith, same_lines)
 
 pub one_answer : (present : ℕ) (resource : Resource) (request : Request) (a b : Answer)
     → IsAnswer present resource request a → IsAnswer present resource request b → AreSame a b

@@ -1,15 +1,13 @@
 -- Conditions are evaluated on the representation that the request without them gets.
 use Rattle.std.proofs.Common.{◌≡◌, ℕ, Bool, true, false, List, Option, Some, None, refl, sym, ◌∙◌}
-use Rattle.headers.specs.LineMap.{Field}
-use Rattle.decide_preconditions.{specs.declared.plan.Plan.Plan, specs.declared.response.Response.Response}
-use Rattle.decide_resource.specs.Answers.{GivesIf, IsAnswer, IsSelected, is_admitted, is_sent, sent_for}
-use Rattle.decide_resource.{specs.Representations.score, specs.Requests.{Request, unconditional}}
-use Rattle.decide_resource.{specs.declared.answer.Answer.Answer, specs.declared.answer.Sends.Sends}
+use Rattle.{headers.specs.LineMap.Field, decide_preconditions.specs.declared.plan.Plan.Plan}
+use Rattle.{decide_preconditions.specs.declared.response.Response.Response, decide_resource.specs.Answers.GivesIf}
+use Rattle.decide_resource.specs.{Answers.{IsAnswer, IsSelected, is_admitted, is_sent, sent_for}, Representations.score}
+use Rattle.decide_resource.specs.{Requests.{Request, unconditional}, declared.answer.{Answer.Answer, Sends.Sends}}
+use Rattle.decide_resource.specs.declared.reason.Reason.{Reason, TheVariants.NotAcceptable}
+use Rattle.decide_resource.specs.declared.{representation.Representation.Representation, resource.Resource.Resource}
+use Rattle.decide_resource.proofs.{AnswerLemmas.one_place, PickLemmas.picks_alike}
 use Rattle.decide_resource.specs.declared.answer.Sends.TheVariants as sends
-use Rattle.decide_resource.{specs.declared.reason.Reason.Reason, specs.declared.reason.Reason.TheVariants.NotAcceptable}
-use Rattle.decide_resource.specs.declared.representation.Representation.{Representation}
-use Rattle.decide_resource.{specs.declared.resource.Resource.Resource, proofs.AnswerLemmas.one_place}
-use Rattle.decide_resource.proofs.PickLemmas.{picks_alike}
 
 module _ (present : ℕ) (resource : Resource) (request : Request) where
   -- what an answer sends of a representation is of the selected one

@@ -1,18 +1,14 @@
 -- A request that is denied learns nothing of the resource.
-use Rattle.std.proofs.Common.{◌≡◌, ◌⊎◌, ◌<◌, ℕ, Bool, true, false, ◌&&◌, List, [], ◌++◌, Option, Some, refl, sym, ◌∙◌, ap}
-use Rattle.std.{proofs.Common.{subst, inl, inr, arith, lit<}, specs.Prelude.{codes, is_some, not}, specs.Global.Vec}
-use Rattle.std.{specs.Option.option_map_or, proofs.lemmas.Bool.cases_order}
-use Rattle.http_header.specs.FieldValue.{FieldValue}
-use Rattle.headers.specs.LineMap.{Field}
-use Rattle.decide_cors.specs.Policy.{Policy}
-use Rattle.decide_resource.specs.Answers.{AreSame, GivesIf, IsAnswer, IsShared, Stops, is_admitted}
-use Rattle.decide_resource.{specs.Applies.{applies, host_named, is_own, is_preflight_request}, specs.Fields.reason_fields}
-use Rattle.decide_resource.specs.Fields.{status_denied, status_of, vary_fields, vary_lines}
-use Rattle.decide_resource.{specs.Reasons.{Before, IsFirst, stage}, specs.Requests.Request}
-use Rattle.decide_resource.{specs.declared.answer.Answer.Answer, specs.declared.answer.Sends.Sends}
-use Rattle.decide_resource.specs.declared.denied.Denied.{Denied as Denial}
-use Rattle.decide_resource.{specs.declared.reason.Reason.Reason, specs.declared.reason.Reason.TheVariants.InvalidHost}
-use Rattle.decide_resource.specs.declared.reason.Reason.TheVariants.{Misdirected, Preflight, Denied, UnknownMethod}
+use Rattle.std.proofs.Common.{◌≡◌, ◌⊎◌, ◌<◌, ℕ, true, false, ◌&&◌, List, [], ◌++◌, Option, Some, refl, sym, ◌∙◌, ap}
+use Rattle.std.{proofs.{Common.{subst, inl, inr, arith}, lemmas.Bool.cases_order}, specs.Prelude.{codes, is_some, not}}
+use Rattle.{std.specs.{Global.Vec, Option.option_map_or}, http_header.specs.FieldValue.FieldValue}
+use Rattle.{headers.specs.LineMap.Field, decide_cors.specs.Policy.Policy, decide_resource.specs.Answers.AreSame}
+use Rattle.decide_resource.specs.{Answers.{GivesIf, IsAnswer, IsShared, Stops, is_admitted}, Applies.applies}
+use Rattle.decide_resource.specs.{Applies.{host_named, is_own, is_preflight_request}, Fields.{status_denied, status_of}}
+use Rattle.decide_resource.specs.{Fields.{vary_fields, vary_lines}, Reasons.{Before, IsFirst, stage}, Requests.Request}
+use Rattle.decide_resource.specs.declared.{answer.{Answer.Answer, Sends.Sends}, denied.Denied.Denied as Denial}
+use Rattle.decide_resource.specs.declared.reason.Reason.{Reason, TheVariants.{InvalidHost, Misdirected, Preflight}}
+use Rattle.decide_resource.specs.declared.reason.Reason.TheVariants.{Denied, UnknownMethod}
 use Rattle.decide_resource.{specs.declared.resource.Resource.Resource, proofs.AnswerLemmas.{gives_same, shared_same}}
 use Rattle.decide_resource.proofs.OneReasonLemmas.{one_reason}
 
@@ -56,8 +52,7 @@ module _ (request : Request) (why : Denial) (denies : request.denied ≡ Some wh
         | inl level ↦
             let is : answer.reason ≡ Denied = only_denied answer.reason level in
             let given : GivesIf false present resource request Denied answer.status answer.sends a.own =
-            subst
-            (λ (r : Reason). GivesIf (is_admitted r) present resource request r answer.status answer.sends a.own)
+            subst (λ (r : Reason). GivesIf (is_admitted r) present resource request r answer.status answer.sends a.own)
             is a.gives in
             inr (given.has_status
             ∙ ap (λ (denied : Option Denial). Some (status_of resource.state denied Denied)) denies)
@@ -69,15 +64,12 @@ module _ (request : Request) (why : Denial) (denies : request.denied ≡ Some wh
       ]
 
   module _ (a b : Resource) (hosts : a.hosts ≡ b.hosts) (cors : a.cors ≡ b.cors) where
-    same_test : (reason : Reason) → Before reason UnknownMethod
-        → applies a request reason ≡ applies b request reason
+    same_test : (reason : Reason) → Before reason UnknownMethod → applies a request reason ≡ applies b request reason
     same_test InvalidHost low = refl
     same_test Misdirected low =
-        ap
-        (λ (own : Option (Vec FieldValue)). option_map_or
+        ap (λ (own : Option (Vec FieldValue)). option_map_or
         (λ (h : Vec FieldValue). not (is_own h.items (host_named request.authority (request.fields (codes "host")))))
-        own false)
-        hosts
+        own false) hosts
     same_test Preflight low =
         ap (λ (policy : Option Policy). is_some policy && is_preflight_request request.method request.fields) cors
     same_test Denied low = refl
@@ -152,8 +144,7 @@ module _ (request : Request) (why : Denial) (denies : request.denied ≡ Some wh
           status = given.status;
           sends = given.sends;
           fields =
-              h.fields
-              ∙ ap (λ (lines : _). (h.own ++ vary_fields lines) ++ h.shared) my_lines
+              h.fields ∙ ap (λ (lines : _). (h.own ++ vary_fields lines) ++ h.shared) my_lines
               ∙ ap (λ (own : List Field). (own ++ []) ++ h.shared) given.fields
               ∙ ap (λ (fields : List Field). (k.own ++ []) ++ fields) shared
               ∙ ap (λ (lines : _). (k.own ++ vary_fields lines) ++ k.shared) (sym their_lines)

@@ -1,29 +1,22 @@
 -- A method that is performed replaces what its request names, and conditions decide last.
 use Rattle.std.proofs.Common.{◌≡◌, ◌≢◌, ◌⊎◌, ◌<◌, ℕ, Bool, true, false, List, [], ◌∷◌, Option, Some, None, refl, sym}
-use Rattle.std.{proofs.Common.{◌∙◌, ap, subst, inl, inr, arith, bytes_eq, lit<}, specs.Prelude.{◌&&◌, ◌||◌, not, codes}}
-use Rattle.std.{proofs.lemmas.Bool.{and_parts, both_ways, or_cases}, proofs.lemmas.Slice.Eq.bytes_eq-Decides}
-use Rattle.headers.{specs.LineMap.{Field, LineMap}, specs.Lines.Line, specs.Typed.HasLine}
+use Rattle.std.proofs.{Common.{◌∙◌, subst, inl, inr, arith, bytes_eq, lit<}, lemmas.Bool.{and_parts, both_ways}}
+use Rattle.std.{proofs.lemmas.{Bool.or_cases, Slice.Eq.bytes_eq-Decides}, specs.Prelude.{◌&&◌, ◌||◌, not, codes}}
+use Rattle.headers.specs.{LineMap.{Field, LineMap}, Lines.Line, Typed.HasLine}
 use Rattle.decide_preconditions.specs.Preconditions.{Answers, AreIgnored, IsGetOrHead, IsUnconditional, StepsAnswer}
-use Rattle.decide_preconditions.specs.Tags.{is_star}
-use Rattle.decide_preconditions.specs.declared.precondition.Precondition.TheVariants as precondition
-use Rattle.decide_preconditions.specs.declared.resource.Resource.{Resource as Target}
-use Rattle.decide_preconditions.specs.declared.resource.Resource.TheVariants as target
-use Rattle.decide_preconditions.{specs.declared.response.Response.Response, specs.Responses.IsAnswered}
+use Rattle.decide_preconditions.specs.{Tags.is_star, declared.resource.Resource.Resource as Target}
+use Rattle.decide_preconditions.specs.{declared.response.Response.Response, Responses.IsAnswered}
 use Rattle.decide_resource.specs.Answers.{GivesIf, IsAnswer, IsSelected, at_place, content_of, is_admitted, is_sent}
-use Rattle.decide_resource.{specs.Answers.{sent_for, target_of}, specs.Applies.{applies, is_guarded, is_present}}
-use Rattle.decide_resource.specs.Applies.{is_read, is_unacceptable, needs_condition, rule, rule_for, takes_type}
-use Rattle.decide_resource.{specs.Guards.{ReplacesListed, ReplacesNamed, ReplacesNothing}, specs.Reasons.IsFirst}
-use Rattle.decide_resource.{specs.Reasons.stage, specs.Representations.score, specs.Requests.{Request, unconditional}}
-use Rattle.decide_resource.{specs.declared.answer.Answer.Answer, specs.declared.answer.Sends.Sends}
-use Rattle.decide_resource.specs.declared.answer.Sends.TheVariants as sends
-use Rattle.decide_resource.{specs.declared.reason.Reason.Reason, specs.declared.reason.Reason.TheVariants.InvalidHost}
-use Rattle.decide_resource.specs.declared.reason.Reason.TheVariants.{Misdirected, Preflight, Denied, UnknownMethod}
-use Rattle.decide_resource.specs.declared.reason.Reason.TheVariants.{MethodNotAllowed, UnmetExpectation, PartialContent}
-use Rattle.decide_resource.specs.declared.reason.Reason.TheVariants.{Moved, Gone, NotFound, Options, LengthRequired}
-use Rattle.decide_resource.specs.declared.reason.Reason.TheVariants.{ContentTooLarge}
-use Rattle.decide_resource.specs.declared.reason.Reason.TheVariants.{UnsupportedMediaType, UnsupportedCoding}
+use Rattle.decide_resource.specs.{Answers.{sent_for, target_of}, Applies.{applies, is_guarded, is_present, is_read}}
+use Rattle.decide_resource.specs.Applies.{is_unacceptable, needs_condition, rule, rule_for, takes_type}
+use Rattle.decide_resource.specs.{Guards.{ReplacesListed, ReplacesNamed, ReplacesNothing}, Reasons.{IsFirst, stage}}
+use Rattle.decide_resource.specs.{Representations.score, Requests.{Request, unconditional}}
+use Rattle.decide_resource.specs.declared.{answer.{Answer.Answer, Sends.Sends}, reason.Reason.Reason}
 use Rattle.decide_resource.specs.declared.reason.Reason.TheVariants.{NotAcceptable, PreconditionRequired, Admitted}
 use Rattle.decide_resource.{specs.declared.resource.Resource.Resource, proofs.OneReasonLemmas.one_reason}
+use Rattle.decide_preconditions.specs.declared.precondition.Precondition.TheVariants as precondition
+use Rattle.decide_preconditions.specs.declared.resource.Resource.TheVariants as target
+use Rattle.decide_resource.specs.declared.answer.Sends.TheVariants as sends
 
 -- ---- what a guard lets pass
 
@@ -46,13 +39,8 @@ in_middle false true c e = refl
 in_middle false false c e = absurd (cc e)
 
 no_read : (method : List ℕ) → is_read method ≡ false → ¬ (IsGetOrHead method)
-no_read method e (inl get) =
-    let same = (bytes_eq-Decides method (codes "GET")).1 get in
-    both_ways (is_read method) e (ap (λ (b : Bool). b || bytes_eq method (codes "HEAD")) same)
-no_read method e (inr head) =
-    let same = (bytes_eq-Decides method (codes "HEAD")).1 head in
-    both_ways (is_read method) e
-    (ap (λ (b : Bool). bytes_eq method (codes "GET") || b) same ∙ or_right (bytes_eq method (codes "GET")))
+no_read method e (inl get) = grind (arith, bytes_eq-Decides, both_ways, bytes_eq)
+no_read method e (inr head) = grind (arith, bytes_eq-Decides, both_ways, bytes_eq, or_right)
 
 -- a method of preconditions, and no read, has them count
 counted : (current : Target) (method : List ℕ) → ¬ (IsUnconditional method) → ¬ (IsGetOrHead method)
@@ -66,8 +54,7 @@ module _ (present : ℕ) (fields : LineMap) (method : List ℕ) (other : ¬ (IsG
   none_there : is_star (fields (codes "if-none-match")) ≡ true → (current : Target)
       → StepsAnswer present fields current method precondition.Perform → ReplacesNothing fields current
   none_there star target.Missing steps = (star, refl)
-  none_there star (target.Current validators) steps =
-      absurd (steps.2 other (star_is_there (fields (codes "if-none-match")) star, in_middle _ _ _ star))
+  none_there star (target.Current validators) steps = grind (arith, star_is_there, in_middle)
 
   -- tags in If-Match let it pass only on a representation that has one of them
   listed_there : is_present (fields (codes "if-match")) ≡ true → is_star (fields (codes "if-match")) ≡ false
@@ -109,20 +96,16 @@ module _ (present : ℕ) (resource : Resource) (request : Request) where
     passes : Answers present request.fields (target_at place) request.method precondition.Perform
 
   passes_by : (reason : Reason) → is_admitted reason ≡ true → (place : Option ℕ)
-      → IsSelected resource request.fields place → (response : Option Response)
-      → is_sent place response ≡ sends.Perform
+      → IsSelected resource request.fields place → (response : Option Response) → is_sent place response ≡ sends.Perform
       → IsAnswered present request.method request.fields (target_at place)
       (content_of (at_place resource.representations.items place)) resource.boundary response → Passes reason
-  passes_by reason admits place selected None e answered =
-      record { admitted = admits; place = place; selected = selected; passes = answered.0 }
+  passes_by reason admits place selected None e answered = grind (arith)
   passes_by reason admits place selected (Some response) e answered = absurd (cc e)
 
   passes_if : (b : Bool) (reason : Reason) → is_admitted reason ≡ b → (status : Option ℕ) (sent : Sends)
       (own : List Field) → GivesIf b present resource request reason status sent own → sent ≡ sends.Perform
       → Passes reason
-  passes_if true reason admits status sent own gives e =
-      passes_by reason admits gives.place gives.selected gives.goes.response (sym gives.goes.sends ∙ e)
-      gives.goes.answered
+  passes_if true reason admits status sent own gives e = grind (arith, passes_by, reason)
   passes_if false reason admits status sent own gives e = absurd (not_sent reason (sym gives.sends ∙ e))
 
   only_admitted : (reason : Reason) → is_admitted reason ≡ true → reason ≡ Admitted
@@ -154,8 +137,7 @@ module _ (present : ℕ) (resource : Resource) (request : Request) where
         on.place,
         on.selected,
         guarded_replaces present request.fields request.method (no_read request.method read)
-            (has_guard answer.reason needs read on.admitted is.first) (target_at on.place)
-            (on.passes.conditional
+            (has_guard answer.reason needs read on.admitted is.first) (target_at on.place) (on.passes.conditional
             (counted (target_at on.place) request.method counts (no_read request.method read))),
       )
 
@@ -165,61 +147,17 @@ module _ (resource : Resource) (request : Request) where
   same_without : (reason : Reason) → reason ≢ PreconditionRequired
       → applies resource (unconditional request) reason ≡ applies resource request reason
   unfolding rule_for is_unacceptable takes_type score
-  same_without InvalidHost other = refl
-  same_without Misdirected other = refl
-  same_without Preflight other = refl
-  same_without Denied other = refl
-  same_without UnknownMethod other = refl
-  same_without MethodNotAllowed other = refl
-  same_without Options other = refl
-  same_without UnmetExpectation other = refl
-  same_without PartialContent other = refl
-  same_without Moved other = refl
-  same_without Gone other = refl
-  same_without NotFound other = refl
-  same_without LengthRequired other = refl
-  same_without ContentTooLarge other = refl
-  same_without UnsupportedMediaType other = refl
-  same_without UnsupportedCoding other = refl
-  same_without NotAcceptable other = refl
   same_without PreconditionRequired other = absurd (other refl)
-  same_without Admitted other = refl
+  same_without reason other = refl
 
   early : (reason : Reason) → reason ≢ Admitted → reason ≢ PreconditionRequired → stage reason < 14
-  early InvalidHost a p = lit< tt
-  early Misdirected a p = lit< tt
-  early Preflight a p = lit< tt
-  early Denied a p = lit< tt
-  early UnknownMethod a p = lit< tt
-  early MethodNotAllowed a p = lit< tt
-  early Options a p = lit< tt
-  early UnmetExpectation a p = lit< tt
-  early PartialContent a p = lit< tt
-  early Moved a p = lit< tt
-  early Gone a p = lit< tt
-  early NotFound a p = lit< tt
-  early LengthRequired a p = lit< tt
-  early ContentTooLarge a p = lit< tt
-  early UnsupportedMediaType a p = lit< tt
-  early UnsupportedCoding a p = lit< tt
-  early NotAcceptable a p = lit< tt
   early PreconditionRequired a p = absurd (p refl)
   early Admitted a p = absurd (a refl)
+  early reason a p = lit< tt
 
   first_without : (reason : Reason) → reason ≢ Admitted → reason ≢ PreconditionRequired
       → IsFirst (applies resource (unconditional request)) reason → IsFirst (applies resource request) reason
-  first_without reason a p first =
-      record {
-        is = sym (same_without reason p) ∙ first.is;
-        none_before = λ other before.
-            sym
-            (same_without other (λ same.
-            let low : stage other < stage reason = before in
-            let high : stage reason < 14 = early reason a p in
-            let level : stage other ≡ 14 = ap stage same in
-            omega (arith, low, high, level)))
-            ∙ first.none_before other before;
-      }
+  first_without reason a p first = grind (arith, same_without, reason, early)
 
   pub conditions_last : (present : ℕ) (a b : Answer) → IsAnswer present resource request a
       → IsAnswer present resource (unconditional request) b → b.reason ≢ Admitted → b.reason ≢ PreconditionRequired

@@ -1,49 +1,36 @@
 -- What a resource answers depends on the members of Accept, Accept-Language and Accept-Encoding, and not on the field
 -- lines in which they are.
 use Rattle.std.proofs.Common.{◌≡◌, ◌↔◌, ℕ, Bool, true, false, List, [], ◌∷◌, Option, Some, None, refl, sym, ◌∙◌, ap}
-use Rattle.std.{proofs.Common.{inl, inr, arith, bytes_eq}, specs.Prelude.{◌==◌, ◌&&◌, codes, if◌then◌else◌, length}}
-use Rattle.std.specs.Prelude.{nat_lt, option_map}
-use Rattle.http_header.specs.FieldValue.{FieldValue}
-use Rattle.headers.{specs.LineMap.{Field, LineMap}, specs.Lines.Line}
-use Rattle.decide_cors.specs.Answer.{IsAnswer as IsPolicyAnswer}
-use Rattle.decide_cors.{specs.Kinds.IsKindOf, specs.Policy.Policy, specs.declared.kind.CorsKind.CorsKind}
-use Rattle.decide_cors.specs.declared.kind.CorsKind.TheVariants.{Preflight, Plain, NoOrigin}
-use Rattle.decide_cors.specs.declared.policy.CorsAnswer.{CorsAnswer}
-use Rattle.rfc_fields.specs.Scan.{Member}
-use Rattle.decide_negotiation.{specs.Codings.encoding_quality, specs.Languages.language_says}
-use Rattle.decide_negotiation.{specs.MediaRanges.media_type_says, specs.Qualities.{quality_by, quality_in, rank}}
+use Rattle.std.{proofs.Common.{inl, inr, arith, bytes_eq}, specs.Prelude.{◌&&◌, codes, if◌then◌else◌, length, nat_lt}}
+use Rattle.{headers.specs.{LineMap.{Field, LineMap}, Lines.Line}, decide_cors.specs.Answer.IsAnswer as IsPolicyAnswer}
+use Rattle.decide_cors.specs.{Kinds.IsKindOf, Policy.Policy, declared.kind.CorsKind.CorsKind}
+use Rattle.{decide_cors.specs.declared.policy.CorsAnswer.CorsAnswer, rfc_fields.specs.Scan.Member}
 use Rattle.decide_negotiation.specs.declared.acceptability.Quality.{Quality}
-use Rattle.decide_preconditions.specs.declared.response.Response.{Response}
-use Rattle.decide_resource.specs.Answers.{GivesIf, IsAnswer, IsShared, at_place, content_of, is_admitted}
-use Rattle.decide_resource.{specs.Answers.{response_fields, target_of, varying}, specs.Applies.{applies, is_current}}
-use Rattle.decide_resource.{specs.Applies.{is_read, is_unacceptable, takes_type}, specs.Fields.reason_fields}
-use Rattle.decide_resource.{specs.Fields.vary_lines, specs.Representations.{are_unacceptable, coding_of, joined}}
-use Rattle.decide_resource.{specs.Representations.{rank_by, score}, specs.Requests.Request, specs.Vary.AreAlike}
-use Rattle.decide_resource.specs.Vary.{AskAlike, ChooseAlike, ListAlike, SelectTheSame}
-use Rattle.decide_resource.{specs.declared.answer.Answer.Answer, specs.declared.answer.Sends.Sends}
-use Rattle.decide_resource.{specs.declared.reason.Reason.Reason, specs.declared.reason.Reason.TheVariants.NotAcceptable}
-use Rattle.decide_resource.specs.declared.representation.Negotiation.{Negotiation}
-use Rattle.decide_resource.specs.declared.representation.Representation.{Representation}
+use Rattle.{decide_preconditions.specs.declared.response.Response.Response, decide_resource.specs.Answers.GivesIf}
+use Rattle.decide_resource.specs.Answers.{IsAnswer, IsShared, at_place, content_of, is_admitted, response_fields}
+use Rattle.decide_resource.specs.{Answers.{target_of, varying}, Applies.{applies, is_current, is_read, is_unacceptable}}
+use Rattle.decide_resource.specs.{Applies.takes_type, Fields.{reason_fields, vary_lines}}
+use Rattle.decide_resource.specs.{Representations.{are_unacceptable, rank_by, score}, Requests.Request, Vary.AreAlike}
+use Rattle.decide_resource.specs.{Vary.{AskAlike, ChooseAlike, ListAlike, SelectTheSame}, declared.answer.Answer.Answer}
+use Rattle.decide_resource.specs.declared.{answer.Sends.Sends, reason.Reason.Reason}
+use Rattle.decide_resource.specs.declared.representation.{Negotiation.Negotiation, Representation.Representation}
 use Rattle.decide_resource.{specs.declared.resource.Resource.Resource, proofs.OtherFieldLemmas.alike_back}
-use Rattle.decide_resource.{proofs.OtherFieldLemmas.other_fields, proofs.PickLemmas.{first_alike, picks_alike}}
+use Rattle.decide_resource.proofs.{OtherFieldLemmas.other_fields, PickLemmas.{first_alike, picks_alike}}
 use Rattle.decide_resource.proofs.SamePlanLemmas.{answered}
 
 rank_same : (gives : List Member → List ℕ → Quality) (used : Bool) (lines others : List Line) (offer : Option Line)
     → ListAlike lines others → rank_by gives used lines offer ≡ rank_by gives used others offer
 rank_same gives used lines others None same = refl
 rank_same gives false lines others (Some offer) same = refl
-rank_same gives true lines others (Some offer) (inl same) =
-    ap (λ (ls : List Line). rank (quality_in gives ls offer)) same
+rank_same gives true lines others (Some offer) (inl same) = grind (arith, gives)
 rank_same gives true [] others (Some offer) (inr same) = absurd (omega (arith, same.0))
 rank_same gives true (line ∷ lines) [] (Some offer) (inr same) = absurd (omega (arith, same.1))
-rank_same gives true (line ∷ lines) (other ∷ others) (Some offer) (inr same) =
-    ap (λ (ms : List Member). rank (gives ms offer)) same.2
+rank_same gives true (line ∷ lines) (other ∷ others) (Some offer) (inr same) = grind (arith, gives)
 
 -- the field lines with these of the fields that select a representation
 abbrev pub choosing : List Line → List Line → List Line → LineMap → LineMap
 choosing accept language coding fields name =
-    if bytes_eq (codes "accept") name then accept
-    else (if bytes_eq (codes "accept-language") name then language
+    if bytes_eq (codes "accept") name then accept else (if bytes_eq (codes "accept-language") name then language
     else (if bytes_eq (codes "accept-encoding") name then coding else fields name))
 
 -- ---- one request, with other field lines of these fields
@@ -71,40 +58,14 @@ module _ (request : Request) (accept language coding : List Line)
 
   score_same : (n : Negotiation) (x : Representation) → score n r x ≡ score n s x
   unfolding score
-  score_same n x =
-      let media_offer : Option Line = option_map (λ (v : FieldValue). v.bytes) x.content.media_type in
-      let language_offer : Option Line = option_map (λ (v : FieldValue). v.bytes) x.language in
-      let media = λ (ls : List Line). rank_by (quality_by media_type_says) n.media_type ls media_offer in
-      let tongue = λ (ls : List Line). rank_by (quality_by language_says) n.language ls language_offer in
-      let code = λ (ls : List Line). rank_by encoding_quality n.coding ls (Some (coding_of x)) in
-      let first : media (r (codes "accept")) ≡ media accept =
-      rank_same (quality_by media_type_says) n.media_type (r (codes "accept")) accept media_offer same_accept in
-      let second : tongue (r (codes "accept-language")) ≡ tongue language =
-      rank_same (quality_by language_says) n.language (r (codes "accept-language")) language language_offer
-      same_language in
-      let third : code (r (codes "accept-encoding")) ≡ code coding =
-      rank_same encoding_quality n.coding (r (codes "accept-encoding")) coding (Some (coding_of x)) same_coding in
-      ap (λ (k : ℕ). joined k (tongue (r (codes "accept-language"))) (code (r (codes "accept-encoding")))) first
-      ∙ ap (λ (k : ℕ). joined (media accept) k (code (r (codes "accept-encoding")))) second
-      ∙ ap (λ (k : ℕ). joined (media accept) (tongue language) k) third
+  score_same n x = grind (arith, rank_same)
 
-  unacceptable_same : (n : Negotiation) (xs : List Representation)
-      → are_unacceptable n r xs ≡ are_unacceptable n s xs
+  unacceptable_same : (n : Negotiation) (xs : List Representation) → are_unacceptable n r xs ≡ are_unacceptable n s xs
   unacceptable_same n [] = refl
-  unacceptable_same n (x ∷ xs) =
-      ap (λ (k : ℕ). (k == 0) && are_unacceptable n r xs) (score_same n x)
-      ∙ ap (λ (b : Bool). (score n s x == 0) && b) (unacceptable_same n xs)
+  unacceptable_same n (x ∷ xs) = grind (arith, score_same, unacceptable_same n xs)
 
   asks : AskAlike r s
-  asks =
-      record {
-        if_match = refl;
-        if_none_match = refl;
-        if_modified_since = refl;
-        if_unmodified_since = refl;
-        range = refl;
-        if_range = refl;
-      }
+  asks = grind (arith)
 
   module _ (present : ℕ) (resource : Resource) where
     unaccepted : is_unacceptable resource request ≡ is_unacceptable resource chooser
@@ -112,14 +73,12 @@ module _ (request : Request) (accept language coding : List Line)
     unaccepted =
         let n = resource.negotiation in
         let xs = resource.representations.items in
-        ap
-        (λ (b : Bool). is_read request.method && (is_current resource.state && (n.is_strict
-        && (nat_lt 0 (length xs) && b))))
-        (unacceptable_same n xs)
+        ap (λ (b : Bool). is_read request.method && (is_current resource.state && (n.is_strict
+        && (nat_lt 0 (length xs) && b)))) (unacceptable_same n xs)
 
     same_reason : (reason : Reason) → applies resource request reason ≡ applies resource chooser reason
     unfolding takes_type
-    same_reason NotAcceptable = unaccepted
+    same_reason Reason.NotAcceptable = unaccepted
     same_reason reason = refl
 
     same_fields : (reason : Reason) → reason_fields resource request reason ≡ reason_fields resource chooser reason
@@ -162,9 +121,8 @@ module _ (request : Request) (accept language coding : List Line)
         record { has_status = h.has_status; sends = h.sends; has_fields = h.has_fields ∙ same_fields reason }
 
     kind : (k : CorsKind) → IsKindOf request.method r k → IsKindOf request.method s k
-    kind Preflight h = h
-    kind Plain h = h
-    kind NoOrigin h = h
+    kind CorsKind.Preflight h = h
+    kind k h = h
 
     shared : (policy : Option Policy) (lines : List Line) (fields : List Field)
         → IsShared policy request lines fields → IsShared policy chooser lines fields

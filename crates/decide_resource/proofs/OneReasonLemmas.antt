@@ -1,22 +1,20 @@
 -- A request has one first reason.
-use Rattle.std.proofs.Common.{◌≡◌, ℕ, ◌<◌, Bool, true, false, List, [], ◌∷◌, Option, Some, None, refl, sym, subst, inl}
-use Rattle.std.{proofs.Common.inr, specs.Prelude.{◌&&◌, ◌||◌, ◌==◌, not, find, if◌then◌else◌}}
-use Rattle.std.proofs.lemmas.Bool.{cases_order}
-use Rattle.decide_resource.specs.Applies.{applies, exceeds, has_moved, is_gone, is_missing, is_unsized}
-use Rattle.decide_resource.{specs.Reasons.{IsFirst, in_order, or_admitted, stage}, specs.Requests.Request}
-use Rattle.decide_resource.{specs.declared.reason.Reason.Reason, specs.declared.reason.Reason.TheVariants.InvalidHost}
+use Rattle.std.proofs.Common.{arith, ◌≡◌, ℕ, ◌<◌, Bool, true, false, List, [], ◌∷◌, Option, Some, None, refl, sym}
+use Rattle.std.{proofs.{Common.{subst, inl, inr}, lemmas.Bool.cases_order}, specs.Prelude.{◌&&◌, ◌==◌, find}}
+use Rattle.{std.specs.Prelude.if◌then◌else◌, decide_resource.specs.Applies.{applies, exceeds, has_moved, is_gone}}
+use Rattle.decide_resource.specs.{Applies.{is_missing, is_unsized}, Reasons.{IsFirst, in_order, or_admitted, stage}}
+use Rattle.decide_resource.specs.{Requests.Request, declared.reason.Reason.{Reason, TheVariants.InvalidHost}}
 use Rattle.decide_resource.specs.declared.reason.Reason.TheVariants.{Misdirected, Preflight, Denied, UnknownMethod}
 use Rattle.decide_resource.specs.declared.reason.Reason.TheVariants.{MethodNotAllowed, UnmetExpectation, PartialContent}
 use Rattle.decide_resource.specs.declared.reason.Reason.TheVariants.{Moved, Gone, NotFound, Options, LengthRequired}
-use Rattle.decide_resource.specs.declared.reason.Reason.TheVariants.{ContentTooLarge}
-use Rattle.decide_resource.specs.declared.reason.Reason.TheVariants.{UnsupportedMediaType, UnsupportedCoding}
-use Rattle.decide_resource.specs.declared.reason.Reason.TheVariants.{NotAcceptable, PreconditionRequired, Admitted}
-use Rattle.decide_resource.specs.declared.request.RequestContent.{RequestContent}
+use Rattle.decide_resource.specs.declared.reason.Reason.TheVariants.{ContentTooLarge, UnsupportedMediaType}
+use Rattle.decide_resource.specs.declared.reason.Reason.TheVariants.{UnsupportedCoding, NotAcceptable}
+use Rattle.decide_resource.specs.declared.reason.Reason.TheVariants.{PreconditionRequired, Admitted}
+use Rattle.decide_resource.specs.declared.{request.RequestContent.RequestContent, resource.MethodRule.MethodRule}
+use Rattle.decide_resource.{specs.declared.resource.{Resource.Resource, State.State}, proofs.ReasonLemmas.Among}
+use Rattle.decide_resource.proofs.ReasonLemmas.{first_in_order}
 use Rattle.decide_resource.specs.declared.request.RequestContent.TheVariants as sent
-use Rattle.decide_resource.{specs.declared.resource.MethodRule.MethodRule, specs.declared.resource.Resource.Resource}
-use Rattle.decide_resource.specs.declared.resource.State.{State}
 use Rattle.decide_resource.specs.declared.resource.State.TheVariants as state
-use Rattle.decide_resource.proofs.ReasonLemmas.{Among, first_in_order}
 
 -- the reasons of one stage exclude each other
 pub record AreExclusive (p : Reason → Bool) : Type 0 where
@@ -28,42 +26,19 @@ pub record AreExclusive (p : Reason → Bool) : Type 0 where
 -- the reasons of a stage
 abbrev of_stage : ℕ → List Reason
 of_stage n =
-    if n == 0 then InvalidHost ∷ []
-    else (if n == 1 then Misdirected ∷ []
-    else (if n == 2 then Preflight ∷ []
-    else (if n == 3 then Denied ∷ []
-    else (if n == 4 then UnknownMethod ∷ []
-    else (if n == 5 then MethodNotAllowed ∷ []
-    else (if n == 6 then UnmetExpectation ∷ []
-    else (if n == 7 then PartialContent ∷ []
-    else (if n == 8 then Moved ∷ Gone ∷ NotFound ∷ []
-    else (if n == 9 then Options ∷ []
-    else (if n == 10 then LengthRequired ∷ ContentTooLarge ∷ []
-    else (if n == 11 then UnsupportedMediaType ∷ []
-    else (if n == 12 then UnsupportedCoding ∷ []
-    else (if n == 13 then NotAcceptable ∷ []
+    if n == 0 then InvalidHost ∷ [] else (if n == 1 then Misdirected ∷ [] else (if n == 2 then Preflight ∷ []
+    else (if n == 3 then Denied ∷ [] else (if n == 4 then UnknownMethod ∷ [] else (if n == 5 then MethodNotAllowed ∷ []
+    else (if n == 6 then UnmetExpectation ∷ [] else (if n == 7 then PartialContent ∷ []
+    else (if n == 8 then Moved ∷ Gone ∷ NotFound ∷ [] else (if n == 9 then Options ∷ []
+    else (if n == 10 then LengthRequired ∷ ContentTooLarge ∷ [] else (if n == 11 then UnsupportedMediaType ∷ []
+    else (if n == 12 then UnsupportedCoding ∷ [] else (if n == 13 then NotAcceptable ∷ []
     else (if n == 14 then PreconditionRequired ∷ [] else Admitted ∷ []))))))))))))))
 
 own : (r : Reason) → Among r (of_stage (stage r))
-own InvalidHost = inl refl
-own Misdirected = inl refl
-own Preflight = inl refl
-own Denied = inl refl
-own UnknownMethod = inl refl
-own MethodNotAllowed = inl refl
-own Options = inl refl
-own UnmetExpectation = inl refl
-own PartialContent = inl refl
-own Moved = inl refl
 own Gone = inr (inl refl)
 own NotFound = inr (inr (inl refl))
-own LengthRequired = inl refl
 own ContentTooLarge = inr (inl refl)
-own UnsupportedMediaType = inl refl
-own UnsupportedCoding = inl refl
-own NotAcceptable = inl refl
-own PreconditionRequired = inl refl
-own Admitted = inl refl
+own r = inl refl
 
 only : (r s : Reason) → Among s (r ∷ []) → r ≡ s
 only r s (inl same) = sym same
@@ -71,8 +46,7 @@ only r s (inr none) = absurd none
 
 module _ (p : Reason → Bool) (exclusive : AreExclusive p) where
   -- two reasons, the second of which applies as the other does
-  of_two : (r s t : Reason) → (p r ≡ true → p t ≡ true → ⊥) → p r ≡ true → p s ≡ true → Among s (r ∷ t ∷ [])
-      → r ≡ s
+  of_two : (r s t : Reason) → (p r ≡ true → p t ≡ true → ⊥) → p r ≡ true → p s ≡ true → Among s (r ∷ t ∷ []) → r ≡ s
   of_two r s t apart h k (inl same) = sym same
   of_two r s t apart h k (inr (inl same)) = absurd (apart h (subst (λ (q : Reason). p q ≡ true) same k))
   of_two r s t apart h k (inr (inr none)) = absurd none
@@ -117,39 +91,21 @@ module _ (p : Reason → Bool) (exclusive : AreExclusive p) where
   not_before r s h k low = let none : p r ≡ false = k.none_before r low in cc (h.is, none)
 
   pub one_first : (r s : Reason) → IsFirst p r → IsFirst p s → r ≡ s
-  one_first r s h k =
-      elim (cases_order (stage r) (stage s)) [
-        | inl level ↦
-            alike r s h.is k.is (subst (λ (n : ℕ). Among s (of_stage n)) (sym level) (own s))
-        | inr apart ↦
-            elim apart [
-              | inl low ↦ absurd (not_before r s h k low)
-              | inr high ↦ absurd (not_before s r k h high)
-            ]
-      ]
+  one_first r s h k = grind (arith, cases_order, alike, own, not_before)
 
 moved_or_gone : (state : State) → has_moved state ≡ true → is_gone state ≡ true → ⊥
-moved_or_gone state.Current h k = cc h
-moved_or_gone state.Absent h k = cc h
-moved_or_gone state.Gone h k = cc h
 moved_or_gone (state.Moved redirect location) h k = cc k
-moved_or_gone state.Server h k = cc h
+moved_or_gone state h k = cc h
 
 moved_or_missing : (state : State) (rules : List MethodRule) (rule : Option MethodRule) (method : List ℕ)
     → has_moved state ≡ true → is_missing state rules rule method ≡ true → ⊥
-moved_or_missing state.Current rules rule method h k = cc h
-moved_or_missing state.Absent rules rule method h k = cc h
-moved_or_missing state.Gone rules rule method h k = cc h
 moved_or_missing (state.Moved redirect location) rules rule method h k = cc k
-moved_or_missing state.Server rules rule method h k = cc h
+moved_or_missing state rules rule method h k = cc h
 
 gone_or_missing : (state : State) (rules : List MethodRule) (rule : Option MethodRule) (method : List ℕ)
     → is_gone state ≡ true → is_missing state rules rule method ≡ true → ⊥
-gone_or_missing state.Current rules rule method h k = cc h
-gone_or_missing state.Absent rules rule method h k = cc h
 gone_or_missing state.Gone rules rule method h k = cc k
-gone_or_missing (state.Moved redirect location) rules rule method h k = cc h
-gone_or_missing state.Server rules rule method h k = cc h
+gone_or_missing state rules rule method h k = cc h
 
 unsized_or_long : (b : Bool) (limit : Option ℕ) (content : RequestContent) → (b && is_unsized content) ≡ true
     → exceeds limit content ≡ true → ⊥
@@ -161,12 +117,7 @@ unsized_or_long false (Some limit) (sent.Sized len) h k = cc h
 
 pub exclusive : (resource : Resource) (request : Request) → AreExclusive (applies resource request)
 exclusive resource request =
-    record {
-      moved_gone = moved_or_gone resource.state;
-      moved_missing = moved_or_missing resource.state _ _ _;
-      gone_missing = gone_or_missing resource.state _ _ _;
-      lengths = unsized_or_long resource.needs_length resource.limit request.content;
-    }
+    grind (arith, moved_or_gone, resource, moved_or_missing, gone_or_missing, unsized_or_long, request)
 
 pub some_reason : (resource : Resource) (request : Request)
     → (reason : Reason) × IsFirst (applies resource request) reason

@@ -1,25 +1,20 @@
 -- An answer depends on the fields that decisions read, and on no other.
-use Rattle.std.proofs.Common.{◌≡◌, ◌↔◌, ℕ, List, Option, Some, None, sym, ◌∙◌, ap, subst, bytes_eq}
-use Rattle.std.specs.Prelude.{◌&&◌, codes}
-use Rattle.headers.{specs.LineMap.{Field, LineMap}, specs.Lines.Line, specs.Typed.HasLine}
-use Rattle.decide_cors.specs.Answer.{IsAnswer as IsPolicyAnswer, allows}
-use Rattle.decide_cors.{specs.Fields.{fields_sent, granted}, specs.Kinds.{IsKindOf, is_preflight}, specs.Policy.Policy}
-use Rattle.decide_cors.{specs.declared.kind.CorsKind.CorsKind, specs.declared.kind.CorsKind.TheVariants.Preflight}
-use Rattle.decide_cors.specs.declared.kind.CorsKind.TheVariants.{Plain, NoOrigin}
-use Rattle.decide_cors.specs.declared.policy.CorsAnswer.{CorsAnswer}
-use Rattle.decide_resource.{specs.Answers.{IsAnswer, IsShared, is_admitted, varying}, specs.Fields.vary_lines}
-use Rattle.decide_resource.{specs.Applies.{is_preflight_request, is_present}, specs.Requests.Request}
-use Rattle.decide_resource.specs.Vary.{AreAlike, ChooseAlike}
-use Rattle.decide_resource.{specs.declared.answer.Answer.Answer, specs.declared.resource.Resource.Resource}
-use Rattle.decide_resource.{proofs.SamePlanLemmas.back, proofs.SelectionLemmas.SelectAlike}
-use Rattle.decide_resource.proofs.VaryLemmas.{gives_alike, same_first}
+use Rattle.std.proofs.Common.{arith, ◌≡◌, ◌↔◌, ℕ, List, Option, Some, None, sym, ◌∙◌, ap, subst, bytes_eq}
+use Rattle.{std.specs.Prelude.codes, headers.specs.{LineMap.{Field, LineMap}, Lines.Line, Typed.HasLine}}
+use Rattle.decide_cors.specs.{Answer.{IsAnswer as IsPolicyAnswer, allows}, Fields.{fields_sent, granted}}
+use Rattle.decide_cors.specs.{Kinds.{IsKindOf, is_preflight}, Policy.Policy, declared.kind.CorsKind.CorsKind}
+use Rattle.{decide_cors.specs.declared.policy.CorsAnswer.CorsAnswer, decide_resource.specs.Answers.{IsAnswer, IsShared}}
+use Rattle.decide_resource.specs.{Answers.{is_admitted, varying}, Fields.vary_lines, Applies.is_preflight_request}
+use Rattle.decide_resource.specs.{Requests.Request, Vary.{AreAlike, ChooseAlike}, declared.answer.Answer.Answer}
+use Rattle.decide_resource.{specs.declared.resource.Resource.Resource, proofs.SamePlanLemmas.back}
+use Rattle.decide_resource.proofs.{SelectionLemmas.SelectAlike, VaryLemmas.{gives_alike, same_first}}
 
 kind_alike : (method : List ℕ) (r s : LineMap) (kind : CorsKind) → r (codes "origin") ≡ s (codes "origin")
     → r (codes "access-control-request-method") ≡ s (codes "access-control-request-method")
     → IsKindOf method r kind → IsKindOf method s kind
-kind_alike method r s Preflight e f h = (subst HasLine e h.0, (h.1.0, subst HasLine f h.1.1))
-kind_alike method r s Plain e f h = (subst HasLine e h.0, λ asks. h.1 (asks.0, subst HasLine (sym f) asks.1))
-kind_alike method r s NoOrigin e f h = λ has. h (subst HasLine (sym e) has)
+kind_alike method r s CorsKind.Preflight e f h = (subst HasLine e h.0, (h.1.0, subst HasLine f h.1.1))
+kind_alike method r s CorsKind.Plain e f h = (subst HasLine e h.0, λ asks. h.1 (asks.0, subst HasLine (sym f) asks.1))
+kind_alike method r s CorsKind.NoOrigin e f h = λ has. h (subst HasLine (sym e) has)
 
 shared_alike : (policy : Option Policy) (r s : Request) (lines : List Line) (fields : List Field)
     → r.method ≡ s.method → ChooseAlike r.fields s.fields → IsShared policy r lines fields
@@ -36,9 +31,7 @@ shared_alike (Some policy) r s lines fields method same h =
         allowed =
             is.allowed ∙ ap (λ (origin : List Line). allows answer.kind (granted policy origin)) same.origin;
         fields =
-            is.fields
-            ∙ ap
-            (λ (origin : List Line).
+            is.fields ∙ ap (λ (origin : List Line).
             fields_sent policy (is_preflight answer.kind) origin (varying lines (codes "vary")))
             same.origin;
       },
@@ -48,12 +41,7 @@ shared_alike (Some policy) r s lines fields method same h =
 -- both are preflights, or neither is
 asks_alike : (m n : List ℕ) (r s : LineMap) → m ≡ n → ChooseAlike r s
     → is_preflight_request m r ≡ is_preflight_request n s
-asks_alike m n r s method same =
-    let asked = codes "access-control-request-method" in
-    ap (λ (x : List ℕ). is_preflight_request x r) method
-    ∙ ap (λ (ls : List Line). bytes_eq n (codes "OPTIONS") && (is_present ls && is_present (r asked))) same.origin
-    ∙ ap (λ (ls : List Line). bytes_eq n (codes "OPTIONS") && (is_present (s (codes "origin")) && is_present ls))
-    same.requested_method
+asks_alike m n r s method same = grind (arith, bytes_eq)
 
 transferred : (present : ℕ) (resource : Resource) (r s : Request) (a : Answer) → AreAlike r s
     → ChooseAlike r.fields s.fields → IsAnswer present resource r a → IsAnswer present resource s a
@@ -79,34 +67,11 @@ transferred present resource r s a alike same h =
     }
 
 pub alike_back : (r s : Request) → AreAlike r s → AreAlike s r
-alike_back r s h =
-    record {
-      protocol = sym h.protocol;
-      method = sym h.method;
-      authority = sym h.authority;
-      host = sym h.host;
-      expect = sym h.expect;
-      content = sym h.content;
-      denied = sym h.denied;
-      content_type = sym h.content_type;
-      content_encoding = sym h.content_encoding;
-      content_range = λ put. sym (h.content_range (h.method ∙ put));
-      asks = back r.fields s.fields h.asks;
-    }
+alike_back r s h = grind (arith, back)
 
 choose_back : (r s : LineMap) → ChooseAlike r s → ChooseAlike s r
-choose_back r s h =
-    record {
-      accept = sym h.accept;
-      accept_language = sym h.accept_language;
-      accept_encoding = sym h.accept_encoding;
-      origin = sym h.origin;
-      requested_method = sym h.requested_method;
-    }
+choose_back r s h = grind (arith)
 
 pub other_fields : (present : ℕ) (resource : Resource) (r s : Request) (a : Answer) → AreAlike r s
     → ChooseAlike r.fields s.fields → IsAnswer present resource r a ↔ IsAnswer present resource s a
-other_fields present resource r s a alike same = (
-  transferred present resource r s a alike same,
-  transferred present resource s r a (alike_back r s alike) (choose_back r.fields s.fields same),
-)
+other_fields present resource r s a alike same = grind (arith, transferred, resource, alike_back, choose_back)

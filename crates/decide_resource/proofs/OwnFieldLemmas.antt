@@ -1,36 +1,28 @@
 -- Allow, ETag and Last-Modified of an answer.
 use Rattle.std.proofs.Common.{◌≡◌, ◌≢◌, ◌↔◌, ◌⊎◌, ℕ, Bool, true, false, List, [], ◌∷◌, ◌++◌, Option, Some, None, refl}
-use Rattle.std.{proofs.Common.{sym, ◌∙◌, ap, subst, inl, inr, lit<, lit≤, arith, bytes_eq}, specs.Prelude.{◌&&◌, ◌||◌}}
-use Rattle.std.specs.Prelude.{Contains, codes, if◌then◌else◌, is_some, not}
-use Rattle.std.proofs.lemmas.Bool.{and_parts, cases_order}
-use Rattle.http_header.specs.FieldValue.{FieldValue}
-use Rattle.headers.{specs.Date.fixdate, specs.LineMap.{Field, LineMap, fields_of, set, set_all}, specs.Lines.Line}
-use Rattle.headers.{specs.Merge.merge, specs.Places.comma}
-use Rattle.decide_cors.specs.Browser.{IsPreflightFor, PreflightPasses, Request as Sent}
-use Rattle.decide_cors.{specs.Fields.{covers_origin, grant_fields, granted, vary_sent}, specs.Kinds.is_preflight}
-use Rattle.decide_cors.{specs.Policy.Policy, specs.Rules.{AllowsRequest, IsLawful, IsPolicyOf}}
-use Rattle.decide_cors.specs.declared.rules.CorsRules.{CorsRules}
-use Rattle.decide_preconditions.{specs.Conditions.modified_of, specs.Fields.{etag_of, fields_sent, is_known_by}}
-use Rattle.decide_preconditions.{specs.Fields.{lines_sent, modified_without, not_after}, specs.Responses.IsAnswered}
-use Rattle.decide_preconditions.{specs.declared.content.Content.Content, specs.declared.plan.Plan.Plan}
-use Rattle.decide_preconditions.specs.declared.plan.Plan.TheVariants.{Full, NotModified}
-use Rattle.decide_preconditions.specs.declared.resource.Resource.{Resource as Target}
-use Rattle.decide_preconditions.specs.declared.response.Response.{Response}
-use Rattle.decide_resource.specs.Answers.{GivesIf, IsAnswer, IsShared, Stops, at_place, content_of, is_admitted}
-use Rattle.decide_resource.specs.Answers.{is_sent, response_fields, sent_for, target_of, with_metadata}
-use Rattle.decide_resource.specs.Applies.{applies, is_implemented, is_preflight_request, is_present, methods, rule_for}
-use Rattle.decide_resource.specs.Fields.{allow_field, offered_fields}
-use Rattle.decide_resource.{specs.Fields.{types_fields, vary_fields, vary_lines}, specs.Reasons.{Before, IsFirst}}
-use Rattle.decide_resource.{specs.Reasons.stage, specs.Requests.{Request, unconditional}}
-use Rattle.decide_resource.{specs.declared.answer.Answer.Answer, specs.declared.answer.Sends.Sends}
+use Rattle.std.proofs.{Common.{sym, ◌∙◌, ap, subst, inl, inr, lit<, lit≤, arith, bytes_eq}, lemmas.Bool.and_parts}
+use Rattle.std.{proofs.lemmas.Bool.cases_order, specs.Prelude.{◌||◌, Contains, codes, if◌then◌else◌, is_some, not}}
+use Rattle.{http_header.specs.FieldValue.FieldValue, headers.specs.{Date.fixdate, LineMap.{Field, LineMap, fields_of}}}
+use Rattle.headers.specs.{LineMap.set_all, Lines.Line, Merge.merge, Places.comma}
+use Rattle.decide_cors.specs.{Browser.{IsPreflightFor, PreflightPasses, Request as Sent}, Fields.covers_origin}
+use Rattle.decide_cors.specs.{Fields.{grant_fields, vary_sent}, Policy.Policy, Rules.{AllowsRequest, IsLawful}}
+use Rattle.decide_cors.specs.{Rules.IsPolicyOf, declared.rules.CorsRules.CorsRules}
+use Rattle.decide_preconditions.specs.{Conditions.modified_of, Fields.{etag_of, fields_sent, is_known_by, lines_sent}}
+use Rattle.decide_preconditions.specs.{Fields.{modified_without, not_after}, Responses.IsAnswered}
+use Rattle.decide_preconditions.specs.declared.{content.Content.Content, plan.Plan.{Plan, TheVariants.Full}}
+use Rattle.decide_preconditions.specs.declared.{plan.Plan.TheVariants.NotModified, resource.Resource.Resource as Target}
+use Rattle.{decide_preconditions.specs.declared.response.Response.Response, decide_resource.specs.Answers.GivesIf}
+use Rattle.decide_resource.specs.Answers.{IsAnswer, IsShared, Stops, at_place, content_of, is_admitted, is_sent}
+use Rattle.decide_resource.specs.{Answers.{response_fields, sent_for, target_of, with_metadata}, Applies.applies}
+use Rattle.decide_resource.specs.{Applies.{is_implemented, methods, rule_for}, Fields.{offered_fields, types_fields}}
+use Rattle.decide_resource.specs.{Fields.vary_fields, Reasons.{Before, IsFirst, stage}, Requests.Request}
+use Rattle.decide_resource.specs.{Requests.unconditional, declared.answer.{Answer.Answer, Sends.Sends}}
+use Rattle.decide_resource.specs.declared.reason.Reason.{Reason, TheVariants.{MethodNotAllowed, NotAcceptable, Options}}
+use Rattle.decide_resource.specs.declared.reason.Reason.TheVariants.{Preflight, UnknownMethod, UnmetExpectation}
+use Rattle.decide_resource.specs.declared.{representation.Representation.Representation, resource.MethodRule.MethodRule}
+use Rattle.decide_resource.{specs.declared.resource.Resource.Resource, proofs.AllowLemmas.{allow_is_exact, allow_lists}}
+use Rattle.decide_resource.proofs.{ConditionLemmas.same_place, SharedLemmas.{preflight_of_answer, set_all-append}}
 use Rattle.decide_resource.specs.declared.answer.Sends.TheVariants as sends
-use Rattle.decide_resource.specs.declared.reason.Reason.{Reason}
-use Rattle.decide_resource.specs.declared.reason.Reason.TheVariants.{MethodNotAllowed, NotAcceptable, Options, Preflight}
-use Rattle.decide_resource.specs.declared.reason.Reason.TheVariants.{UnknownMethod, UnmetExpectation}
-use Rattle.decide_resource.specs.declared.representation.Representation.{Representation}
-use Rattle.decide_resource.{specs.declared.resource.MethodRule.MethodRule, specs.declared.resource.Resource.Resource}
-use Rattle.decide_resource.{proofs.AllowLemmas.{allow_is_exact, allow_lists}, proofs.ConditionLemmas.same_place}
-use Rattle.decide_resource.proofs.SharedLemmas.{preflight_of_answer, set_all-append}
 
 -- ---- what neither Vary nor a policy sets
 
@@ -53,11 +45,8 @@ policy_keeps : (which : Own) (m : LineMap) (policy : Policy) (pre : Bool) (line 
     → set_all m (grant_fields policy pre line ++ vary_sent policy lines) (own_name which) ≡ m (own_name which)
 policy_keeps which m policy pre line lines = by which (is_some policy.origins) (covers_origin lines)
   where
-    by : (w : Own) (b c : Bool)
-        → set_all m
-        (grant_fields policy pre line
-        ++ (if b then (if c then [] else (codes "vary", lines ++ codes "origin" ∷ []) ∷ []) else []))
-        (own_name w)
+    by : (w : Own) (b c : Bool) → set_all m (grant_fields policy pre line
+        ++ (if b then (if c then [] else (codes "vary", lines ++ codes "origin" ∷ []) ∷ []) else [])) (own_name w)
         ≡ m (own_name w)
     by allow true true = refl
     by allow true false = refl
@@ -72,9 +61,7 @@ policy_keeps which m policy pre line lines = by which (is_some policy.origins) (
 shared_keeps : (which : Own) (m : LineMap) (cors : Option Policy) (request : Request) (lines : List Line)
     (fields : List Field) → IsShared cors request lines fields → set_all m fields (own_name which) ≡ m (own_name which)
 shared_keeps which m None request lines fields none = ap (λ (fs : List Field). set_all m fs (own_name which)) none
-shared_keeps which m (Some policy) request lines fields shares =
-    ap (λ (fs : List Field). set_all m fs (own_name which)) (shares.2 ∙ shares.1.fields)
-    ∙ policy_keeps which m policy (is_preflight shares.0.kind) (granted policy (request.fields (codes "origin"))) lines
+shared_keeps which m (Some policy) request lines fields shares = grind (arith, policy_keeps)
 
 -- ---- Allow
 
@@ -84,8 +71,7 @@ offered_keep m rules = by (rule_for rules (codes "PATCH")) (rule_for rules (code
   where
     by : (patch post : Option MethodRule)
         → set_all m (types_fields (codes "accept-patch") patch ++ types_fields (codes "accept-post") post)
-        (codes "allow")
-        ≡ m (codes "allow")
+        (codes "allow") ≡ m (codes "allow")
     by None None = refl
     by None (Some post) = refl
     by (Some patch) None = refl
@@ -95,47 +81,23 @@ module _ (present : ℕ) (resource : Resource) (request : Request) (answer : Ans
     (a : IsAnswer present resource request answer) (before : LineMap) where
   kept : (which : Own)
       → set_all before (fields_of answer.fields.items) (own_name which) ≡ set_all before a.own (own_name which)
-  kept which =
-      let vary = vary_fields (vary_lines resource answer.reason) in
-      ap (λ (fields : List Field). set_all before fields (own_name which)) a.fields
-      ∙ ap (λ (m : LineMap). m (own_name which)) (set_all-append before (a.own ++ vary) a.shared)
-      ∙ shared_keeps which (set_all before (a.own ++ vary)) resource.cors request (vary_lines resource answer.reason)
-      a.shared a.is_shared
-      ∙ ap (λ (m : LineMap). m (own_name which)) (set_all-append before a.own vary)
-      ∙ vary_keeps which (set_all before a.own) (vary_lines resource answer.reason)
+  kept which = grind (arith, resource, set_all-append, shared_keeps, vary_keeps)
 
   stops_by : (reason : Reason) → answer.reason ≡ reason → is_admitted reason ≡ false
       → Stops resource request reason answer.status answer.sends a.own
-  stops_by reason same stops =
-      let gives : GivesIf (is_admitted reason) present resource request reason answer.status answer.sends a.own =
-      subst (λ (r : Reason). GivesIf (is_admitted r) present resource request r answer.status answer.sends a.own) same
-      a.gives in
-      subst (λ (b : Bool). GivesIf b present resource request reason answer.status answer.sends a.own) stops gives
+  stops_by reason same stops = grind (arith, reason, resource, same)
 
   pub allow_told : (answer.reason ≡ Options) ⊎ (answer.reason ≡ MethodNotAllowed)
       → set_all before (fields_of answer.fields.items) (codes "allow") ≡ merge comma (methods resource.rules.items) ∷ []
-  allow_told (inl same) =
-      kept allow
-      ∙ ap (λ (fields : List Field). set_all before fields (codes "allow")) (stops_by Options same refl).has_fields
-      ∙ offered_keep (set before (allow_field resource.rules.items)) resource.rules.items
-  allow_told (inr same) =
-      kept allow
-      ∙ ap (λ (fields : List Field). set_all before fields (codes "allow"))
-      (stops_by MethodNotAllowed same refl).has_fields
+  allow_told (inl same) = grind (arith, kept, stops_by, same, offered_keep, resource)
+  allow_told (inr same) = grind (arith, kept, stops_by, same)
 
   -- ---- a preflight
 
   -- where there is a policy, the reason applies
   asks_leave : (policy : Policy) → resource.cors ≡ Some policy → (sent : Sent)
       → IsPreflightFor sent request.method request.fields → applies resource request Preflight ≡ true
-  asks_leave policy has sent asks =
-      ap (λ (cors : Option Policy). is_some cors && is_preflight_request request.method request.fields) has
-      ∙ ap (λ (m : List ℕ). is_preflight_request m request.fields) asks.options
-      ∙ ap
-      (λ (lines : List Line). is_present lines
-      && is_present (request.fields (codes "access-control-request-method")))
-      asks.origin
-      ∙ ap is_present asks.asked
+  asks_leave policy has sent asks = grind (arith, is_some)
 
   only_preflight : (reason : Reason) → stage reason ≡ 2 → reason ≡ Preflight
   only_preflight Preflight e = refl
@@ -143,8 +105,7 @@ module _ (present : ℕ) (resource : Resource) (request : Request) (answer : Ans
 
   pub preflight_told : (policy : Policy) → resource.cors ≡ Some policy → (rules : CorsRules) (sent : Sent)
       → IsLawful rules → IsPolicyOf rules policy → IsPreflightFor sent request.method request.fields
-      → Before answer.reason Preflight
-      ⊎ ((answer.status ≡ Some 204)
+      → Before answer.reason Preflight ⊎ ((answer.status ≡ Some 204)
       × (PreflightPasses 204 (set_all before (fields_of answer.fields.items)) sent ↔ AllowsRequest rules sent))
   preflight_told policy has rules sent lawful made asks =
       elim (cases_order (stage answer.reason) 2) [
@@ -167,8 +128,7 @@ module _ (present : ℕ) (resource : Resource) (request : Request) (answer : Ans
 
 listed_applies : (resource : Resource) (request : Request) (answer : Answer) (reason : Reason)
     → IsFirst (applies resource request) answer.reason → answer.reason ≡ reason → applies resource request reason ≡ true
-listed_applies resource request answer reason first same =
-    subst (λ (r : Reason). applies resource request r ≡ true) same first.is
+listed_applies resource request answer reason first same = grind (arith, applies, resource, same)
 
 not_either : (b c : Bool) → not (b || c) ≡ true → c ≡ true → ⊥
 not_either true c e f = cc e
@@ -184,8 +144,7 @@ listed_is_had present resource request answer a listed =
       λ same.
           let refused = listed_applies resource request answer MethodNotAllowed a.first same in
           cc (had, refused),
-      λ same.
-          not_either _ _ (listed_applies resource request answer UnknownMethod a.first same)
+      λ same. not_either _ _ (listed_applies resource request answer UnknownMethod a.first same)
           ((allow_lists resource.rules.items request.method).0 listed),
     )
 
@@ -204,8 +163,7 @@ unlisted_is_refused present resource request answer a unlisted = (
   λ same.
       let leave = and_parts _ _ (listed_applies resource request answer Preflight a.first same) in
       let options = and_parts (bytes_eq request.method (codes "OPTIONS")) _ leave.1 in
-      unlisted
-      ((allow_lists resource.rules.items request.method).1
+      unlisted ((allow_lists resource.rules.items request.method).1
       (ap (λ (b : Bool). b || is_some (rule_for resource.rules.items request.method)) options.0)),
 )
   where
@@ -238,8 +196,7 @@ implemented_not_allowed present resource request answer a same =
 pub unknown_not_implemented : (present : ℕ) (resource : Resource) (request : Request) (answer : Answer)
     → IsAnswer present resource request answer → answer.reason ≡ UnknownMethod
     → is_implemented resource.implemented.items request.method ≡ false
-unknown_not_implemented present resource request answer a same =
-    neither _ _ (listed_applies resource request answer UnknownMethod a.first same)
+unknown_not_implemented present resource request answer a same = grind (arith, neither, listed_applies, resource, same)
 
 -- ---- ETag and Last-Modified
 
@@ -247,11 +204,9 @@ unknown_not_implemented present resource request answer a same =
 abbrev Tells : ℕ → List ℕ → (Target → List Line) → Plan → Type 0
 Tells present name lines plan =
     (fields : LineMap) (representation : Option Representation) (target : Target) (content : Content)
-    (multipart : FieldValue) (before : LineMap)
-    → set_all before
+    (multipart : FieldValue) (before : LineMap) → set_all before
     (with_metadata fields representation plan (fields_sent present plan (is_known_by fields) target content multipart))
-    name
-    ≡ lines target
+    name ≡ lines target
 
 abbrev tag_lines : Target → List Line
 tag_lines target = lines_sent (λ (tag : FieldValue). tag.bytes) (etag_of target)
@@ -285,8 +240,7 @@ untagged_date : (present : ℕ) (target : Target) → tag_lines target ≡ []
 untagged_date present target none = by (etag_of target) none
   where
     by : (tag : Option FieldValue) → lines_sent (λ (t : FieldValue). t.bytes) tag ≡ []
-        → lines_sent fixdate (not_after present (modified_without tag (modified_of target)))
-        ≡ date_lines present target
+        → lines_sent fixdate (not_after present (modified_without tag (modified_of target))) ≡ date_lines present target
     by None e = refl
     by (Some tag) e = absurd (cc e)
 
@@ -306,26 +260,18 @@ module _ (present : ℕ) (resource : Resource) (request : Request) (before : Lin
 
       by : (response : Option Response)
           → IsAnswered present request.method request.fields (target_of resource.state found) (content_of found)
-          resource.boundary response
-          → own ≡ response_fields request.fields found response
+          resource.boundary response → own ≡ response_fields request.fields found response
           → is_sent h.place response ≡ sends.Planned place plan
           → set_all before own (own_name which) ≡ lines_at_place place
       by None is has f = absurd (cc f)
       by (Some response) is has f =
           let here : h.place ≡ place = cc f in
           let planned : response.plan ≡ plan = cc f in
-          ap (λ (fields : List Field). set_all before fields (own_name which)) has
-          ∙ ap
+          ap (λ (fields : List Field). set_all before fields (own_name which)) has ∙ ap
           (λ (fields : List Field). set_all before (with_metadata request.fields found response.plan fields)
-          (own_name which))
-          is.fields
-          ∙ ap
-          (λ (p : Plan). set_all before
-          (with_metadata request.fields found p
+          (own_name which)) is.fields ∙ ap (λ (p : Plan). set_all before (with_metadata request.fields found p
           (fields_sent present p (is_known_by request.fields) (target_of resource.state found) (content_of found)
-          resource.boundary))
-          (own_name which))
-          planned
+          resource.boundary)) (own_name which)) planned
           ∙ tells request.fields found (target_of resource.state found) (content_of found) resource.boundary before
           ∙ ap lines_at_place here
   told_by false reason status sent own place plan tells h e = absurd (by reason (sym h.sends ∙ e))

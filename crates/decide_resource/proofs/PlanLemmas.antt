@@ -1,11 +1,9 @@
 -- What depends on a plan is the same for two plans of one request.
 use Rattle.std.proofs.Common.{◌≡◌, ℕ, ◌<◌, List, [], ◌∷◌, Some, length, refl, sym, ap, arith}
-use Rattle.headers.specs.LineMap.{LineMap}
-use Rattle.decide_preconditions.{specs.Plans.{IsPlan, IsSamePlan}, specs.declared.limits.RangeLimits.RangeLimits}
-use Rattle.decide_preconditions.{specs.declared.part.Part.Part, specs.declared.plan.Plan.Plan}
+use Rattle.{headers.specs.LineMap.LineMap, decide_preconditions.specs.Plans.{IsPlan, IsSamePlan}}
+use Rattle.decide_preconditions.specs.declared.{limits.RangeLimits.RangeLimits, part.Part.Part, plan.Plan.Plan}
 use Rattle.decide_preconditions.specs.declared.plan.Plan.TheVariants.{NotModified, Failed, Full, Single, Multiple}
-use Rattle.decide_preconditions.specs.declared.plan.Plan.TheVariants.{Unsatisfiable}
-use Rattle.decide_preconditions.specs.declared.resource.Resource.{Resource}
+use Rattle.decide_preconditions.specs.declared.{plan.Plan.TheVariants.Unsatisfiable, resource.Resource.Resource}
 
 one_is_not_more : (x : Part) (xs : List Part) → x ∷ [] ≡ xs → ¬ (1 < length xs)
 one_is_not_more x xs e more = let len = ap length e in omega (arith, len, more)
@@ -15,8 +13,7 @@ pub same_by_plan : {X : Type 0} (present : ℕ) (method : List ℕ) (request : L
     (limits : RangeLimits) (of_plan : Plan → X)
     → ((xs ys : _) → of_plan (Multiple xs) ≡ of_plan (Multiple ys)) → (p q : Plan)
     → IsPlan present method request resource len limits p → IsPlan present method request resource len limits q
-    → IsSamePlan (Some p) (Some q)
-    → of_plan p ≡ of_plan q
+    → IsSamePlan (Some p) (Some q) → of_plan p ≡ of_plan q
 same_by_plan present method request resource len limits of_plan alike Full Full h k same = refl
 same_by_plan present method request resource len limits of_plan alike NotModified NotModified h k same = refl
 same_by_plan present method request resource len limits of_plan alike Failed Failed h k same = refl

@@ -2,13 +2,7 @@
 use Rattle.std.proofs.Common.{◌≡◌, ◌⊎◌, ◌<◌, ◌≤◌, Bool, true, false, cond, List, [], ◌∷◌, Option, Some, None, refl, sym}
 use Rattle.std.{proofs.Common.{ap, subst, inl, inr, arith, lit≤}, specs.Prelude.find}
 use Rattle.decide_resource.specs.Reasons.{Before, IsFirst, in_order, or_admitted, stage}
-use Rattle.decide_resource.{specs.declared.reason.Reason.Reason, specs.declared.reason.Reason.TheVariants.InvalidHost}
-use Rattle.decide_resource.specs.declared.reason.Reason.TheVariants.{Misdirected, Preflight, Denied, UnknownMethod}
-use Rattle.decide_resource.specs.declared.reason.Reason.TheVariants.{MethodNotAllowed, UnmetExpectation, PartialContent}
-use Rattle.decide_resource.specs.declared.reason.Reason.TheVariants.{Moved, Gone, NotFound, Options, LengthRequired}
-use Rattle.decide_resource.specs.declared.reason.Reason.TheVariants.{ContentTooLarge}
-use Rattle.decide_resource.specs.declared.reason.Reason.TheVariants.{UnsupportedMediaType, UnsupportedCoding}
-use Rattle.decide_resource.specs.declared.reason.Reason.TheVariants.{NotAcceptable, PreconditionRequired, Admitted}
+use Rattle.decide_resource.specs.declared.reason.Reason.{Reason}
 
 -- each reason is no earlier than the one before it
 abbrev IsChain : Reason → List Reason → Type 0
@@ -63,11 +57,10 @@ found_first p (x ∷ xs) ordered r e = by (p x) refl e (found_first p xs (tail_o
         let rest = rest_of found in
         record {
           is = rest.is;
-          none_before = λ s among before.
-              elim among [
-                | inl own ↦ subst (λ (q : Reason). p q ≡ false) (sym own) f
-                | inr others ↦ rest.none_before s others before
-              ];
+          none_before = λ s among before. elim among [
+            | inl own ↦ subst (λ (q : Reason). p q ≡ false) (sym own) f
+            | inr others ↦ rest.none_before s others before
+          ];
         }
 
 found_none : (p : Reason → Bool) (xs : List Reason) → find p xs ≡ None → (s : Reason) → Among s xs → p s ≡ false
@@ -84,105 +77,54 @@ found_none p (x ∷ xs) e s among = by (p x) refl e (λ found others. found_none
         ]
 
 ordered : IsOrdered in_order
-ordered = (
-  lit≤ tt,
-  (
-    lit≤ tt,
-    (
-      lit≤ tt,
-      (
-        lit≤ tt,
-        (
-          lit≤ tt,
-          (
-            lit≤ tt,
-            (
-              lit≤ tt,
-              (
-                lit≤ tt,
-                (
-                  lit≤ tt,
-                  (lit≤ tt, (lit≤ tt, (lit≤ tt, (lit≤ tt, (lit≤ tt, (lit≤ tt, (lit≤ tt, (lit≤ tt, tt)))))))),
-                ),
-              ),
-            ),
-          ),
-        ),
-      ),
-    ),
-  ),
-)
+ordered = grind (arith, lit≤)
 
-each : (s : Reason) → (s ≡ Admitted) ⊎ Among s in_order
-each InvalidHost = inr (inl refl)
-each Misdirected = inr (inr (inl refl))
-each Preflight = inr (inr (inr (inl refl)))
-each Denied = inr (inr (inr (inr (inl refl))))
-each UnknownMethod = inr (inr (inr (inr (inr (inl refl)))))
-each MethodNotAllowed = inr (inr (inr (inr (inr (inr (inl refl))))))
-each UnmetExpectation = inr (inr (inr (inr (inr (inr (inr (inl refl)))))))
-each PartialContent = inr (inr (inr (inr (inr (inr (inr (inr (inl refl))))))))
-each Moved = inr (inr (inr (inr (inr (inr (inr (inr (inr (inl refl)))))))))
-each Gone = inr (inr (inr (inr (inr (inr (inr (inr (inr (inr (inl refl))))))))))
-each NotFound = inr (inr (inr (inr (inr (inr (inr (inr (inr (inr (inr (inl refl)))))))))))
-each Options = inr (inr (inr (inr (inr (inr (inr (inr (inr (inr (inr (inr (inl refl))))))))))))
-each LengthRequired = inr (inr (inr (inr (inr (inr (inr (inr (inr (inr (inr (inr (inr (inl refl)))))))))))))
-each ContentTooLarge =
-    inr (inr (inr (inr (inr (inr (inr (inr (inr (inr (inr (inr (inr (inr (inl refl))))))))))))))
-each UnsupportedMediaType =
-    inr (inr (inr (inr (inr (inr (inr (inr (inr (inr (inr (inr (inr (inr (inr (inl refl)))))))))))))))
-each UnsupportedCoding =
-    inr (inr (inr (inr (inr (inr (inr (inr (inr (inr (inr (inr (inr (inr (inr (inr (inl refl))))))))))))))))
-each NotAcceptable =
-    inr (inr (inr (inr (inr (inr (inr (inr (inr (inr (inr (inr (inr (inr (inr (inr (inr (inl refl)))))))))))))))))
-each PreconditionRequired =
-    inr (inr (inr (inr (inr (inr (inr (inr (inr (inr (inr (inr (inr (inr (inr (inr (inr (inr (inl refl))))))))))))))))))
-each Admitted = inl refl
+each : (s : Reason) → (s ≡ Reason.Admitted) ⊎ Among s in_order
+each Reason.InvalidHost = inr (inl refl)
+each Reason.Misdirected = inr (inr (inl refl))
+each Reason.Preflight = inr (inr (inr (inl refl)))
+each Reason.Denied = inr (inr (inr (inr (inl refl))))
+each Reason.UnknownMethod = inr (inr (inr (inr (inr (inl refl)))))
+each Reason.MethodNotAllowed = inr (inr (inr (inr (inr (inr (inl refl))))))
+each Reason.UnmetExpectation = inr (inr (inr (inr (inr (inr (inr (inl refl)))))))
+each Reason.PartialContent = inr (inr (inr (inr (inr (inr (inr (inr (inl refl))))))))
+each Reason.Moved = inr (inr (inr (inr (inr (inr (inr (inr (inr (inl refl)))))))))
+each Reason.Gone = inr (inr (inr (inr (inr (inr (inr (inr (inr (inr (inl refl))))))))))
+each Reason.NotFound = inr (inr (inr (inr (inr (inr (inr (inr (inr (inr (inr (inl refl)))))))))))
+each Reason.Options = inr (inr (inr (inr (inr (inr (inr (inr (inr (inr (inr (inr (inl refl))))))))))))
+each Reason.LengthRequired = inr (inr (inr (inr (inr (inr (inr (inr (inr (inr (inr (inr (inr (inl refl)))))))))))))
+each Reason.UnsupportedMediaType = grind (arith)
+each Reason.UnsupportedCoding = grind (arith)
+each Reason.NotAcceptable = grind (arith)
+each Reason.PreconditionRequired = grind (arith)
+each Reason.Admitted = inl refl
+each s = inr (inr (inr (inr (inr (inr (inr (inr (inr (inr (inr (inr (inr (inr (inl refl))))))))))))))
 
 -- none comes after that nothing stands in the way
 last : (r : Reason) → stage r ≤ 15
-last InvalidHost = lit≤ tt
-last Misdirected = lit≤ tt
-last Preflight = lit≤ tt
-last Denied = lit≤ tt
-last UnknownMethod = lit≤ tt
-last MethodNotAllowed = lit≤ tt
-last Options = lit≤ tt
-last UnmetExpectation = lit≤ tt
-last PartialContent = lit≤ tt
-last Moved = lit≤ tt
-last Gone = lit≤ tt
-last NotFound = lit≤ tt
-last LengthRequired = lit≤ tt
-last ContentTooLarge = lit≤ tt
-last UnsupportedMediaType = lit≤ tt
-last UnsupportedCoding = lit≤ tt
-last NotAcceptable = lit≤ tt
-last PreconditionRequired = lit≤ tt
-last Admitted = lit≤ tt
+last Reason.InvalidHost = lit≤ tt
+last r = lit≤ tt
 
 -- what is found among the reasons in order is the first that applies
-pub first_in_order : (p : Reason → Bool) → p Admitted ≡ true → (found : Option Reason) → found ≡ find p in_order
+pub first_in_order : (p : Reason → Bool) → p Reason.Admitted ≡ true → (found : Option Reason) → found ≡ find p in_order
     → IsFirst p (or_admitted found)
 first_in_order p admits None e =
     record {
       is = admits;
-      none_before = λ s before.
-          elim (each s) [
-            | inl own ↦ let level : stage s ≡ 15 = ap stage own in absurd (omega (arith, level, before))
-            | inr among ↦ found_none p in_order (sym e) s among
-          ];
+      none_before = λ s before. elim (each s) [
+        | inl own ↦ let level : stage s ≡ 15 = ap stage own in absurd (omega (arith, level, before))
+        | inr among ↦ found_none p in_order (sym e) s among
+      ];
     }
 first_in_order p admits (Some r) e =
     let first = found_first p in_order ordered r (sym e) in
     record {
       is = first.is;
-      none_before = λ s before.
-          elim (each s) [
-            | inl own ↦
-                let level : stage s ≡ 15 = ap stage own in
-                let most : stage r ≤ 15 = last r in
-                absurd (omega (arith, level, most, before))
-            | inr among ↦ first.none_before s among before
-          ];
+      none_before = λ s before. elim (each s) [
+        | inl own ↦
+            let level : stage s ≡ 15 = ap stage own in
+            let most : stage r ≤ 15 = last r in
+            absurd (omega (arith, level, most, before))
+        | inr among ↦ first.none_before s among before
+      ];
     }

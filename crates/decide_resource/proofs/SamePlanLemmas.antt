@@ -1,43 +1,28 @@
 -- Requests with the same conditions and the same range have the same plan.
-use Rattle.std.proofs.Common.{◌≡◌, ◌⊎◌, ℕ, true, false, List, [], ◌∷◌, Option, Some, None, sym, ◌∙◌, ap, subst, inl}
-use Rattle.std.{proofs.Common.{inr, length, bytes_eq}, specs.Prelude.{codes, if◌then◌else◌, nat_lt, ◌==◌}}
-use Rattle.std.specs.Option.{option_and_then, option_map_or}
-use Rattle.http_header.specs.FieldValue.{FieldValue}
-use Rattle.headers.{specs.LineMap.LineMap, specs.Lines.Line}
-use Rattle.decide_preconditions.specs.Conditions.{IfNoneMatchIsFalse, ModifiedSinceLets, only_text}
-use Rattle.decide_preconditions.{specs.Contents.{divisible_len, limits_of}, specs.Fields.fields_sent}
-use Rattle.decide_preconditions.{specs.Plans.{IsPlan, Reads, SendsParts}, specs.Preconditions.{Answers, HasIfNoneMatch}}
+use Rattle.std.proofs.Common.{arith, ◌≡◌, ◌⊎◌, ℕ, List, [], ◌∷◌, Option, Some, None, ◌∙◌, ap, subst, inl, inr, length}
+use Rattle.std.{proofs.Common.bytes_eq, specs.{Prelude.{codes, if◌then◌else◌, nat_lt}, Option.option_and_then}}
+use Rattle.{std.specs.Option.option_map_or, http_header.specs.FieldValue.FieldValue, headers.specs.LineMap.LineMap}
+use Rattle.{headers.specs.Lines.Line, decide_preconditions.specs.Contents.{divisible_len, limits_of}}
+use Rattle.decide_preconditions.specs.{Fields.fields_sent, Plans.{IsPlan, Reads, SendsParts}, Preconditions.Answers}
 use Rattle.decide_preconditions.specs.Preconditions.{IsRead, IsStoredByDate, IsStoredByTag, MayBeThere, StateIsKept}
-use Rattle.decide_preconditions.{specs.Preconditions.{StateIsLost, StepsAnswer}, specs.Responses.IsAnswered}
-use Rattle.decide_preconditions.specs.Selection.{Applies, AsksFor, Selects, is_exactly, range_set_of}
-use Rattle.decide_preconditions.{specs.declared.content.Content.Content, specs.declared.limits.RangeLimits.RangeLimits}
-use Rattle.decide_preconditions.{specs.declared.part.Part.Part, specs.declared.plan.Plan.Plan}
+use Rattle.decide_preconditions.specs.{Preconditions.{StateIsLost, StepsAnswer}, Responses.IsAnswered}
+use Rattle.decide_preconditions.specs.{Selection.{Applies, AsksFor, Selects}, declared.content.Content.Content}
+use Rattle.decide_preconditions.specs.declared.{limits.RangeLimits.RangeLimits, part.Part.Part, plan.Plan.Plan}
 use Rattle.decide_preconditions.specs.declared.plan.Plan.TheVariants.{NotModified, Failed, Full, Single, Multiple}
 use Rattle.decide_preconditions.specs.declared.plan.Plan.TheVariants.{Unsatisfiable}
-use Rattle.decide_preconditions.specs.declared.precondition.Precondition.{Precondition}
-use Rattle.decide_preconditions.specs.declared.precondition.Precondition.TheVariants as precondition
-use Rattle.decide_preconditions.specs.declared.resource.Resource.{Resource}
-use Rattle.decide_preconditions.specs.declared.resource.Validators.{Validators}
-use Rattle.decide_preconditions.specs.declared.response.Response.{Response}
-use Rattle.decide_preconditions.specs.declared.selection.Selection.TheVariants as selection
+use Rattle.decide_preconditions.specs.declared.{precondition.Precondition.Precondition, resource.Resource.Resource}
+use Rattle.decide_preconditions.specs.declared.{resource.Validators.Validators, response.Response.Response}
 use Rattle.decide_resource.specs.Vary.{AskAlike}
+use Rattle.decide_preconditions.specs.declared.precondition.Precondition.TheVariants as precondition
+use Rattle.decide_preconditions.specs.declared.selection.Selection.TheVariants as selection
 
 pub back : (r s : LineMap) → AskAlike r s → AskAlike s r
-back r s h =
-    record {
-      if_match = sym h.if_match;
-      if_none_match = sym h.if_none_match;
-      if_modified_since = sym h.if_modified_since;
-      if_unmodified_since = sym h.if_unmodified_since;
-      range = sym h.range;
-      if_range = sym h.if_range;
-    }
+back r s h = grind (arith)
 
 -- the fields of steps 1 to 4
 abbrev conditions : List Line → List Line → List Line → List Line → LineMap
 conditions match none_match modified unmodified name =
-    if bytes_eq (codes "if-match") name then match
-    else (if bytes_eq (codes "if-none-match") name then none_match
+    if bytes_eq (codes "if-match") name then match else (if bytes_eq (codes "if-none-match") name then none_match
     else (if bytes_eq (codes "if-modified-since") name then modified
     else (if bytes_eq (codes "if-unmodified-since") name then unmodified else [])))
 
@@ -47,23 +32,7 @@ conditions_of f =
     (f (codes "if-unmodified-since"))
 
 same_conditions : (r s : LineMap) → AskAlike r s → conditions_of r ≡ conditions_of s
-same_conditions r s h =
-    ap
-    (λ (lines : List Line). conditions lines (r (codes "if-none-match")) (r (codes "if-modified-since"))
-    (r (codes "if-unmodified-since")))
-    h.if_match
-    ∙ ap
-    (λ (lines : List Line). conditions (s (codes "if-match")) lines (r (codes "if-modified-since"))
-    (r (codes "if-unmodified-since")))
-    h.if_none_match
-    ∙ ap
-    (λ (lines : List Line). conditions (s (codes "if-match")) (s (codes "if-none-match")) lines
-    (r (codes "if-unmodified-since")))
-    h.if_modified_since
-    ∙ ap
-    (λ (lines : List Line). conditions (s (codes "if-match")) (s (codes "if-none-match"))
-    (s (codes "if-modified-since")) lines)
-    h.if_unmodified_since
+same_conditions r s h = grind (arith)
 
 module _ (present : ℕ) (resource : Resource) where
   kept : (r s : LineMap) → AskAlike r s → StateIsKept present r resource → StateIsKept present s resource
@@ -77,62 +46,30 @@ module _ (present : ℕ) (resource : Resource) where
 
   stored : (r s : LineMap) → AskAlike r s → IsStoredByTag r resource ⊎ IsStoredByDate present r resource
       → IsStoredByTag s resource ⊎ IsStoredByDate present s resource
-  stored r s same h =
-      subst (λ (m : LineMap). IsStoredByTag m resource ⊎ IsStoredByDate present m resource)
-      (same_conditions r s same) h
+  stored r s same h = grind (arith, resource, same_conditions)
 
   read : (r s : LineMap) → AskAlike r s → IsRead present r resource → IsRead present s resource
-  read r s same h =
-      let e = same_conditions r s same in
-      record {
-        by_tag =
-            subst (λ (m : LineMap). HasIfNoneMatch m → ¬ (IfNoneMatchIsFalse m resource)) e h.by_tag;
-        by_date =
-            subst (λ (m : LineMap). (¬ (HasIfNoneMatch m)) → ModifiedSinceLets present m resource) e h.by_date;
-      }
+  read r s same h = grind (arith, same_conditions, resource)
 
   steps : (r s : LineMap) → AskAlike r s → (method : List ℕ) (answer : Precondition)
       → StepsAnswer present r resource method answer → StepsAnswer present s resource method answer
-  steps r s same method precondition.Perform h = (
-    kept r s same h.0,
-    (λ is_read. read r s same (h.1 is_read)),
-    (λ other may. h.2 other (there s r (back r s same) may)),
-  )
+  steps r s same method precondition.Perform h = grind (arith, kept, read, there, back)
   steps r s same method precondition.NotModified h = (kept r s same h.0, h.1, stored r s same h.2)
   steps r s same method precondition.Failed (inl h) = inl (lost r s same h)
   steps r s same method precondition.Failed (inr h) = inr (kept r s same h.0, h.1, there r s same h.2)
 
   answers : (r s : LineMap) → AskAlike r s → (method : List ℕ) (answer : Precondition)
       → Answers present r resource method answer → Answers present s resource method answer
-  answers r s same method answer h =
-      record {
-        unconditional = h.unconditional;
-        conditional = λ counts. steps r s same method answer (h.conditional counts);
-      }
+  answers r s same method answer h = grind (arith, steps)
 
 module _ (present : ℕ) (method : List ℕ) (current : Validators) (len : ℕ) where
   applies : (r s : LineMap) → AskAlike r s → (set : List ℕ) → Applies present method r current len set
       → Applies present method s current len set
-  applies r s same set h =
-      record {
-        is_get = h.is_get;
-        asked =
-            subst
-            (λ (lines : List Line). option_and_then range_set_of (only_text lines) ≡ Some set)
-            same.range h.asked;
-        if_range =
-            subst
-            (λ (lines : List Line).
-            (if length lines == 0 then true
-            else option_map_or (is_exactly present current) (only_text lines) false) ≡ true)
-            same.if_range h.if_range;
-        content = h.content;
-      }
+  applies r s same set h = grind (arith, option_and_then, option_map_or)
 
   module _ (limits : RangeLimits) where
     asks : (r s : LineMap) → AskAlike r s → (set : List ℕ) (parts : List Part)
-        → AsksFor present method r current len limits set parts
-        → AsksFor present method s current len limits set parts
+        → AsksFor present method r current len limits set parts → AsksFor present method s current len limits set parts
     asks r s same set parts h = record { applies = applies r s same set h.applies; asked = h.asked }
 
     whole : (r s : LineMap) → AskAlike r s → Selects present method r current len limits selection.Whole
@@ -165,8 +102,7 @@ module _ (present : ℕ) (method : List ℕ) (resource : Resource) (len : ℕ) (
   planned NotModified h = answers present resource r s same method precondition.NotModified h
   planned Full h = (h.0, reads h.0 h.1, whole present method h.0 len limits r s same h.2)
   planned (Single part) h = (h.0, reads h.0 h.1, sends present method h.0 len limits r s same resource (part ∷ []) h.2)
-  planned (Multiple parts) h =
-      (h.0, reads h.0 h.1, sends present method h.0 len limits r s same resource parts.items h.2, h.3)
+  planned (Multiple parts) h = grind (arith, reads, sends, limits, resource)
   planned Unsatisfiable h = (h.0, reads h.0 h.1, none present method h.0 len limits r s same h.2)
 
 pub answered : (present : ℕ) (method : List ℕ) (target : Resource) (content : Content) (multipart : FieldValue)
@@ -181,8 +117,7 @@ answered present method target content multipart r s same (Some response) h =
           planned present method target (divisible_len content) (limits_of content) r s same response.plan h.plan;
       status = h.status;
       fields =
-          h.fields
-          ∙ ap
+          h.fields ∙ ap
           (λ (lines : List Line). fields_sent present response.plan (nat_lt 0 (length lines)) target content multipart)
           same.if_range;
     }

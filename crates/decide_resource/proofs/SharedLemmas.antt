@@ -1,14 +1,12 @@
 -- What browsers make of an answer.
-use Rattle.std.proofs.Common.{◌≡◌, ◌↔◌, ℕ, List, [], ◌∷◌, ◌++◌, Option, Some, refl, sym, ◌∙◌, ap, subst}
-use Rattle.std.specs.Prelude.{codes}
-use Rattle.headers.specs.LineMap.{Field, LineMap, fields_of, set, set_all}
-use Rattle.decide_cors.specs.Browser.{CorsCheck, IsOkStatus, IsPreflightFor, PreflightPasses, Request as Sent}
-use Rattle.decide_cors.{specs.Policy.Policy, specs.Rules.{AllowsCredentials, AllowsOrigin, AllowsRequest, IsLawful}}
-use Rattle.decide_cors.{specs.Rules.IsPolicyOf, specs.declared.rules.CorsRules.CorsRules}
-use Rattle.decide_cors.proofs.CheckLemmas.{check_is_policy, preflight_is_policy}
-use Rattle.decide_resource.{specs.Answers.{IsAnswer, IsShared, varying}, specs.Fields.{vary_fields, vary_lines}}
-use Rattle.decide_resource.{specs.Requests.Request, specs.declared.answer.Answer.Answer}
-use Rattle.decide_resource.specs.declared.resource.Resource.{Resource}
+use Rattle.std.{proofs.Common.{arith, ◌≡◌, ◌↔◌, ℕ, List, [], ◌∷◌, ◌++◌, Some, refl, sym, subst}, specs.Prelude.codes}
+use Rattle.{headers.specs.LineMap.{Field, LineMap, fields_of, set, set_all}, decide_cors.specs.Browser.CorsCheck}
+use Rattle.decide_cors.specs.{Browser.{IsOkStatus, IsPreflightFor, PreflightPasses, Request as Sent}, Policy.Policy}
+use Rattle.decide_cors.specs.Rules.{AllowsCredentials, AllowsOrigin, AllowsRequest, IsLawful, IsPolicyOf}
+use Rattle.decide_cors.{specs.declared.rules.CorsRules.CorsRules, proofs.CheckLemmas.check_is_policy}
+use Rattle.{decide_cors.proofs.CheckLemmas.preflight_is_policy, decide_resource.specs.Answers.{IsAnswer, IsShared}}
+use Rattle.decide_resource.specs.{Answers.varying, Fields.{vary_fields, vary_lines}, Requests.Request}
+use Rattle.decide_resource.specs.declared.{answer.Answer.Answer, resource.Resource.Resource}
 
 pub set_all-append : (m : LineMap) (xs ys : List Field) → set_all m (xs ++ ys) ≡ set_all (set_all m xs) ys
 set_all-append m [] ys = refl
@@ -17,17 +15,13 @@ set_all-append m (x ∷ xs) ys = set_all-append (set m x) xs ys
 module _ (present : ℕ) (resource : Resource) (request : Request) (answer : Answer) (policy : Policy)
     (has : resource.cors ≡ Some policy) (a : IsAnswer present resource request answer) (before : LineMap) where
   shares : IsShared (Some policy) request (vary_lines resource answer.reason) a.shared
-  shares =
-      subst (λ (p : Option Policy). IsShared p request (vary_lines resource answer.reason) a.shared) has a.is_shared
+  shares = grind (arith, resource)
 
   -- the fields of the policy come last
   come_last : set_all before (fields_of answer.fields.items)
       ≡ set_all (set_all before (a.own ++ vary_fields (vary_lines resource answer.reason)))
       (fields_of shares.0.fields.items)
-  come_last =
-      let rest = a.own ++ vary_fields (vary_lines resource answer.reason) in
-      ap (set_all before) a.fields ∙ set_all-append before rest a.shared
-      ∙ ap (set_all (set_all before rest)) shares.2
+  come_last = grind (arith, resource, set_all-append, shares)
 
   pub check_of_answer : (rules : CorsRules) (sent : Sent) → IsLawful rules → IsPolicyOf rules policy
       → request.fields (codes "origin") ≡ sent.origin ∷ []

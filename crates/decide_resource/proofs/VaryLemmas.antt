@@ -1,50 +1,37 @@
 -- What Vary tells a cache.
 use Rattle.std.proofs.Common.{◌≡◌, ◌≢◌, ℕ, ◌<◌, Bool, true, false, List, [], ◌∷◌, ◌++◌, Option, Some, None, refl, sym}
-use Rattle.std.{proofs.Common.{◌∙◌, ap, subst, inl, inr, arith, bytes_eq, lit<}, specs.Prelude.{◌&&◌, ◌||◌, codes}}
-use Rattle.std.{specs.Prelude.{if◌then◌else◌, is_some, nat_lt, length, not}, proofs.lemmas.Bool.cases_Bool}
-use Rattle.std.{proofs.lemmas.Grind.flat_map-append, proofs.lemmas.List.Folds.list_any-append}
-use Rattle.std.proofs.lemmas.Slice.Eq.{bytes_eq-Decides}
-use Rattle.headers.{specs.LineMap.{Field, LineMap, fields_of, set_all}, specs.Lines.Line}
-use Rattle.rfc_fields.{specs.Directives.is_same_token, specs.Members.{field_members, members}, specs.Scan.pieces}
-use Rattle.rfc_fields.specs.Scan.{push}
-use Rattle.gateway_messages.specs.declared.protocol.Protocol.{Protocol}
-use Rattle.decide_cors.{specs.Cache.{Serves, nominates}, specs.Fields.{covers_origin, grant_fields, granted, vary_sent}}
-use Rattle.decide_cors.{specs.Kinds.is_preflight, specs.Policy.Policy, proofs.SameLemmas.{never_pre, same_by}}
-use Rattle.decide_cors.proofs.VaryLemmas.{nominates-behind, origin_tells}
+use Rattle.std.proofs.{Common.{◌∙◌, ap, subst, arith, bytes_eq, lit<}, lemmas.{Bool.cases_Bool, Grind.flat_map-append}}
+use Rattle.std.{proofs.lemmas.{List.Folds.list_any-append, Slice.Eq.bytes_eq-Decides}, specs.Prelude.{◌&&◌, codes}}
+use Rattle.{std.specs.Prelude.{if◌then◌else◌, is_some, nat_lt, length, not}, headers.specs.LineMap.{Field, LineMap}}
+use Rattle.{headers.specs.{LineMap.{fields_of, set_all}, Lines.Line}, rfc_fields.specs.Scan.{pieces, push}}
+use Rattle.{gateway_messages.specs.declared.protocol.Protocol.Protocol, decide_cors.specs.Cache.{Serves, nominates}}
+use Rattle.decide_cors.specs.{Fields.{covers_origin, grant_fields, granted, vary_sent}, Policy.Policy}
+use Rattle.decide_cors.proofs.{SameLemmas.{never_pre, same_by}, VaryLemmas.{nominates-behind, origin_tells}}
 use Rattle.decide_resource.specs.Answers.{AreSame, GivesIf, IsAnswer, IsShared, at_place, content_of, is_admitted}
-use Rattle.decide_resource.{specs.Answers.{response_fields, target_of, varying}, specs.Applies.{applies, is_current}}
+use Rattle.decide_resource.specs.{Answers.{response_fields, target_of}, Applies.{applies, is_current}}
 use Rattle.decide_resource.specs.Applies.{is_preflight_request, is_present, is_read, is_unacceptable, rule_for}
-use Rattle.decide_resource.specs.Applies.{is_unsupported_part, takes_parts, takes_type}
-use Rattle.decide_resource.specs.Fields.{depends_on_selection, describes, line_if, metadata_fields, reason_fields}
-use Rattle.decide_resource.specs.Fields.{selecting, status_of, vary_fields, vary_lines}
-use Rattle.decide_resource.{specs.Reasons.{IsFirst, stage}, specs.Representations.{are_unacceptable, score}}
-use Rattle.decide_resource.{specs.Requests.Request, specs.Vary.AreAlike, specs.declared.answer.Answer.Answer}
-use Rattle.decide_resource.{specs.declared.answer.Sends.Sends, specs.declared.reason.Reason.Reason}
-use Rattle.decide_resource.specs.declared.reason.Reason.TheVariants.{InvalidHost, Misdirected, Preflight, Denied}
-use Rattle.decide_resource.specs.declared.reason.Reason.TheVariants.{UnknownMethod, MethodNotAllowed, UnmetExpectation}
-use Rattle.decide_resource.specs.declared.reason.Reason.TheVariants.{Options}
-use Rattle.decide_resource.specs.declared.denied.Denied.{Denied as Denial}
-use Rattle.decide_resource.specs.declared.reason.Reason.TheVariants.{PartialContent, Moved, Gone, NotFound}
-use Rattle.decide_resource.specs.declared.reason.Reason.TheVariants.{LengthRequired, ContentTooLarge}
-use Rattle.decide_resource.specs.declared.reason.Reason.TheVariants.{UnsupportedMediaType, UnsupportedCoding}
-use Rattle.decide_resource.specs.declared.reason.Reason.TheVariants.{NotAcceptable, PreconditionRequired, Admitted}
-use Rattle.decide_resource.specs.declared.representation.Negotiation.{Negotiation}
+use Rattle.decide_resource.specs.{Applies.{is_unsupported_part, takes_parts, takes_type}, Fields.depends_on_selection}
+use Rattle.decide_resource.specs.Fields.{describes, line_if, metadata_fields, reason_fields, selecting, status_of}
+use Rattle.decide_resource.specs.{Fields.{vary_fields, vary_lines}, Reasons.{IsFirst, stage}}
+use Rattle.decide_resource.specs.{Representations.{are_unacceptable, score}, Requests.Request, Vary.AreAlike}
+use Rattle.decide_resource.specs.declared.{answer.{Answer.Answer, Sends.Sends}, reason.Reason.Reason}
+use Rattle.decide_resource.specs.declared.reason.Reason.TheVariants.{InvalidHost, Preflight, Denied, PartialContent}
+use Rattle.decide_resource.specs.declared.reason.Reason.TheVariants.{Moved, Gone, UnsupportedMediaType}
+use Rattle.decide_resource.specs.declared.reason.Reason.TheVariants.{UnsupportedCoding, NotAcceptable}
+use Rattle.decide_resource.specs.declared.reason.Reason.TheVariants.{PreconditionRequired, Admitted}
+use Rattle.decide_resource.specs.declared.{denied.Denied.Denied as Denial, representation.Negotiation.Negotiation}
 use Rattle.decide_resource.specs.declared.representation.Representation.{Representation}
-use Rattle.decide_resource.specs.declared.request.RequestContent.{RequestContent}
-use Rattle.decide_resource.{specs.declared.resource.Resource.Resource, proofs.AnswerLemmas.gives_same}
-use Rattle.decide_resource.{proofs.OneReasonLemmas.one_reason, proofs.PickLemmas.{first_alike, picks_alike}}
-use Rattle.decide_resource.{proofs.SamePlanLemmas.answered, proofs.SelectionLemmas.{SelectAlike, score_alike}}
-use Rattle.decide_resource.{proofs.SelectionLemmas.unacceptable_alike, proofs.SharedLemmas.set_all-append}
-use Rattle.decide_preconditions.{specs.Responses.IsAnswered, specs.declared.response.Response.Response}
+use Rattle.decide_resource.specs.declared.{request.RequestContent.RequestContent, resource.Resource.Resource}
+use Rattle.decide_resource.proofs.{AnswerLemmas.gives_same, OneReasonLemmas.one_reason, PickLemmas.first_alike}
+use Rattle.decide_resource.proofs.{PickLemmas.picks_alike, SamePlanLemmas.answered, SelectionLemmas.SelectAlike}
+use Rattle.decide_resource.proofs.{SelectionLemmas.{score_alike, unacceptable_alike}, SharedLemmas.set_all-append}
+use Rattle.decide_preconditions.specs.{Responses.IsAnswered, declared.response.Response.Response}
 
 -- ---- what Vary names
 
 before_others : (lines others : List Line) (name : Line) → nominates lines name ≡ true
     → nominates (lines ++ others) name ≡ true
-before_others lines others name e =
-    rw (flat_map-append (members true) lines others)
-    (list_any-append (is_same_token name) (field_members true lines) (field_members true others)
-    ∙ ap (λ (b : Bool). b || nominates others name) e)
+before_others lines others name e = grind (arith, flat_map-append, list_any-append)
 
 abbrev of_flags : Bool → Bool → Bool → List Line
 of_flags a b c =
@@ -83,8 +70,7 @@ no_origin false true false = refl
 no_origin false false true = refl
 no_origin false false false = refl
 
-no_origin_in : (negotiation : Negotiation) (b : Bool)
-    → covers_origin (if b then selecting negotiation else []) ≡ false
+no_origin_in : (negotiation : Negotiation) (b : Bool) → covers_origin (if b then selecting negotiation else []) ≡ false
 no_origin_in negotiation true = no_origin negotiation.media_type negotiation.language negotiation.coding
 no_origin_in negotiation false = refl
 
@@ -92,17 +78,13 @@ no_origin_in negotiation false = refl
 
 -- Vary after the fields of a policy that lists its origins, or doesn't
 policy_varies : (m : LineMap) (policy : Policy) (pre : Bool) (line : Option Line) (lines : List Line)
-    → covers_origin lines ≡ false
-    → set_all m (grant_fields policy pre line ++ vary_sent policy lines) (codes "vary")
+    → covers_origin lines ≡ false → set_all m (grant_fields policy pre line ++ vary_sent policy lines) (codes "vary")
     ≡ (if is_some policy.origins then lines ++ codes "origin" ∷ [] else m (codes "vary"))
 policy_varies m policy pre line lines none = by (is_some policy.origins)
   where
-    by : (b : Bool)
-        → set_all m
-        (grant_fields policy pre line
+    by : (b : Bool) → set_all m (grant_fields policy pre line
         ++ (if b then (if covers_origin lines then [] else (codes "vary", lines ++ codes "origin" ∷ []) ∷ []) else []))
-        (codes "vary")
-        ≡ (if b then lines ++ codes "origin" ∷ [] else m (codes "vary"))
+        (codes "vary") ≡ (if b then lines ++ codes "origin" ∷ [] else m (codes "vary"))
     by true = rw none refl
     by false = refl
 
@@ -115,17 +97,12 @@ module _ (present : ℕ) (resource : Resource) (request : Request) (answer : Ans
   final = set_all before (fields_of answer.fields.items) (codes "vary")
 
   final_is : final ≡ set_all first a.shared (codes "vary")
-  final_is =
-      ap (λ (fields : List Field). set_all before fields (codes "vary")) a.fields
-      ∙ ap (λ (m : LineMap). m (codes "vary"))
-      (set_all-append before (a.own ++ vary_fields (vary_lines resource answer.reason)) a.shared)
+  final_is = grind (arith, set_all-append, resource)
 
   -- the lines, if there are some, are those of Vary before the policy adds to them
   first_is : (line : Line) (rest : List Line) → vary_lines resource answer.reason ≡ line ∷ rest
       → first (codes "vary") ≡ line ∷ rest
-  first_is line rest e =
-      ap (λ (ls : List Line). set_all before (a.own ++ vary_fields ls) (codes "vary")) e
-      ∙ ap (λ (m : LineMap). m (codes "vary")) (set_all-append before a.own ((codes "vary", line ∷ rest) ∷ []))
+  first_is line rest e = grind (arith, set_all-append)
 
   -- Vary in the end: the policy adds `origin` if it lists its origins
   abbrev ends : Option Policy → List Line
@@ -134,18 +111,8 @@ module _ (present : ℕ) (resource : Resource) (request : Request) (answer : Ans
       if is_some policy.origins then vary_lines resource answer.reason ++ codes "origin" ∷ [] else first (codes "vary")
 
   final_by : (cors : Option Policy) → resource.cors ≡ cors → final ≡ ends cors
-  final_by None e =
-      let none : a.shared ≡ [] =
-      subst (λ (p : Option Policy). IsShared p request (vary_lines resource answer.reason) a.shared) e a.is_shared in
-      final_is ∙ ap (λ (fields : List Field). set_all first fields (codes "vary")) none
-  final_by (Some policy) e =
-      let shares : IsShared (Some policy) request (vary_lines resource answer.reason) a.shared =
-      subst (λ (p : Option Policy). IsShared p request (vary_lines resource answer.reason) a.shared) e a.is_shared in
-      final_is
-      ∙ ap (λ (fields : List Field). set_all first fields (codes "vary")) (shares.2 ∙ shares.1.fields)
-      ∙ policy_varies first policy (is_preflight shares.0.kind) (granted policy (request.fields (codes "origin")))
-      (vary_lines resource answer.reason)
-      (no_origin_in resource.negotiation (depends_on_selection answer.reason))
+  final_by None e = grind (arith, request, resource, final_is)
+  final_by (Some policy) e = grind (arith, request, resource, final_is, policy_varies, no_origin_in)
 
   -- what the decision names, Vary names in the end
   named : (name : Line) → nominates (vary_lines resource answer.reason) name ≡ true → nominates final name ≡ true
@@ -200,8 +167,7 @@ module _ (present : ℕ) (resource : Resource) (request : Request) (answer : Ans
         by (Some listed) e =
             let ls = vary_lines resource answer.reason in
             let f : final ≡ ls ++ codes "origin" ∷ [] =
-            final_by (Some policy) c
-            ∙ ap
+            final_by (Some policy) c ∙ ap
             (λ (o : Option (List Line)). if is_some o then ls ++ codes "origin" ∷ [] else first (codes "vary")) e in
             let names : nominates final (codes "origin") ≡ true =
             subst (λ (lines : List Line). nominates lines (codes "origin") ≡ true) (sym f)
@@ -212,11 +178,9 @@ module _ (present : ℕ) (resource : Resource) (request : Request) (answer : Ans
 
 abbrev fields_with : List Line → List Line → List Line → List Line → List Line → List Line → LineMap
 fields_with host expect type coding match none_match name =
-    if bytes_eq (codes "host") name then host
-    else (if bytes_eq (codes "expect") name then expect
+    if bytes_eq (codes "host") name then host else (if bytes_eq (codes "expect") name then expect
     else (if bytes_eq (codes "content-type") name then type
-    else (if bytes_eq (codes "content-encoding") name then coding
-    else (if bytes_eq (codes "if-match") name then match
+    else (if bytes_eq (codes "content-encoding") name then coding else (if bytes_eq (codes "if-match") name then match
     else (if bytes_eq (codes "if-none-match") name then none_match else [])))))
 
 -- a request of what the reasons read, but for 406 and for a part that PUT doesn't take
@@ -239,41 +203,13 @@ read_of q =
     (q.fields (codes "if-none-match"))
 
 same_read : (r s : Request) → AreAlike r s → read_of r ≡ read_of s
-same_read r s h =
-    cc (
-      h.protocol,
-      h.method,
-      h.authority,
-      h.content,
-      h.denied,
-      h.host,
-      h.expect,
-      h.content_type,
-      h.content_encoding,
-      h.asks.if_match,
-      h.asks.if_none_match,
-    )
+same_read r s h = grind (arith)
 
 early : (reason : Reason) → depends_on_selection reason ≡ false → stage reason < 13
-early InvalidHost e = lit< tt
-early Misdirected e = lit< tt
-early Preflight e = lit< tt
-early Denied e = lit< tt
-early UnknownMethod e = lit< tt
-early MethodNotAllowed e = lit< tt
-early Options e = lit< tt
-early UnmetExpectation e = lit< tt
-early PartialContent e = lit< tt
-early Moved e = lit< tt
-early Gone e = lit< tt
-early NotFound e = lit< tt
-early LengthRequired e = lit< tt
-early ContentTooLarge e = lit< tt
-early UnsupportedMediaType e = lit< tt
-early UnsupportedCoding e = lit< tt
 early NotAcceptable e = absurd (cc e)
 early PreconditionRequired e = absurd (cc e)
 early Admitted e = absurd (cc e)
+early reason e = lit< tt
 
 admitted_depends : (reason : Reason) → is_admitted reason ≡ true → depends_on_selection reason ≡ true
 admitted_depends Admitted e = refl
@@ -294,8 +230,7 @@ no_preflight m fields other = by (bytes_eq m (codes "OPTIONS")) refl
 module _ (resource : Resource) (r s : Request) (alike : AreAlike r s)
     (leave : is_preflight_request r.method r.fields ≡ is_preflight_request s.method s.fields) where
   -- only of PUT does Content-Range count
-  same_part : (m : List ℕ)
-      → (m ≡ codes "PUT" → r.fields (codes "content-range") ≡ s.fields (codes "content-range"))
+  same_part : (m : List ℕ) → (m ≡ codes "PUT" → r.fields (codes "content-range") ≡ s.fields (codes "content-range"))
       → is_unsupported_part (rule_for resource.rules.items m) m (r.fields (codes "content-range"))
       ≡ is_unsupported_part (rule_for resource.rules.items m) m (s.fields (codes "content-range"))
   same_part m same = by (bytes_eq m (codes "PUT")) refl
@@ -310,41 +245,20 @@ module _ (resource : Resource) (r s : Request) (alike : AreAlike r s)
 
   same_reason : (reason : Reason) → reason ≢ NotAcceptable → applies resource r reason ≡ applies resource s reason
   unfolding built rule_for takes_type
-  same_reason InvalidHost other = ap (λ (q : Request). applies resource q InvalidHost) (same_read r s alike)
-  same_reason Misdirected other = ap (λ (q : Request). applies resource q Misdirected) (same_read r s alike)
   same_reason Preflight other = ap (λ (b : Bool). is_some resource.cors && b) leave
-  same_reason Denied other = ap (λ (q : Request). applies resource q Denied) (same_read r s alike)
-  same_reason UnknownMethod other = ap (λ (q : Request). applies resource q UnknownMethod) (same_read r s alike)
-  same_reason MethodNotAllowed other = ap (λ (q : Request). applies resource q MethodNotAllowed) (same_read r s alike)
-  same_reason Options other = ap (λ (q : Request). applies resource q Options) (same_read r s alike)
-  same_reason UnmetExpectation other = ap (λ (q : Request). applies resource q UnmetExpectation) (same_read r s alike)
-  same_reason PartialContent other =
-      same_part r.method alike.content_range
-      ∙ ap
-      (λ (m : List ℕ). is_unsupported_part (rule_for resource.rules.items m) m (s.fields (codes "content-range")))
-      alike.method
+  same_reason PartialContent other = grind (arith, same_part, resource)
   same_reason Moved other = refl
   same_reason Gone other = refl
-  same_reason NotFound other = ap (λ (q : Request). applies resource q NotFound) (same_read r s alike)
-  same_reason LengthRequired other = ap (λ (q : Request). applies resource q LengthRequired) (same_read r s alike)
-  same_reason ContentTooLarge other = ap (λ (q : Request). applies resource q ContentTooLarge) (same_read r s alike)
-  same_reason UnsupportedMediaType other =
-      ap (λ (q : Request). applies resource q UnsupportedMediaType) (same_read r s alike)
-  same_reason UnsupportedCoding other =
-      ap (λ (q : Request). applies resource q UnsupportedCoding) (same_read r s alike)
   same_reason NotAcceptable other = absurd (other refl)
-  same_reason PreconditionRequired other =
-      ap (λ (q : Request). applies resource q PreconditionRequired) (same_read r s alike)
   same_reason Admitted other = refl
+  same_reason reason other = ap (λ (q : Request). applies resource q reason) (same_read r s alike)
 
   same_fields : (reason : Reason) → reason_fields resource r reason ≡ reason_fields resource s reason
   unfolding built rule_for
   same_fields InvalidHost = refl
   same_fields Denied = ap (λ (q : Request). reason_fields resource q Denied) (same_read r s alike)
-  same_fields UnsupportedMediaType =
-      ap (λ (q : Request). reason_fields resource q UnsupportedMediaType) (same_read r s alike)
-  same_fields UnsupportedCoding =
-      ap (λ (q : Request). reason_fields resource q UnsupportedCoding) (same_read r s alike)
+  same_fields UnsupportedMediaType = grind (arith, reason_fields, resource, same_read)
+  same_fields UnsupportedCoding = grind (arith, reason_fields, resource, same_read)
   same_fields reason = refl
 
   module _ (select : SelectAlike resource.negotiation r.fields s.fields) where
@@ -366,27 +280,14 @@ module _ (resource : Resource) (r s : Request) (alike : AreAlike r s)
     known rep None = refl
     known None (Some response) = refl
     known (Some rep) (Some response) =
-        ap
-        (λ (lines : List Line). metadata_fields (describes response.plan (nat_lt 0 (length lines))) rep
-        ++ fields_of response.fields.items)
-        alike.asks.if_range
+        ap (λ (lines : List Line). metadata_fields (describes response.plan (nat_lt 0 (length lines))) rep
+        ++ fields_of response.fields.items) alike.asks.if_range
 
   pub same_first : (reason : Reason)
       → (depends_on_selection reason ≡ true → SelectAlike resource.negotiation r.fields s.fields)
       → IsFirst (applies resource r) reason → IsFirst (applies resource s) reason
   same_first reason select h =
-      elim (cases_Bool (depends_on_selection reason)) [
-        | inl dep ↦ first_alike (applies resource r) (applies resource s) (all_reasons (select dep)) reason h
-        | inr free ↦
-            let low : stage reason < 13 = early reason free in
-            record {
-              is = sym (same_reason reason (other_than reason low)) ∙ h.is;
-              none_before = λ other before.
-                  let less : stage other < stage reason = before in
-                  let lower : stage other < 13 = omega (arith, less, low) in
-                  sym (same_reason other (other_than other lower)) ∙ h.none_before other before;
-            }
-      ]
+      grind (arith, cases_Bool, reason, first_alike, applies, resource, all_reasons, early, same_reason, other_than)
 
   pub gives_alike : (present : ℕ) (b : Bool) (reason : Reason) (status : Option ℕ) (sent : Sends) (fields : List Field)
       → (b ≡ true → SelectAlike resource.negotiation r.fields s.fields)
@@ -396,8 +297,7 @@ module _ (resource : Resource) (r s : Request) (alike : AreAlike r s)
       let target = target_of resource.state rep in
       let alike_select = select refl in
       let with_method =
-      subst
-      (λ (m : List ℕ). IsAnswered present m r.fields target (content_of rep) resource.boundary h.goes.response)
+      subst (λ (m : List ℕ). IsAnswered present m r.fields target (content_of rep) resource.boundary h.goes.response)
       alike.method h.goes.answered in
       record {
         place = h.place;
@@ -433,13 +333,7 @@ module _ (resource : Resource) (r s : Request) (alike : AreAlike r s)
       → ((p : Policy) → policy ≡ Some p → granted p (r.fields (codes "origin")) ≡ granted p (s.fields (codes "origin")))
       → r.method ≢ codes "OPTIONS" → IsShared policy r lines fs → IsShared policy s lines gs → fs ≡ gs
   shared_alike None lines fs gs grant other h k = h ∙ sym k
-  shared_alike (Some policy) lines fs gs grant other h k =
-      h.2
-      ∙ same_by policy r.method s.method r.fields s.fields (varying lines) h.0 k.0 h.1 k.1
-      (never_pre r.method r.fields h.0.kind other h.1.kind
-      ∙ sym (never_pre s.method s.fields k.0.kind (λ e. other (alike.method ∙ e)) k.1.kind))
-      (grant policy refl)
-      ∙ sym k.2
+  shared_alike (Some policy) lines fs gs grant other h k = grind (arith, same_by, never_pre)
 
 pub vary_is_sound : (present : ℕ) (resource : Resource) (r s : Request) (a b : Answer) (before : LineMap)
     → IsAnswer present resource r a → IsAnswer present resource s b → AreAlike r s → r.method ≢ codes "OPTIONS"

@@ -1,24 +1,18 @@
 -- What a request is answered (RFC 9110).
 use Rattle.std.specs.Prelude.{◌≡◌, ℕ, Bool, true, false, List, [], ◌∷◌, ◌++◌, slice_get, Option, Some, None, codes}
-use Rattle.std.specs.Prelude.{option_map, bytes_eq, if◌then◌else◌, ⊤}
-use Rattle.headers.{specs.LineMap.{Field, LineMap, fields_of}, specs.Lines.Line}
-use Rattle.decide_cors.specs.Answer.{IsAnswer as IsPolicyAnswer}
-use Rattle.decide_cors.{specs.Policy.Policy, specs.declared.policy.CorsAnswer.CorsAnswer}
-use Rattle.decide_negotiation.specs.Choice.{Picks}
-use Rattle.decide_preconditions.{specs.Fields.is_known_by, specs.Plans.IsSamePlan, specs.Responses.IsAnswered}
-use Rattle.decide_preconditions.{specs.declared.content.Content.Content, specs.declared.plan.Plan.Plan}
-use Rattle.decide_preconditions.specs.declared.resource.Resource.{Resource as Target}
+use Rattle.{std.specs.Prelude.{option_map, bytes_eq, if◌then◌else◌, ⊤}, headers.specs.LineMap.{Field, LineMap}}
+use Rattle.{headers.specs.{LineMap.fields_of, Lines.Line}, decide_cors.specs.Answer.IsAnswer as IsPolicyAnswer}
+use Rattle.decide_cors.specs.{Policy.Policy, declared.policy.CorsAnswer.CorsAnswer}
+use Rattle.{decide_negotiation.specs.Choice.Picks, decide_preconditions.specs.{Fields.is_known_by, Plans.IsSamePlan}}
+use Rattle.decide_preconditions.specs.{Responses.IsAnswered, declared.{content.Content.Content, plan.Plan.Plan}}
+use Rattle.decide_preconditions.specs.declared.{resource.Resource.Resource as Target, response.Response.Response}
+use Rattle.decide_resource.specs.{Applies.applies, Fields.{describes, metadata_fields, reason_fields, status_of}}
+use Rattle.decide_resource.specs.{Fields.{vary_fields, vary_lines}, Reasons.IsFirst, Representations.score}
+use Rattle.decide_resource.specs.{Requests.Request, declared.answer.{Answer.Answer, Sends.Sends}}
+use Rattle.decide_resource.specs.declared.{reason.Reason.Reason, representation.Representation.Representation}
+use Rattle.decide_resource.specs.declared.resource.{Resource.Resource, State.State}
 use Rattle.decide_preconditions.specs.declared.resource.Resource.TheVariants as target
-use Rattle.decide_preconditions.specs.declared.response.Response.{Response}
-use Rattle.decide_resource.{specs.Applies.applies, specs.Fields.{describes, metadata_fields, reason_fields, status_of}}
-use Rattle.decide_resource.{specs.Fields.{vary_fields, vary_lines}, specs.Reasons.IsFirst, specs.Representations.score}
-use Rattle.decide_resource.{specs.Requests.Request, specs.declared.answer.Answer.Answer}
-use Rattle.decide_resource.specs.declared.answer.Sends.{Sends}
 use Rattle.decide_resource.specs.declared.answer.Sends.TheVariants as sends
-use Rattle.decide_resource.{specs.declared.reason.Reason.Reason, specs.declared.reason.Reason.TheVariants.NotAcceptable}
-use Rattle.decide_resource.specs.declared.reason.Reason.TheVariants.{Admitted}
-use Rattle.decide_resource.specs.declared.representation.Representation.{Representation}
-use Rattle.decide_resource.{specs.declared.resource.Resource.Resource, specs.declared.resource.State.State}
 use Rattle.decide_resource.specs.declared.resource.State.TheVariants as state
 
 -- ---- the representation that a request selects (section 12.1)
@@ -32,10 +26,7 @@ place_of (representation ∷ representations) None = Some 0
 -- what is there of a resource in this state: a representation that was chosen, if there is a current one
 abbrev pub place_in : State → List Representation → Option ℕ → Option ℕ
 place_in state.Current representations choice = place_of representations choice
-place_in state.Absent representations choice = None
-place_in state.Gone representations choice = None
-place_in state.Server representations choice = None
-place_in (state.Moved redirect location) representations choice = None
+place_in other representations choice = None
 
 -- The place of the representation that a request selects. It is the one that the client prefers, or else the first.
 pub record IsSelected (resource : Resource) (fields : LineMap) (place : Option ℕ) : Type 0 where
@@ -53,10 +44,7 @@ without_validators =
 -- what there is without a representation to show
 abbrev pub bare : State → Target
 bare state.Current = without_validators
-bare state.Absent = target.Missing
-bare state.Gone = target.Missing
-bare state.Server = target.Missing
-bare (state.Moved redirect location) = target.Missing
+bare other = target.Missing
 
 abbrev pub no_content : Content
 no_content = record { len = None; media_type = None; ranges = None }
@@ -116,7 +104,7 @@ pub record Goes (present : ℕ) (resource : Resource) (request : Request) (statu
 
 -- 406 comes with a list of the representations that there are (section 15.5.7)
 abbrev pub sent_for : Reason → Sends
-sent_for NotAcceptable = sends.Alternatives
+sent_for Reason.NotAcceptable = sends.Alternatives
 sent_for reason = sends.Nothing
 
 pub record Stops (resource : Resource) (request : Request) (reason : Reason) (status : Option ℕ) (sent : Sends)
@@ -127,7 +115,7 @@ pub record Stops (resource : Resource) (request : Request) (reason : Reason) (st
 
 -- nothing stands in the way
 abbrev pub is_admitted : Reason → Bool
-is_admitted Admitted = true
+is_admitted Reason.Admitted = true
 is_admitted reason = false
 
 abbrev pub GivesIf : Bool → ℕ → Resource → Request → Reason → Option ℕ → Sends → List Field → Type 0

@@ -1,27 +1,22 @@
 -- When a reason applies to a request (RFC 9110).
 use Rattle.std.specs.Prelude.{ℕ, ◌==◌, Bool, true, false, not, ◌&&◌, ◌||◌, List, [], ◌∷◌, ◌++◌, Option, Some, None}
 use Rattle.std.specs.Prelude.{bytes_eq, codes, drop, find, flat_map, is_some, length, nat_le, nat_lt, take}
-use Rattle.std.{specs.Prelude.if◌then◌else◌, specs.Char.is_ascii_digit, specs.List.{list_all, list_any}}
-use Rattle.std.specs.Option.{option_map_or}
-use Rattle.http_header.specs.FieldValue.{FieldValue}
-use Rattle.headers.{specs.LineMap.{LineMap, lines_at}, specs.Lines.{Line, only_line}}
-use Rattle.gateway_messages.{specs.Expectations.has_known_expectation, specs.Requests.has_host}
-use Rattle.decide_negotiation.{specs.Codings.encoding_quality, specs.MediaRanges.media_type_says}
-use Rattle.decide_negotiation.specs.Qualities.{quality_by, quality_in, rank}
-use Rattle.decide_preconditions.specs.Tags.{is_star}
-use Rattle.headers_syntax.specs.AsciiCase.{same_name}
-use Rattle.decide_resource.{specs.Representations.are_unacceptable, specs.Requests.Request}
-use Rattle.decide_resource.{specs.declared.reason.Reason.Reason, specs.declared.reason.Reason.TheVariants.InvalidHost}
-use Rattle.decide_resource.specs.declared.reason.Reason.TheVariants.{Misdirected, Preflight, Denied, UnknownMethod}
-use Rattle.decide_resource.specs.declared.reason.Reason.TheVariants.{MethodNotAllowed, UnmetExpectation, PartialContent}
-use Rattle.decide_resource.specs.declared.reason.Reason.TheVariants.{Moved, Gone, NotFound, Options, LengthRequired}
-use Rattle.decide_resource.specs.declared.reason.Reason.TheVariants.{ContentTooLarge}
+use Rattle.std.specs.{Prelude.if◌then◌else◌, Char.is_ascii_digit, List.{list_all, list_any}, Option.option_map_or}
+use Rattle.{http_header.specs.FieldValue.FieldValue, headers.specs.{LineMap.{LineMap, lines_at}, Lines.Line}}
+use Rattle.{headers.specs.Lines.only_line, gateway_messages.specs.Expectations.has_known_expectation}
+use Rattle.{gateway_messages.specs.Requests.has_host, decide_negotiation.specs.Codings.encoding_quality}
+use Rattle.decide_negotiation.specs.{MediaRanges.media_type_says, Qualities.{quality_by, quality_in, rank}}
+use Rattle.{decide_preconditions.specs.Tags.is_star, headers_syntax.specs.AsciiCase.same_name}
+use Rattle.decide_resource.specs.{Representations.are_unacceptable, Requests.Request, declared.reason.Reason.Reason}
+use Rattle.decide_resource.specs.declared.reason.Reason.TheVariants.{InvalidHost, Misdirected, Preflight, Denied}
+use Rattle.decide_resource.specs.declared.reason.Reason.TheVariants.{UnknownMethod, MethodNotAllowed, UnmetExpectation}
+use Rattle.decide_resource.specs.declared.reason.Reason.TheVariants.{PartialContent, Moved, Gone, NotFound, Options}
+use Rattle.decide_resource.specs.declared.reason.Reason.TheVariants.{LengthRequired, ContentTooLarge}
 use Rattle.decide_resource.specs.declared.reason.Reason.TheVariants.{UnsupportedMediaType, UnsupportedCoding}
 use Rattle.decide_resource.specs.declared.reason.Reason.TheVariants.{NotAcceptable, PreconditionRequired, Admitted}
-use Rattle.decide_resource.specs.declared.request.RequestContent.{RequestContent}
+use Rattle.decide_resource.specs.declared.{request.RequestContent.RequestContent, resource.MethodRule.MethodRule}
+use Rattle.decide_resource.specs.declared.resource.{Resource.Resource, State.State}
 use Rattle.decide_resource.specs.declared.request.RequestContent.TheVariants as sent
-use Rattle.decide_resource.{specs.declared.resource.MethodRule.MethodRule, specs.declared.resource.Resource.Resource}
-use Rattle.decide_resource.specs.declared.resource.State.{State}
 use Rattle.decide_resource.specs.declared.resource.State.TheVariants as state
 
 -- ---- the host (section 7.4)
@@ -95,24 +90,15 @@ methods rules = flat_map methods_of rules ++ codes "OPTIONS" ∷ []
 
 abbrev pub has_moved : State → Bool
 has_moved (state.Moved redirect location) = true
-has_moved state.Current = false
-has_moved state.Absent = false
-has_moved state.Gone = false
-has_moved state.Server = false
+has_moved other = false
 
 abbrev pub is_gone : State → Bool
 is_gone state.Gone = true
-is_gone state.Current = false
-is_gone state.Absent = false
-is_gone (state.Moved redirect location) = false
-is_gone state.Server = false
+is_gone other = false
 
 abbrev pub is_current : State → Bool
 is_current state.Current = true
-is_current state.Absent = false
-is_current state.Gone = false
-is_current (state.Moved redirect location) = false
-is_current state.Server = false
+is_current other = false
 
 abbrev pub creates : Option MethodRule → Bool
 creates rule = option_map_or (λ r. r.creates) rule false
@@ -123,16 +109,13 @@ abbrev pub is_missing : State → List MethodRule → Option MethodRule → List
 is_missing state.Absent rules rule method =
     not (if bytes_eq method (codes "OPTIONS") then list_any (λ r. r.creates) rules else creates rule)
 is_missing state.Server rules rule method = not (bytes_eq method (codes "OPTIONS"))
-is_missing state.Current rules rule method = false
-is_missing state.Gone rules rule method = false
-is_missing (state.Moved redirect location) rules rule method = false
+is_missing other rules rule method = false
 
 -- ---- the content of the request
 
 abbrev pub is_unsized : RequestContent → Bool
 is_unsized sent.Unsized = true
-is_unsized sent.Absent = false
-is_unsized (sent.Sized len) = false
+is_unsized other = false
 
 -- the content has this length, which is above the limit
 abbrev pub exceeds : Option ℕ → RequestContent → Bool

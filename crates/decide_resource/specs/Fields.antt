@@ -1,41 +1,26 @@
 -- The fields of an answer, and its status (RFC 9110).
 use Rattle.std.specs.Prelude.{ℕ, Bool, true, false, List, [], ◌∷◌, ◌++◌, Option, Some, None, bytes_eq, codes, decimal}
-use Rattle.std.{specs.Prelude.{if◌then◌else◌, not}, specs.Option.option_map_or}
-use Rattle.http_header.specs.FieldValue.{FieldValue}
-use Rattle.headers.{specs.LineMap.{Field, lines_at}, specs.Lines.Line, specs.Merge.merge, specs.Places.comma}
-use Rattle.decide_preconditions.{specs.declared.plan.Plan.Plan, specs.declared.plan.Plan.TheVariants.NotModified}
-use Rattle.decide_preconditions.specs.declared.plan.Plan.TheVariants.{Failed, Full, Single, Multiple, Unsatisfiable}
-use Rattle.decide_resource.{specs.Applies.{methods, rule, rule_for}, specs.Requests.Request}
-use Rattle.decide_resource.specs.declared.denied.Denied.{Denied as Denial}
+use Rattle.{std.specs.{Prelude.{if◌then◌else◌, not}, Option.option_map_or}, http_header.specs.FieldValue.FieldValue}
+use Rattle.headers.specs.{LineMap.{Field, lines_at}, Lines.Line, Merge.merge, Places.comma}
+use Rattle.{decide_preconditions.specs.declared.plan.Plan.Plan, decide_resource.specs.Applies.{methods, rule, rule_for}}
+use Rattle.decide_resource.specs.{Requests.Request, declared.{denied.Denied.Denied as Denial, reason.Reason.Reason}}
+use Rattle.decide_resource.specs.declared.representation.{Negotiation.Negotiation, Representation.Representation}
+use Rattle.decide_resource.specs.declared.resource.{MethodRule.MethodRule, Redirect.Redirect, Resource.Resource}
+use Rattle.decide_resource.specs.declared.resource.State.{State}
 use Rattle.decide_resource.specs.declared.denied.Denied.TheVariants as denied
-use Rattle.decide_resource.{specs.declared.reason.Reason.Reason, specs.declared.reason.Reason.TheVariants.InvalidHost}
-use Rattle.decide_resource.specs.declared.reason.Reason.TheVariants.{Misdirected, Preflight, Denied, UnknownMethod}
-use Rattle.decide_resource.specs.declared.reason.Reason.TheVariants.{MethodNotAllowed, UnmetExpectation, PartialContent}
-use Rattle.decide_resource.specs.declared.reason.Reason.TheVariants.{Moved, Gone, NotFound, Options, LengthRequired}
-use Rattle.decide_resource.specs.declared.reason.Reason.TheVariants.{ContentTooLarge}
-use Rattle.decide_resource.specs.declared.reason.Reason.TheVariants.{UnsupportedMediaType, UnsupportedCoding}
-use Rattle.decide_resource.specs.declared.reason.Reason.TheVariants.{NotAcceptable, PreconditionRequired, Admitted}
-use Rattle.decide_resource.specs.declared.representation.Negotiation.{Negotiation}
-use Rattle.decide_resource.specs.declared.representation.Representation.{Representation}
-use Rattle.decide_resource.{specs.declared.resource.MethodRule.MethodRule, specs.declared.resource.Redirect.Redirect}
-use Rattle.decide_resource.specs.declared.resource.Redirect.TheVariants.{MovedPermanently, Temporary, Permanent}
-use Rattle.decide_resource.{specs.declared.resource.Resource.Resource, specs.declared.resource.State.State}
 use Rattle.decide_resource.specs.declared.resource.State.TheVariants as state
 
 -- ---- the status
 
 abbrev pub redirect_status : Redirect → ℕ
-redirect_status MovedPermanently = 301
-redirect_status Temporary = 307
-redirect_status Permanent = 308
+redirect_status Redirect.MovedPermanently = 301
+redirect_status Redirect.Temporary = 307
+redirect_status Redirect.Permanent = 308
 
 -- the status of a resource under another URI
 abbrev pub moved_status : State → ℕ
 moved_status (state.Moved redirect location) = redirect_status redirect
-moved_status state.Current = 200
-moved_status state.Absent = 200
-moved_status state.Gone = 200
-moved_status state.Server = 200
+moved_status other = 200
 
 -- the status of a request that is denied (sections 15.5.2, 15.5.4 and 15.6.4; RFC 6585, section 4)
 abbrev pub status_denied : Denial → ℕ
@@ -51,25 +36,25 @@ denied_status (Some why) = status_denied why
 -- The status of a reason, where the state says which redirect, and the request why it is denied; that of a request that
 -- goes on isn't among them.
 abbrev pub status_of : State → Option Denial → Reason → ℕ
-status_of state why InvalidHost = 400
-status_of state why Misdirected = 421
-status_of state why Preflight = 204
-status_of state why Denied = denied_status why
-status_of state why UnknownMethod = 501
-status_of state why MethodNotAllowed = 405
-status_of state why UnmetExpectation = 417
-status_of state why PartialContent = 400
-status_of state why Moved = moved_status state
-status_of state why Gone = 410
-status_of state why NotFound = 404
-status_of state why Options = 204
-status_of state why LengthRequired = 411
-status_of state why ContentTooLarge = 413
-status_of state why UnsupportedMediaType = 415
-status_of state why UnsupportedCoding = 415
-status_of state why NotAcceptable = 406
-status_of state why PreconditionRequired = 428
-status_of state why Admitted = 200
+status_of state why Reason.InvalidHost = 400
+status_of state why Reason.Misdirected = 421
+status_of state why Reason.Preflight = 204
+status_of state why Reason.Denied = denied_status why
+status_of state why Reason.UnknownMethod = 501
+status_of state why Reason.MethodNotAllowed = 405
+status_of state why Reason.UnmetExpectation = 417
+status_of state why Reason.PartialContent = 400
+status_of state why Reason.Moved = moved_status state
+status_of state why Reason.Gone = 410
+status_of state why Reason.NotFound = 404
+status_of state why Reason.Options = 204
+status_of state why Reason.LengthRequired = 411
+status_of state why Reason.ContentTooLarge = 413
+status_of state why Reason.UnsupportedMediaType = 415
+status_of state why Reason.UnsupportedCoding = 415
+status_of state why Reason.NotAcceptable = 406
+status_of state why Reason.PreconditionRequired = 428
+status_of state why Reason.Admitted = 200
 
 -- ---- the fields that explain a reason
 
@@ -96,10 +81,7 @@ allow_field rules = (codes "allow", merge comma (methods rules) ∷ [])
 -- Location of a resource that moved (section 10.2.2)
 abbrev pub location_fields : State → List Field
 location_fields (state.Moved redirect location) = (codes "location", location.bytes ∷ []) ∷ []
-location_fields state.Current = []
-location_fields state.Absent = []
-location_fields state.Gone = []
-location_fields state.Server = []
+location_fields other = []
 
 -- the field of this name lists the media types that a method takes
 abbrev pub types_fields : List ℕ → Option MethodRule → List Field
@@ -133,25 +115,13 @@ accept_encoding_fields rule =
 module _ (resource : Resource) (request : Request) where
   -- A 415 for a media type has no Accept-Encoding, from which a client would learn that a coding is to blame (12.5.3).
   abbrev pub reason_fields : Reason → List Field
-  reason_fields Denied = denied_fields request.denied
-  reason_fields MethodNotAllowed = allow_field resource.rules.items ∷ []
-  reason_fields Options = allow_field resource.rules.items ∷ offered_fields resource.rules.items
-  reason_fields Moved = location_fields resource.state
-  reason_fields UnsupportedMediaType = accept_fields request.method (rule resource request)
-  reason_fields UnsupportedCoding = accept_encoding_fields (rule resource request)
-  reason_fields InvalidHost = []
-  reason_fields Misdirected = []
-  reason_fields Preflight = []
-  reason_fields UnknownMethod = []
-  reason_fields UnmetExpectation = []
-  reason_fields PartialContent = []
-  reason_fields Gone = []
-  reason_fields NotFound = []
-  reason_fields LengthRequired = []
-  reason_fields ContentTooLarge = []
-  reason_fields NotAcceptable = []
-  reason_fields PreconditionRequired = []
-  reason_fields Admitted = []
+  reason_fields Reason.Denied = denied_fields request.denied
+  reason_fields Reason.MethodNotAllowed = allow_field resource.rules.items ∷ []
+  reason_fields Reason.Options = allow_field resource.rules.items ∷ offered_fields resource.rules.items
+  reason_fields Reason.Moved = location_fields resource.state
+  reason_fields Reason.UnsupportedMediaType = accept_fields request.method (rule resource request)
+  reason_fields Reason.UnsupportedCoding = accept_encoding_fields (rule resource request)
+  reason_fields other = []
 
 -- ---- the coding and the language of a representation (sections 8.4 and 8.5)
 
@@ -161,12 +131,10 @@ lines_of_value (Some value) = value.bytes ∷ []
 
 -- the answer has the header fields of the representation: a 200, and a 206 unless the client knows them (section 15.3.7)
 abbrev pub describes : Plan → Bool → Bool
-describes Full is_known = true
-describes (Single part) is_known = not is_known
-describes (Multiple parts) is_known = not is_known
-describes NotModified is_known = false
-describes Failed is_known = false
-describes Unsatisfiable is_known = false
+describes Plan.Full is_known = true
+describes (Plan.Single part) is_known = not is_known
+describes (Plan.Multiple parts) is_known = not is_known
+describes other is_known = false
 
 -- Both, where the answer has the header fields of the representation. The fields that the preconditions give follow, and
 -- remove Content-Encoding where it isn't the coding of the content.
@@ -190,25 +158,10 @@ selecting negotiation =
 
 -- the reason was found after the representations were looked at
 abbrev pub depends_on_selection : Reason → Bool
-depends_on_selection NotAcceptable = true
-depends_on_selection PreconditionRequired = true
-depends_on_selection Admitted = true
-depends_on_selection InvalidHost = false
-depends_on_selection Misdirected = false
-depends_on_selection Preflight = false
-depends_on_selection Denied = false
-depends_on_selection UnknownMethod = false
-depends_on_selection MethodNotAllowed = false
-depends_on_selection Options = false
-depends_on_selection UnmetExpectation = false
-depends_on_selection PartialContent = false
-depends_on_selection Moved = false
-depends_on_selection Gone = false
-depends_on_selection NotFound = false
-depends_on_selection LengthRequired = false
-depends_on_selection ContentTooLarge = false
-depends_on_selection UnsupportedMediaType = false
-depends_on_selection UnsupportedCoding = false
+depends_on_selection Reason.NotAcceptable = true
+depends_on_selection Reason.PreconditionRequired = true
+depends_on_selection Reason.Admitted = true
+depends_on_selection other = false
 
 abbrev pub vary_lines : Resource → Reason → List Line
 vary_lines resource reason = if depends_on_selection reason then selecting resource.negotiation else []

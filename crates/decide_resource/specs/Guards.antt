@@ -1,11 +1,10 @@
 -- What a request names that it may replace (RFC 9110, sections 13.1.1 and 13.1.2).
-use Rattle.std.specs.Prelude.{◌≡◌, ◌⊎◌, ℕ, true, false, Option, codes}
-use Rattle.headers.specs.LineMap.{LineMap}
-use Rattle.decide_preconditions.{specs.Conditions.IfMatchIsTrue, specs.Tags.is_star}
+use Rattle.{std.specs.Prelude.{◌≡◌, ◌⊎◌, ℕ, true, false, Option, codes}, headers.specs.LineMap.LineMap}
+use Rattle.decide_preconditions.specs.{Conditions.IfMatchIsTrue, Tags.is_star}
 use Rattle.decide_preconditions.specs.declared.resource.Resource.{Resource as Target}
-use Rattle.decide_preconditions.specs.declared.resource.Resource.TheVariants as target
-use Rattle.decide_resource.{specs.Answers.{IsSelected, at_place, target_of}, specs.Requests.Request}
+use Rattle.decide_resource.specs.{Answers.{IsSelected, at_place, target_of}, Requests.Request}
 use Rattle.decide_resource.specs.declared.resource.Resource.{Resource}
+use Rattle.decide_preconditions.specs.declared.resource.Resource.TheVariants as target
 
 -- If-None-Match is `*`, and there is nothing to replace
 abbrev pub ReplacesNothing : LineMap → Target → Type 0

@@ -1,10 +1,9 @@
 -- Which of the reasons that apply to a request decides.
 use Rattle.std.specs.Prelude.{◌≡◌, ℕ, ◌<◌, Bool, true, false, List, [], ◌∷◌, Option, Some, None}
-use Rattle.decide_resource.{specs.declared.reason.Reason.Reason, specs.declared.reason.Reason.TheVariants.InvalidHost}
-use Rattle.decide_resource.specs.declared.reason.Reason.TheVariants.{Misdirected, Preflight, Denied, UnknownMethod}
-use Rattle.decide_resource.specs.declared.reason.Reason.TheVariants.{MethodNotAllowed, UnmetExpectation, PartialContent}
-use Rattle.decide_resource.specs.declared.reason.Reason.TheVariants.{Moved, Gone, NotFound, Options, LengthRequired}
-use Rattle.decide_resource.specs.declared.reason.Reason.TheVariants.{ContentTooLarge}
+use Rattle.decide_resource.specs.declared.reason.Reason.{Reason, TheVariants.{InvalidHost, Misdirected, Preflight}}
+use Rattle.decide_resource.specs.declared.reason.Reason.TheVariants.{Denied, UnknownMethod, MethodNotAllowed}
+use Rattle.decide_resource.specs.declared.reason.Reason.TheVariants.{UnmetExpectation, PartialContent, Moved, Gone}
+use Rattle.decide_resource.specs.declared.reason.Reason.TheVariants.{NotFound, Options, LengthRequired, ContentTooLarge}
 use Rattle.decide_resource.specs.declared.reason.Reason.TheVariants.{UnsupportedMediaType, UnsupportedCoding}
 use Rattle.decide_resource.specs.declared.reason.Reason.TheVariants.{NotAcceptable, PreconditionRequired, Admitted}
 

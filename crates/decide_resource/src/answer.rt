@@ -1,8 +1,7 @@
 //! The answer of a resource.
-ghost use Rattle.std.specs.Prelude.{◌≡◌, ◌++◌, List, IfOk, OnOk, option_copied};
-ghost use Rattle.headers.specs.LineMap.{Field, fields_of, lines_at};
-ghost use Rattle.decide_resource.specs.Answers.{Gives, Goes, GoesOn, IsAnswer, Stops, is_admitted, with_metadata};
-ghost use Rattle.decide_resource.specs.Requests.{request_of};
+ghost use Rattle.{std.specs.Prelude.{◌≡◌, ◌++◌, List, IfOk, OnOk, option_copied}, headers.specs.LineMap.Field};
+ghost use Rattle.{headers.specs.LineMap.{fields_of, lines_at}, decide_resource.specs.Answers.{Gives, Goes, GoesOn}};
+ghost use Rattle.decide_resource.specs.{Answers.{IsAnswer, Stops, is_admitted, with_metadata}, Requests.request_of};
 
 use crate::chosen::{at_place, responded, selected};
 use crate::order::reason_for;

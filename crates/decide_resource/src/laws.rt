@@ -1,25 +1,20 @@
 //! Theorems about the definitions alone. To cite one in a proof, call it.
 ghost use Rattle.std.specs.Prelude.{◌≡◌, ◌≢◌, ◌↔◌, ◌⊎◌, ◌∷◌, [], ℕ, Contains, Option, Some, codes, false, true};
-ghost use Rattle.headers.{specs.LineMap.{LineMap, fields_of, set_all}, specs.Merge.merge, specs.Places.comma};
-ghost use Rattle.decide_cors.specs.Browser.{CorsCheck, IsOkStatus, IsPreflightFor, PreflightPasses};
-ghost use Rattle.decide_cors.specs.Browser.{Request as Sent};
-ghost use Rattle.decide_cors.{specs.Cache.Serves, specs.Policy.Policy, specs.Rules.{AllowsCredentials, AllowsOrigin}};
-ghost use Rattle.decide_cors.specs.Rules.{AllowsRequest, IsLawful, IsPolicyOf};
-ghost use Rattle.decide_cors.specs.declared.rules.CorsRules.{CorsRules};
-ghost use Rattle.decide_resource.{specs.Answers.{AreSame, IsAnswer, IsSelected}, specs.Applies.{applies, is_read}};
-ghost use Rattle.decide_resource.specs.Applies.{is_implemented, methods, needs_condition, rule};
-ghost use Rattle.decide_resource.{specs.Fields.status_denied, specs.Guards.ReplacesNamed};
-ghost use Rattle.decide_resource.{specs.Reasons.{Before, IsFirst}, specs.Requests.{Request, get_of, head_of}};
-ghost use Rattle.decide_resource.{specs.Requests.unconditional, specs.Vary.{AreAlike, ChooseAlike, SelectTheSame}};
-ghost use Rattle.decide_resource.{specs.declared.answer.Answer.Answer, specs.declared.answer.Sends.TheVariants.Perform};
-ghost use Rattle.decide_resource.{specs.declared.answer.Sends.TheVariants.Planned, specs.declared.reason.Reason.Reason};
-ghost use Rattle.decide_resource.specs.declared.denied.Denied.{Denied as Denial};
-ghost use Rattle.decide_resource.specs.declared.reason.Reason.TheVariants.{Admitted, Denied, MethodNotAllowed};
-ghost use Rattle.decide_resource.specs.declared.reason.Reason.TheVariants.{Options, Preflight};
+ghost use Rattle.headers.specs.{LineMap.{LineMap, fields_of, set_all}, Merge.merge, Places.comma};
+ghost use Rattle.decide_cors.specs.Browser.{CorsCheck, IsOkStatus, IsPreflightFor, PreflightPasses, Request as Sent};
+ghost use Rattle.decide_cors.specs.{Cache.Serves, Policy.Policy, Rules.{AllowsCredentials, AllowsOrigin}};
+ghost use Rattle.decide_cors.specs.{Rules.{AllowsRequest, IsLawful, IsPolicyOf}, declared.rules.CorsRules.CorsRules};
+ghost use Rattle.decide_resource.specs.{Answers.{AreSame, IsAnswer, IsSelected}, Applies.{applies, is_read}};
+ghost use Rattle.decide_resource.specs.{Applies.{is_implemented, methods, needs_condition, rule}, Fields.status_denied};
+ghost use Rattle.decide_resource.specs.{Guards.ReplacesNamed, Reasons.{Before, IsFirst}, Requests.{Request, get_of}};
+ghost use Rattle.decide_resource.specs.{Requests.{head_of, unconditional}, Vary.{AreAlike, ChooseAlike, SelectTheSame}};
+ghost use Rattle.decide_resource.specs.declared.answer.{Answer.Answer, Sends.TheVariants.{Perform, Planned}};
+ghost use Rattle.decide_resource.specs.declared.reason.Reason.{Reason, TheVariants.{Admitted, Denied}};
+ghost use Rattle.decide_resource.specs.declared.reason.Reason.TheVariants.{MethodNotAllowed, Options, Preflight};
 ghost use Rattle.decide_resource.specs.declared.reason.Reason.TheVariants.{PreconditionRequired, UnknownMethod};
 ghost use Rattle.decide_resource.specs.declared.reason.Reason.TheVariants.{UnmetExpectation};
-ghost use Rattle.decide_resource.specs.declared.resource.Resource.{Resource};
-ghost use Rattle.decide_preconditions.{specs.Preconditions.IsUnconditional, specs.declared.plan.Plan.Plan};
+ghost use Rattle.decide_resource.specs.declared.{denied.Denied.Denied as Denial, resource.Resource.Resource};
+ghost use Rattle.decide_preconditions.specs.{Preconditions.IsUnconditional, declared.plan.Plan.Plan};
 ghost use Rattle.decide_preconditions.specs.declared.plan.Plan.TheVariants.{Full, NotModified};
 
 /// Theorem: every request has exactly one first reason: reasons of one stage exclude each other.

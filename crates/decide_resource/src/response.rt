@@ -1,13 +1,11 @@
 //! The fields that a reason or a representation gives an answer.
 ghost use Rattle.std.specs.Prelude.{◌≡◌, [], ◌++◌, ◌∷◌, IfOk, OnOk, codes, option_copied, option_map, length};
-ghost use Rattle.std.specs.Option.{option_map_or};
-ghost use Rattle.http_header.specs.HeaderMap.{get_all};
-ghost use Rattle.headers.{specs.LineMap.{field_of, fields_of, lines_at}, specs.Lines.lines_of};
-ghost use Rattle.decide_resource.{specs.Answers.sent_for, specs.Applies.rule, specs.Fields.accept_encoding_fields};
-ghost use Rattle.decide_resource.specs.Fields.{accept_fields, allow_field, lines_of_value, codings_told, describes};
-ghost use Rattle.decide_resource.specs.Fields.{location_fields, metadata_fields, moved_status, reason_fields};
-ghost use Rattle.decide_resource.specs.Fields.{offered_fields, redirect_status, status_of, types_fields};
-ghost use Rattle.decide_resource.specs.Requests.{request_of};
+ghost use Rattle.{std.specs.Option.option_map_or, http_header.specs.HeaderMap.get_all, headers.specs.LineMap.field_of};
+ghost use Rattle.headers.specs.{LineMap.{fields_of, lines_at}, Lines.lines_of};
+ghost use Rattle.decide_resource.specs.{Answers.sent_for, Applies.rule, Fields.{accept_encoding_fields, accept_fields}};
+ghost use Rattle.decide_resource.specs.Fields.{allow_field, lines_of_value, codings_told, describes, location_fields};
+ghost use Rattle.decide_resource.specs.Fields.{metadata_fields, moved_status, reason_fields, offered_fields};
+ghost use Rattle.decide_resource.specs.{Fields.{redirect_status, status_of, types_fields}, Requests.request_of};
 
 use crate::allow::allow_field;
 use crate::answer::Sends;

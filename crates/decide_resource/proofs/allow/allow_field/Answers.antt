@@ -1,9 +1,7 @@
 use Rattle.std.{proofs.Common.{◌≡◌, ℕ, List, [], ◌∷◌, codes, rules, refl, ap, ◌∙◌}, specs.Prelude.{IfOk, Result, Ok}}
-use Rattle.std.specs.Prelude.{Err}
-use Rattle.headers.{specs.LineMap.field_of, specs.Lines.{Line, lines_of}, specs.ListItem.method_of, specs.Merge.merge}
-use Rattle.headers.{specs.Places.comma, specs.declared.Encoded.Encoded}
-use Rattle.decide_cors.proofs.WrittenLemmas.{listed_values_by}
-use Rattle.decide_resource.specs.Applies.{methods}
+use Rattle.{std.specs.Prelude.Err, headers.specs.{LineMap.field_of, Lines.{Line, lines_of}, ListItem.method_of}}
+use Rattle.headers.specs.{Merge.merge, Places.comma, declared.Encoded.Encoded}
+use Rattle.{decide_cors.proofs.WrittenLemmas.listed_values_by, decide_resource.specs.Applies.methods}
 use Rattle.decide_resource.proofs.allow.allow_field.Goals as goal
 
 -- a field of this name with these field lines

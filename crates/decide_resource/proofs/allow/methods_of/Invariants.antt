@@ -1,5 +1,4 @@
-use Rattle.std.{proofs.Common.{◌≡◌, take}, specs.Prelude.flat_map}
-use Rattle.decide_resource.specs.Applies.{methods_of}
+use Rattle.{std.{proofs.Common.{◌≡◌, take}, specs.Prelude.flat_map}, decide_resource.specs.Applies.methods_of}
 use Rattle.decide_resource.proofs.allow.methods_of.Given as goal
 
 abbrev pub invariant-loop-rule : goal.invariant-loop-rule

@@ -1,5 +1,4 @@
-use Rattle.std.{proofs.Common.{◌≡◌, codes}, specs.List.list_all}
-use Rattle.headers.{specs.LineMap.lines_at, specs.Lines.lines_of}
+use Rattle.{std.{proofs.Common.{◌≡◌, codes}, specs.List.list_all}, headers.specs.{LineMap.lines_at, Lines.lines_of}}
 use Rattle.decide_resource.specs.Applies.{takes_coding, takes_codings}
 use Rattle.decide_resource.proofs.content.takes_coding.Given as goal
 

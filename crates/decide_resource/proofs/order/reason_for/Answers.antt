@@ -1,5 +1,5 @@
 use Rattle.std.{proofs.Common.{◌≡◌, Option, Some, None, refl, subst, sym, ◌∙◌}, specs.Prelude.find}
-use Rattle.decide_resource.{specs.Applies.{applies, applies_by}, specs.Reasons.in_order, specs.Requests.request_of}
+use Rattle.decide_resource.specs.{Applies.{applies, applies_by}, Reasons.in_order, Requests.request_of}
 use Rattle.decide_resource.{specs.declared.resource.MethodRule.MethodRule, proofs.ReasonLemmas.first_in_order}
 use Rattle.decide_resource.proofs.order.reason_for.Goals as goal
 

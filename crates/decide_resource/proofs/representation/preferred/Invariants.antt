@@ -1,5 +1,4 @@
-use Rattle.headers.specs.LineMap.{lines_at}
-use Rattle.decide_negotiation.proofs.ChoiceLemmas.{IsLeading}
+use Rattle.{headers.specs.LineMap.lines_at, decide_negotiation.proofs.ChoiceLemmas.IsLeading}
 use Rattle.decide_resource.specs.Representations.{score}
 use Rattle.decide_resource.proofs.representation.preferred.Given as goal
 

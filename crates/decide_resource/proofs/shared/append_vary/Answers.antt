@@ -1,7 +1,6 @@
-use Rattle.std.{proofs.Common.{codes, ap, ◌∙◌}, proofs.lemmas.List.map-append}
-use Rattle.http_header.{specs.FieldValue.FieldValue, specs.HeaderMap.{Entries, get_all}}
-use Rattle.http_header.proofs.HeaderMapLemmas.{get_all-append_same}
-use Rattle.headers.{specs.LineMap.lines_at, specs.Lines.lines_of}
+use Rattle.{std.proofs.{Common.{codes, ap, ◌∙◌}, lemmas.List.map-append}, http_header.specs.FieldValue.FieldValue}
+use Rattle.http_header.{specs.HeaderMap.{Entries, get_all}, proofs.HeaderMapLemmas.get_all-append_same}
+use Rattle.headers.specs.{LineMap.lines_at, Lines.lines_of}
 use Rattle.decide_resource.proofs.shared.append_vary.Goals as goal
 
 pub returns-in-Ok : goal.returns-in-Ok

@@ -1,6 +1,5 @@
-use Rattle.std.proofs.Common.{List, codes, refl, ap, ◌∙◌}
-use Rattle.headers.{specs.LineMap.lines_at, specs.Lines.Line}
-use Rattle.decide_cors.{specs.Fields.fields_sent, specs.Kinds.is_preflight}
+use Rattle.{std.proofs.Common.{List, codes, refl, ap, ◌∙◌}, headers.specs.{LineMap.lines_at, Lines.Line}}
+use Rattle.decide_cors.specs.{Fields.fields_sent, Kinds.is_preflight}
 use Rattle.decide_resource.proofs.shared.policy_fields.Goals as goal
 
 pub returns : goal.returns

@@ -1,5 +1,4 @@
-use Rattle.std.proofs.Common.{◌≡◌, codes, take}
-use Rattle.headers.{specs.LineMap.lines_at, specs.Lines.lines_of}
+use Rattle.{std.proofs.Common.{◌≡◌, codes, take}, headers.specs.{LineMap.lines_at, Lines.lines_of}}
 use Rattle.decide_resource.proofs.shared.varying.Given as goal
 
 abbrev pub invariant-loop-line : goal.invariant-loop-line
