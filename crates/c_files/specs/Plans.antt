@@ -9,7 +9,8 @@ use Rattle.server_files.specs.Path.{Names}
 use Rattle.server_connection.{specs.declared.connection.Connection.Connection, specs.declared.plan.Plan.Plan}
 use Rattle.server_connection.specs.declared.machine.Phase.TheVariants.{Asking}
 use Rattle.server_service.{specs.Answer.{IsAnswer, IsSameSite}, specs.declared.source.Reader.Reader}
-use Rattle.server_service.{specs.declared.source.Reader.TheVariants.{System, Caller}, specs.declared.source.Source.Source}
+use Rattle.server_service.specs.declared.source.Reader.TheVariants.{System, Caller}
+use Rattle.server_service.specs.declared.source.Source.{Source}
 use Rattle.server_service.specs.declared.source.Source.TheVariants.{Kept, Opened}
 use Rattle.c_files.{specs.Entries.entry_at, specs.Paths.{IsNextPath, negotiates_of, next_path}}
 use Rattle.c_files.{specs.declared.entry.Facts.Facts, specs.declared.held.HeldFiles.HeldFiles}
@@ -34,14 +35,14 @@ pub record KeepsSettings (old new : HeldFiles) : Type 0 where
   pub keys : new.service.store.keys ≡ old.service.store.keys
 
 -- the service was told what the host found
-pub record Knows (named : Option (List ℕ)) (found : List Facts) (now : ℕ) (is_last : Bool) (old new : HeldFiles) : Type 0
-  where
-    pub named_is : option_map string_bytes new.service.store.named ≡ named
-    pub entries : new.service.store.entries.items ≡ found
-    pub time : new.service.store.time ≡ now
-    pub keys : new.service.store.keys ≡ old.service.store.keys
-    pub left : new.service.left ≡ left_for is_last
-    pub site : new.service.site ≡ old.service.site
+pub record Knows (named : Option (List ℕ)) (found : List Facts) (now : ℕ) (is_last : Bool) (old new : HeldFiles)
+    : Type 0 where
+  pub named_is : option_map string_bytes new.service.store.named ≡ named
+  pub entries : new.service.store.entries.items ≡ found
+  pub time : new.service.store.time ≡ now
+  pub keys : new.service.store.keys ≡ old.service.store.keys
+  pub left : new.service.left ≡ left_for is_last
+  pub site : new.service.site ≡ old.service.site
 
 -- The service was told of all paths. Else it stays as it was: one is left to open, or no memory is left.
 abbrev pub IsReadyFor : List ℕ → List Facts → ℕ → Bool → HeldFiles → HeldFiles → Result (Unit {0}) Failure → Type 0

@@ -21,7 +21,8 @@ pub struct Facts {
     pub changed: u64,
     /// The nanosecond of that second.
     pub changed_nanosecond: u64,
-    /// 0 if there is nothing, 1 for a file, 2 for a folder, 3 for what may not be read. Any other: it can't be read now.
+    /// 0 if there is nothing, 1 for a file, 2 for a folder, 3 for what may not be read. Any other: it can't be read
+    /// now.
     pub kind: u8,
 }
 

@@ -1,7 +1,7 @@
 //! A service of a folder's files that opens none, for C.
 //!
-//! The service says which path is to be opened next. The host, a program in C, opens it and tells what it found, and the
-//! service makes the plan of the response. `include/typed_headers.h` documents the calls.
+//! The service says which path is to be opened next. The host, a program in C, opens it and tells what it found, and
+//! the service makes the plan of the response. `include/typed_headers.h` documents the calls.
 #![tactic(auto)]
 
 mod entry;
