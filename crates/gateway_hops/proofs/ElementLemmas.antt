@@ -5,7 +5,7 @@ use Rattle.std.{specs.List.flat_map, specs.Option.option_map_or, proofs.lemmas.B
 use Rattle.std.proofs.lemmas.List.Elements.{All-append, All-cons, All-head, All-nil, All-tail}
 use Rattle.http_header.{specs.FieldValue.IsFieldValue, specs.Token.is_value_byte, proofs.TokenLemmas.AllPass-from_test}
 use Rattle.headers.specs.Lines.{Line}
-use Rattle.rfc_fields.{specs.Grammar.{backslash, quote}, specs.Values.{escape_after, is_qdtext, is_quoted_text}}
+use Rattle.rfc_fields.{specs.Grammar.{backslash, quote}, specs.Values.{escape_after, is_quoted_text}}
 use Rattle.rfc_fields.specs.Values.{is_skipped, is_token, is_value, octets_from, octets_of, value_text}
 use Rattle.gateway_hops.{specs.Arrivals.scheme_text, specs.Elements.{escaped, optional_pair, pair_text}}
 use Rattle.gateway_hops.{specs.Elements.{quoted_text, value_of}, specs.declared.arrival.Scheme.Scheme}
@@ -64,11 +64,6 @@ scheme_valid Http = AllPass-from_test is_value_byte (codes "http") refl
 scheme_valid Https = AllPass-from_test is_value_byte (codes "https") refl
 
 -- ---- what a value means
-
-plain_qdtext : (b : ℕ) → IsTrue (is_value_byte b) → is_special b ≡ false → is_qdtext b ≡ true
-plain_qdtext b valid f =
-    let p = or_parts (b == quote) (b == backslash) f in
-    rw (valid, p.0, p.1) refl
 
 plain_escape : (b : ℕ) → IsTrue (is_value_byte b) → is_special b ≡ false → escape_after false b ≡ Some false
 plain_escape b valid f =
