@@ -9,6 +9,7 @@ use crate::lines::cut_line;
 use crate::status::Failure;
 use bytes::Bytes;
 use headers::HeaderMap;
+use headers_section::empty_map;
 use std::alloc::Global;
 use std::hash::RandomState;
 
@@ -18,15 +19,6 @@ pub fn has_line(text: &[u8]) -> bool
 {
     let (first, _rest) = cut_line(text);
     !first.is_empty()
-}
-
-fn empty_map(alloc: Global, keys: Option<RandomState>) -> HeaderMap
-    ensures { result ≡ [] }
-{
-    match keys {
-        Some(keys) => HeaderMap::with_hasher(alloc, keys),
-        None => HeaderMap::new(alloc),
-    }
 }
 
 /// The fields before the first empty line of a section (RFC 9112, section 5). Out of memory only if there is a line

@@ -132,8 +132,8 @@ fn has_only_fields(alloc: Global, input: Bytes) -> Result<bool, AllocError>
     Ok(true)
 }
 
-// An empty map, which hashes with the keys where names collide.
-fn empty_map(alloc: Global, keys: Option<RandomState>) -> HeaderMap
+/// An empty map, which hashes with the keys where names collide.
+pub fn empty_map(alloc: Global, keys: Option<RandomState>) -> HeaderMap
     ensures { result ≡ [] }
 {
     match keys {
