@@ -31,7 +31,8 @@ lost_begin request now old new stepped facts begun = inr (refl, inr (looked begu
     looked (inl (alone, started)) =
         record {
           does =
-              subst (λ (key : List ℕ). Does (settings_of old.cache) (Looked key) (kept_of old.cache) (kept_of new.cache))
+              subst
+              (λ (key : List ℕ). Does (settings_of old.cache) (Looked key) (kept_of old.cache) (kept_of new.cache))
               begun.key started.begun.does;
           settings = started.begun.settings;
           queue = entered stepped.place (ap string_bytes started.begun.same.key ∙ begun.key) started.place;
@@ -40,7 +41,8 @@ lost_begin request now old new stepped facts begun = inr (refl, inr (looked begu
     looked (inr (waits, told)) =
         record {
           does =
-              subst (λ (key : List ℕ). Does (settings_of old.cache) (Looked key) (kept_of old.cache) (kept_of new.cache))
+              subst
+              (λ (key : List ℕ). Does (settings_of old.cache) (Looked key) (kept_of old.cache) (kept_of new.cache))
               begun.key waits.begun.does;
           settings = waits.begun.settings;
           queue = inl waits.queue;

@@ -5,7 +5,8 @@ pub returns-clause-options : goal.returns-clause-options
 returns-clause-options c present resource request answer wide is = options_told resource wide present request answer is
 
 pub returns-clause-missing : goal.returns-clause-missing
-returns-clause-missing c present resource request answer wide is = others_missing resource wide present request answer is
+returns-clause-missing c present resource request answer wide is =
+    others_missing resource wide present request answer is
 
 pub returns-clause-allowed : goal.returns-clause-allowed
 returns-clause-allowed c present resource request answer wide =
