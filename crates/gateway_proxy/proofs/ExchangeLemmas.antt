@@ -24,8 +24,9 @@ use Rattle.gateway_proxy.{specs.Exchanges.{PassesOn, Wires, goes_on}, specs.Faul
 use Rattle.gateway_proxy.{specs.Faults.request_status, specs.Own.own_text, specs.Passing.{BeginsResponse, FailsToPass}}
 use Rattle.gateway_proxy.specs.Passing.{FailsToPassRequest, IsSameRequest, Passes, PassesRequest, PassesResponse}
 use Rattle.gateway_proxy.{specs.Passing.{past_response_head, response_size}, specs.Responses.{is_open, written_fields}}
-use Rattle.gateway_proxy.{specs.declared.answer.Final.Final, specs.declared.decision.Decision.TheVariants.Answer}
-use Rattle.gateway_proxy.{specs.declared.decision.Decision.TheVariants.Send, specs.declared.decision.Outgoing.Outgoing}
+use Rattle.gateway_proxy.{specs.declared.answer.Final.Final, specs.declared.decision.RequestDecision.TheVariants.Answer}
+use Rattle.gateway_proxy.specs.declared.decision.RequestDecision.TheVariants.{Send}
+use Rattle.gateway_proxy.specs.declared.decision.Outgoing.{Outgoing}
 use Rattle.gateway_proxy.specs.declared.exchange.Received.{Received}
 use Rattle.gateway_proxy.specs.declared.exchange.Received.TheVariants as Receives
 use Rattle.gateway_proxy.specs.declared.exchange.Turn.{Turn}

@@ -15,8 +15,9 @@ use Rattle.gateway_messages.specs.declared.rejection.Rejection.{Rejection}
 use Rattle.gateway_hops.{specs.Connections.ConnectionParts, specs.Replaced.replaced_by, specs.Sent.{Hop, IsSent}}
 use Rattle.gateway_hops.{specs.Sent.LacksLength, specs.declared.request.SentRequest.SentRequest}
 use Rattle.gateway_relay.specs.declared.request.Request.{Request}
-use Rattle.gateway_proxy.{specs.Targets.{Parts, origin_form, target_of}, specs.declared.decision.Decision.Decision}
-use Rattle.gateway_proxy.specs.declared.decision.Decision.TheVariants.{Answer, Send}
+use Rattle.gateway_proxy.specs.Targets.{Parts, origin_form, target_of}
+use Rattle.gateway_proxy.specs.declared.decision.RequestDecision.{RequestDecision}
+use Rattle.gateway_proxy.specs.declared.decision.RequestDecision.TheVariants.{Answer, Send}
 use Rattle.gateway_proxy.{specs.declared.decision.Outgoing.Outgoing, specs.declared.proxy.Proxy.Proxy}
 
 abbrev pub protocol_of : ℕ → Protocol
@@ -92,25 +93,25 @@ IsAnswered proxy request authority status =
     ⊎ (LacksLength proxy.gateway (proxy_hop proxy) (asked proxy request authority) × (status ≡ 411)))
 
 -- what is done with a request of this authority, whose target is sent so
-abbrev pub IsDecisionFor : Proxy → Request → Option Line → List ℕ → Decision → Type 0
+abbrev pub IsDecisionFor : Proxy → Request → Option Line → List ℕ → RequestDecision → Type 0
 IsDecisionFor proxy request authority target (Answer status) = IsAnswered proxy request authority status
 IsDecisionFor proxy request authority target (Send outgoing) = IsSentOn proxy request authority target outgoing
 
 -- an authority has to be a host
-abbrev pub IsDecisionAt : Proxy → Request → Option (List ℕ) → List ℕ → Decision → Type 0
+abbrev pub IsDecisionAt : Proxy → Request → Option (List ℕ) → List ℕ → RequestDecision → Type 0
 IsDecisionAt proxy request None target decision = IsDecisionFor proxy request None target decision
 IsDecisionAt proxy request (Some authority) target decision =
     (IsAuthority authority × IsDecisionFor proxy request (Some authority) target decision)
     ⊎ (¬ (IsAuthority authority) × (decision ≡ Answer 400))
 
 -- the parts of the target decide
-abbrev pub IsDecisionOf : Proxy → Request → Bool → Option Parts → Decision → Type 0
+abbrev pub IsDecisionOf : Proxy → Request → Bool → Option Parts → RequestDecision → Type 0
 IsDecisionOf proxy request is_options None decision = decision ≡ Answer 400
 IsDecisionOf proxy request is_options (Some parts) decision =
     IsDecisionAt proxy request parts.authority (origin_form is_options parts.path) decision
 
 -- CONNECT isn't implemented
-abbrev pub IsDecision : Proxy → Request → Decision → Type 0
+abbrev pub IsDecision : Proxy → Request → RequestDecision → Type 0
 IsDecision proxy request decision =
     MatchBool (bytes_eq request.method (codes "CONNECT")) (decision ≡ Answer 501)
     (IsDecisionOf proxy request (bytes_eq request.method (codes "OPTIONS"))

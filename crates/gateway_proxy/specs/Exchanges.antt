@@ -19,7 +19,7 @@ use Rattle.gateway_proxy.{specs.declared.answer.Final.Final, specs.declared.answ
 use Rattle.gateway_proxy.specs.declared.answer.Found.TheVariants as Finds
 use Rattle.gateway_proxy.specs.declared.answer.Reply.{Reply}
 use Rattle.gateway_proxy.specs.declared.answer.Reply.TheVariants as Replies
-use Rattle.gateway_proxy.specs.declared.decision.Decision.TheVariants.{Answer, Send}
+use Rattle.gateway_proxy.specs.declared.decision.RequestDecision.TheVariants.{Answer, Send}
 use Rattle.gateway_proxy.{specs.declared.decision.Outgoing.Outgoing, specs.declared.exchange.Received.Received}
 use Rattle.gateway_proxy.specs.declared.exchange.Received.TheVariants as Receives
 use Rattle.gateway_proxy.specs.declared.exchange.Turn.{Turn}

@@ -34,7 +34,7 @@ pub struct Outgoing {
 
 /// What a gateway server does with a request.
 #[derive(Debug, Drop)]
-pub enum Decision {
+pub enum RequestDecision {
     /// It answers the request itself, with this status.
     Answer(StatusCode),
     /// It sends the request to the origin server.
@@ -116,7 +116,7 @@ fn decide_for<'a>(
     request: &'a Request,
     authority: Option<&'a HeaderValue>,
     target: Bytes,
-) -> Result<Decision, AllocError>
+) -> Result<RequestDecision, AllocError>
     ensures { IfOk result (IsDecisionFor proxy.now request.now
         (option_map (λ value. value.now.bytes) authority.entry) target) }
 {
@@ -136,10 +136,10 @@ fn decide_for<'a>(
         &head,
     )?;
     match outcome {
-        HopOutcome::Send(sent) => Ok(Decision::Send(without_expect(alloc, target, sent)?)),
-        HopOutcome::RequireLength => Ok(Decision::Answer(StatusCode::LENGTH_REQUIRED)),
-        HopOutcome::Respond(_) => Ok(Decision::Answer(StatusCode::OK)),
-        HopOutcome::Reject(rejection) => Ok(Decision::Answer(StatusCode::from_u16(
+        HopOutcome::Send(sent) => Ok(RequestDecision::Send(without_expect(alloc, target, sent)?)),
+        HopOutcome::RequireLength => Ok(RequestDecision::Answer(StatusCode::LENGTH_REQUIRED)),
+        HopOutcome::Respond(_) => Ok(RequestDecision::Answer(StatusCode::OK)),
+        HopOutcome::Reject(rejection) => Ok(RequestDecision::Answer(StatusCode::from_u16(
             rejection.status(),
         ).unwrap_or(StatusCode::BAD_REQUEST))),
     }
@@ -152,16 +152,16 @@ pub fn decide(
     keys: RandomState,
     proxy: &Proxy,
     request: &Request,
-) -> Result<Decision, AllocError>
+) -> Result<RequestDecision, AllocError>
     ensures decided { IfOk result (IsDecision proxy.now request.now) }
     ensures memory { OnErr result (NeedsMemory request.now) }
 {
     if request.method.as_str() == "CONNECT" {
-        return Ok(Decision::Answer(StatusCode::NOT_IMPLEMENTED));
+        return Ok(RequestDecision::Answer(StatusCode::NOT_IMPLEMENTED));
     }
     let is_options = request.method.as_str() == "OPTIONS";
     let Some(target) = target_of(is_options, request.target.as_slice()) else {
-        return Ok(Decision::Answer(StatusCode::BAD_REQUEST));
+        return Ok(RequestDecision::Answer(StatusCode::BAD_REQUEST));
     };
     let sent = origin_form(alloc, is_options, &target)?;
     let Some(authority) = target.authority else {
@@ -169,6 +169,6 @@ pub fn decide(
     };
     match host_value(alloc, keys, authority)? {
         Some(host) => decide_for(alloc, proxy, request, Some(&host), sent),
-        None => Ok(Decision::Answer(StatusCode::BAD_REQUEST)),
+        None => Ok(RequestDecision::Answer(StatusCode::BAD_REQUEST)),
     }
 }

@@ -11,7 +11,7 @@ ghost use Rattle.gateway_proxy.{specs.Exchanges.{BeginsAnswer, IsUnanswered, wir
 ghost use Rattle.gateway_proxy.{specs.Own.own_text, specs.Responses.is_open};
 
 use crate::answer::{Final, Reply, final_response};
-use crate::decision::{Decision, Outgoing, decide};
+use crate::decision::{Outgoing, RequestDecision, decide};
 use crate::fault::{Fault, status_of_request};
 use crate::own::send_own;
 use crate::pass::{begin_response, pass_content, pass_request};
@@ -100,8 +100,8 @@ fn receive_request<R: Read>(
         Err(failure) => return Ok(Received::Unread(status_of_request(failure))),
     };
     match decide(alloc, keys, proxy, &request)? {
-        Decision::Answer(status) => Ok(Received::Refused(status)),
-        Decision::Send(outgoing) => Ok(Received::Accepted(request, outgoing)),
+        RequestDecision::Answer(status) => Ok(Received::Refused(status)),
+        RequestDecision::Send(outgoing) => Ok(Received::Accepted(request, outgoing)),
     }
 }
 

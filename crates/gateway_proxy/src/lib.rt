@@ -13,7 +13,7 @@ mod proxy;
 mod serve;
 mod target;
 
-pub use crate::decision::{Decision, Outgoing, decide};
+pub use crate::decision::{Outgoing, RequestDecision, decide};
 pub use crate::own::send_own;
 pub use crate::proxy::{Clock, Proxy};
 pub use crate::serve::serve_gateway;

@@ -58,7 +58,9 @@ returns-in-Err g c =
       turn = breaks proxy c.args.answered before after told failure passed
           (c.has_ended.ensures.other c.if-has_ended.false) c.break_off-turn.result
           c.break_off-turn.ensures.answers;
-      cut = cuts_answer proxy c.args.answered before after told failure passed c.break_off-turn.result c.break_off-turn.ensures.cut;
+      cut =
+          cuts_answer proxy c.args.answered before after told failure passed c.break_off-turn.result
+          c.break_off-turn.ensures.cut;
     }
 
 pub returns-in-Unread-clause-turn : goal.returns-in-Unread-clause-turn
