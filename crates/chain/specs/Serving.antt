@@ -9,7 +9,7 @@ use Rattle.cache_policy.specs.Policies.{Policy}
 use Rattle.cache_rules.{specs.declared.storing.Reception.Reception, specs.declared.stored.StoredResponse.StoredResponse}
 use Rattle.chain.specs.Caches.{IsNoted, IsPlain, IsSought, Reply, is_bare, key_of, special_names}
 use Rattle.chain.{specs.declared.cache.Action.Action, specs.declared.cache.Pending.Pending}
-use Rattle.chain.{specs.declared.cache.Received.Received, specs.declared.cache.Action.TheVariants.Serve}
+use Rattle.chain.{specs.declared.cache.ArrivedResponse.ArrivedResponse, specs.declared.cache.Action.TheVariants.Serve}
 use Rattle.chain.specs.declared.cache.Action.TheVariants.{ServeAndFetch, Fetch, FetchOrServe, Forward, Unavailable}
 use Rattle.decide_resource.specs.Requests.{Request}
 use Rattle.cache_store.specs.declared.lookup.Lookup.TheVariants as lookup
@@ -59,7 +59,7 @@ module _ (target : List ℕ) (request : Request) (now : ℕ) where
       ⊎ ((¬ (IsPlain target request)) × (new ≡ old) × (action ≡ Forward))
 
 -- a response as it is received
-abbrev pub reply_of : Received → Reply
+abbrev pub reply_of : ArrivedResponse → Reply
 reply_of received =
     record {
       status = received.status;

@@ -18,8 +18,8 @@ received request =
       fields = request.fields;
     }
 
--- The next server gets what was forwarded: in HTTP/1.1, for the host that its fields name, and with the same content. It
--- denies it, or doesn't, as if the client had sent it.
+-- The next server gets what was forwarded: in HTTP/1.1, for the host that its fields name, and with the same content.
+-- It denies it, or doesn't, as if the client had sent it.
 pub record IsPassedOn (request : Request) (sent : ForwardedRequest) (next : Request) : Type 0 where
   pub protocol : next.protocol ≡ Http11
   pub method : request.method ≡ next.method

@@ -34,7 +34,7 @@ pub struct Pending {
 
 /// A response as it came.
 #[derive(Debug, Drop)]
-pub struct Received {
+pub struct ArrivedResponse {
     /// The status.
     pub status: StatusCode,
     /// The fields.
@@ -233,12 +233,13 @@ pub fn answer_from_store(
 /// shows.
 ///
 /// Fails only if an allocation fails, if the store has no numbers left, or with `InsertError::Full` if the
-/// map of the response has no room for the fields that change before it is stored. Then nothing is stored that wasn't stored before.
+/// map of the response has no room for the fields that change before it is stored. Then nothing is stored that wasn't
+/// stored before.
 pub fn take_response(
     alloc: Global,
     store: &mut Store,
     pending: Pending,
-    received: Received,
+    received: ArrivedResponse,
     reception: Reception,
     now: u64,
 ) -> Result<Option<u64>, InsertError>
@@ -257,7 +258,7 @@ pub fn take_response(
         fields: request,
         requested,
     } = pending;
-    let Received {
+    let ArrivedResponse {
         status,
         fields: response,
         content,

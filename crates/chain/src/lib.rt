@@ -6,4 +6,4 @@
 mod cache;
 pub mod laws;
 
-pub use crate::cache::{Action, Pending, Received, answer_from_store, take_response};
+pub use crate::cache::{Action, ArrivedResponse, Pending, answer_from_store, take_response};
