@@ -14,8 +14,11 @@ pub record IsJsonOf (note : Note) (representation : Representation) : Type 0 whe
   pub len : representation.content.len ≡ Some (length note.text)
   pub media_type : option_map (λ line. line.bytes) representation.content.media_type ≡ Some (codes "application/json")
   pub ranges : representation.content.ranges ≡ None
-  pub tag : representation.validators
-      ≡ record { etag = Some (plain_value (tag_of note.series note.version)); last_modified = None; is_date_strong = false }
+  pub tag : representation.validators ≡ record {
+    etag = Some (plain_value (tag_of note.series note.version));
+    last_modified = None;
+    is_date_strong = false;
+  }
 
 -- what there is of a resource with this text, or without one
 abbrev pub Represents : Option Note → State → List Representation → Type 0

@@ -3,8 +3,8 @@ use Rattle.std.specs.Prelude.{◌≡◌, ℕ, ◌<◌, ◌^◌, Bool, true, fals
 use Rattle.std.{specs.Prelude.nat_lt, specs.Str.Parse.{IsNumeral, digits_value, without_leading_plus}}
 use Rattle.matchit.{specs.Params.{AllText, named, walk}, specs.Router.RouteOf, specs.Rows.RowsOf, specs.Seek.first}
 use Rattle.decide_routes.specs.Routes.{is_asterisk}
-use Rattle.example_notes.specs.declared.target.Place.{Place}
-use Rattle.example_notes.specs.declared.target.Place.TheVariants as place
+use Rattle.example_notes.specs.declared.target.RouteTarget.{RouteTarget}
+use Rattle.example_notes.specs.declared.target.RouteTarget.TheVariants as place
 use Rattle.example_notes.specs.declared.target.Target.{Target}
 use Rattle.example_notes.specs.declared.target.Target.TheVariants as target
 
@@ -28,23 +28,23 @@ IsNamed (Some digits) target.Server = ⊥
 IsNamed (Some digits) target.Nowhere = (id : ℕ) → id < 2 ^ 64 → ¬ (IsId digits id)
 
 -- what the parameter `id` of a route takes of the path, if all that is taken is text
-abbrev pub TakesId : RouteOf Place → List ℕ → Option (List ℕ) → Type 0
+abbrev pub TakesId : RouteOf RouteTarget → List ℕ → Option (List ℕ) → Type 0
 TakesId route path id =
     AllText (walk route.pattern route.text path route.names 0 0)
     → named (codes "id") (walk route.pattern route.text path route.names 0 0) ≡ id
 
-abbrev pub LeadsTo : Place → RouteOf Place → List ℕ → Target → Type 0
+abbrev pub LeadsTo : RouteTarget → RouteOf RouteTarget → List ℕ → Target → Type 0
 LeadsTo place.Notes route path found = found ≡ target.Notes
 LeadsTo place.Note route path found = (id : Option (List ℕ)) × TakesId route path id × IsNamed id found
 
-abbrev pub IsTargetAt : Option (RouteOf Place) → List ℕ → Target → Type 0
+abbrev pub IsTargetAt : Option (RouteOf RouteTarget) → List ℕ → Target → Type 0
 IsTargetAt None path found = found ≡ target.Nowhere
 IsTargetAt (Some route) path found = LeadsTo route.value route path found
 
-abbrev pub IsTargetIf : Bool → Option (RouteOf Place) → List ℕ → Target → Type 0
+abbrev pub IsTargetIf : Bool → Option (RouteOf RouteTarget) → List ℕ → Target → Type 0
 IsTargetIf true route path found = found ≡ target.Server
 IsTargetIf false route path found = IsTargetAt route path found
 
 -- the server in general, for `*`; else the target of the route that the path matches, or nothing
-abbrev pub IsTarget : RowsOf (RouteOf Place) → List ℕ → Target → Type 0
+abbrev pub IsTarget : RowsOf (RouteOf RouteTarget) → List ℕ → Target → Type 0
 IsTarget router path found = IsTargetIf (is_asterisk path) (first router path) path found

@@ -12,7 +12,7 @@ use crate::clock::Clock;
 use crate::notes::{Note, Notes};
 use crate::perform::{Done, only, perform};
 use crate::resource::{collection, note, server};
-use crate::target::{Place, Target, router, target_of};
+use crate::target::{RouteTarget, Target, router, target_of};
 use crate::text::list_text;
 use bytes::Bytes;
 use decide_preconditions::Plan as Planned;
@@ -30,7 +30,7 @@ use std::io;
 #[derive(Drop)]
 pub struct Service<'a> {
     alloc: Global,
-    routes: Routes<Place>,
+    routes: Routes<RouteTarget>,
     notes: Notes,
     clock: Clock<'a>,
 }

@@ -8,7 +8,7 @@ use std::alloc::Global;
 
 /// The target of a route.
 #[derive(Clone, Copy)]
-pub enum Place {
+pub enum RouteTarget {
     /// The collection.
     Notes,
     /// A note of the collection.
@@ -29,10 +29,10 @@ pub enum Target {
 }
 
 /// Makes the router, with the routes `/notes` and `/notes/{id}`.
-pub fn router(alloc: Global) -> Result<Router<Place>, InsertError> {
+pub fn router(alloc: Global) -> Result<Router<RouteTarget>, InsertError> {
     let mut router = Router::new(alloc);
-    router.insert("/notes", Place::Notes)?;
-    router.insert("/notes/{id}", Place::Note)?;
+    router.insert("/notes", RouteTarget::Notes)?;
+    router.insert("/notes/{id}", RouteTarget::Note)?;
     Ok(router)
 }
 
@@ -66,7 +66,7 @@ fn is_asterisk(path: &str) -> bool
 }
 
 /// Returns the target of a path.
-pub fn target_of(router: &Router<Place>, path: &str) -> Target
+pub fn target_of(router: &Router<RouteTarget>, path: &str) -> Target
     ensures { IsTarget router.now path.now result }
 {
     if is_asterisk(path) {
@@ -74,8 +74,8 @@ pub fn target_of(router: &Router<Place>, path: &str) -> Target
     }
     match router.at(path) {
         Ok(found) => match found.value {
-            Place::Notes => Target::Notes,
-            Place::Note => note_named(found.params.get("id")),
+            RouteTarget::Notes => Target::Notes,
+            RouteTarget::Note => note_named(found.params.get("id")),
         },
         Err(_) => Target::Nowhere,
     }

@@ -5,7 +5,7 @@ ghost use Rattle.server_program.specs.Entries.{entry_for, is_missing};
 
 use crate::kept::KeptFiles;
 use crate::names::names_in;
-use crate::place::Place;
+use crate::place::InnerPath;
 use crate::stamp::Stamp;
 use bytes::Bytes;
 use headers::{Date, ETag, HeaderValue, LastModified, Refused};
@@ -94,7 +94,7 @@ impl Folder<'_> {
     // The bytes of a short file as they stand now. They are kept, unless it changed of late.
     fn keep(
         &self,
-        place: &Place<'_>,
+        place: &InnerPath<'_>,
         file: fs::File,
         stamp: Stamp,
         now: SystemTime,
@@ -124,7 +124,7 @@ impl Folder<'_> {
     }
 
     // Opens a file. The system says of it what it is now.
-    fn open(&self, place: &Place<'_>, media_type: HeaderValue) -> io::Result<Entry>
+    fn open(&self, place: &InnerPath<'_>, media_type: HeaderValue) -> io::Result<Entry>
         ensures { (p : List ℕ) → IfOk result (ListsOwn p) }
     {
         let now = SystemTime::now(self.rt)?;
@@ -194,7 +194,7 @@ impl Folder<'_> {
     fn entry(&self, path: &str, name: &str) -> io::Result<Entry>
         ensures { (p : List ℕ) → IfOk result (ListsOwn p) }
     {
-        let Some(place) = Place::resolve(self.rt, self.root, path)? else {
+        let Some(place) = InnerPath::resolve(self.rt, self.root, path)? else {
             return Ok(Entry::Missing);
         };
         let metadata = place.metadata(self.rt)?;

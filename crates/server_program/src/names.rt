@@ -1,6 +1,6 @@
 //! The names in a folder of the system.
 
-use crate::place::{Place, read_dir};
+use crate::place::{InnerPath, read_dir};
 use std::fs::{DirEntry, Metadata};
 use std::io;
 use std::io::ErrorKind;
@@ -12,7 +12,7 @@ fn resolved(rt: &HostRuntime, root: &str, entry: &DirEntry) -> io::Result<Option
     if !metadata.is_symlink() {
         return Ok(Some(metadata));
     }
-    match Place::resolve(rt, root, entry.path().as_str()) {
+    match InnerPath::resolve(rt, root, entry.path().as_str()) {
         Ok(Some(place)) => Ok(Some(place.metadata(rt)?)),
         Ok(None) => Ok(None),
         Err(error) => match error.kind() {
@@ -44,7 +44,7 @@ fn name_of(rt: &HostRuntime, root: &str, entry: &DirEntry) -> io::Result<Option<
 /// its end. `None` if the folder isn't there. A name that isn't UTF-8 is left out: no path of a URI can
 /// name it.
 pub fn names_in(rt: &HostRuntime, root: &str, path: &str) -> io::Result<Option<Vec<String>>> {
-    let Some(place) = Place::resolve(rt, root, path)? else {
+    let Some(place) = InnerPath::resolve(rt, root, path)? else {
         return Ok(None);
     };
     if !place.metadata(rt)?.is_dir() {

@@ -9,7 +9,7 @@ use std::{fs, io};
 /// A path with every link resolved, which begins with that of a root and has no `..`. So it names
 /// something in the root, or the root. Files are opened only at such paths.
 #[derive(Drop)]
-pub struct Place<'a> {
+pub struct InnerPath<'a> {
     root: &'a str,
     path: PathBuf,
     ghost is_inside: { ∥ PathStartsWith (path_buf_bytes path) root.now ∥₁ },
@@ -31,12 +31,16 @@ fn has_no_way_up(path: &PathBuf) -> bool
     path.components().all(|part| part.as_os_str() != "..")
 }
 
-impl<'a> Place<'a> {
+impl<'a> InnerPath<'a> {
     /// Resolves the links of a path. `None` if it leads out of the root, or if the resolved path has a `..`.
-    pub fn resolve(rt: &HostRuntime, root: &'a str, path: &str) -> io::Result<Option<Place<'a>>> {
+    pub fn resolve(
+        rt: &HostRuntime,
+        root: &'a str,
+        path: &str,
+    ) -> io::Result<Option<InnerPath<'a>>> {
         let path = fs::canonicalize(rt, path)?;
         if is_within(root, &path) {
-            Ok(Some(Place { root, path }))
+            Ok(Some(InnerPath { root, path }))
         } else {
             Ok(None)
         }

@@ -1,7 +1,8 @@
 use Rattle.std.{proofs.Common.{ℕ, List, Option, refl, ◌++◌, ◌∙◌, ap, subst}, proofs.lemmas.List.map-append}
 use Rattle.http_uri.{specs.Uri.uri_path, specs.declared.uri.Uri.Uri}
 use Rattle.headers.{specs.LineMap.{Field, field_of, fields_of}, specs.declared.Encoded.Encoded}
-use Rattle.example_notes.{specs.Plans.{Carries, IsAnswerAt, date_fields}, specs.Targets.IsTarget, specs.declared.notes.Note.Note}
+use Rattle.example_notes.{specs.Plans.{Carries, IsAnswerAt, date_fields}, specs.Targets.IsTarget}
+use Rattle.example_notes.specs.declared.notes.Note.{Note}
 use Rattle.example_notes.proofs.service.ServiceHandler.plan.Goals as goal
 
 pub returns : goal.returns
