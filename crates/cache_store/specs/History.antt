@@ -1,5 +1,6 @@
 -- What a list of calls lets a store have (RFC 9111).
-use Rattle.{std.specs.Prelude.{[], ◌∷◌, ◌≡◌, ◌≢◌, ◌≤◌, ◌⊎◌, List, ℕ}, headers.specs.LineMap.LineMap}
+use Rattle.std.specs.Prelude.{[], ◌∷◌, ◌≡◌, ◌≢◌, ◌≤◌, ◌⊎◌, List, ℕ}
+use Rattle.headers.specs.LineMap.{LineMap}
 use Rattle.cache_policy.specs.{Policies.Policy, Requests.Request, Updating.IsUpdated}
 use Rattle.cache_rules.specs.{Freshening.{IsFreshened, IsHeadOf, IsReusable}, Invalidation.Invalidates}
 use Rattle.cache_rules.specs.{declared.freshening.Exchange.Exchange, Selection.IsCandidate, Stored.fields_of_stored}

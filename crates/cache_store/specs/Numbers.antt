@@ -1,6 +1,7 @@
 -- The numbers of stored responses: which response each of them names.
 use Rattle.std.specs.Prelude.{◌+◌, ◌<◌, ◌==◌, ◌≡◌, ◌≤◌, ◌⊎◌, Bool, count_by, find, List, None, Option, Some, sum_by, ℕ}
-use Rattle.{cache_rules.specs.declared.stored.StoredResponse.StoredResponse, std.specs.Prelude.⊤}
+use Rattle.std.specs.Prelude.{⊤}
+use Rattle.cache_rules.specs.declared.stored.StoredResponse.{StoredResponse}
 use Rattle.cache_store.specs.Contents.{Contents}
 
 -- the response has the number

@@ -1,5 +1,6 @@
 -- Whether a store has room for more.
-use Rattle.{std.specs.Prelude.{◌+◌, ◌<◌, ◌^◌, ◌≡◌, ◌≤◌, length, take, ℕ}, cache_store.specs.Contents.Contents}
+use Rattle.std.specs.Prelude.{◌+◌, ◌<◌, ◌^◌, ◌≡◌, ◌≤◌, length, take, ℕ}
+use Rattle.cache_store.specs.Contents.{Contents}
 use Rattle.cache_store.specs.{Contents.{byte_count, response_count}, declared.limits.Limits.Limits, Numbers.AreNumbered}
 
 -- with so many more responses and bytes the limits are kept

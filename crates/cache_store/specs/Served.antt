@@ -1,5 +1,6 @@
 -- What is served of a store (RFC 9111, section 4).
-use Rattle.{cache_rules.specs.{Selection.IsCandidate, Stored.fields_of_stored}, std.specs.Prelude.{◌≡◌, List, Some, ℕ}}
+use Rattle.std.specs.Prelude.{◌≡◌, List, Some, ℕ}
+use Rattle.cache_rules.specs.{Selection.IsCandidate, Stored.fields_of_stored}
 use Rattle.{cache_rules.specs.declared.stored.StoredResponse.StoredResponse, headers.specs.LineMap.{Field, field_of}}
 use Rattle.cache_policy.specs.{Policies.{asks, Policy, tells}, Requests.Request, Decisions.IsGoodEnough}
 use Rattle.cache_store.specs.{declared.lookup.Lookup.{Lookup, TheVariants.ServeAndRevalidate}, History.History}

@@ -1,6 +1,7 @@
 -- What a request is answered (RFC 9110).
 use Rattle.std.specs.Prelude.{◌≡◌, ℕ, Bool, true, false, List, [], ◌∷◌, ◌++◌, slice_get, Option, Some, None, codes}
-use Rattle.{std.specs.Prelude.{option_map, bytes_eq, if◌then◌else◌, ⊤}, headers.specs.LineMap.{Field, LineMap}}
+use Rattle.std.specs.Prelude.{option_map, bytes_eq, if◌then◌else◌, ⊤}
+use Rattle.headers.specs.LineMap.{Field, LineMap}
 use Rattle.{headers.specs.{LineMap.fields_of, Lines.Line}, decide_cors.specs.Answer.IsAnswer as IsPolicyAnswer}
 use Rattle.decide_cors.specs.{Policy.Policy, declared.policy.CorsAnswer.CorsAnswer}
 use Rattle.{decide_negotiation.specs.Choice.Picks, decide_preconditions.specs.{Fields.is_known_by, Plans.IsSamePlan}}

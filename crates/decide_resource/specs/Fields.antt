@@ -1,6 +1,7 @@
 -- The fields of an answer, and its status (RFC 9110).
 use Rattle.std.specs.Prelude.{ℕ, Bool, true, false, List, [], ◌∷◌, ◌++◌, Option, Some, None, bytes_eq, codes, decimal}
-use Rattle.{std.specs.{Prelude.{if◌then◌else◌, not}, Option.option_map_or}, http_header.specs.FieldValue.FieldValue}
+use Rattle.std.specs.{Prelude.{if◌then◌else◌, not}, Option.option_map_or}
+use Rattle.http_header.specs.FieldValue.{FieldValue}
 use Rattle.headers.specs.{LineMap.{Field, lines_at}, Lines.Line, Merge.merge, Places.comma}
 use Rattle.{decide_preconditions.specs.declared.plan.Plan.Plan, decide_resource.specs.Applies.{methods, rule, rule_for}}
 use Rattle.decide_resource.specs.{Requests.Request, declared.{denied.Denied.Denied as Denial, reason.Reason.Reason}}

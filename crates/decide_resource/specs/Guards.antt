@@ -1,5 +1,6 @@
 -- What a request names that it may replace (RFC 9110, sections 13.1.1 and 13.1.2).
-use Rattle.{std.specs.Prelude.{◌≡◌, ◌⊎◌, ℕ, true, false, Option, codes}, headers.specs.LineMap.LineMap}
+use Rattle.std.specs.Prelude.{◌≡◌, ◌⊎◌, ℕ, true, false, Option, codes}
+use Rattle.headers.specs.LineMap.{LineMap}
 use Rattle.decide_preconditions.specs.{Conditions.IfMatchIsTrue, Tags.is_star}
 use Rattle.decide_preconditions.specs.declared.resource.Resource.{Resource as Target}
 use Rattle.decide_resource.specs.{Answers.{IsSelected, at_place, target_of}, Requests.Request}

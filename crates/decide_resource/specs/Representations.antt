@@ -1,6 +1,7 @@
 -- Which representation a request selects (RFC 9110, section 12.1).
 use Rattle.std.specs.Prelude.{ℕ, ◌+◌, ◌*◌, ◌==◌, Bool, true, false, ◌||◌, List, Option, Some, None, codes, option_map}
-use Rattle.{std.specs.{Prelude.if◌then◌else◌, List.list_all, Option.option_map_or}, headers.specs.LineMap.LineMap}
+use Rattle.std.specs.{Prelude.if◌then◌else◌, List.list_all, Option.option_map_or}
+use Rattle.headers.specs.LineMap.{LineMap}
 use Rattle.{headers.specs.Lines.Line, rfc_fields.specs.Scan.Member, decide_negotiation.specs.Codings.encoding_quality}
 use Rattle.decide_negotiation.specs.{Languages.language_says, MediaRanges.media_type_says, Qualities.quality_by}
 use Rattle.decide_negotiation.specs.{Qualities.{quality_in, rank}, declared.acceptability.Quality.Quality}

@@ -1,5 +1,6 @@
 -- Which requests a cache may take for one by Vary (RFC 9110, section 12.5.5; RFC 9111, section 4.1).
-use Rattle.{std.specs.Prelude.{◌≡◌, ◌⊎◌, List, true, codes}, headers.specs.{LineMap.LineMap, Lines.Line, Typed.HasLine}}
+use Rattle.std.specs.Prelude.{◌≡◌, ◌⊎◌, List, true, codes}
+use Rattle.headers.specs.{LineMap.LineMap, Lines.Line, Typed.HasLine}
 use Rattle.{rfc_fields.specs.Members.field_members, decide_resource.specs.Requests.Request}
 
 -- the conditions and the range of both are the same; a cache answers requests that have some by rules of its own

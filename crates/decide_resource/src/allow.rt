@@ -1,5 +1,6 @@
 //! The methods of a resource.
-ghost use Rattle.{std.specs.Prelude.{◌≡◌, ◌∷◌, ◌++◌, [], IfOk, OnOk}, headers.specs.LineMap.field_of};
+ghost use Rattle.std.specs.Prelude.{◌≡◌, ◌∷◌, ◌++◌, [], IfOk, OnOk};
+ghost use Rattle.headers.specs.LineMap.{field_of};
 ghost use Rattle.decide_resource.specs.{Applies.{methods, methods_of}, Fields.allow_field};
 
 use crate::resource::MethodRule;

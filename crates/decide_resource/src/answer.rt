@@ -1,6 +1,8 @@
 //! The answer of a resource.
-ghost use Rattle.{std.specs.Prelude.{◌≡◌, ◌++◌, List, IfOk, OnOk, option_copied}, headers.specs.LineMap.Field};
-ghost use Rattle.{headers.specs.LineMap.{fields_of, lines_at}, decide_resource.specs.Answers.{Gives, Goes, GoesOn}};
+ghost use Rattle.std.specs.Prelude.{◌≡◌, ◌++◌, List, IfOk, OnOk, option_copied};
+ghost use Rattle.headers.specs.LineMap.{Field};
+ghost use Rattle.headers.specs.LineMap.{fields_of, lines_at};
+ghost use Rattle.decide_resource.specs.Answers.{Gives, Goes, GoesOn};
 ghost use Rattle.decide_resource.specs.{Answers.{IsAnswer, Stops, is_admitted, with_metadata}, Requests.request_of};
 
 use crate::chosen::{at_place, responded, selected};

@@ -1,5 +1,6 @@
 //! The representation that a request selects, and what its preconditions and Range make of it.
-ghost use Rattle.{std.specs.Prelude.{◌≡◌, ◌<◌, IfOk, IfSome, length, option_copied}, headers.specs.LineMap.lines_at};
+ghost use Rattle.std.specs.Prelude.{◌≡◌, ◌<◌, IfOk, IfSome, length, option_copied};
+ghost use Rattle.headers.specs.LineMap.{lines_at};
 ghost use Rattle.decide_preconditions.specs.{Responses.IsAnswered, declared.resource.Resource.TheVariants.Current};
 ghost use Rattle.decide_resource.specs.Answers.{IsSelected, at_place, bare, content_of, place_in, place_of, target_of};
 ghost use Rattle.decide_resource.specs.Requests.{request_of};

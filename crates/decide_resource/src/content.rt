@@ -1,7 +1,9 @@
 //! The content of a request, and its preconditions.
 ghost use Rattle.std.specs.{Prelude.{◌≡◌, ◌&&◌, codes, false, nat_lt, not, option_copied}, List.list_all};
-ghost use Rattle.{std.specs.Option.option_map_or, headers.specs.LineMap.lines_at};
-ghost use Rattle.{decide_preconditions.specs.Tags.is_star, decide_resource.specs.Applies.{exceeds, has_content}};
+ghost use Rattle.std.specs.Option.{option_map_or};
+ghost use Rattle.headers.specs.LineMap.{lines_at};
+ghost use Rattle.decide_preconditions.specs.Tags.{is_star};
+ghost use Rattle.decide_resource.specs.Applies.{exceeds, has_content};
 ghost use Rattle.decide_resource.specs.Applies.{is_guarded, is_preflight_request, is_present, is_unsized};
 ghost use Rattle.decide_resource.specs.Applies.{is_unsupported_part, needs_condition, takes_coding, takes_codings};
 ghost use Rattle.decide_resource.specs.Applies.{takes_parts, takes_type, type_named};

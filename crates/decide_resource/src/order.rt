@@ -1,5 +1,6 @@
 //! Which reason decides.
-ghost use Rattle.{std.specs.Prelude.{◌≡◌, find, option_copied}, decide_resource.specs.Applies.{applies, applies_by}};
+ghost use Rattle.std.specs.Prelude.{◌≡◌, find, option_copied};
+ghost use Rattle.decide_resource.specs.Applies.{applies, applies_by};
 ghost use Rattle.decide_resource.specs.{Applies.{is_unacceptable, rule}, Reasons.IsFirst, Requests.request_of};
 
 use crate::content::{

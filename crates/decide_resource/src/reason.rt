@@ -1,5 +1,6 @@
 //! Why a request is answered as it is.
-ghost use Rattle.{std.specs.Prelude.◌≡◌, decide_resource.specs.Reasons.stage};
+ghost use Rattle.std.specs.Prelude.{◌≡◌};
+ghost use Rattle.decide_resource.specs.Reasons.{stage};
 
 /// Why a request gets its answer: what keeps its method from being performed, or that nothing does.
 #[derive(Clone, Copy, Debug, PartialEq, Eq)]

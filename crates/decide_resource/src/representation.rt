@@ -1,7 +1,10 @@
 //! Representations, and which of them a request selects.
-ghost use Rattle.{std.specs.Prelude.{◌≡◌, ◌≤◌, option_map}, http_header.specs.HeaderMap.get_all};
-ghost use Rattle.{headers.specs.{LineMap.lines_at, Lines.lines_of}, decide_negotiation.specs.Choice.Picks};
-ghost use Rattle.{decide_negotiation.specs.Qualities.rank, decide_resource.specs.Representations.are_unacceptable};
+ghost use Rattle.std.specs.Prelude.{◌≡◌, ◌≤◌, option_map};
+ghost use Rattle.http_header.specs.HeaderMap.{get_all};
+ghost use Rattle.headers.specs.{LineMap.lines_at, Lines.lines_of};
+ghost use Rattle.decide_negotiation.specs.Choice.{Picks};
+ghost use Rattle.decide_negotiation.specs.Qualities.{rank};
+ghost use Rattle.decide_resource.specs.Representations.{are_unacceptable};
 ghost use Rattle.decide_resource.specs.Representations.{coding_of, joined, rank_by, score};
 
 use decide_negotiation::{Accept, AcceptEncoding, AcceptLanguage, Dimension, Quality, quality};

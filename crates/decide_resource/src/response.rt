@@ -1,6 +1,8 @@
 //! The fields that a reason or a representation gives an answer.
 ghost use Rattle.std.specs.Prelude.{◌≡◌, [], ◌++◌, ◌∷◌, IfOk, OnOk, codes, option_copied, option_map, length};
-ghost use Rattle.{std.specs.Option.option_map_or, http_header.specs.HeaderMap.get_all, headers.specs.LineMap.field_of};
+ghost use Rattle.std.specs.Option.{option_map_or};
+ghost use Rattle.http_header.specs.HeaderMap.{get_all};
+ghost use Rattle.headers.specs.LineMap.{field_of};
 ghost use Rattle.headers.specs.{LineMap.{fields_of, lines_at}, Lines.lines_of};
 ghost use Rattle.decide_resource.specs.{Answers.sent_for, Applies.rule, Fields.{accept_encoding_fields, accept_fields}};
 ghost use Rattle.decide_resource.specs.Fields.{allow_field, lines_of_value, codings_told, describes, location_fields};

@@ -1,7 +1,8 @@
 //! The target of a request: its host, the method and the state of the resource.
 ghost use Rattle.std.specs.Prelude.{◌≡◌, bytes_eq, codes, if◌then◌else◌, option_map, option_copied};
 ghost use Rattle.std.specs.{Char.is_ascii_digit, List.{list_all, list_any}, Option.option_map_or};
-ghost use Rattle.{headers.specs.{LineMap.lines_at, Lines.only_line}, headers_syntax.specs.AsciiCase.same_name};
+ghost use Rattle.headers.specs.{LineMap.lines_at, Lines.only_line};
+ghost use Rattle.headers_syntax.specs.AsciiCase.{same_name};
 ghost use Rattle.decide_resource.specs.Applies.{creates, has_method_by, has_moved, host_named, is_at_host, is_current};
 ghost use Rattle.decide_resource.specs.Applies.{is_gone, is_implemented, is_misdirected, is_missing, is_own, is_port};
 ghost use Rattle.decide_resource.specs.{Applies.{is_read, rule_for, ruled}, Requests.request_of};

@@ -1,6 +1,7 @@
 -- Which request a stored part answers (RFC 9111, section 3.3).
 use Rattle.std.specs.Prelude.{[], ◌&&◌, ◌-◌, ◌∷◌, ◌≡◌, ◌≤◌, ◌⊎◌, codes, IsSome, List, nat_le, None, Option, Some, ℕ}
-use Rattle.{std.specs.Prelude.{decimal, if◌then◌else◌}, headers.specs.LineMap.Field}
+use Rattle.std.specs.Prelude.{decimal, if◌then◌else◌}
+use Rattle.headers.specs.LineMap.{Field}
 use Rattle.{cache_policy.specs.Requests.Request, cache_rules.specs.Conditions.{AreValidators, IsForCache, one_part}}
 use Rattle.cache_rules.specs.{declared.stored.StoredResponse.StoredResponse, Stored.fields_of_stored}
 use Rattle.decide_preconditions.specs.{Plans.IsPlanned, declared.plan.Plan.{Plan, TheVariants.{Failed, NotModified}}}

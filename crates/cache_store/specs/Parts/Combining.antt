@@ -1,5 +1,6 @@
 -- How a received part and a stored one are combined (RFC 9111, section 3.4; RFC 9110, section 15.3.7.3).
-use Rattle.{std.specs.Prelude.{◌≡◌, ◌⊎◌, IsSomeAnd, length, List, Some, ℕ}, headers.specs.LineMap.{Field, set_all}}
+use Rattle.std.specs.Prelude.{◌≡◌, ◌⊎◌, IsSomeAnd, length, List, Some, ℕ}
+use Rattle.headers.specs.LineMap.{Field, set_all}
 use Rattle.{cache_policy.specs.{Policies.Policy, Updating.IsUpdated}, cache_rules.specs.Fields.IsTooSmallFor}
 use Rattle.cache_rules.specs.declared.{freshening.Exchange.Exchange, storing.Reception.Reception}
 use Rattle.cache_rules.specs.{declared.stored.StoredResponse.StoredResponse, Freshening.{IsFreshened, IsReusable}}

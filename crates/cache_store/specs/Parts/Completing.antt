@@ -1,6 +1,7 @@
 -- How a cache asks for what a stored part lacks (RFC 9111, section 3.3; RFC 9110, sections 13.1.5 and 14.2).
 use Rattle.std.specs.Prelude.{[], ◌+◌, ◌-◌, ◌∷◌, ◌≡◌, codes, IsSomeAnd, List, MatchOption, nat_lt, None, Option, Some}
-use Rattle.{std.specs.Prelude.if◌then◌else◌, headers.specs.{ByteRanges.bytes_from_to, Lines.Line}}
+use Rattle.std.specs.Prelude.{if◌then◌else◌}
+use Rattle.headers.specs.{ByteRanges.bytes_from_to, Lines.Line}
 use Rattle.headers.specs.{declared.Encoded.Encoded, LineMap.{Field, fields_of, LineMap}}
 use Rattle.cache_store.specs.{declared.parts.extent.Extent.Extent, Parts.Extents.strong_tag}
 

@@ -1,7 +1,8 @@
 -- Continuous parts of the content of a representation (RFC 9110, sections 8.8.1 and 14.4).
 use Rattle.std.specs.Prelude.{[], ◌&&◌, ◌++◌, ◌+◌, ◌-◌, ◌<◌, ◌^◌, ◌∷◌, ◌≡◌, ◌≤◌, Bool, List, nat_le, nat_lt, not, ℕ}
 use Rattle.std.specs.Prelude.{codes, decimal, drop, length, max, min, None, Option, option_and_then, Some, take}
-use Rattle.{std.specs.Prelude.if◌then◌else◌, headers.specs.ContentBytes.{content_bytes, content_text, ContentBytes}}
+use Rattle.std.specs.Prelude.{if◌then◌else◌}
+use Rattle.headers.specs.ContentBytes.{content_bytes, content_text, ContentBytes}
 use Rattle.headers.specs.{EntityTag.is_tag, LineMap.{Field, LineMap}, Lines.{Line, only_line}}
 use Rattle.{cache_policy.specs.Updating.{is_weak, tag_in}, cache_store.specs.declared.parts.extent.Extent.Extent}
 

@@ -1,5 +1,6 @@
 -- What a list of calls lets a store of parts have.
-use Rattle.{std.specs.Prelude.{[], ◌+◌, ◌∷◌, ◌≡◌, ◌⊎◌, length, List, slice_get, Some, ℕ}, headers.specs.Lines.Line}
+use Rattle.std.specs.Prelude.{[], ◌+◌, ◌∷◌, ◌≡◌, ◌⊎◌, length, List, slice_get, Some, ℕ}
+use Rattle.headers.specs.Lines.{Line}
 use Rattle.cache_store.specs.{Changes.{IsFront, IsInserted, IsStoredAs, IsToStore}, Contents.{Contents, responses_at}}
 use Rattle.cache_store.specs.{Contents.{used, without}, History.Has, declared.limits.Limits.Limits}
 use Rattle.cache_store.specs.{declared.parts.extent.Extent.Extent, Parts.{Received.received_extent, Recording.IsTaken}}

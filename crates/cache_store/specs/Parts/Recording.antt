@@ -1,5 +1,6 @@
 -- What a store of parts makes of a received response (RFC 9111, sections 3.3 and 3.4).
-use Rattle.{std.specs.Prelude.{◌≡◌, ◌⊎◌, codes, List, None, Option, Some, ℕ}, headers.specs.Typed.HasLine}
+use Rattle.std.specs.Prelude.{◌≡◌, ◌⊎◌, codes, List, None, Option, Some, ℕ}
+use Rattle.headers.specs.Typed.{HasLine}
 use Rattle.cache_store.specs.{Parts.Received.{IsPart, IsRecorded, IsSelfContained}, Changes.{IsInserted, IsStoredAs}}
 use Rattle.cache_store.specs.{Contents.{Contents, responses_at, without}, Changes.{IsTooSmallToStore, IsToStore}}
 use Rattle.{cache_policy.specs.{Policies.Policy, Requests.Request}, cache_store.specs.Changes.IsTooLarge}
