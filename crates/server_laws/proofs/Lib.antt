@@ -1,9 +1,1 @@
-mod ExchangeLemmas
-mod FieldLemmas
-mod FramingLemmas
-mod OkLemmas
-mod RequestLemmas
-mod RootLemmas
-mod SentLemmas
-mod ServedLemmas
-mod TrimmedLemmas
+mod Served

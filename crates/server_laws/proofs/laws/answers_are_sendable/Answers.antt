@@ -1,5 +1,5 @@
 use Rattle.std.proofs.Common.{◌≡◌}
-use Rattle.server_laws.proofs.SentLemmas.{answer_sent}
+use Rattle.server_laws.proofs.Served.{answer_sent}
 use Rattle.server_laws.proofs.laws.answers_are_sendable.Goals as goal
 
 pub returns : goal.returns

@@ -1,4 +1,4 @@
-use Rattle.server_laws.proofs.ServedLemmas.{served}
+use Rattle.server_laws.proofs.Served.{served}
 use Rattle.server_laws.proofs.laws.get_is_answered_by_the_file.Goals as goal
 
 pub returns : goal.returns

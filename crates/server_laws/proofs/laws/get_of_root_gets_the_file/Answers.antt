@@ -1,4 +1,4 @@
-use Rattle.server_laws.proofs.RootLemmas.{get_root}
+use Rattle.server_laws.proofs.Served.{get_root}
 use Rattle.server_laws.proofs.laws.get_of_root_gets_the_file.Goals as goal
 
 pub returns : goal.returns

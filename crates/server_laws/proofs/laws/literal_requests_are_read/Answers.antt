@@ -1,4 +1,4 @@
-use Rattle.server_laws.proofs.RequestLemmas.{get_asked, get_reads, head_asked, message_with}
+use Rattle.server_laws.proofs.Served.{get_asked, get_reads, head_asked, message_with}
 use Rattle.std.specs.Prelude.{codes}
 use Rattle.server_laws.proofs.laws.literal_requests_are_read.Goals as goal
 

@@ -1,4 +1,4 @@
-use Rattle.server_laws.proofs.OkLemmas.{framed_literally}
+use Rattle.server_laws.proofs.Served.{framed_literally}
 use Rattle.server_laws.proofs.laws.ok_is_framed_literally.Goals as goal
 
 pub returns : goal.returns

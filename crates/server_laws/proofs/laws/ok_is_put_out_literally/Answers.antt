@@ -1,4 +1,4 @@
-use Rattle.server_laws.{specs.Served.{gives, plans}, proofs.OkLemmas.put_out}
+use Rattle.server_laws.{specs.Served.{gives, plans}, proofs.Served.put_out}
 use Rattle.server_laws.proofs.laws.ok_is_put_out_literally.Goals as goal
 
 pub returns : goal.returns

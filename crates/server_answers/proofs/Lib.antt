@@ -1,8 +1,0 @@
-mod AgainLemmas
-mod JoinLemmas
-mod LineLemmas
-mod PreflightLemmas
-mod SameAnswerLemmas
-mod SimilarLemmas
-mod TagLemmas
-mod TagLineLemmas

@@ -1,5 +1,0 @@
-use Rattle.server_answers.proofs.TagLemmas.{kept_tag}
-use Rattle.server_answers.proofs.laws.tag_of_memory_is_its_digest.Goals as goal
-
-pub returns : goal.returns
-returns c = kept_tag

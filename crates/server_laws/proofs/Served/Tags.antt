@@ -1,0 +1,1689 @@
+-- Requests that are sent again, and what they are answered.
+mod Fields
+unfoldable pub use Fields.*
+
+-- ==== What a request that is sent again has in common with the first, at another time.
+
+-- ---- a read by HEAD is decided as one by GET
+
+abbrev pub reading : Protocol → Option Line → List ℕ → LineMap → Asked
+reading protocol authority method fields =
+    record {
+      protocol = protocol;
+      method = method;
+      authority = authority;
+      content = Absent;
+      fields = fields;
+      denied = None;
+    }
+
+missing_as_get : (s : State) (rules : List MethodRule)
+    → is_missing s rules (rule_for rules (codes "HEAD")) (codes "HEAD")
+    ≡ is_missing s rules (rule_for rules (codes "GET")) (codes "GET")
+unfolding rule_for
+missing_as_get state.Absent rules = refl
+missing_as_get state.Server rules = refl
+missing_as_get state.Current rules = refl
+missing_as_get state.Gone rules = refl
+missing_as_get (state.Moved redirect location) rules = refl
+
+module _ (resource : Resource) (protocol : Protocol) (authority : Option Line) (fields : LineMap) where
+  abbrev applies_to : List ℕ → Reason → Bool
+  applies_to method = applies resource (reading protocol authority method fields)
+
+  head_as_get : (reason : Reason) → applies_to (codes "HEAD") reason ≡ applies_to (codes "GET") reason
+  unfolding rule_for is_unacceptable
+  head_as_get InvalidHost = refl
+  head_as_get Preflight = refl
+  head_as_get NotFound = missing_as_get resource.state resource.rules.items
+  head_as_get reason = refl
+
+  read_as_get : (method : List ℕ) → IsGetOrHead method → (reason : Reason)
+      → applies_to method reason ≡ applies_to (codes "GET") reason
+  read_as_get method (inl e) reason = ap (λ (m : List ℕ). applies_to m reason) e
+  read_as_get method (inr e) reason = ap (λ (m : List ℕ). applies_to m reason) e ∙ head_as_get reason
+
+-- ---- lists of things that are scored alike
+
+module _ {A B C : Type 0} (f : B → ℕ) (g : C → ℕ) (left : A → B) (right : A → C)
+    (same : (x : A) → f (left x) ≡ g (right x)) where
+  score_at : (xs : List A) (k : ℕ) (a : B) (b : C) → k < length xs
+      → f (get_or (map left xs) k a) ≡ g (get_or (map right xs) k b)
+  score_at [] k a b low = absurd (omega (arith, low))
+  score_at (x ∷ xs) zero a b low = same x
+  score_at (x ∷ xs) (suc k) a b low = score_at xs k a b (omega (arith, low))
+
+  -- some element, where there is a place
+  element : (xs : List A) (k : ℕ) → k < length xs → A
+  element [] k low = absurd (omega (arith, low))
+  element (x ∷ xs) k low = x
+
+  picks_across : (xs : List A) (choice : Option ℕ) → Picks f (map left xs) choice → Picks g (map right xs) choice
+  picks_across xs None h =
+      let one : length (map left xs) ≡ length xs = length-map xs left in
+      let other : length (map right xs) ≡ length xs = length-map xs right in
+      λ k x low.
+      let here : k < length xs = omega (arith, low, other) in
+      let y : B = left (element xs k here) in
+      sym (score_at xs k y x here) ∙ h k y (omega (arith, here, one))
+  picks_across xs (Some place) h =
+      let one : length (map left xs) ≡ length xs = length-map xs left in
+      let other : length (map right xs) ≡ length xs = length-map xs right in
+      let within : place < length xs = omega (arith, h.within, one) in
+      let y : B = left (element xs place within) in
+      record {
+        within = omega (arith, within, other);
+        positive = λ x. omega (arith, score_at xs place y x within, h.positive y);
+        greatest = λ k x low.
+            let here : k < length xs = omega (arith, low, other) in
+            omega (
+              arith,
+              score_at xs k y x here,
+              score_at xs place y x within,
+              h.greatest k y (omega (arith, here, one)),
+            );
+        first = λ k x low.
+            let here : k < length xs = omega (arith, low, within) in
+            omega (arith, score_at xs k y x here, score_at xs place y x within, h.first k y low);
+      }
+
+  none_across : (xs : List A)
+      → list_all (λ (b : B). f b == 0) (map left xs) ≡ list_all (λ (c : C). g c == 0) (map right xs)
+  none_across [] = refl
+  none_across (x ∷ xs) =
+      ap (λ (n : ℕ). (n == 0) && list_all (λ (b : B). f b == 0) (map left xs)) (same x)
+      ∙ ap (λ (b : Bool). (g (right x) == 0) && b) (none_across xs)
+
+-- ---- what a label says
+
+abbrev label_score : Negotiation → LineMap → Label → ℕ
+label_score negotiation fields label =
+    joined
+    (rank_by (quality_by media_type_says) negotiation.media_type (fields (codes "accept"))
+    (Some label.media_type.bytes))
+    (rank_by (quality_by language_says) negotiation.language (fields (codes "accept-language")) None)
+    (rank_by encoding_quality negotiation.coding (fields (codes "accept-encoding"))
+    (Some (option_map_or (λ (value : FieldValue). value.bytes) (coding_value label.coding) (codes "identity"))))
+
+-- what the preconditions see of a file with this label
+abbrev pub validators_by : ℕ → Label → Validators
+validators_by present label = record {
+  etag = label.tag;
+  last_modified = label.modified;
+  is_date_strong = is_settled present label.modified;
+}
+
+abbrev pub current_by : ℕ → Label → Target
+current_by present label = Current (validators_by present label)
+
+score_is : (negotiation : Negotiation) (fields : LineMap) (present : ℕ) (x : File)
+    → score negotiation fields (representation_of present x) ≡ label_score negotiation fields (label_of x)
+unfolding score
+score_is negotiation fields present x = refl
+
+-- ---- two requests
+
+-- both name the same host, and expect and accept the same
+pub record AskAlike (f g : LineMap) : Type 0 where
+  pub host : f (codes "host") ≡ g (codes "host")
+  pub expect : f (codes "expect") ≡ g (codes "expect")
+  pub accept : f (codes "accept") ≡ g (codes "accept")
+  pub accept_language : f (codes "accept-language") ≡ g (codes "accept-language")
+  pub accept_encoding : f (codes "accept-encoding") ≡ g (codes "accept-encoding")
+
+-- the place of what is selected, where this is the place for no choice
+abbrev place_if : State → Option ℕ → Option ℕ → Option ℕ
+place_if state.Current other (Some place) = Some place
+place_if state.Current other None = other
+place_if s other choice = None
+
+first_of_map : {A B : Type 0} (of : A → B) (xs : List A) → first_place (map of xs) ≡ first_place xs
+first_of_map of [] = refl
+first_of_map of (x ∷ xs) = refl
+
+module _ (site : Resource) (st : State) (v w : Vec Representation) (now later : ℕ) (fs gs : List File)
+    (mine : v.items ≡ map (representation_of now) fs) (theirs : w.items ≡ map (representation_of later) gs)
+    (labels : map label_of fs ≡ map label_of gs) (protocol : Protocol) (authority : Option Line) (f g : LineMap)
+    (same : AskAlike f g) where
+  abbrev first : Resource
+  first = record site { state = st; representations = v }
+
+  abbrev second : Resource
+  second = record site { state = st; representations = w }
+
+  abbrev get : List ℕ
+  get = codes "GET"
+
+  abbrev n : Negotiation
+  n = site.negotiation
+
+  score_then : (x : File) → score n f (representation_of now x) ≡ label_score n f (label_of x)
+  score_then x = score_is n f now x
+
+  score_now : (x : File) → label_score n f (label_of x) ≡ score n g (representation_of later x)
+  score_now x =
+      (λ i. joined
+      (rank_by (quality_by media_type_says) n.media_type (same.accept i) (Some x.media_type.bytes))
+      (rank_by (quality_by language_says) n.language (same.accept_language i) None)
+      (rank_by encoding_quality n.coding (same.accept_encoding i)
+      (Some (option_map_or (λ (value : FieldValue). value.bytes) (coding_value x.coding) (codes "identity")))))
+      ∙ sym (score_is n g later x)
+
+  same_length : length (map (representation_of now) fs) ≡ length (map (representation_of later) gs)
+  same_length =
+      length-map fs (representation_of now) ∙ sym (length-map fs label_of) ∙ ap length labels
+      ∙ length-map gs label_of ∙ sym (length-map gs (representation_of later))
+
+  same_none : are_unacceptable n f (map (representation_of now) fs)
+      ≡ are_unacceptable n g (map (representation_of later) gs)
+  same_none =
+      none_across (score n f) (label_score n f) (representation_of now) label_of score_then fs
+      ∙ ap (λ (ls : List Label). list_all (λ (l : Label). label_score n f l == 0) ls) labels
+      ∙ none_across (label_score n f) (score n g) label_of (representation_of later) score_now gs
+
+  unacceptable_same : is_unacceptable first (reading protocol authority get f)
+      ≡ is_unacceptable second (reading protocol authority get g)
+  unfolding is_unacceptable
+  unacceptable_same =
+      rw (mine, theirs, same_length, same_none)
+
+  no_options : (b : Bool) → (b && false) ≡ false
+  no_options true = refl
+  no_options false = refl
+
+  -- what doesn't keep the first from being performed doesn't keep the second from it
+  still : (reason : Reason) → applies first (reading protocol authority get f) reason ≡ false
+      → applies second (reading protocol authority get g) reason ≡ false
+  still InvalidHost e = sym (ap (λ (ls : List Line). not (has_host protocol ls)) same.host) ∙ e
+  still Misdirected e =
+      sym
+      (ap
+      (λ (ls : List Line). option_map_or
+      (λ (hosts : Vec FieldValue). not (is_own hosts.items (host_named authority ls))) site.hosts false)
+      same.host)
+      ∙ e
+  still UnmetExpectation e = sym (ap (λ (ls : List Line). not (has_known_expectation ls)) same.expect) ∙ e
+  still NotAcceptable e = sym unacceptable_same ∙ e
+  still PartialContent e = refl
+  still UnsupportedMediaType e = refl
+  still UnsupportedCoding e = refl
+  still PreconditionRequired e = refl
+  still Preflight e = no_options (is_some site.cors)
+  still Denied e = refl
+  still reason e = e
+
+  pub first_again : (method again : List ℕ) → IsGetOrHead method → IsGetOrHead again
+      → IsFirst (applies first (reading protocol authority method f)) Admitted
+      → IsFirst (applies second (reading protocol authority again g)) Admitted
+  first_again method again read read_again h =
+      let mine_get =
+      first_alike (applies first (reading protocol authority method f))
+      (applies first (reading protocol authority get f)) (read_as_get first protocol authority f method read)
+      Admitted h in
+      let theirs_get : IsFirst (applies second (reading protocol authority get g)) Admitted =
+      record { is = refl; none_before = λ other before. still other (mine_get.none_before other before) } in
+      first_alike (applies second (reading protocol authority get g))
+      (applies second (reading protocol authority again g))
+      (λ reason. sym (read_as_get second protocol authority g again read_again reason)) Admitted theirs_get
+
+  -- the first place is chosen for none, if there is one
+  place_is : {A : Type 0} (of : A → Representation) (s : State) (xs : List A) (choice : Option ℕ)
+      → place_in s (map of xs) choice ≡ place_if s (first_place xs) choice
+  place_is of state.Current xs (Some place) = refl
+  place_is of state.Current [] None = refl
+  place_is of state.Current (x ∷ xs) None = refl
+  place_is of s xs choice = refl
+
+  same_first : first_place fs ≡ first_place gs
+  same_first = sym (first_of_map label_of fs) ∙ ap first_place labels ∙ first_of_map label_of gs
+
+  pub selected_again : (place : Option ℕ) → IsSelected first f place → IsSelected second g place
+  selected_again place h = record {
+    choice = h.choice;
+    picks =
+        rw theirs
+        (picks_across (label_score n f) (score n g) label_of (representation_of later) score_now gs h.choice
+        (rw labels at
+        (picks_across (score n f) (label_score n f) (representation_of now) label_of score_then fs h.choice
+        (rw mine at h.picks))));
+    is =
+        h.is
+        ∙ ap (λ (items : List Representation). place_in st items h.choice) mine
+        ∙ place_is (representation_of now) st fs h.choice
+        ∙ ap (λ (o : Option ℕ). place_if st o h.choice) same_first
+        ∙ sym (place_is (representation_of later) st gs h.choice)
+        ∙ ap (λ (items : List Representation). place_in st items h.choice) (sym theirs);
+  }
+
+-- ---- the file whose tag is sent
+
+abbrev pub tag_lines : Target → List Line
+tag_lines target = lines_sent (λ (tag : FieldValue). tag.bytes) (etag_of target)
+
+bare_untagged : (s : State) → tag_lines (bare s) ≡ []
+bare_untagged state.Current = refl
+bare_untagged s = refl
+
+-- what the preconditions see at a place
+abbrev pub target_at : State → List Representation → Option ℕ → Target
+target_at s items place = target_of s (at_place items place)
+
+abbrev pub label_at : List File → Option ℕ → Option Label
+label_at files place = option_map label_of (file_at files place)
+
+target_is : (s : State) (files : List File) (place : ℕ) (found : Option File) → slice_get files place ≡ found
+    → (present : ℕ)
+    → target_at s (map (representation_of present) files) (Some place)
+    ≡ target_of s (option_map (representation_of present) found)
+target_is s files place found e present =
+    ap (target_of s)
+    (slice_get-map (representation_of present) files place ∙ ap (option_map (representation_of present)) e)
+
+pub target_of_label : (s : State) (files : List File) (place : Option ℕ) (label : Label)
+    → label_at files place ≡ Some label → (present : ℕ)
+    → target_at s (map (representation_of present) files) place ≡ current_by present label
+target_of_label s files None label e present = absurd (cc e)
+target_of_label s files (Some place) label e present = by (slice_get files place) refl e
+  where
+    by : (found : Option File) → slice_get files place ≡ found → option_map label_of found ≡ Some label
+        → target_at s (map (representation_of present) files) (Some place) ≡ current_by present label
+    by None is of = absurd (cc of)
+    by (Some file) is of =
+        let same : label_of file ≡ label = cc of in
+        target_is s files place (Some file) is present ∙ ap (current_by present) same
+
+pub file_of_tag : (s : State) (files : List File) (place : Option ℕ) (present : ℕ) (tag : Line)
+    → tag_lines (target_at s (map (representation_of present) files) place) ≡ tag ∷ []
+    → (file : File) × (file_at files place ≡ Some file)
+file_of_tag s files None present tag e = let clash : [] ≡ tag ∷ [] = sym (bare_untagged s) ∙ e in absurd (cc clash)
+file_of_tag s files (Some place) present tag e = by (slice_get files place) refl
+  where
+    by : (found : Option File) → slice_get files place ≡ found
+        → (file : File) × (slice_get files place ≡ Some file)
+    by (Some file) is = (file, is)
+    by None is =
+        let clash : [] ≡ tag ∷ [] =
+        sym (ap tag_lines (target_is s files place None is present) ∙ bare_untagged s) ∙ e in
+        absurd (cc clash)
+
+-- files with the same labels have the same label at a place
+pub same_label : (fs gs : List File) (place : Option ℕ) → map label_of fs ≡ map label_of gs
+    → label_at fs place ≡ label_at gs place
+same_label fs gs None labels = refl
+same_label fs gs (Some place) labels =
+    sym (slice_get-map label_of fs place)
+    ∙ ap (λ (ls : List Label). slice_get ls place) labels
+    ∙ slice_get-map label_of gs place
+
+-- ---- the conditions on the state
+
+pub unmodified_lets : (present : ℕ) (fields : LineMap) (target : Target)
+    → fields (codes "if-unmodified-since") ≡ [] → UnmodifiedSinceLets present fields target
+unmodified_lets present fields target none = rw none tt
+
+-- at another time the state is kept for the same fields
+pub kept_again : (now later : ℕ) (f g : LineMap) (label : Label) → f (codes "if-match") ≡ g (codes "if-match")
+    → g (codes "if-unmodified-since") ≡ [] → StateIsKept now f (current_by now label)
+    → StateIsKept later g (current_by later label)
+kept_again now later f g label same none h = (
+  λ has.
+      subst (λ (ls : List Line). IfMatchIsTrue (λ (name : List ℕ). ls) (current_by later label)) same
+      (h.0 (subst HasLine (sym same) has)),
+  λ lacks. unmodified_lets later g (current_by later label) none,
+)
+
+-- ==== What a request finds in two stores that have something similar where it looks.
+
+-- what was found has the same state, and files with the same labels in their order
+pub record AreSeenAlike (s t : State) (fs gs : List File) : Type 0 where
+  pub state : s ≡ t
+  pub labels : map label_of fs ≡ map label_of gs
+
+seen_by : (s t same : State) (fs gs all : List File) → s ≡ same → t ≡ same → fs ≡ all → gs ≡ all
+    → AreSeenAlike s t fs gs
+seen_by s t same fs gs all a b c d = record { state = a ∙ sym b; labels = ap (map label_of) (c ∙ sym d) }
+
+absent_seen : {s : State} (code : ℕ) (f g : _) → IsEmpty s code f → IsEmpty s code g
+    → AreSeenAlike f.state g.state f.files.items g.files.items
+absent_seen code f g h k = seen_by _ _ _ _ _ _ h.state k.state h.files k.files
+
+folder_seen : (path : List ℕ) (query : Option (List ℕ)) (f g : _) → FindsFolder path query f
+    → FindsFolder path query g → AreSeenAlike f.state g.state f.files.items g.files.items
+folder_seen path query f g (inl h) (inl k) = absent_seen 404 f g h.1 k.1
+folder_seen path query f g (inl h) (inr k) = absurd (k.has_index h.0)
+folder_seen path query f g (inr h) (inl k) = absurd (h.has_index k.0)
+folder_seen path query f g (inr h) (inr k) = seen_by _ _ _ _ _ _ h.state k.state h.files k.files
+
+listing_seen : (path : List ℕ) (listing : Listing) (f g : _) → FindsListing path listing f
+    → FindsListing path listing g → AreSeenAlike f.state g.state f.files.items g.files.items
+listing_seen path listing f g (inl h) (inl k) = seen_by _ _ _ _ _ _ h.1.state k.1.state h.1.files k.1.files
+listing_seen path listing f g (inl h) (inr k) = let yes = h.0 in let no = k.0 in absurd (cc (yes, no))
+listing_seen path listing f g (inr h) (inl k) = let no = h.0 in let yes = k.0 in absurd (cc (yes, no))
+listing_seen path listing f g (inr h) (inr k) = absent_seen 404 f g h.1 k.1
+
+-- what is offered of something similar has the same labels
+offered_similar : (m n : FieldValue) (coding : Coding) (e f : Entry) → m ≡ n → AreSimilar e f
+    → map label_of (offered m coding e) ≡ map label_of (offered n coding f)
+offered_similar m n coding e f same (inl one) = λ i. map label_of (offered (same i) coding (one i))
+offered_similar m n coding e f same (inr two) =
+    ap (λ (o : Entry). map label_of (offered m coding o)) two.2
+    ∙ (λ i. record {
+      tag = (two.4 i).tag;
+      media_type = same i;
+      modified = (two.4 i).modified;
+      coding = coding;
+    } ∷ [])
+    ∙ sym (ap (λ (o : Entry). map label_of (offered n coding o)) two.3)
+
+module _ (look other : List ℕ → Entry) where
+  stands_similar : (path : List ℕ) (e f : Entry) → AreSimilar (look path) (other path)
+      → HasEntryAt (has_at look) path e → HasEntryAt (has_at other) path f → AreSimilar e f
+  stands_similar path e f similar (inl h) (inl k) = rw (h.1, k.1) similar
+  stands_similar path e f similar (inl h) (inr k) = let yes = h.0 in let no = k.0 in absurd (cc (yes, no))
+  stands_similar path e f similar (inr h) (inl k) = let no = h.0 in let yes = k.0 in absurd (cc (yes, no))
+  stands_similar path e f similar (inr h) (inr k) = inl (h.1 ∙ sym k.1)
+
+  contents_similar : (negotiates : Bool) (path : List ℕ) (a b : File) (fs gs : List File) → label_of a ≡ label_of b
+      → ((coding : Coding) → negotiates ≡ true
+      → AreSimilar (look (path ++ coding_suffix coding)) (other (path ++ coding_suffix coding)))
+      → AreContents negotiates (has_at look) path a fs → AreContents negotiates (has_at other) path b gs
+      → map label_of fs ≡ map label_of gs
+  contents_similar false path a b fs gs same beside h k =
+      ap (map label_of) h ∙ (λ i. same i ∷ []) ∙ sym (ap (map label_of) k)
+  contents_similar true path a b fs gs same beside h k =
+      let media : a.media_type ≡ b.media_type = ap (λ (l : Label). l.media_type) same in
+      let brotli =
+      offered_similar a.media_type b.media_type Brotli h.brotli k.brotli media
+      (stands_similar (path ++ coding_suffix Brotli) h.brotli k.brotli (beside Brotli refl) h.has_brotli
+      k.has_brotli) in
+      let gzip =
+      offered_similar a.media_type b.media_type Gzip h.gzip k.gzip media
+      (stands_similar (path ++ coding_suffix Gzip) h.gzip k.gzip (beside Gzip refl) h.has_gzip k.has_gzip) in
+      ap (map label_of) h.are
+      ∙ map-append label_of (represented a.media_type Identity a ∷ offered a.media_type Brotli h.brotli)
+      (offered a.media_type Gzip h.gzip)
+      ∙ (λ i. (record {
+        tag = (same i).tag;
+        media_type = (same i).media_type;
+        modified = (same i).modified;
+        coding = Identity;
+      } ∷ brotli i) ++ gzip i)
+      ∙ sym
+      (map-append label_of (represented b.media_type Identity b ∷ offered b.media_type Brotli k.brotli)
+      (offered b.media_type Gzip k.gzip))
+      ∙ sym (ap (map label_of) k.are)
+
+  module _ (negotiates : Bool) (uri : Uri) (similar : HaveSimilar negotiates (uri_path uri) look other) where
+    files_similar : (named : List ℕ) → Names (uri_path uri) (Some named) → (a b : File) → label_of a ≡ label_of b
+        → (f g : _) → FindsEntry negotiates (has_at look) uri named (Readable a) f
+        → FindsEntry negotiates (has_at other) uri named (Readable b) g
+        → AreSeenAlike f.state g.state f.files.items g.files.items
+    files_similar named names a b same f g h k = record {
+      state = h.0 ∙ sym k.0;
+      labels =
+          contents_similar negotiates named a b f.files.items g.files.items same
+          (λ coding is. similar.beside named coding is names) h.2 k.2;
+    }
+
+    entry_same : (named : List ℕ) → Names (uri_path uri) (Some named) → (entry : Entry) (f g : _)
+        → FindsEntry negotiates (has_at look) uri named entry f
+        → FindsEntry negotiates (has_at other) uri named entry g
+        → AreSeenAlike f.state g.state f.files.items g.files.items
+    entry_same named names Missing f g h k = absent_seen 404 f g h k
+    entry_same named names Forbidden f g h k = absent_seen 403 f g h k
+    entry_same named names Unavailable f g h k = absent_seen 503 f g h k
+    entry_same named names Folder f g h k = folder_seen (uri_path uri) (uri_query uri) f g h k
+    entry_same named names (Listed listing) f g h k = listing_seen (uri_path uri) listing f g h.1 k.1
+    entry_same named names (Readable file) f g h k = files_similar named names file file refl f g h k
+
+    entry_similar : (named : List ℕ) → Names (uri_path uri) (Some named) → (e o : Entry) → AreSimilar e o → (f g : _)
+        → FindsEntry negotiates (has_at look) uri named e f
+        → FindsEntry negotiates (has_at other) uri named o g
+        → AreSeenAlike f.state g.state f.files.items g.files.items
+    entry_similar named names e o (inl one) f g h k =
+        entry_same named names o f g (rw one at h) k
+    entry_similar named names e o (inr two) f g h k =
+        files_similar named names two.0 two.1 two.4 f g (rw two.2 at h) (rw two.3 at k)
+
+    pub leads_similar : (f g : _) → LeadsTo negotiates (has_at look) uri f → LeadsTo negotiates (has_at other) uri g
+        → AreSeenAlike f.state g.state f.files.items g.files.items
+    leads_similar f g (inl h) (inl k) =
+        let named : h.0 ≡ k.0 = h.1.is_named ∙ sym k.1.is_named in
+        let there : AreSimilar h.2.0 k.2.0 = rw (h.2.1, named, k.2.1) (similar.named k.0 k.1) in
+        entry_similar k.0 k.1 h.2.0 k.2.0 there f g (rw named at h.2.2) k.2.2
+    leads_similar f g (inl h) (inr k) = absurd (k.0 h.0 h.1)
+    leads_similar f g (inr h) (inl k) = absurd (h.0 k.0 k.1)
+    leads_similar f g (inr h) (inr k) = absent_seen 404 f g h.1 k.1
+
+-- ==== A field line that is one entity tag names it.
+
+-- ---- the line is one element of a list
+
+octets_text : (bytes : List ℕ) → flat_map octet_text (map Plain bytes) ≡ bytes
+octets_text [] = refl
+octets_text (b ∷ bytes) = ap (λ (rest : List ℕ). b ∷ rest) (octets_text bytes)
+
+octet_valid : (b : ℕ) → is_tag_byte b ≡ true → is_octet false (Plain b) ≡ true
+octet_valid b e = grind (arith, nat_tests)
+
+octets_valid : (bytes : List ℕ) → list_all is_tag_byte bytes ≡ true
+    → list_all (is_octet false) (map Plain bytes) ≡ true
+octets_valid [] all = refl
+octets_valid (b ∷ bytes) all =
+    let both = and_parts (is_tag_byte b) (list_all is_tag_byte bytes) all in
+    and_from _ _ (octet_valid b both.0) (octets_valid bytes both.1)
+
+abbrev element_of : Bool → List ℕ → Element
+element_of true opaque = Byte 87 ∷ Byte 47 ∷ Quoted (map Plain opaque) ∷ []
+element_of false opaque = Quoted (map Plain opaque) ∷ []
+
+element_is : (is_weak : Bool) (opaque : List ℕ)
+    → element_text (element_of is_weak opaque) ≡ weak_prefix is_weak ++ quote ∷ (opaque ++ quote ∷ [])
+element_is true opaque =
+    ap (λ (t : List ℕ). 87 ∷ 47 ∷ quote ∷ t)
+    (append-nil (flat_map octet_text (map Plain opaque) ++ quote ∷ [])
+    ∙ ap (λ (t : List ℕ). t ++ quote ∷ []) (octets_text opaque))
+element_is false opaque =
+    ap (λ (t : List ℕ). quote ∷ t)
+    (append-nil (flat_map octet_text (map Plain opaque) ++ quote ∷ [])
+    ∙ ap (λ (t : List ℕ). t ++ quote ∷ []) (octets_text opaque))
+
+element_valid : (is_weak : Bool) (opaque : List ℕ) → list_all is_tag_byte opaque ≡ true
+    → list_all (is_element comma false) (element_of is_weak opaque ∷ []) ≡ true
+element_valid true opaque all = ap (λ (b : Bool). (b && true) && true) (octets_valid opaque all)
+element_valid false opaque all = ap (λ (b : Bool). (b && true) && true) (octets_valid opaque all)
+
+-- ---- it is one member
+
+-- a text that ends in a quote has no blanks at its end
+trim_end-quoted : (front : List ℕ) → trim_end (front ++ quote ∷ []) ≡ front ++ quote ∷ []
+trim_end-quoted front =
+    let s : List ℕ = front ++ quote ∷ [] in
+    let none : suffix_len is_blank s ≡ 0 = ap (prefix_len is_blank) (reverse-append front (quote ∷ [])) in
+    ap (λ (k : ℕ). take (length s - k) s) none ∙ take_all (length s - 0) s (omega arith)
+
+trim-quoted : (is_weak : Bool) (opaque : List ℕ)
+    → trim (weak_prefix is_weak ++ quote ∷ (opaque ++ quote ∷ []))
+    ≡ weak_prefix is_weak ++ quote ∷ (opaque ++ quote ∷ [])
+trim-quoted true opaque = trim_end-quoted (87 ∷ 47 ∷ quote ∷ opaque)
+trim-quoted false opaque = trim_end-quoted (quote ∷ opaque)
+
+filled : (n : ℕ) → 0 < n → not (n == 0) ≡ true
+filled n some = ap not (ne_eqb n 0 (λ e. omega (arith, e, some)))
+
+quoted_filled : (is_weak : Bool) (opaque : List ℕ)
+    → not (length (weak_prefix is_weak ++ quote ∷ (opaque ++ quote ∷ [])) == 0) ≡ true
+quoted_filled true opaque = filled (length (87 ∷ 47 ∷ quote ∷ (opaque ++ quote ∷ []))) (omega arith)
+quoted_filled false opaque = filled (length (quote ∷ (opaque ++ quote ∷ []))) (omega arith)
+
+module _ (parse : ParsesOneWay) where
+  members-quoted : (is_weak : Bool) (opaque : List ℕ) → list_all is_tag_byte opaque ≡ true
+      → members false (weak_prefix is_weak ++ quote ∷ (opaque ++ quote ∷ []))
+      ≡ members_of (Whole (weak_prefix is_weak ++ quote ∷ (opaque ++ quote ∷ [])) ∷ [])
+  members-quoted is_weak opaque all =
+      subst (λ (t : List ℕ). members false t ≡ members_of (Whole t ∷ [])) (element_is is_weak opaque)
+      (ap members_of
+      (parse comma false (element_of is_weak opaque) []
+      (record { value = refl; not_quote = refl; quote_not = refl }) (element_valid is_weak opaque all)).1)
+
+  one_member : (tag : Line) (parts : TagParts) → IsTag tag parts → field_members false (tag ∷ []) ≡ Whole tag ∷ []
+  one_member tag parts is =
+      let all = list_all-from_AllPass is_tag_byte parts.opaque is.opaque in
+      subst (λ (t : Line). field_members false (t ∷ []) ≡ Whole t ∷ []) (sym is.text)
+      (append-nil (members false (tag_text parts))
+      ∙ members-quoted parts.is_weak parts.opaque all
+      ∙ ap (λ (t : List ℕ). filter is_member (Whole t ∷ [])) (trim-quoted parts.is_weak parts.opaque)
+      ∙ ap (λ (b : Bool). cond b (Whole (tag_text parts) ∷ []) []) (quoted_filled parts.is_weak parts.opaque))
+
+-- ---- it names the tag
+
+-- the comparisons of the two fields, as tests of a member
+
+abbrev weakly : Line → Line → Bool
+weakly a b = (is_tag a && is_tag b) && bytes_eq (parts_of a).opaque (parts_of b).opaque
+
+abbrev strongly : Line → Line → Bool
+strongly a b =
+    (is_tag a && is_tag b) && ((not (parts_of a).is_weak && not (parts_of b).is_weak)
+    && bytes_eq (parts_of a).opaque (parts_of b).opaque)
+
+abbrev with_tag : (Line → Line → Bool) → Option FieldValue → Line → Bool
+with_tag compare None text = false
+with_tag compare (Some etag) text = compare text etag.bytes
+
+abbrev of_member : (Line → Line → Bool) → Option FieldValue → Member → Bool
+of_member compare etag (Whole text) = with_tag compare etag text
+of_member compare etag Malformed = false
+
+own_member : (compare : Line → Line → Bool) (tag : Line) (etag : Option FieldValue)
+    → lines_sent (λ (t : FieldValue). t.bytes) etag ≡ tag ∷ [] → compare tag tag ≡ true
+    → of_member compare etag (Whole tag) ≡ true
+own_member compare tag None e same = absurd (cc e)
+own_member compare tag (Some value) e same =
+    let bytes : value.bytes ≡ tag = cc e in ap (compare tag) bytes ∙ same
+
+module _ (parse : ParsesOneWay) (tag : Line) (parts : TagParts) (is : IsTag tag parts) where
+  -- a test of the one member decides for the line
+  named_by : (test : Member → Bool) → test (Whole tag) ≡ true
+      → (is_star (tag ∷ []) || (are_tags (tag ∷ []) && list_any test (field_members false (tag ∷ [])))) ≡ true
+  named_by test passes =
+      let one = one_member parse tag parts is in
+      let tags : are_tags (tag ∷ []) ≡ true =
+      ap (list_all is_tag_member) one ∙ ap (λ (b : Bool). b && true) (is_tag-true tag parts is) in
+      let listed : list_any test (field_members false (tag ∷ [])) ≡ true =
+      ap (list_any test) one ∙ ap (λ (b : Bool). b || false) passes in
+      ap (λ (b : Bool). is_star (tag ∷ []) || (b && list_any test (field_members false (tag ∷ [])))) tags
+      ∙ ap (λ (b : Bool). is_star (tag ∷ []) || b) listed
+      ∙ or-true (is_star (tag ∷ []))
+
+  module _ (validators : Validators) (own : lines_sent (λ (t : FieldValue). t.bytes) validators.etag ≡ tag ∷ []) where
+    -- the field line of a representation's own tag names it
+    pub weakly_named : IfNoneMatchIsFalse (λ (name : List ℕ). tag ∷ []) (Current validators)
+    weakly_named =
+        named_by (of_member weakly validators.etag)
+        (own_member weakly tag validators.etag own ((weakly_equal tag tag).1 (parts, parts, is, is, refl)))
+
+    pub strongly_named : parts.is_weak ≡ false → IfMatchIsTrue (λ (name : List ℕ). tag ∷ []) (Current validators)
+    strongly_named strong =
+        named_by (of_member strongly validators.etag)
+        (own_member strongly tag validators.etag own
+        ((strongly_equal tag tag).1
+        (parts, parts, is, is, record { left = strong; right = strong; opaque = refl })))
+
+-- ==== The tag of a response, and a request that names it.
+
+abbrev pub etag : List ℕ
+etag = codes "etag"
+
+pub etag_is_of_answer : IsOfAnswer etag
+etag_is_of_answer =
+    record { kept = refl; date = refl; sniff = refl; connection = refl; cache = refl; media_type = refl }
+
+-- ---- which fields have no tag
+
+vary_untagged : (lines : List Line) → is_named etag (vary_fields lines) ≡ false
+vary_untagged [] = refl
+vary_untagged (line ∷ lines) = refl
+
+policy_untagged : (policy : Policy) (pre : Bool) (line : Option Line) (lines : List Line)
+    → is_named etag (grant_fields policy pre line ++ vary_sent policy lines) ≡ false
+policy_untagged policy pre line lines = by (is_some policy.origins) (covers_origin lines)
+  where
+    by : (b c : Bool)
+        → is_named etag
+        (grant_fields policy pre line
+        ++ (if b then (if c then [] else (codes "vary", lines ++ codes "origin" ∷ []) ∷ []) else []))
+        ≡ false
+    by true true = refl
+    by true false = refl
+    by false c = refl
+
+shared_untagged : (cors : Option Policy) (request : Asked) (lines : List Line) (fields : List Field)
+    → IsShared cors request lines fields → is_named etag fields ≡ false
+shared_untagged None request lines fields none = ap (is_named etag) none
+shared_untagged (Some policy) request lines fields shares =
+    ap (is_named etag) (shares.2 ∙ shares.1.fields)
+    ∙ policy_untagged policy (is_preflight shares.0.kind) (granted policy (request.fields (codes "origin"))) lines
+
+two_untagged : (xs ys : List Field) → is_named etag xs ≡ false → is_named etag ys ≡ false
+    → is_named etag (xs ++ ys) ≡ false
+two_untagged xs ys e f =
+    list_any-append (λ (field : Field). bytes_eq field.0 etag) xs ys ∙ ap (λ (b : Bool). b || is_named etag ys) e ∙ f
+
+offered_untagged : (patch post : Option MethodRule)
+    → is_named etag (types_fields (codes "accept-patch") patch ++ types_fields (codes "accept-post") post) ≡ false
+offered_untagged None None = refl
+offered_untagged None (Some post) = refl
+offered_untagged (Some patch) None = refl
+offered_untagged (Some patch) (Some post) = refl
+
+accept_untagged : (is_patch : Bool) (own : Option MethodRule)
+    → is_named etag
+    (types_fields (codes "accept") own ++ (if is_patch then types_fields (codes "accept-patch") own else [])) ≡ false
+accept_untagged true None = refl
+accept_untagged true (Some own) = refl
+accept_untagged false None = refl
+accept_untagged false (Some own) = refl
+
+codings_untagged : (own : Option MethodRule) → is_named etag (accept_encoding_fields own) ≡ false
+codings_untagged None = refl
+codings_untagged (Some own) = refl
+
+denied_untagged : (why : Option Denial) → is_named etag (denied_fields why) ≡ false
+denied_untagged None = refl
+denied_untagged (Some (denials.Unauthenticated challenge)) = refl
+denied_untagged (Some denials.Forbidden) = refl
+denied_untagged (Some (denials.TooManyRequests None)) = refl
+denied_untagged (Some (denials.TooManyRequests (Some seconds))) = refl
+denied_untagged (Some (denials.Unavailable None)) = refl
+denied_untagged (Some (denials.Unavailable (Some seconds))) = refl
+
+location_untagged : (s : State) → is_named etag (location_fields s) ≡ false
+location_untagged (state.Moved redirect location) = refl
+location_untagged s = refl
+
+module _ (resource : Resource) (request : Asked) where
+  reason_untagged : (reason : Reason) → is_named etag (reason_fields resource request reason) ≡ false
+  reason_untagged Denied = denied_untagged request.denied
+  reason_untagged MethodNotAllowed = refl
+  reason_untagged Options =
+      offered_untagged (rule_for resource.rules.items (codes "PATCH")) (rule_for resource.rules.items (codes "POST"))
+  reason_untagged Moved = location_untagged resource.state
+  reason_untagged UnsupportedMediaType =
+      accept_untagged (bytes_eq request.method (codes "PATCH")) (rule resource request)
+  reason_untagged UnsupportedCoding = codings_untagged (rule resource request)
+  reason_untagged reason = refl
+
+-- ---- the field that has the tag
+
+abbrev tail_of : List Field → List Field
+tail_of [] = []
+tail_of (field ∷ fields) = fields
+
+abbrev pub sent_tag : Plan → Target → List Line
+sent_tag plan target = lines_sent (λ (tag : FieldValue). tag.bytes) (etag_sent plan (etag_of target))
+
+removed_untagged : (plan : Plan) (known : Bool) → is_named etag (fields_removed plan known) ≡ false
+removed_untagged plan known = by (keeps_encoding plan known) (is_whole plan)
+  where
+    by : (b c : Bool)
+        → is_named etag
+        ((if b then [] else (codes "content-encoding", []) ∷ [])
+        ++ (if c then [] else (codes "content-digest", []) ∷ (codes "content-md5", []) ∷ []))
+        ≡ false
+    by true true = refl
+    by true false = refl
+    by false true = refl
+    by false false = refl
+
+metadata_untagged : (keeps : Bool) (representation : Representation)
+    → is_named etag (metadata_fields keeps representation) ≡ false
+metadata_untagged true representation = refl
+metadata_untagged false representation = refl
+
+planned_tag : (present : ℕ) (plan : Plan) (target : Target) (content : Content) (multipart : FieldValue)
+    (fields : LineMap) (representation : Option Representation)
+    → HasField etag (sent_tag plan target)
+    (with_metadata fields representation plan (fields_sent present plan (is_known_by fields) target content multipart))
+planned_tag present plan target content multipart fields None = record {
+  before = [];
+  after = tail_of (fields_sent present plan (is_known_by fields) target content multipart);
+  are = refl;
+  first = refl;
+  last = removed_untagged plan (is_known_by fields);
+}
+planned_tag present plan target content multipart fields (Some representation) = record {
+  before = metadata_fields (describes plan (is_known_by fields)) representation;
+  after = tail_of (fields_sent present plan (is_known_by fields) target content multipart);
+  are = refl;
+  first = metadata_untagged (describes plan (is_known_by fields)) representation;
+  last = removed_untagged plan (is_known_by fields);
+}
+
+-- ---- reads
+
+never_ignored : (current : Validators) (method : List ℕ) → IsGetOrHead method
+    → ¬ (AreIgnored (Current current) method)
+never_ignored current method read (inl is) = never_unconditional method read is
+never_ignored current method read (inr none) = none
+
+admitted_is : (reason : Reason) → is_admitted reason ≡ true → reason ≡ Admitted
+admitted_is Admitted e = refl
+admitted_is reason e = absurd (cc e)
+
+-- if nothing else decides, that does
+only_admitted : (test : Reason → Bool) (reason : Reason) → IsFirst test Admitted → IsFirst test reason
+    → reason ≡ Admitted
+only_admitted test Admitted first is = refl
+only_admitted test reason first is =
+    let no = first.none_before reason (omega arith) in let yes = is.is in absurd (cc (yes, no))
+
+module _ (present : ℕ) (resource : Resource) (asked : Asked) where
+  -- what the preconditions see of the representation at a place
+  abbrev pub seen_at : Option ℕ → Target
+  seen_at place = target_at resource.state resource.representations.items place
+
+  abbrev IsPlanFor : Target → ℕ → RangeLimits → Plan → Type 0
+  IsPlanFor target len limits plan = IsPlan present asked.method asked.fields target len limits plan
+
+  abbrev pub Decide : Target → Precondition → Type 0
+  Decide target result = Answers present asked.fields target asked.method result
+
+  -- the answer sends the tag of what is selected, which is as the request would have it
+  pub record IsTagged (tag : Line) (sent : Sends) : Type 0 where
+    pub place : Option ℕ
+    pub selected : IsSelected resource asked.fields place
+    pub first : IsFirst (applies resource asked) Admitted
+    pub kept : StateIsKept present asked.fields (seen_at place)
+    pub tagged : tag_lines (seen_at place) ≡ tag ∷ []
+    pub plan : Plan
+    pub sends : sent ≡ Planned place plan
+
+  -- the answer says that the selected representation wasn't modified, by its tag
+  pub record IsUnmodified (answer : Answer) (own : List Field) (place : Option ℕ) : Type 0 where
+    pub reason : answer.reason ≡ Admitted
+    pub status : answer.status ≡ Some 304
+    pub sends : answer.sends ≡ Planned place NotModified
+    pub tag : HasField etag (tag_lines (seen_at place)) own
+
+  -- ---- the fields of an answer
+
+  module _ (answer : Answer) (a : IsAnswer present resource asked answer) where
+    abbrev after_own : List Field
+    after_own = vary_fields (vary_lines resource answer.reason) ++ a.shared
+
+    after_untagged : is_named etag after_own ≡ false
+    after_untagged =
+        two_untagged (vary_fields (vary_lines resource answer.reason)) a.shared
+        (vary_untagged (vary_lines resource answer.reason))
+        (shared_untagged resource.cors asked (vary_lines resource answer.reason) a.shared a.is_shared)
+
+    given_are : encoded_fields answer.fields.items ≡ a.own ++ after_own
+    given_are = a.fields ∙ append_assoc a.own (vary_fields (vary_lines resource answer.reason)) a.shared
+
+    -- the field lines of ETag in a response with the answer's fields
+    pub tag_given : (has_policy : Bool) (lines : List Line) → HasField etag lines a.own
+        → lines_in (headers_sent has_policy (encoded_fields answer.fields.items)) etag ≡ lines
+    tag_given has_policy lines h =
+        ap (λ (fs : List Field). lines_in (headers_sent has_policy fs) etag) given_are
+        ∙ sent-one etag has_policy lines (a.own ++ after_own)
+        (HasField-append etag lines a.own after_own h after_untagged)
+
+    none_given : (has_policy : Bool) → is_named etag a.own ≡ false
+        → lines_in (headers_sent has_policy (encoded_fields answer.fields.items)) etag ≡ []
+    none_given has_policy e =
+        ap (λ (fs : List Field). lines_in (headers_sent has_policy fs) etag) given_are
+        ∙ sent-other etag has_policy (a.own ++ after_own) (two_untagged a.own after_own e after_untagged)
+
+    -- what a response gives of the representation has one tag, if it has any
+    planned_own : (representation : Option Representation) (response : Planning)
+        → IsAnswered present asked.method asked.fields (target_of resource.state representation)
+        (content_of representation) resource.boundary (Some response)
+        → a.own ≡ response_fields asked.fields representation (Some response)
+        → HasField etag (sent_tag response.plan (target_of resource.state representation)) a.own
+    planned_own representation response answered fields =
+        rw (fields, answered.fields)
+        (planned_tag present response.plan (target_of resource.state representation) (content_of representation)
+        resource.boundary asked.fields representation)
+
+  module _ (read : IsGetOrHead asked.method) where
+    -- a read that is performed finds the target as the request would have it
+    performed_kept : (target : Target) (current : Validators) → target ≡ Current current
+        → Decide target precondition.Perform → StateIsKept present asked.fields target
+    performed_kept target current is h =
+        (h.conditional (rw is (never_ignored current asked.method read))).0
+
+    -- ---- an answer with a tag
+
+    -- a response with a tag has that of the target, which is as the request would have it
+    tag_of_plan : (target : Target) (len : ℕ) (limits : RangeLimits) (tag : Line) (plan : Plan)
+        → IsPlanFor target len limits plan → sent_tag plan target ≡ tag ∷ []
+        → StateIsKept present asked.fields target × (tag_lines target ≡ tag ∷ [])
+    tag_of_plan target len limits tag NotModified h e =
+        ((h.conditional (λ is. let no = h.unconditional is in absurd (cc no))).0, e)
+    tag_of_plan target len limits tag Failed h e = absurd (cc e)
+    tag_of_plan target len limits tag Unsatisfiable h e = absurd (cc e)
+    tag_of_plan target len limits tag plan h e = (performed_kept target h.0 h.1.is_current h.1.performs, e)
+
+    module _ (answer : Answer) (a : IsAnswer present resource asked answer) (has_policy : Bool) (tag : Line)
+        (told : lines_in (headers_sent has_policy (encoded_fields answer.fields.items)) etag ≡ tag ∷ []) where
+      no_tag : is_named etag a.own ≡ false → ⊥
+      no_tag e = let clash : [] ≡ tag ∷ [] = sym (none_given answer a has_policy e) ∙ told in cc clash
+
+      tagged_at : (admits : answer.reason ≡ Admitted) (place : Option ℕ)
+          (selected : IsSelected resource asked.fields place) (response : Option Planning)
+          → IsAnswered present asked.method asked.fields (seen_at place)
+          (content_of (at_place resource.representations.items place)) resource.boundary response
+          → a.own ≡ response_fields asked.fields (at_place resource.representations.items place) response
+          → answer.sends ≡ is_sent place response → IsTagged tag answer.sends
+      tagged_at admits place selected None answered fields sends = absurd (no_tag (ap (is_named etag) fields))
+      tagged_at admits place selected (Some response) answered fields sends =
+          let found : Option Representation = at_place resource.representations.items place in
+          let own = planned_own answer a found response answered fields in
+          let both =
+          tag_of_plan (seen_at place) (divisible_len (content_of found)) (limits_of (content_of found)) tag
+          response.plan answered.plan
+          (sym (tag_given answer a has_policy (sent_tag response.plan (seen_at place)) own) ∙ told) in
+          record {
+            place = place;
+            selected = selected;
+            first = subst (IsFirst (applies resource asked)) admits a.first;
+            kept = both.0;
+            tagged = both.1;
+            plan = response.plan;
+            sends = sends;
+          }
+
+      tagged_by : (admitted : Bool) → is_admitted answer.reason ≡ admitted
+          → GivesIf admitted present resource asked answer.reason answer.status answer.sends a.own
+          → IsTagged tag answer.sends
+      tagged_by false is h =
+          absurd (no_tag (ap (is_named etag) h.has_fields ∙ reason_untagged resource asked answer.reason))
+      tagged_by true is h =
+          tagged_at (admitted_is answer.reason is) h.place h.selected h.goes.response h.goes.answered
+          h.goes.has_fields h.goes.sends
+
+      pub is_tagged : IsTagged tag answer.sends
+      is_tagged = tagged_by (is_admitted answer.reason) refl a.gives
+
+    -- ---- the answer to a request whose preconditions are evaluated
+
+    other_result : (target : Target) (result other : Precondition) → Decide target result → Decide target other
+        → result ≡ other
+    other_result target result other h k = one_answer present asked.fields target asked.method result other h k
+
+    only_not_modified : (target : Target) (len : ℕ) (limits : RangeLimits) (plan : Plan)
+        → Decide target precondition.NotModified → IsPlanFor target len limits plan → plan ≡ NotModified
+    only_not_modified target len limits NotModified h p = refl
+    only_not_modified target len limits Failed h p =
+        let no = other_result target precondition.NotModified precondition.Failed h p in absurd (cc no)
+    only_not_modified target len limits plan h p =
+        let no = other_result target precondition.NotModified precondition.Perform h p.1.performs in absurd (cc no)
+
+    other_status : (target : Target) (len : ℕ) (limits : RangeLimits) (plan : Plan)
+        → ¬ (Decide target precondition.Failed) → IsPlanFor target len limits plan → status_of plan ≢ 412
+    other_status target len limits Failed passes p = absurd (passes p)
+    other_status target len limits plan passes p = λ e. omega (arith, e)
+
+    module _ (answer : Answer) (a : IsAnswer present resource asked answer)
+        (first : IsFirst (applies resource asked) Admitted) (place : Option ℕ)
+        (selected : IsSelected resource asked.fields place) where
+      abbrev here : Option Representation
+      here = at_place resource.representations.items place
+
+      pub reason_is : answer.reason ≡ Admitted
+      reason_is = only_admitted (applies resource asked) answer.reason first a.first
+
+      -- the answer by the preconditions on what is selected
+      goes_on : GoesOn present resource asked place here answer.status answer.sends a.own
+      goes_on =
+          let gives : GivesIf true present resource asked Admitted answer.status answer.sends a.own =
+          rw reason_is at a.gives in
+          rw (one_place resource asked.fields gives.place place gives.selected selected) at gives.goes
+
+      unmodified_by : Decide (seen_at place) precondition.NotModified → (response : Option Planning)
+          → IsAnswered present asked.method asked.fields (seen_at place) (content_of here) resource.boundary response
+          → answer.status ≡ status_sent response → answer.sends ≡ is_sent place response
+          → a.own ≡ response_fields asked.fields here response → IsUnmodified answer a.own place
+      unmodified_by decided None answered status sends fields =
+          let no = other_result (seen_at place) precondition.NotModified precondition.Perform decided answered.0 in
+          absurd (cc no)
+      unmodified_by decided (Some response) answered status sends fields =
+          let plan : response.plan ≡ NotModified =
+          only_not_modified (seen_at place) (divisible_len (content_of here)) (limits_of (content_of here))
+          response.plan decided answered.plan in
+          record {
+            reason = reason_is;
+            status = status ∙ ap Some (answered.status ∙ ap status_of plan);
+            sends = sends ∙ ap (Planned place) plan;
+            tag = rw plan at (planned_own answer a here response answered fields);
+          }
+
+      pub not_modified : Decide (seen_at place) precondition.NotModified → IsUnmodified answer a.own place
+      not_modified decided =
+          unmodified_by decided goes_on.response goes_on.answered goes_on.has_status goes_on.sends goes_on.has_fields
+
+      passed_by : ¬ (Decide (seen_at place) precondition.Failed) → (response : Option Planning)
+          → IsAnswered present asked.method asked.fields (seen_at place) (content_of here) resource.boundary response
+          → answer.status ≡ status_sent response → answer.status ≢ Some 412
+      passed_by passes None answered status is = let no = sym status ∙ is in cc no
+      passed_by passes (Some response) answered status is =
+          let code : response.status ≡ 412 = let both = sym status ∙ is in cc both in
+          other_status (seen_at place) (divisible_len (content_of here)) (limits_of (content_of here)) response.plan
+          passes answered.plan (sym answered.status ∙ code)
+
+      pub not_failed : ¬ (Decide (seen_at place) precondition.Failed) → answer.status ≢ Some 412
+      not_failed passes = passed_by passes goes_on.response goes_on.answered goes_on.has_status
+
+-- ---- the answer that a response carries
+
+abbrev described_as : Resource → State → Vec Representation → Resource
+described_as site st v = record site { state = st; representations = v }
+
+abbrev IsReadBy : ℕ → Resource → Protocol → Option Line → LineMap → Answer → Type 0
+IsReadBy present resource protocol authority fields answer =
+    (method : List ℕ) × IsGetOrHead method
+    × IsAnswer present resource (reading protocol authority method fields) answer
+
+decided_read : (present : ℕ) (divider : List ℕ) (files : List File) (resource : Resource) (protocol : Protocol)
+    (authority : Option Line) (fields : LineMap) (method : List ℕ) → IsGetOrHead method → (answer : Answer)
+    → Decides present divider files resource (reading protocol authority method fields) answer
+    → IsReadBy present resource protocol authority fields answer
+decided_read present divider files resource protocol authority fields method read answer x =
+    elim x [
+      | inl h ↦ (method, read, h.1)
+      | inr h ↦ (codes "HEAD", inr refl, h.3)
+    ]
+
+module _ (now : Option ℕ) (left : ℕ) (site : Site) (look : List ℕ → Entry) (request : Request (List ℕ))
+    (response : Response) (source : Option Source)
+    (x : IsAnswerAt now left site (has_at look) request response source)
+    (read : IsGetOrHead (head_of request).method) where
+  abbrev lines : LineMap
+  lines = lines_at (head_of request).headers
+
+  abbrev present : ℕ
+  present = clock now x.found.files.items
+
+  asked_is : x.asked ≡ reading x.asked.protocol x.asked.authority (head_of request).method lines
+  asked_is =
+      λ i. record {
+        protocol = x.asked.protocol;
+        method = x.asks.2.method i;
+        authority = x.asked.authority;
+        content = x.asks.2.content i;
+        fields = x.asks.2.fields i;
+        denied = x.asks.2.admitted i;
+      }
+
+  read_answer : IsReadBy present
+      (described_as site.resource x.found.state x.described.representations) x.asked.protocol x.asked.authority
+      lines x.answer
+  read_answer =
+      decided_read present (string_bytes site.divider) x.found.files.items
+      (described_as site.resource x.found.state x.described.representations) x.asked.protocol x.asked.authority
+      lines (head_of request).method read x.answer
+      (rw (asked_is, x.described.is) at x.decides)
+
+  -- the field lines of ETag are those of the answer's fields
+  etag_lines : lines_in (fields_of response) etag
+      ≡ lines_in (headers_sent (is_some site.resource.cors) (encoded_fields x.answer.fields.items)) etag
+  etag_lines =
+      lines_in-carried etag etag_is_of_answer now left site x.found.files.items
+      (status_for x.found.status x.answer.reason x.answer.status) x.answer.sends
+      (encoded_fields x.answer.fields.items) response x.carries
+
+-- ---- bytes in memory
+
+abbrev digest_tag : Kept → Line
+digest_tag kept = strong_tag (content_digest kept.content)
+
+pub digest_tag_is_strong : (content : List ℕ)
+    → IsTag (strong_tag (content_digest content)) (record { is_weak = false; opaque = content_digest content })
+digest_tag_is_strong content =
+    let digits = content_digest content in
+    record {
+      text = refl;
+      opaque =
+          passes_from_text (strong_tag digits) (record { is_weak = false; opaque = digits }) refl
+          (tag_is_tag digits (digest_is_boundary content));
+    }
+
+pub kept_tag : (now : Option ℕ) (left : ℕ) (site : Site) (look : List ℕ → Entry) (request : Request (List ℕ))
+    (response : Response) (kept : Kept) (tag : Line) → IsGetOrHead (head_of request).method
+    → IsAnswerAt now left site (has_at look) request response (Some (InMemory kept))
+    → lines_in (fields_of response) (codes "etag") ≡ tag ∷ []
+    → (tag ≡ strong_tag (content_digest kept.content))
+    × IsTag tag (record { is_weak = false; opaque = content_digest kept.content })
+kept_tag now left site look request response kept tag read x told =
+    let source : Option Source = Some (InMemory kept) in
+    let by = read_answer now left site look request response source x read in
+    let st = x.found.state in
+    let files = x.found.files.items in
+    let resource = described_as site.resource st x.described.representations in
+    let asked = reading x.asked.protocol x.asked.authority by.0 (lines_at (head_of request).headers) in
+    let tagged : IsTagged (clock now files) resource asked tag x.answer.sends =
+    is_tagged (clock now files) resource asked by.1 x.answer by.2 (is_some site.resource.cors) tag
+    (sym (etag_lines now left site look request response source x read) ∙ told) in
+    let seen : tag_lines (target_at st (map (representation_of (clock now files)) files) tagged.place) ≡ tag ∷ [] =
+    sym (ap (λ (items : List Representation). tag_lines (target_at st items tagged.place)) x.described.are)
+    ∙ tagged.tagged in
+    let found = file_of_tag st files tagged.place (clock now files) tag seen in
+    let opens : Some (InMemory kept) ≡ Some found.0.source =
+    x.opens ∙ ap (source_sent files) tagged.sends ∙ ap source_of found.1 in
+    let memory : InMemory kept ≡ found.0.source = cc opens in
+    let labelled : label_at files tagged.place ≡ Some (label_of found.0) = ap (option_map label_of) found.1 in
+    let own : digest_tag kept ∷ [] ≡ tag ∷ [] =
+    ap (λ (s : Source). lines_sent (λ (t : FieldValue). t.bytes) (tag_of s)) memory
+    ∙ sym (ap tag_lines (target_of_label st files tagged.place (label_of found.0) labelled (clock now files)))
+    ∙ seen in
+    let same : digest_tag kept ≡ tag = cc own in (
+      sym same,
+      subst (λ (t : Line). IsTag t (record { is_weak = false; opaque = content_digest kept.content })) same
+          (digest_tag_is_strong kept.content),
+    )
+
+-- ---- a request and the one before it
+
+pub differ : (a b : List ℕ) → bytes_eq a b ≡ false → a ≢ b
+differ a b f e = let t = (bytes_eq-Decides a b).1 e in absurd (cc (t, f))
+
+-- the fields by which a read is decided before its conditions
+abbrev deciding : List (List ℕ)
+deciding =
+    codes "host" ∷ codes "expect" ∷ codes "accept" ∷ codes "accept-language" ∷ codes "accept-encoding" ∷ []
+
+no_pieces : (divider : List ℕ) (file : Option File) → pieces_of divider file NotModified ≡ []
+no_pieces divider None = refl
+no_pieces divider (Some file) = refl
+
+module _ (now later : Option ℕ) (left more : ℕ) (site : Site) (look other : List ℕ → Entry)
+    (first second : Request (List ℕ)) (r s : Response) (a b : Option Source) (name : List ℕ) (tag : Line)
+    (again : IsAgain name tag first second)
+    (similar : HaveSimilar site.resource.negotiation.coding (uri_path (head_of first).uri) look other)
+    (x : IsAnswerAt now left site (has_at look) first r a)
+    (y : IsAnswerAt later more site (has_at other) second s b)
+    (told : lines_in (fields_of r) (codes "etag") ≡ tag ∷ []) where
+  abbrev f : LineMap
+  f = lines_at (head_of first).headers
+
+  abbrev g : LineMap
+  g = lines_at (head_of second).headers
+
+  abbrev st : State
+  st = y.found.state
+
+  abbrev fs : List File
+  fs = x.found.files.items
+
+  abbrev gs : List File
+  gs = y.found.files.items
+
+  abbrev v : Vec Representation
+  v = x.described.representations
+
+  abbrev w : Vec Representation
+  w = y.described.representations
+
+  abbrev before : Resource
+  before = described_as site.resource st v
+
+  abbrev after : Resource
+  after = described_as site.resource st w
+
+  alike : AreSeenAlike x.found.state y.found.state fs gs
+  alike =
+      leads_similar look other site.resource.negotiation.coding (head_of first).uri similar x.found y.found x.leads
+      (rw again.uri at y.leads)
+
+  -- both ask alike
+  asks_alike : Asks first (reading y.asked.protocol y.asked.authority (head_of first).method f)
+  asks_alike = (
+    y.asks.0,
+    rw again.uri at y.asks.1,
+    record {
+      protocol = rw again.version at y.asks.2.protocol;
+      method = refl;
+      has_authority = y.asks.2.has_authority;
+      content = refl;
+      fields = refl;
+      admitted = refl;
+    },
+  )
+
+  asked_alike : x.asked ≡ reading y.asked.protocol y.asked.authority (head_of first).method f
+  asked_alike =
+      asked_once first x.asked (reading y.asked.protocol y.asked.authority (head_of first).method f) x.asks asks_alike
+
+  first_read : IsReadBy (clock now fs) before y.asked.protocol y.asked.authority f x.answer
+  first_read =
+      rw (
+        ← alike.state,
+        ← (ap (λ (q : Asked). q.authority) asked_alike),
+        ← (ap (λ (q : Asked). q.protocol) asked_alike),
+      )
+      (read_answer now left site look first r a x again.read)
+
+  second_read : IsReadBy (clock later gs) after y.asked.protocol y.asked.authority g y.answer
+  second_read = read_answer later more site other second s b y again.read_again
+
+  abbrev asked : Asked
+  asked = reading y.asked.protocol y.asked.authority first_read.0 f
+
+  abbrev asked_again : Asked
+  asked_again = reading y.asked.protocol y.asked.authority second_read.0 g
+
+  tagged : IsTagged (clock now fs) before asked tag x.answer.sends
+  tagged =
+      is_tagged (clock now fs) before asked first_read.1 x.answer first_read.2 (is_some site.resource.cors) tag
+      (sym (etag_lines now left site look first r a x again.read) ∙ told)
+
+  seen : tag_lines (target_at st (map (representation_of (clock now fs)) fs) tagged.place) ≡ tag ∷ []
+  seen =
+      sym (ap (λ (items : List Representation). tag_lines (target_at st items tagged.place)) x.described.are)
+      ∙ tagged.tagged
+
+  found : (file : File) × (file_at fs tagged.place ≡ Some file)
+  found = file_of_tag st fs tagged.place (clock now fs) tag seen
+
+  abbrev label : Label
+  label = label_of found.0
+
+  labelled_then : label_at fs tagged.place ≡ Some label
+  labelled_then = ap (option_map label_of) found.1
+
+  labelled_now : label_at gs tagged.place ≡ Some label
+  labelled_now = sym (same_label fs gs tagged.place alike.labels) ∙ labelled_then
+
+  then_seen : target_at st v.items tagged.place ≡ current_by (clock now fs) label
+  then_seen =
+      ap (λ (items : List Representation). target_at st items tagged.place) x.described.are
+      ∙ target_of_label st fs tagged.place label labelled_then (clock now fs)
+
+  now_seen : target_at st w.items tagged.place ≡ current_by (clock later gs) label
+  now_seen =
+      ap (λ (items : List Representation). target_at st items tagged.place) y.described.are
+      ∙ target_of_label st gs tagged.place label labelled_now (clock later gs)
+
+  own_tag : lines_sent (λ (t : FieldValue). t.bytes) label.tag ≡ tag ∷ []
+  own_tag = sym (ap tag_lines then_seen) ∙ tagged.tagged
+
+  was_kept : StateIsKept (clock now fs) f (current_by (clock now fs) label)
+  was_kept = rw then_seen at tagged.kept
+
+  has_line : (lines : List Line) → lines ≡ tag ∷ [] → HasLine lines
+  has_line lines are = subst HasLine (sym are) (omega arith)
+
+  kept_field : (other : List ℕ) → bytes_eq other name ≡ false → f other ≡ g other
+  kept_field other free = sym (again.others other (differ other name free))
+
+  module _ (free : list_any (λ (own : List ℕ). bytes_eq own name) deciding ≡ false) where
+    same : AskAlike f g
+    same =
+        let host = or_parts (bytes_eq (codes "host") name) _ free in
+        let expect = or_parts (bytes_eq (codes "expect") name) _ host.1 in
+        let accept = or_parts (bytes_eq (codes "accept") name) _ expect.1 in
+        let language = or_parts (bytes_eq (codes "accept-language") name) _ accept.1 in
+        let coding = or_parts (bytes_eq (codes "accept-encoding") name) false language.1 in
+        record {
+          host = kept_field (codes "host") host.0;
+          expect = kept_field (codes "expect") expect.0;
+          accept = kept_field (codes "accept") accept.0;
+          accept_language = kept_field (codes "accept-language") language.0;
+          accept_encoding = kept_field (codes "accept-encoding") coding.0;
+        }
+
+    first_there : IsFirst (applies after asked_again) Admitted
+    first_there =
+        first_again site.resource st v w (clock now fs) (clock later gs) fs gs x.described.are y.described.are
+        alike.labels
+        y.asked.protocol y.asked.authority f g same first_read.0 second_read.0 first_read.1 second_read.1
+        tagged.first
+
+    selected_there : IsSelected after g tagged.place
+    selected_there =
+        selected_again site.resource st v w (clock now fs) (clock later gs) fs gs x.described.are y.described.are
+        alike.labels y.asked.protocol y.asked.authority f g same tagged.place tagged.selected
+
+    module _ (decided : Decide (clock later gs) after asked_again (current_by (clock later gs) label)
+        precondition.NotModified) where
+      unmodified : IsUnmodified (clock later gs) after asked_again y.answer second_read.2.own tagged.place
+      unmodified =
+          not_modified (clock later gs) after asked_again second_read.1 y.answer second_read.2 first_there tagged.place
+          selected_there
+          (rw now_seen decided)
+
+      told_unmodified : (s.status ≡ 304) × (lines_in (fields_of s) (codes "etag") ≡ tag ∷ []) × (s.pieces.items ≡ [])
+      told_unmodified =
+          let u = unmodified in (
+            y.carries.status ∙ rw (u.reason, u.status),
+            etag_lines later more site other second s b y again.read_again
+                ∙ tag_given (clock later gs) after asked_again y.answer second_read.2 (is_some site.resource.cors)
+                (tag_lines (target_at st w.items tagged.place)) u.tag
+                ∙ ap tag_lines now_seen ∙ own_tag,
+            y.carries.pieces ∙ rw u.sends (no_pieces (string_bytes site.divider) (file_at gs tagged.place)),
+          )
+
+    module _ (passes : ¬ (Decide (clock later gs) after asked_again (current_by (clock later gs) label)
+        precondition.Failed)) where
+      not_refused : y.answer.status ≢ Some 412
+      not_refused =
+          not_failed (clock later gs) after asked_again second_read.1 y.answer second_read.2 first_there tagged.place
+          selected_there
+          (λ decided. passes (rw now_seen at decided))
+
+      other_code : (status : Option ℕ) → status ≢ Some 412 → status_for y.found.status Admitted status ≢ 412
+      other_code None other e = omega (arith, e)
+      other_code (Some code) other e = other (ap Some e)
+
+      told_passed : s.status ≢ 412
+      told_passed is =
+          other_code y.answer.status not_refused
+          (sym
+          (y.carries.status
+          ∙ ap (λ (reason : Reason). status_for y.found.status reason y.answer.status)
+          (reason_is (clock later gs) after asked_again second_read.1 y.answer second_read.2 first_there tagged.place
+          selected_there))
+          ∙ is)
+
+    -- ---- the two conditions
+
+    pub by_none_match : ParsesOneWay → f (codes "if-match") ≡ g (codes "if-match")
+        → g (codes "if-unmodified-since") ≡ []
+        → g (codes "if-none-match") ≡ tag ∷ [] → IsSomeTag tag
+        → (s.status ≡ 304) × (lines_in (fields_of s) (codes "etag") ≡ tag ∷ []) × (s.pieces.items ≡ [])
+    by_none_match parse matching undated asks some =
+        told_unmodified
+        (record {
+          unconditional =
+              λ is. absurd (never_ignored (validators_by (clock later gs) label) second_read.0 second_read.1 is);
+          conditional = λ counts. (
+            kept_again (clock now fs) (clock later gs) f g label matching undated was_kept,
+            second_read.1,
+            inl (
+              has_line (g (codes "if-none-match")) asks,
+              rw asks (weakly_named parse tag some.0 some.1 (validators_by (clock later gs) label) own_tag),
+            ),
+          );
+        })
+
+    pub by_match : ParsesOneWay → g (codes "if-match") ≡ tag ∷ [] → (parts : TagParts) → IsTag tag parts
+        → parts.is_weak ≡ false
+        → s.status ≢ 412
+    by_match parse asks parts is strong =
+        told_passed
+        (λ failed.
+        elim (failed.conditional (never_ignored (validators_by (clock later gs) label) second_read.0 second_read.1)) [
+          | inl lost ↦
+              elim lost [
+                | inl l ↦
+                    l.1
+                    (rw asks (strongly_named parse tag parts is (validators_by (clock later gs) label) own_tag strong))
+                | inr l ↦ l.0 (has_line (g (codes "if-match")) asks)
+              ]
+          | inr other ↦ other.1 second_read.1
+        ])
+
+-- ==== The answer to a request is that to another one, or of another store.
+
+-- ---- a HEAD gets the response of a GET
+
+-- what the law says: a GET without Range is answered as the HEAD
+abbrev AsHead : Type 0
+AsHead = (present : ℕ) (resource : Resource) (request : Asked) (answer : Answer)
+    → IsAnswer present resource (get_of request) answer → IsAnswer present resource (as_head request) answer
+
+unchanged : (fields : LineMap) → fields (codes "range") ≡ [] → (name : List ℕ)
+    → remove fields (codes "range") name ≡ fields name
+unchanged fields none name = by (bytes_eq (codes "range") name) refl
+  where
+    by : (b : Bool) → bytes_eq (codes "range") name ≡ b → remove fields (codes "range") name ≡ fields name
+    by true e = rw e (sym (subst (λ (n : List ℕ). fields n ≡ []) ((bytes_eq-Decides (codes "range") name).0 e) none))
+    by false e = rw e refl
+
+get_is : (asked : Asked) → asked.method ≡ codes "GET" → asked.fields (codes "range") ≡ [] → get_of asked ≡ asked
+get_is asked is none = λ i. record {
+  protocol = asked.protocol;
+  method = sym is i;
+  authority = asked.authority;
+  content = asked.content;
+  denied = asked.denied;
+  fields = λ name. unchanged asked.fields none name i;
+}
+
+module _ (law : AsHead) (present : ℕ) (resource : Resource) (asked : Asked) (is : asked.method ≡ codes "GET")
+    (none : asked.fields (codes "range") ≡ []) where
+  answers_head : (answer : Answer) → IsAnswer present resource asked answer
+      → IsAnswer present resource (as_head asked) answer
+  answers_head answer h =
+      law present resource asked answer (rw (get_is asked is none) h)
+
+  decides_head : (divider : List ℕ) (files : List File) (answer : Answer)
+      → Decides present divider files resource asked answer
+      → Decides present divider files resource (as_head asked) answer
+  decides_head divider files answer x =
+      elim x [
+        | inl h ↦ inl (h.0, answers_head answer h.1)
+        | inr h ↦ inr (h.0, h.1, answers_head h.0 h.2, h.3)
+      ]
+
+module _ (get head : Request (List ℕ)) (is : IsHeadOf get head) where
+  asks_head : (asked : Asked) → Asks get asked → Asks head (as_head asked)
+  asks_head asked x = (
+    x.0,
+    rw is.uri x.1,
+    record {
+      protocol = rw is.version x.2.protocol;
+      method = sym is.is_head;
+      has_authority = x.2.has_authority;
+      content = x.2.content;
+      fields = x.2.fields ∙ ap (λ headers. lines_at headers) (sym is.headers);
+      admitted = x.2.admitted;
+    },
+  )
+
+pub head_answered : AsHead → (now : Option ℕ) (left : ℕ) (site : Site) (look : List ℕ → Entry)
+    (get head : Request (List ℕ)) (response : Response) (source : Option Source) → IsHeadOf get head
+    → IsAnswerAt now left site (has_at look) get response source
+    → IsAnswerAt now left site (has_at look) head response source
+head_answered law now left site look get head response source is x =
+    let none : x.asked.fields (codes "range") ≡ []
+    = ap (λ (fields : LineMap). fields (codes "range")) x.asks.2.fields ∙ is.no_range in
+    record {
+      found = x.found;
+      leads = rw is.uri x.leads;
+      resource = x.resource;
+      described = x.described;
+      asked = as_head x.asked;
+      asks = asks_head get head is x.asked x.asks;
+      answer = x.answer;
+      decides = decides_head law (clock now x.found.files.items) x.resource x.asked (x.asks.2.method ∙ is.is_get) none
+          (string_bytes site.divider) x.found.files.items x.answer x.decides;
+      carries = x.carries;
+      opens = x.opens;
+    }
+
+-- ---- a store that has the same where the request looks
+
+module _ (look other : List ℕ → Entry) where
+  stands : (path : List ℕ) (entry : Entry) → look path ≡ other path → HasEntryAt (has_at look) path entry
+      → HasEntryAt (has_at other) path entry
+  stands path entry same x = elim x [ inl h ↦ inl (h.0, h.1 ∙ same) | inr h ↦ inr h ]
+
+  contents : (negotiates : Bool) (named : List ℕ) (file : File) (files : List File)
+      → ((coding : Coding) → negotiates ≡ true
+      → look (named ++ coding_suffix coding) ≡ other (named ++ coding_suffix coding))
+      → AreContents negotiates (has_at look) named file files → AreContents negotiates (has_at other) named file files
+  contents false named file files same h = h
+  contents true named file files same h =
+      record {
+        brotli = h.brotli;
+        gzip = h.gzip;
+        has_brotli = stands (named ++ coding_suffix Brotli) h.brotli (same Brotli refl) h.has_brotli;
+        has_gzip = stands (named ++ coding_suffix Gzip) h.gzip (same Gzip refl) h.has_gzip;
+        are = h.are;
+      }
+
+  module _ (negotiates : Bool) (uri : Uri) (found : _)
+      (alike : HaveAlike negotiates (uri_path uri) look other) where
+    finds : (named : List ℕ) (entry : Entry) → Names (uri_path uri) (Some named)
+        → FindsEntry negotiates (has_at look) uri named entry found
+        → FindsEntry negotiates (has_at other) uri named entry found
+    finds named Missing names h = h
+    finds named Forbidden names h = h
+    finds named Unavailable names h = h
+    finds named Folder names h = h
+    finds named (Listed listing) names h = h
+    finds named (Readable file) names h = (
+      h.0,
+      h.1,
+      contents negotiates named file found.files.items
+          (λ coding is. alike.beside named coding is names) h.2,
+    )
+
+    pub leads : LeadsTo negotiates (has_at look) uri found → LeadsTo negotiates (has_at other) uri found
+    leads x =
+        elim x [
+          | inl h ↦ inl (h.0, h.1, (h.2.0, h.2.1 ∙ alike.named h.0 h.1, finds h.0 h.2.0 h.1 h.2.2))
+          | inr h ↦ inr h
+        ]
+
+-- ==== The response to a preflight, as a browser reads it.
+
+-- ---- fields that are set in their order
+
+abbrev nothing : LineMap
+nothing name = []
+
+module _ (name : List ℕ) where
+  -- what a map has after fields are set is what they are sent as, or what it had before
+  set_all-sent : (m : LineMap) (fields : List Field)
+      → set_all m fields name ≡ cond (is_named name fields) (lines_in (headers_set fields) name) (m name)
+  set_all-sent m [] = refl
+  set_all-sent m (field ∷ fields) =
+      set_all-sent (set m field) fields ∙ by (bytes_eq field.0 name) refl (is_named name fields) refl
+    where
+      by : (b : Bool) → bytes_eq field.0 name ≡ b → (c : Bool) → is_named name fields ≡ c
+          → cond c (lines_in (headers_set fields) name) (cond b field.1 (m name))
+          ≡ cond (b || c) (lines_in (lines_unless (is_named field.0 fields) field ++ headers_set fields) name)
+          (m name)
+      by true e true f =
+          let same : field.0 ≡ name = (bytes_eq-Decides field.0 name).0 e in
+          let replaced : is_named field.0 fields ≡ true = ap (λ (n : List ℕ). is_named n fields) same ∙ f in
+          sym (ap (λ (b : Bool). lines_in (lines_unless b field ++ headers_set fields) name) replaced)
+      by true e false f =
+          let same : field.0 ≡ name = (bytes_eq-Decides field.0 name).0 e in
+          let stays : is_named field.0 fields ≡ false = ap (λ (n : List ℕ). is_named n fields) same ∙ f in
+          sym
+          (ap (λ (b : Bool). lines_in (lines_unless b field ++ headers_set fields) name) stays
+          ∙ lines_in-append name (lines_under field) (headers_set fields)
+          ∙ ap (λ (ls : List Line). ls ++ lines_in (headers_set fields) name) (lines_of_same name field.0 field.1 e)
+          ∙ ap (λ (ls : List Line). field.1 ++ ls) (sent-other name true fields f)
+          ∙ append-nil field.1)
+      by false e true f =
+          sym
+          (lines_in-other name (lines_unless (is_named field.0 fields) field) (headers_set fields)
+          (lines_unless-other name (is_named field.0 fields) field e))
+      by false e false f = refl
+
+  sent_as_set : (fields : List Field) → lines_in (headers_set fields) name ≡ set_all nothing fields name
+  sent_as_set fields = by (is_named name fields) refl ∙ sym (set_all-sent nothing fields)
+    where
+      by : (b : Bool) → is_named name fields ≡ b
+          → lines_in (headers_set fields) name ≡ cond (is_named name fields) (lines_in (headers_set fields) name) []
+      by true e = sym (ap (λ (b : Bool). cond b (lines_in (headers_set fields) name) []) e)
+      by false e =
+          sent-other name true fields e
+          ∙ sym (ap (λ (b : Bool). cond b (lines_in (headers_set fields) name) []) e)
+
+-- ---- what a browser reads of a response to a preflight
+
+-- both have the same field lines under the names that it reads
+record IsReadAlike (m n : LineMap) : Type 0 where
+  origin : m (codes "access-control-allow-origin") ≡ n (codes "access-control-allow-origin")
+  credentials : m (codes "access-control-allow-credentials") ≡ n (codes "access-control-allow-credentials")
+  methods : m (codes "access-control-allow-methods") ≡ n (codes "access-control-allow-methods")
+  names : m (codes "access-control-allow-headers") ≡ n (codes "access-control-allow-headers")
+
+check_alike : (m n : LineMap) (sent : Sent) → IsReadAlike m n → CorsCheck m sent → CorsCheck n sent
+check_alike m n sent same h = rw (← same.origin, ← same.credentials) h
+
+passes_alike : (status : ℕ) (m n : LineMap) (sent : Sent) → IsReadAlike m n → PreflightPasses status m sent
+    → PreflightPasses status n sent
+passes_alike status m n sent same h = record {
+  check = check_alike m n sent same h.check;
+  ok = h.ok;
+  method = rw (← same.methods) h.method;
+  names = rw (← same.names) h.names;
+}
+
+alike_back : (m n : LineMap) → IsReadAlike m n → IsReadAlike n m
+alike_back m n same = record {
+  origin = sym same.origin;
+  credentials = sym same.credentials;
+  methods = sym same.methods;
+  names = sym same.names;
+}
+
+-- ---- the reason
+
+module _ (resource : Resource) (asked : Asked) (policy : Policy) (has : resource.cors ≡ Some policy) (sent : Sent)
+    (asks : IsPreflightFor sent asked.method asked.fields)
+    (host : has_host asked.protocol (asked.fields (codes "host")) ≡ true)
+    (own : is_misdirected resource asked ≡ false) where
+  asks_leave : applies resource asked Preflight ≡ true
+  asks_leave =
+      ap (λ (cors : Option Policy). is_some cors && is_preflight_request asked.method asked.fields) has
+      ∙ ap (λ (m : List ℕ). is_preflight_request m asked.fields) asks.options
+      ∙ ap
+      (λ (lines : List Line). is_present lines && is_present (asked.fields (codes "access-control-request-method")))
+      asks.origin
+      ∙ ap is_present asks.asked
+
+  no_other : (b : Bool) (reason : Reason) → b ≡ true → b ≡ false → reason ≡ Preflight
+  no_other b reason t f = absurd (cc (t, f))
+
+  preflight_first : (reason : Reason) → IsFirst (applies resource asked) reason → reason ≡ Preflight
+  preflight_first InvalidHost h = no_other _ InvalidHost h.is (ap not host)
+  preflight_first Misdirected h = no_other _ Misdirected h.is own
+  preflight_first Preflight h = refl
+  preflight_first reason h = no_other _ reason asks_leave (h.none_before Preflight (omega arith))
+
+  module _ (asked_at : ℕ) (answer : Answer) (a : IsAnswer asked_at resource asked answer) where
+    preflight_is : answer.reason ≡ Preflight
+    preflight_is = preflight_first answer.reason a.first
+
+    stops : Stops resource asked Preflight answer.status answer.sends a.own
+    stops =
+        rw preflight_is at a.gives
+
+  -- no answer is that to a HEAD
+  decided : (asked_at : ℕ) (divider : List ℕ) (files : List File) (answer : Answer)
+      → Decides asked_at divider files resource asked answer → IsAnswer asked_at resource asked answer
+  decided asked_at divider files answer x =
+      elim x [
+        | inl h ↦ h.1
+        | inr h ↦
+            let one : sends_several h.0.sends ≡ false = ap sends_several (stops asked_at h.0 h.2).sends in
+            absurd (h.1 (λ several. absurd (cc (one, several))))
+      ]
+
+-- what the law of preflights says
+abbrev pub PreflightIsAnswered : Type 0
+PreflightIsAnswered = (asked_at : ℕ) (resource : Resource) (request : Asked) (answer : Answer) (rules : CorsRules)
+    (policy : Policy) (before : LineMap) (sent : Sent) → resource.cors ≡ Some policy
+    → IsAnswer asked_at resource request answer → IsLawful rules → IsPolicyOf rules policy
+    → IsPreflightFor sent request.method request.fields
+    → Before answer.reason Preflight ⊎ ((answer.status ≡ Some 204)
+    × (PreflightPasses 204 (set_all before (encoded_fields answer.fields.items)) sent ↔ AllowsRequest rules sent))
+
+-- and that of the CORS check
+abbrev pub ResponseIsShared : Type 0
+ResponseIsShared = (asked_at : ℕ) (resource : Resource) (request : Asked) (answer : Answer) (rules : CorsRules)
+    (policy : Policy) (before : LineMap) (sent : Sent) → resource.cors ≡ Some policy
+    → IsAnswer asked_at resource request answer → IsLawful rules → IsPolicyOf rules policy
+    → request.fields (codes "origin") ≡ sent.origin ∷ []
+    → CorsCheck (set_all before (encoded_fields answer.fields.items)) sent
+    ↔ (AllowsOrigin rules sent.origin × AllowsCredentials rules sent.credentials)
+
+module _ (now : Option ℕ) (left : ℕ) (site : Site) (look : List ℕ → Entry → Type 0) (request : Request (List ℕ))
+    (response : Response) (source : Option Source) (policy : Policy) (has : site.resource.cors ≡ Some policy)
+    (x : IsAnswerAt now left site look request response source) where
+  abbrev asked_at : ℕ
+  asked_at = clock now x.found.files.items
+
+  abbrev given : List Field
+  given = encoded_fields x.answer.fields.items
+
+  read_as_set : (name : List ℕ) → IsOfAnswer name → lines_in (fields_of response) name ≡ set_all nothing given name
+  read_as_set name free =
+      lines_in-carried name free now left site x.found.files.items
+      (status_for x.found.status x.answer.reason x.answer.status) x.answer.sends given response x.carries
+      ∙ ap (λ (cors : Option Policy). lines_in (headers_sent (is_some cors) given) name) has
+      ∙ sent_as_set name given
+
+  read_alike : IsReadAlike (lines_in (fields_of response)) (set_all nothing given)
+  read_alike = record {
+    origin =
+        read_as_set (codes "access-control-allow-origin")
+        (record { kept = refl; date = refl; sniff = refl; connection = refl; cache = refl; media_type = refl });
+    credentials =
+        read_as_set (codes "access-control-allow-credentials")
+        (record { kept = refl; date = refl; sniff = refl; connection = refl; cache = refl; media_type = refl });
+    methods =
+        read_as_set (codes "access-control-allow-methods")
+        (record { kept = refl; date = refl; sniff = refl; connection = refl; cache = refl; media_type = refl });
+    names =
+        read_as_set (codes "access-control-allow-headers")
+        (record { kept = refl; date = refl; sniff = refl; connection = refl; cache = refl; media_type = refl });
+  }
+
+  pub preflight_answered : PreflightIsAnswered → (rules : CorsRules) (sent : Sent) (asked : Asked)
+      → Asks request asked → has_host asked.protocol (asked.fields (codes "host")) ≡ true
+      → is_misdirected site.resource asked ≡ false → IsLawful rules → IsPolicyOf rules policy
+      → IsPreflightFor sent (head_of request).method (lines_at (head_of request).headers)
+      → (response.status ≡ 204) × (response.pieces.items ≡ [])
+      × (PreflightPasses response.status (lines_in (fields_of response)) sent ↔ AllowsRequest rules sent)
+  preflight_answered law rules sent asked asks host own lawful made preflight =
+      let same : x.asked ≡ asked = asked_once request x.asked asked x.asks asks in
+      let resource : Resource = record site.resource {
+        state = x.found.state;
+        representations = x.described.representations;
+      } in
+      let decides : Decides asked_at (string_bytes site.divider) x.found.files.items resource asked x.answer =
+      rw (x.described.is, same) at x.decides in
+      let asked_so : IsPreflightFor sent asked.method asked.fields = record {
+        options = asks.2.method ∙ preflight.options;
+        origin = ap (λ (m : LineMap). m (codes "origin")) asks.2.fields ∙ preflight.origin;
+        asked = ap (λ (m : LineMap). m (codes "access-control-request-method")) asks.2.fields ∙ preflight.asked;
+      } in
+      let a : IsAnswer asked_at resource asked x.answer =
+      decided resource asked policy has sent asked_so host own asked_at (string_bytes site.divider) x.found.files.items
+      x.answer decides in
+      let reason : x.answer.reason ≡ Preflight =
+      preflight_is resource asked policy has sent asked_so host own asked_at x.answer a in
+      let stopped = stops resource asked policy has sent asked_so host own asked_at x.answer a in
+      let answered =
+      passed reason (law asked_at resource asked x.answer rules policy nothing sent has a lawful made asked_so) in
+      let code : status_for x.found.status x.answer.reason x.answer.status ≡ 204 =
+      rw (reason, answered.0) in
+      let status : response.status ≡ 204 = x.carries.status ∙ code in
+      let mine : LineMap = lines_in (fields_of response) in
+      let theirs : LineMap = set_all nothing given in (
+        status,
+        x.carries.pieces ∙ rw (code, stopped.sends),
+        (
+          λ passes. answered.1.0 (rw status at (passes_alike response.status mine theirs sent read_alike passes)),
+          λ allows.
+              passes_alike response.status theirs mine sent (alike_back mine theirs read_alike)
+              (rw status (answered.1.1 allows)),
+        ),
+      )
+    where
+      passed : {A : Type 0} → x.answer.reason ≡ Preflight → Before x.answer.reason Preflight ⊎ A → A
+      passed reason (inl low) = let level : stage x.answer.reason ≡ 2 = ap stage reason in absurd (omega (arith, level, low))
+      passed reason (inr answered) = answered
+
+  pub response_shared : ResponseIsShared → (rules : CorsRules) (sent : Sent) → IsLawful rules
+      → IsPolicyOf rules policy → lines_at (head_of request).headers (codes "origin") ≡ sent.origin ∷ []
+      → CorsCheck (lines_in (fields_of response)) sent
+      ↔ (AllowsOrigin rules sent.origin × AllowsCredentials rules sent.credentials)
+  response_shared law rules sent lawful made origin =
+      let own : x.resource.cors ≡ Some policy = ap (λ (r : Resource). r.cors) x.described.is ∙ has in
+      let asked_origin : x.asked.fields (codes "origin") ≡ sent.origin ∷ [] =
+      ap (λ (m : LineMap). m (codes "origin")) x.asks.2.fields ∙ origin in
+      let mine : LineMap = lines_in (fields_of response) in
+      let theirs : LineMap = set_all nothing given in
+      let checks : CorsCheck theirs sent
+      ↔ (AllowsOrigin rules sent.origin × AllowsCredentials rules sent.credentials) =
+      elim x.decides [
+        | inl h ↦
+            law asked_at x.resource x.asked x.answer rules policy nothing sent own h.1 lawful made asked_origin
+        | inr h ↦
+            law asked_at x.resource (as_head x.asked) x.answer rules policy nothing sent own h.3 lawful made
+            asked_origin
+      ] in (
+        λ passes. checks.0 (check_alike mine theirs sent read_alike passes),
+        λ allows. check_alike theirs mine sent (alike_back mine theirs read_alike) (checks.1 allows),
+      )
+
+-- ==== Two parts that join are the content.
+
+-- what the law of bytes in memory says
+abbrev SendsRanges : Type 0
+SendsRanges = (kept : Kept) (pieces : List Piece) (sent : List ℕ) → AreSent (gives_at (InMemory kept)) pieces sent
+    → sent ≡ bytes_of kept.content pieces
+
+part_pieces : (divider : List ℕ) (file : Option File) (part : Part) (source : Source) → Some source ≡ source_of file
+    → pieces_of divider file (Single part) ≡ Range (part_extent part) ∷ []
+part_pieces divider None part source e = absurd (cc e)
+part_pieces divider (Some file) part source e = refl
+
+module _ (law : SendsRanges) (now : Option ℕ) (left : ℕ) (site : Site) (look : List ℕ → Entry)
+    (request : Request (List ℕ)) (response : Response) (kept : Kept)
+    (x : IsAnswerAt now left site (has_at look) request response (Some (InMemory kept))) (place : Option ℕ)
+    (part : Part) (sends : x.answer.sends ≡ Planned place (Single part)) where
+  abbrev divider : List ℕ
+  divider = string_bytes site.divider
+
+  pieces_are : response.pieces.items ≡ Range (part_extent part) ∷ []
+  pieces_are =
+      x.carries.pieces
+      ∙ rw sends
+      (part_pieces divider (file_at x.found.files.items place) part (InMemory kept) (rw sends at x.opens))
+
+  pub sent_part : (sent : List ℕ) → AreSent (gives_of (Some (InMemory kept))) response.pieces.items sent
+      → sent ≡ take (part.last + 1 - part.first) (drop part.first kept.content)
+  sent_part sent h =
+      law kept response.pieces.items sent h ∙ ap (λ (p : List Piece). bytes_of kept.content p) pieces_are
+      ∙ append-nil (take (part.last + 1 - part.first) (drop part.first kept.content))
+
+pub halves : (content : List ℕ) (first second : Part) → JoinTo (length content) first second
+    → take (first.last + 1 - first.first) (drop first.first content)
+    ++ take (second.last + 1 - second.first) (drop second.first content) ≡ content
+halves content first second joins =
+    let k : ℕ = first.last + 1 in
+    let whole : k - 0 ≡ k = omega arith in
+    let rest : length (drop k content) ≤ second.last + 1 - k = omega (arith, length-drop k content, joins.ends) in
+    rw (joins.begins, joins.meet, whole, take_all (second.last + 1 - k) (drop k content) rest)
+    (take-append-drop k content)
