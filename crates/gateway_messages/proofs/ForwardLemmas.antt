@@ -1,20 +1,17 @@
 -- What is forwarded, name by name.
-use Rattle.std.proofs.Common.{◌≡◌, ◌≢◌, ℕ, Bool, true, false, ◌&&◌, List, [], ◌∷◌, ◌++◌, refl, sym, ◌∙◌, ap, lit<, map}
-use Rattle.std.{proofs.Common.{filter, subst, Option, Some, None}, proofs.Math.Bool.or-true}
-use Rattle.std.{proofs.lemmas.Bool.or_parts, proofs.lemmas.List.append-nil, specs.Prelude.{All, bytes_eq, codes}}
-use Rattle.std.{specs.Prelude.{decimal, if◌then◌else◌, is_some, option_map, option_to_list}, specs.List.list_any}
-use Rattle.http_header.{specs.FieldValue.FieldValue, specs.HeaderMap.{Entries, IsUnique, pairs}}
-use Rattle.headers.{specs.Date.fixdate, specs.LineMap.lines_at, specs.Lines.Line}
-use Rattle.rfc_fields.specs.Scan.{Member}
-use Rattle.gateway_messages.{specs.FieldLines.{Field, field_of, lines_under}, specs.Forwarding.{Forwards, IsEndToEnd}}
-use Rattle.gateway_messages.specs.Forwarding.{IsHopByHop, Message, field_if, framing_names, goes_on, is_replaced}
-use Rattle.gateway_messages.specs.Forwarding.{is_rewritten, own_fields, own_names, replaced}
-use Rattle.gateway_messages.{specs.Framing.{coding_line, length_line}, specs.Spellings.{has_mark, is_misspelt}}
-use Rattle.gateway_messages.{specs.Via.via_line, specs.declared.gateway.Gateway.Gateway}
+use Rattle.std.proofs.Common.{arith, ◌≡◌, ◌≢◌, ℕ, Bool, true, false, ◌&&◌, List, [], ◌∷◌, ◌++◌, refl, sym, ◌∙◌, ap}
+use Rattle.std.proofs.{Common.{lit<, map, filter, Option, Some, None}, Math.Bool.or-true, lemmas.Bool.or_parts}
+use Rattle.std.{proofs.lemmas.List.append-nil, specs.Prelude.{All, bytes_eq, codes, decimal, if◌then◌else◌, is_some}}
+use Rattle.{std.specs.{Prelude.{option_map, option_to_list}, List.list_any}, http_header.specs.FieldValue.FieldValue}
+use Rattle.{http_header.specs.HeaderMap.{Entries, IsUnique, pairs}, headers.specs.{Date.fixdate, LineMap.lines_at}}
+use Rattle.{headers.specs.Lines.Line, rfc_fields.specs.Scan.Member, gateway_messages.specs.FieldLines.{Field, field_of}}
+use Rattle.gateway_messages.specs.{FieldLines.lines_under, Forwarding.{Forwards, IsEndToEnd, IsHopByHop, Message}}
+use Rattle.gateway_messages.specs.Forwarding.{field_if, framing_names, goes_on, is_replaced, is_rewritten, own_fields}
+use Rattle.gateway_messages.specs.{Forwarding.{own_names, replaced}, Framing.{coding_line, length_line}}
+use Rattle.gateway_messages.specs.{Spellings.{has_mark, is_misspelt}, Via.via_line, declared.gateway.Gateway.Gateway}
 use Rattle.gateway_messages.specs.HopByHop.{connection_options, is_hop_by_hop, is_known, is_named, names_protected}
 use Rattle.gateway_messages.{specs.HopByHop.protected_fields, proofs.ReceivedLemmas.{differ, lines_under-append}}
-use Rattle.gateway_messages.proofs.ReceivedLemmas.{lines_under-filter, received_lines}
-use Rattle.gateway_messages.proofs.SpellingLemmas.{well_spelt}
+use Rattle.gateway_messages.proofs.{ReceivedLemmas.{lines_under-filter, received_lines}, SpellingLemmas.well_spelt}
 
 -- ---- what the gateway writes
 
@@ -36,8 +33,7 @@ join : {A : Type 0} (a b c d : List A) → a ≡ c → b ≡ d → a ++ b ≡ c 
 join a b c d e f = rw (e, f) refl
 
 -- the field lines of a name among those that the gateway writes, part by part
-own_at : (pseudonym : List ℕ) (message : Message) (name : List ℕ)
-    (via host date hops len coding : List Line)
+own_at : (pseudonym : List ℕ) (message : Message) (name : List ℕ) (via host date hops len coding : List Line)
     → lines_under ((codes "via", via_line message.protocol pseudonym) ∷ []) name ≡ via
     → lines_under (field_if (codes "host") message.host) name ≡ host
     → lines_under (field_if (codes "date") (option_map fixdate message.date)) name ≡ date
@@ -45,108 +41,39 @@ own_at : (pseudonym : List ℕ) (message : Message) (name : List ℕ)
     → lines_under (field_if (codes "content-length") (length_line message.framing)) name ≡ len
     → lines_under (field_if (codes "transfer-encoding") (coding_line message.framing)) name ≡ coding
     → lines_under (own_fields pseudonym message) name ≡ via ++ (host ++ (date ++ (hops ++ (len ++ coding))))
-own_at pseudonym message name via host date hops len coding ev eh ed em el ec =
-    let fv : List Field = (codes "via", via_line message.protocol pseudonym) ∷ [] in
-    let fh = field_if (codes "host") message.host in
-    let fd = field_if (codes "date") (option_map fixdate message.date) in
-    let fm = field_if (codes "max-forwards") (option_map decimal message.hops) in
-    let fl = field_if (codes "content-length") (length_line message.framing) in
-    let fc = field_if (codes "transfer-encoding") (coding_line message.framing) in
-    lines_under-append fv (fh ++ (fd ++ (fm ++ (fl ++ fc)))) name
-    ∙ join _ _ via _ ev (
-    lines_under-append fh (fd ++ (fm ++ (fl ++ fc))) name
-    ∙ join _ _ host _ eh (
-    lines_under-append fd (fm ++ (fl ++ fc)) name
-    ∙ join _ _ date _ ed (
-    lines_under-append fm (fl ++ fc) name
-    ∙ join _ _ hops _ em (
-    lines_under-append fl fc name
-    ∙ join _ _ len coding el ec))))
+own_at pseudonym message name via host date hops len coding ev eh ed em el ec = grind (arith, lines_under-append, join)
 
 own_none : (pseudonym : List ℕ) (message : Message) (name : List ℕ)
     → bytes_eq (codes "via") name ≡ false → bytes_eq (codes "host") name ≡ false
     → bytes_eq (codes "date") name ≡ false → bytes_eq (codes "max-forwards") name ≡ false
     → bytes_eq (codes "content-length") name ≡ false → bytes_eq (codes "transfer-encoding") name ≡ false
     → lines_under (own_fields pseudonym message) name ≡ []
-own_none pseudonym message name v h d m l c =
-    own_at pseudonym message name [] [] [] [] [] [] (via_other (via_line message.protocol pseudonym) name v)
-    (if_other (codes "host") name _ h)
-    (if_other (codes "date") name _ d) (if_other (codes "max-forwards") name _ m)
-    (if_other (codes "content-length") name _ l) (if_other (codes "transfer-encoding") name _ c)
+own_none pseudonym message name v h d m l c = grind (arith, own_at, via_other, if_other)
 
 own_via : (pseudonym : List ℕ) (message : Message)
     → lines_under (own_fields pseudonym message) (codes "via") ≡ via_line message.protocol pseudonym ∷ []
-own_via pseudonym message =
-    own_at pseudonym message (codes "via") (via_line message.protocol pseudonym ∷ []) [] [] [] [] [] refl
-    (if_other (codes "host") (codes "via") _ refl)
-    (if_other (codes "date") (codes "via") _ refl)
-    (if_other (codes "max-forwards") (codes "via") _ refl)
-    (if_other (codes "content-length") (codes "via") _ refl)
-    (if_other (codes "transfer-encoding") (codes "via") _ refl)
+own_via pseudonym message = grind (arith, own_at, if_other)
 
-own_host : (pseudonym : List ℕ) (message : Message)
-    → lines_under (own_fields pseudonym message) (codes "host")
+own_host : (pseudonym : List ℕ) (message : Message) → lines_under (own_fields pseudonym message) (codes "host")
     ≡ option_to_list message.host
-own_host pseudonym message =
-    own_at pseudonym message (codes "host") [] (option_to_list message.host) [] [] [] []
-    (via_other (via_line message.protocol pseudonym) (codes "host") refl)
-    (if_own (codes "host") (codes "host") _ refl)
-    (if_other (codes "date") (codes "host") _ refl)
-    (if_other (codes "max-forwards") (codes "host") _ refl)
-    (if_other (codes "content-length") (codes "host") _ refl)
-    (if_other (codes "transfer-encoding") (codes "host") _ refl)
-    ∙ append-nil (option_to_list message.host)
+own_host pseudonym message = grind (arith, own_at, option_to_list, via_other, if_own, if_other, append-nil)
 
-own_date : (pseudonym : List ℕ) (message : Message)
-    → lines_under (own_fields pseudonym message) (codes "date")
+own_date : (pseudonym : List ℕ) (message : Message) → lines_under (own_fields pseudonym message) (codes "date")
     ≡ option_to_list (option_map fixdate message.date)
-own_date pseudonym message =
-    own_at pseudonym message (codes "date") [] [] (option_to_list (option_map fixdate message.date)) [] [] []
-    (via_other (via_line message.protocol pseudonym) (codes "date") refl)
-    (if_other (codes "host") (codes "date") _ refl)
-    (if_own (codes "date") (codes "date") _ refl)
-    (if_other (codes "max-forwards") (codes "date") _ refl)
-    (if_other (codes "content-length") (codes "date") _ refl)
-    (if_other (codes "transfer-encoding") (codes "date") _ refl)
-    ∙ append-nil (option_to_list (option_map fixdate message.date))
+own_date pseudonym message = grind (arith, own_at, option_to_list, via_other, if_other, if_own, append-nil)
 
-own_hops : (pseudonym : List ℕ) (message : Message)
-    → lines_under (own_fields pseudonym message) (codes "max-forwards")
+own_hops : (pseudonym : List ℕ) (message : Message) → lines_under (own_fields pseudonym message) (codes "max-forwards")
     ≡ option_to_list (option_map decimal message.hops)
-own_hops pseudonym message =
-    own_at pseudonym message (codes "max-forwards") [] [] [] (option_to_list (option_map decimal message.hops)) [] []
-    (via_other (via_line message.protocol pseudonym) (codes "max-forwards") refl)
-    (if_other (codes "host") (codes "max-forwards") _ refl)
-    (if_other (codes "date") (codes "max-forwards") _ refl)
-    (if_own (codes "max-forwards") (codes "max-forwards") _ refl)
-    (if_other (codes "content-length") (codes "max-forwards") _ refl)
-    (if_other (codes "transfer-encoding") (codes "max-forwards") _ refl)
-    ∙ append-nil (option_to_list (option_map decimal message.hops))
+own_hops pseudonym message = grind (arith, own_at, option_to_list, via_other, if_other, if_own, append-nil)
 
 own_length : (pseudonym : List ℕ) (message : Message)
-    → lines_under (own_fields pseudonym message) (codes "content-length")
-    ≡ option_to_list (length_line message.framing)
-own_length pseudonym message =
-    own_at pseudonym message (codes "content-length") [] [] [] [] (option_to_list (length_line message.framing)) []
-    (via_other (via_line message.protocol pseudonym) (codes "content-length") refl)
-    (if_other (codes "host") (codes "content-length") _ refl)
-    (if_other (codes "date") (codes "content-length") _ refl)
-    (if_other (codes "max-forwards") (codes "content-length") _ refl)
-    (if_own (codes "content-length") (codes "content-length") _ refl)
-    (if_other (codes "transfer-encoding") (codes "content-length") _ refl)
-    ∙ append-nil (option_to_list (length_line message.framing))
+    → lines_under (own_fields pseudonym message) (codes "content-length") ≡ option_to_list (length_line message.framing)
+own_length pseudonym message = grind (arith, own_at, option_to_list, via_other, if_other, if_own, append-nil)
 
 own_coding : (pseudonym : List ℕ) (message : Message)
     → lines_under (own_fields pseudonym message) (codes "transfer-encoding")
     ≡ option_to_list (coding_line message.framing)
-own_coding pseudonym message =
-    own_at pseudonym message (codes "transfer-encoding") [] [] [] [] [] (option_to_list (coding_line message.framing))
-    (via_other (via_line message.protocol pseudonym) (codes "transfer-encoding") refl)
-    (if_other (codes "host") (codes "transfer-encoding") _ refl)
-    (if_other (codes "date") (codes "transfer-encoding") _ refl)
-    (if_other (codes "max-forwards") (codes "transfer-encoding") _ refl)
-    (if_other (codes "content-length") (codes "transfer-encoding") _ refl)
-    (if_own (codes "transfer-encoding") (codes "transfer-encoding") _ refl)
+own_coding pseudonym message = grind (arith, own_at, option_to_list, via_other, if_other, if_own)
 
 -- ---- which names go on
 
@@ -156,8 +83,7 @@ never false = refl
 
 goes : (gateway : Gateway) (message : Message) (options : List Member) (name : List ℕ)
     → is_hop_by_hop gateway.consumes_credentials options name ≡ false → is_misspelt gateway name ≡ false
-    → list_any (bytes_eq name) framing_names ≡ false
-    → is_replaced message.host (codes "host") name ≡ false
+    → list_any (bytes_eq name) framing_names ≡ false → is_replaced message.host (codes "host") name ≡ false
     → is_replaced message.date (codes "date") name ≡ false
     → is_replaced message.hops (codes "max-forwards") name ≡ false → goes_on gateway message options name ≡ true
 unfolding goes_on
@@ -176,15 +102,12 @@ stops gateway message options name e = rw e refl
 anew : (gateway : Gateway) (message : Message) (options : List Member) (name : List ℕ)
     → is_rewritten message name ≡ true → goes_on gateway message options name ≡ false
 unfolding goes_on
-anew gateway message options name e =
-    rw e (rw (or-true (is_misspelt gateway name)) (
-    rw (or-true (is_hop_by_hop gateway.consumes_credentials options name)) refl))
+anew gateway message options name e = grind (arith, or-true, gateway)
 
 dropped : (gateway : Gateway) (message : Message) (options : List Member) (name : List ℕ)
     → is_misspelt gateway name ≡ true → goes_on gateway message options name ≡ false
 unfolding goes_on
-dropped gateway message options name e =
-    rw e (rw (or-true (is_hop_by_hop gateway.consumes_credentials options name)) refl)
+dropped gateway message options name e = grind (arith, or-true, gateway)
 
 -- names that no known field has
 unknown : (consumes : Bool) (name : List ℕ) → is_known false name ≡ false → is_known true name ≡ false
@@ -207,9 +130,7 @@ module _ (further : List (List ℕ)) (options : List Member) (unprotected : name
   after_coding : list_any named (
       codes "via" ∷ codes "max-forwards" ∷ codes "date" ∷ codes "cache-control" ∷ codes "authorization"
       ∷ codes "cookie" ∷ codes "set-cookie" ∷ []) ≡ false
-  after_coding =
-      let b = or_parts (named (codes "content-length")) _ after_host in
-      (or_parts (named (codes "transfer-encoding")) _ b.1).1
+  after_coding = grind (arith, or_parts, after_host)
 
   host_unnamed : named (codes "host") ≡ false
   host_unnamed = (or_parts (named (codes "host")) _ always).0
@@ -280,8 +201,7 @@ module _ (gateway : Gateway) (message : Message) (m : Entries FieldValue) (uniqu
       → lines_under sent name ≡ (if going name then lines_at m name else []) ++ lines_under own name
   by_name name =
       lines_under-append (filter (λ field. going field.0) (map field_of (pairs m))) own name
-      ∙ ap (λ lines. lines ++ lines_under own name) (
-      lines_under-filter going (map field_of (pairs m)) name
+      ∙ ap (λ lines. lines ++ lines_under own name) (lines_under-filter going (map field_of (pairs m)) name
       ∙ ap (λ lines. if going name then lines else []) (received_lines m name unique))
 
   kept : (name : List ℕ) → going name ≡ true → lines_under sent name ≡ lines_at m name ++ lines_under own name
@@ -310,10 +230,7 @@ module _ (gateway : Gateway) (message : Message) (m : Entries FieldValue) (uniqu
   apart : (fixed name : List ℕ)
       → is_hop_by_hop gateway.consumes_credentials (connection_options (lines_at m)) fixed ≡ false
       → IsHopByHop gateway (lines_at m) name → fixed ≢ name
-  apart fixed name f t same =
-      let P : List ℕ → Type 0
-      = λ n. is_hop_by_hop gateway.consumes_credentials (connection_options (lines_at m)) n ≡ false in
-      let f' : P name = subst P same f in cc (t, f')
+  apart fixed name f t same = grind (arith, gateway)
 
   sent_hop_by_hop : (name : List ℕ) → IsHopByHop gateway (lines_at m) name → name ≢ codes "transfer-encoding"
       → lines_under sent name ≡ []
@@ -329,13 +246,10 @@ module _ (gateway : Gateway) (message : Message) (m : Entries FieldValue) (uniqu
       let l = differ (codes "content-length") name
       (apart (codes "content-length") name (length_end_to_end further options unprotected consumes) e) in
       let c = differ (codes "transfer-encoding") name (λ same. n (sym same)) in
-      left_out name (stops gateway message options name e)
-      ∙ own_none gateway.pseudonym message name v o d h l c
+      left_out name (stops gateway message options name e) ∙ own_none gateway.pseudonym message name v o d h l c
 
-  differently : (own name : List ℕ) → has_mark own ≡ false → is_misspelt gateway name ≡ true
-      → bytes_eq own name ≡ false
-  differently own name e s =
-      differ own name (λ same. cc (s, ap (is_misspelt gateway) (sym same) ∙ well_spelt gateway own e))
+  differently : (own name : List ℕ) → has_mark own ≡ false → is_misspelt gateway name ≡ true → bytes_eq own name ≡ false
+  differently own name e s = grind (arith, differ, gateway, well_spelt)
 
   sent_misspelt : (name : List ℕ) → is_misspelt gateway name ≡ true → lines_under sent name ≡ []
   sent_misspelt name s =
@@ -347,22 +261,13 @@ module _ (gateway : Gateway) (message : Message) (m : Entries FieldValue) (uniqu
 
   sent_via : lines_under sent (codes "via")
       ≡ lines_at m (codes "via") ++ via_line message.protocol gateway.pseudonym ∷ []
-  sent_via =
-      kept (codes "via") (
-      goes gateway message options (codes "via") (via_end_to_end further options unprotected consumes)
-      (well_spelt gateway (codes "via") refl) refl
-      (never (is_some message.host)) (never (is_some message.date)) (never (is_some message.hops)))
-      ∙ ap (λ lines. lines_at m (codes "via") ++ lines) (own_via gateway.pseudonym message)
+  sent_via = grind (arith, kept, goes, gateway, via_end_to_end, well_spelt, never, is_some, own_via)
 
   sent_length : lines_under sent (codes "content-length") ≡ option_to_list (length_line message.framing)
-  sent_length =
-      left_out (codes "content-length") (anew gateway message options (codes "content-length") refl)
-      ∙ own_length gateway.pseudonym message
+  sent_length = grind (arith, left_out, anew, gateway, own_length)
 
   sent_coding : lines_under sent (codes "transfer-encoding") ≡ option_to_list (coding_line message.framing)
-  sent_coding =
-      left_out (codes "transfer-encoding") (anew gateway message options (codes "transfer-encoding") refl)
-      ∙ own_coding gateway.pseudonym message
+  sent_coding = grind (arith, left_out, anew, gateway, own_coding)
 
   sent_host : lines_under sent (codes "host") ≡ replaced message.host (lines_at m (codes "host"))
   sent_host = by message.host refl
@@ -380,12 +285,10 @@ module _ (gateway : Gateway) (message : Message) (m : Entries FieldValue) (uniqu
           left_out (codes "host") (anew gateway message options (codes "host") (rw e refl))
           ∙ own_host gateway.pseudonym message ∙ rw e refl
 
-  sent_date : lines_under sent (codes "date")
-      ≡ replaced (option_map fixdate message.date) (lines_at m (codes "date"))
+  sent_date : lines_under sent (codes "date") ≡ replaced (option_map fixdate message.date) (lines_at m (codes "date"))
   sent_date = by message.date refl
     where
-      by : (o : Option ℕ) → message.date ≡ o
-          → lines_under sent (codes "date")
+      by : (o : Option ℕ) → message.date ≡ o → lines_under sent (codes "date")
           ≡ replaced (option_map fixdate message.date) (lines_at m (codes "date"))
       by None e =
           kept (codes "date") (
@@ -403,34 +306,30 @@ module _ (gateway : Gateway) (message : Message) (m : Entries FieldValue) (uniqu
       ≡ replaced (option_map decimal message.hops) (lines_at m (codes "max-forwards"))
   sent_hops = by message.hops refl
     where
-      by : (o : Option ℕ) → message.hops ≡ o
-          → lines_under sent (codes "max-forwards")
+      by : (o : Option ℕ) → message.hops ≡ o → lines_under sent (codes "max-forwards")
           ≡ replaced (option_map decimal message.hops) (lines_at m (codes "max-forwards"))
       by None e =
-          kept (codes "max-forwards") (
-          goes gateway message options (codes "max-forwards")
-          (hops_end_to_end further options unprotected consumes)
-          (well_spelt gateway (codes "max-forwards") refl) refl
+          kept (codes "max-forwards") (goes gateway message options (codes "max-forwards")
+          (hops_end_to_end further options unprotected consumes) (well_spelt gateway (codes "max-forwards") refl) refl
           (never (is_some message.host)) (never (is_some message.date)) (rw e refl))
           ∙ ap (λ lines. lines_at m (codes "max-forwards") ++ lines) (own_hops gateway.pseudonym message)
           ∙ rw e (append-nil (lines_at m (codes "max-forwards")))
       by (Some n) e =
-          left_out (codes "max-forwards") (
-          anew gateway message options (codes "max-forwards")
+          left_out (codes "max-forwards") (anew gateway message options (codes "max-forwards")
           (rw e (rw (never (is_some message.host), never (is_some message.date)) refl)))
           ∙ own_hops gateway.pseudonym message ∙ rw e refl
 
-  pub forwards : (fields : List Field) → fields ≡ sent
-      → Forwards gateway message (lines_at m) (lines_under fields)
+  pub forwards : (fields : List Field) → fields ≡ sent → Forwards gateway message (lines_at m) (lines_under fields)
   forwards fields e =
-      rw e (record {
-        end_to_end = sent_end_to_end;
-        misspelt = sent_misspelt;
-        hop_by_hop = sent_hop_by_hop;
-        via = sent_via;
-        host = sent_host;
-        date = sent_date;
-        max_forwards = sent_hops;
-        content_length = sent_length;
-        transfer_encoding = sent_coding;
-      })
+      grind (
+        arith,
+        sent_end_to_end,
+        sent_misspelt,
+        sent_hop_by_hop,
+        sent_via,
+        sent_host,
+        sent_date,
+        sent_hops,
+        sent_length,
+        sent_coding,
+      )

@@ -3,39 +3,33 @@ use Rattle.std.proofs.Common.{◌≡◌, ℕ, ◌+◌, ◌<◌, ◌≤◌, Bool,
 use Rattle.std.proofs.Common.{take, take_all, drop, Option, Some, None, Result, Ok, Err, refl, sym, ◌∙◌, ap, ap₂, subst}
 use Rattle.std.proofs.Common.{arith, inl, inr, codes, cond, decimal, suc, append_assoc, append-nil}
 use Rattle.std.proofs.Math.Seq.{drop-append-add, drop-append_seam, drop-cons, take-append_seam}
-use Rattle.std.proofs.NetLemmas.Ipv6.{EndsGroups-nil, read_ipv6_complete, read_ipv6_sound}
-use Rattle.std.proofs.lemmas.Bool.{and_from, and_left, and_parts, cases_Bool, eqb-true, false≢true, or_cases, or_left}
-use Rattle.std.{proofs.lemmas.Bool.or_right, proofs.lemmas.Bool.Decides.nat_tests}
-use Rattle.std.{proofs.lemmas.Fmt.decimal_is_IsNumeral, proofs.lemmas.List.take-append-drop}
-use Rattle.std.{proofs.lemmas.List.Folds.length-prefix_len, proofs.lemmas.List.Sums.prefix_len_stops}
-use Rattle.std.{specs.Prelude.{◌==◌, ◌||◌, ◌&&◌, ◌↔◌, is_ok, is_some, nat_lt}, specs.Char.is_ascii_digit}
-use Rattle.std.{specs.Char.is_ascii_hexdigit, specs.Net.Reader.{read_ipv6, whole_value}, specs.Str.Parse.AllDigits}
-use Rattle.std.{specs.declared.net.ipv6_addr.Ipv6Addr.Ipv6Addr, specs.List.{concat, list_all, prefix_len}}
-use Rattle.std.specs.Net.Grammar.{IsColonHex, IsDotted, IsGroupsAfter, IsIpv6Text, Parses}
-use Rattle.headers.specs.Lines.{Line}
+use Rattle.std.proofs.{NetLemmas.Ipv6.{EndsGroups-nil, read_ipv6_complete, read_ipv6_sound}, lemmas.Bool.and_from}
+use Rattle.std.proofs.lemmas.Bool.{and_left, and_parts, cases_Bool, eqb-true, false≢true, or_cases, or_left, or_right}
+use Rattle.std.proofs.lemmas.{Bool.Decides.nat_tests, Fmt.decimal_is_IsNumeral, List.take-append-drop}
+use Rattle.std.{proofs.lemmas.List.{Folds.length-prefix_len, Sums.prefix_len_stops}, specs.Prelude.{◌==◌, ◌||◌, ◌&&◌}}
+use Rattle.std.specs.{Prelude.{◌↔◌, is_ok, is_some, nat_lt}, Char.{is_ascii_digit, is_ascii_hexdigit}}
+use Rattle.std.specs.Net.{Reader.{read_ipv6, whole_value}, Grammar.{IsColonHex, IsDotted, IsGroupsAfter, IsIpv6Text}}
+use Rattle.std.specs.{Net.Grammar.Parses, Str.Parse.AllDigits, declared.net.ipv6_addr.Ipv6Addr.Ipv6Addr, List.concat}
+use Rattle.{std.specs.List.{list_all, prefix_len}, headers.specs.Lines.Line}
 use Rattle.gateway_messages.specs.HostTests.{begins_encoded, begins_part, is_address, is_dotted_address}
 use Rattle.gateway_messages.specs.HostTests.{is_future_address, is_host, is_ipv6, is_literal_host, is_named_host}
 use Rattle.gateway_messages.specs.HostTests.{is_port, is_reg_name, is_versioned, literal_len, name_len, version_len}
 use Rattle.gateway_messages.specs.Hosts.{HasHost, IsAddress, IsFutureAddress, IsHost, IsRegName, IsUriHost, has_digits}
 use Rattle.gateway_messages.specs.Hosts.{is_address_byte, is_encoded, is_name_byte, is_name_part, port_text}
-use Rattle.gateway_messages.{specs.Requests.has_host, specs.declared.protocol.Protocol.Protocol}
-use Rattle.gateway_messages.specs.declared.protocol.Protocol.TheVariants.{Http10, Http11}
+use Rattle.gateway_messages.specs.{Requests.has_host, declared.protocol.Protocol.Protocol}
 
 -- ---- the bytes before the first that fails a test
 
-all_both : (p : ℕ → Bool) (xs ys : List ℕ) → list_all p xs ≡ true → list_all p ys ≡ true
-    → list_all p (xs ++ ys) ≡ true
+all_both : (p : ℕ → Bool) (xs ys : List ℕ) → list_all p xs ≡ true → list_all p ys ≡ true → list_all p (xs ++ ys) ≡ true
 all_both p [] ys a b = b
 all_both p (x ∷ xs) ys a b =
-    let parts = and_parts (p x) (list_all p xs) a in
-    and_from (p x) (list_all p (xs ++ ys)) parts.0 (all_both p xs ys parts.1 b)
+    grind (arith, and_parts, and_from, all_both p xs ys (and_parts (p x) (list_all p xs) a).1 b)
 
 all_prefix : (p : ℕ → Bool) (xs ys : List ℕ) → list_all p xs ≡ true → prefix_len p ys ≡ 0
     → prefix_len p (xs ++ ys) ≡ length xs
 all_prefix p [] ys a none = none
 all_prefix p (x ∷ xs) ys a none =
-    let parts = and_parts (p x) (list_all p xs) a in
-    let below = all_prefix p xs ys parts.1 none in rw parts.0 (omega (arith, below))
+    grind (arith, and_parts, all_prefix p xs ys (and_parts (p x) (list_all p xs) a).1 none)
 
 take_more : (n x : ℕ) (s : List ℕ) → take (1 + n) (x ∷ s) ≡ x ∷ take n s
 take_more n x s = let one : 1 + n ≡ suc n = omega arith in ap (λ (k : ℕ). take k (x ∷ s)) one
@@ -53,8 +47,7 @@ weaker : (p q : ℕ → Bool) → ((b : ℕ) → p b ≡ true → q b ≡ true) 
     → list_all q s ≡ true
 weaker p q implies [] h = refl
 weaker p q implies (b ∷ s) h =
-    let parts = and_parts (p b) (list_all p s) h in
-    and_from (q b) (list_all q s) (implies b parts.0) (weaker p q implies s parts.1)
+    grind (arith, and_parts, and_from, weaker p q implies s (and_parts (p b) (list_all p s) h).1)
 
 -- ---- bytes
 
@@ -134,19 +127,27 @@ unfolding is_reg_name
 test_of_parts [] h = refl
 test_of_parts ([] ∷ parts) h = absurd (false≢true h)
 test_of_parts ((b ∷ []) ∷ parts) h =
-    let here = and_parts (is_name_byte b) (list_all is_name_part parts) h in
-    and_from (is_name_byte b || begins_encoded (b ∷ concat parts)) (is_reg_name (concat parts)) (or_left _ _ here.0)
-    (test_of_parts parts here.1)
+    grind (
+      arith,
+      and_parts,
+      and_from,
+      concat,
+      or_left,
+      test_of_parts parts (and_parts (is_name_byte b) (list_all is_name_part parts) h).1,
+    )
 test_of_parts ((b ∷ c ∷ []) ∷ parts) h = absurd (false≢true h)
 test_of_parts ((b ∷ c ∷ d ∷ []) ∷ parts) h =
-    let here = and_parts (is_encoded b c d) (list_all is_name_part parts) h in
-    let digits = and_parts (is_ascii_hexdigit c) (is_ascii_hexdigit d)
-    (and_parts (b == 37) (is_ascii_hexdigit c && is_ascii_hexdigit d) here.0).1 in
-    and_from (is_name_byte b || is_encoded b c d) (is_reg_name (c ∷ d ∷ concat parts))
-    (or_right _ (is_encoded b c d) here.0) (and_from (is_name_byte c || begins_encoded (c ∷ d ∷ concat parts))
-    (is_reg_name (d ∷ concat parts)) (or_left _ _ (hex_is_name c digits.0)) (and_from
-    (is_name_byte d || begins_encoded (d ∷ concat parts)) (is_reg_name (concat parts))
-    (or_left _ _ (hex_is_name d digits.1)) (test_of_parts parts here.1)))
+    grind (
+      arith,
+      and_parts,
+      is_ascii_hexdigit,
+      and_from,
+      concat,
+      or_right,
+      or_left,
+      hex_is_name,
+      test_of_parts parts (and_parts (is_encoded b c d) (list_all is_name_part parts) h).1,
+    )
 test_of_parts ((b ∷ c ∷ d ∷ e ∷ s) ∷ parts) h = absurd (false≢true h)
 
 test_of_name : (s : Line) → IsRegName s → is_reg_name s ≡ true
@@ -174,9 +175,7 @@ pub name_goes_on : (r : Line) → 1 ≤ length r → begins_part r ≡ true
     → is_reg_name r ≡ is_reg_name (take (length r - 1) (drop 1 r))
 unfolding is_reg_name
 name_goes_on [] some t = absurd (omega (arith, some))
-name_goes_on (b ∷ s) some t =
-    let whole : take (length (b ∷ s) - 1) s ≡ s = take_all (length (b ∷ s) - 1) s (omega arith) in
-    ap (λ (x : Bool). x && is_reg_name s) t ∙ ap is_reg_name (sym whole)
+name_goes_on (b ∷ s) some t = grind (arith, take_all)
 
 pub name_ends : (r : Line) → length r < 1 → is_reg_name r ≡ true
 unfolding is_reg_name
@@ -198,12 +197,7 @@ name_has_no_colon (b ∷ s) h =
 
 name_begins : (b : ℕ) (s : Line) → is_reg_name (b ∷ s) ≡ true → (b == 91) ≡ false
 unfolding is_reg_name
-name_begins b s h =
-    let here = and_parts (is_name_byte b || begins_encoded (b ∷ s)) (is_reg_name s) h in
-    elim (or_cases (is_name_byte b) (begins_encoded (b ∷ s)) here.0) [
-      | inl t ↦ name_is_no_bracket b t
-      | inr t ↦ let percent = encoded_percent b s t in rw percent refl
-    ]
+name_begins b s h = grind (arith, and_parts, or_cases, name_is_no_bracket, encoded_percent)
 
 -- ---- IPv4 addresses
 
@@ -217,10 +211,7 @@ digit_or_dot_is_name b h = grind (arith, nat_tests)
 digits_of : (s : Line) → AllDigits 10 s → list_all is_digit_or_dot s ≡ true
 unfolding is_digit_or_dot
 digits_of [] h = refl
-digits_of (b ∷ s) h =
-    let below = h.0 in
-    let first : (is_ascii_digit b || b == 46) ≡ true = grind (arith, nat_tests) in
-    and_from (is_ascii_digit b || b == 46) (list_all is_digit_or_dot s) first (digits_of s h.1)
+digits_of (b ∷ s) h = grind (arith, is_ascii_digit, nat_tests, and_from, is_digit_or_dot, digits_of s h.1)
 
 octet : (n : ℕ) → n < 256 → list_all is_digit_or_dot (decimal n) ≡ true
 octet n fits = digits_of (decimal n) (decimal_is_IsNumeral n (omega (arith, fits))).0.1
@@ -233,9 +224,7 @@ then_octet : (s : Line) (n : ℕ) → n < 256 → list_all is_digit_or_dot s ≡
 then_octet s n fits before = all_both is_digit_or_dot _ _ (all_both is_digit_or_dot s _ before dot) (octet n fits)
 
 dotted_bytes : (text octets : Line) → IsDotted text octets → list_all is_digit_or_dot text ≡ true
-dotted_bytes text octets h =
-    ap (list_all is_digit_or_dot) h.spelled ∙ then_octet _ _ h.fit.3
-    (then_octet _ _ h.fit.2 (then_octet _ _ h.fit.1 (octet _ h.fit.0)))
+dotted_bytes text octets h = grind (arith, is_digit_or_dot, then_octet, octet)
 
 dotted_is_name : (text octets : Line) → IsDotted text octets → is_reg_name text ≡ true
 dotted_is_name text octets h =
@@ -254,10 +243,7 @@ dotted_outside text octets h =
 group_outside : (s : Line) → AllDigits 16 s → list_all outside_bracket s ≡ true
 unfolding outside_bracket
 group_outside [] h = refl
-group_outside (b ∷ s) h =
-    let below = h.0 in
-    let first : not (b == 93) ≡ true = grind (arith, nat_tests) in
-    and_from (not (b == 93)) (list_all outside_bracket s) first (group_outside s h.1)
+group_outside (b ∷ s) h = grind (arith, nat_tests, and_from, outside_bracket, group_outside s h.1)
 
 groups_outside : (ipv4 : Bool) (lead text segments : List ℕ) → list_all outside_bracket lead ≡ true
     → IsGroupsAfter ipv4 lead text segments → list_all outside_bracket text ≡ true
@@ -274,20 +260,23 @@ groups_outside ipv4 lead text (segment ∷ segments) l (inr h) =
 colon_hex_outside : (text segments : List ℕ) → IsColonHex text segments → list_all outside_bracket text ≡ true
 colon_hex_outside text segments (inl h) = groups_outside true [] text segments refl h.0
 colon_hex_outside text segments (inr h) =
-    ap (list_all outside_bracket) h.spelled
-    ∙ all_both outside_bracket (h.head_text ++ codes "::") h.tail_text
+    ap (list_all outside_bracket) h.spelled ∙ all_both outside_bracket (h.head_text ++ codes "::") h.tail_text
     (all_both outside_bracket h.head_text (codes "::") (groups_outside false [] h.head_text h.head refl h.head_groups)
-    (unfold outside_bracket in refl))
-    (groups_outside true [] h.tail_text h.tail refl h.tail_groups)
+    (unfold outside_bracket in refl)) (groups_outside true [] h.tail_text h.tail refl h.tail_groups)
 
 future_outside : (text : Line) → IsFutureAddress text → list_all outside_bracket text ≡ true
 future_outside text h =
-    let address = weaker is_address_byte outside_bracket address_outside h.address h.has_address.1 in
-    let version = weaker is_ascii_hexdigit outside_bracket hex_outside h.version h.has_version.1 in
-    let rest = all_both outside_bracket _ _ version
-    (and_from (outside_bracket 46) (list_all outside_bracket h.address) (unfold outside_bracket in refl) address) in
-    ap (list_all outside_bracket) h.spelled ∙ and_from (outside_bracket h.letter)
-    (list_all outside_bracket (h.version ++ (46 ∷ h.address))) (letter_outside _ h.is_v) rest
+    grind (
+      arith,
+      weaker,
+      outside_bracket,
+      address_outside,
+      is_ascii_hexdigit,
+      hex_outside,
+      all_both,
+      and_from,
+      letter_outside,
+    )
 
 address_is_outside : (text : Line) → IsAddress text → list_all outside_bracket text ≡ true
 address_is_outside text (inl h) = colon_hex_outside text _ h.1
@@ -302,8 +291,7 @@ whole_read : (r : Option (List ℕ × List ℕ)) → is_some (whole_value r) ≡
     → (segments : List ℕ) × (r ≡ Some (segments, []))
 whole_read None h = absurd (false≢true h)
 whole_read (Some (segments, [])) h = (segments, refl)
-whole_read (Some (segments, b ∷ rest)) h =
-    let more : (length (b ∷ rest) == 0) ≡ false = grind (arith, nat_tests) in absurd (false≢true (rw more at h))
+whole_read (Some (segments, b ∷ rest)) h = grind (arith, nat_tests, false≢true)
 
 ipv6_of_test : (text : Line) → is_ipv6 text ≡ true → (address : Ipv6Addr) × IsIpv6Text text address
 ipv6_of_test text h =
@@ -313,8 +301,7 @@ ipv6_of_test text h =
     let address : Ipv6Addr = record { segments = segments } in
     (address, subst (λ (t : Line). IsColonHex t segments) (sym same) shown)
 
-pub ipv6_result : {E : Type 0} (text : Line) (r : Result Ipv6Addr E) → Parses IsIpv6Text text r
-    → is_ok r ≡ is_ipv6 text
+pub ipv6_result : {E : Type 0} (text : Line) (r : Result Ipv6Addr E) → Parses IsIpv6Text text r → is_ok r ≡ is_ipv6 text
 ipv6_result text (Ok address) h = sym (ipv6_test text address h)
 ipv6_result text (Err e) none =
     elim (cases_Bool (is_ipv6 text)) [
@@ -332,28 +319,15 @@ some_bytes (b ∷ s) h = omega arith
 
 future_test : (text : Line) → IsFutureAddress text → is_future_address text ≡ true
 future_test text h =
-    let len = all_prefix is_ascii_hexdigit _ _ h.has_version.1 refl in
-    let rest : drop (version_len (h.version ++ (46 ∷ h.address))) (h.version ++ (46 ∷ h.address)) ≡ 46 ∷ h.address
-    = ap (λ n. drop n (h.version ++ (46 ∷ h.address))) len ∙ drop-append_seam h.version (46 ∷ h.address) in
-    let dotted = and_from (not (length h.address == 0)) (list_all is_address_byte h.address)
-    (not_empty h.address h.has_address.0) h.has_address.1 in
-    let some : nat_lt 0 (length h.version) ≡ true = let most = h.has_version.0 in grind (arith, nat_tests) in
-    ap is_future_address h.spelled
-    ∙ and_from (h.letter == 118 || h.letter == 86) (is_versioned (h.version ++ (46 ∷ h.address))) h.is_v
-    (and_from _ _ (ap (λ n. nat_lt 0 n) len ∙ some) (ap is_dotted_address rest ∙ dotted))
+    grind (arith, all_prefix, is_ascii_hexdigit, drop-append_seam, and_from, not_empty, nat_lt, nat_tests)
 
 dotted_of_test : (s : Line) → is_dotted_address s ≡ true
     → (address : Line) × (s ≡ 46 ∷ address) × (0 < length address) × (list_all is_address_byte address ≡ true)
 dotted_of_test [] h = absurd (false≢true h)
-dotted_of_test (b ∷ s) h =
-    let here = and_parts (b == 46) (not (length s == 0) && list_all is_address_byte s) h in
-    let parts = and_parts (not (length s == 0)) (list_all is_address_byte s) here.1 in
-    (s, ap (λ (b : ℕ). b ∷ s) (eqb-true b 46 here.0), some_bytes s parts.0, parts.1)
+dotted_of_test (b ∷ s) h = grind (arith, and_parts, eqb-true, some_bytes)
 
 taken : (s : Line) → nat_lt 0 (version_len s) ≡ true → 0 < length (take (version_len s) s)
-taken s h =
-    let some : 0 < version_len s = grind (arith, nat_tests) in
-    let same = length-prefix_len is_ascii_hexdigit s in omega (arith, some, same)
+taken s h = grind (arith, nat_tests, length-prefix_len, is_ascii_hexdigit)
 
 future_of_test : (text : Line) → is_future_address text ≡ true → IsFutureAddress text
 future_of_test [] h = absurd (false≢true h)
@@ -377,11 +351,7 @@ address_test text (inl h) = or_left (is_ipv6 text) (is_future_address text) (ipv
 address_test text (inr h) = or_right (is_ipv6 text) (is_future_address text) (future_test text h)
 
 address_of_test : (text : Line) → is_address text ≡ true → IsAddress text
-address_of_test text h =
-    elim (or_cases (is_ipv6 text) (is_future_address text) h) [
-      | inl t ↦ inl (ipv6_of_test text t)
-      | inr t ↦ inr (future_of_test text t)
-    ]
+address_of_test text h = grind (arith, or_cases, ipv6_of_test, future_of_test)
 
 -- ---- the port
 
@@ -389,8 +359,7 @@ port_test : (port : Option Line) → has_digits port ≡ true → is_port (port_
 port_test None h = refl
 port_test (Some digits) h = h
 
-port_of_test : (s : Line) → is_port s ≡ true
-    → (port : Option Line) × (has_digits port ≡ true) × (s ≡ port_text port)
+port_of_test : (s : Line) → is_port s ≡ true → (port : Option Line) × (has_digits port ≡ true) × (s ≡ port_text port)
 port_of_test [] h = (None, refl, refl)
 port_of_test (b ∷ s) h =
     let here = and_parts (b == 58) (list_all is_ascii_digit s) h in
@@ -406,12 +375,17 @@ named_test : (host : Line) (port : Option Line) → is_reg_name host ≡ true �
     → is_named_host (host ++ port_text port) ≡ true
 unfolding before_colon
 named_test host port name digits =
-    let len = all_prefix before_colon host (port_text port) (name_has_no_colon host name) (ends_name port) in
-    let front : take (name_len (host ++ port_text port)) (host ++ port_text port) ≡ host
-    = ap (λ n. take n (host ++ port_text port)) len ∙ take-append_seam host (port_text port) in
-    let back : drop (name_len (host ++ port_text port)) (host ++ port_text port) ≡ port_text port
-    = ap (λ n. drop n (host ++ port_text port)) len ∙ drop-append_seam host (port_text port) in
-    and_from _ _ (ap is_reg_name front ∙ name) (ap is_port back ∙ port_test port digits)
+    grind (
+      arith,
+      all_prefix,
+      before_colon,
+      name_has_no_colon,
+      ends_name,
+      take-append_seam,
+      drop-append_seam,
+      and_from,
+      port_test,
+    )
 
 name_test : (host : Line) (port : Option Line) → is_reg_name host ≡ true → has_digits port ≡ true
     → is_host (host ++ port_text port) ≡ true
@@ -463,8 +437,7 @@ cut s h =
     let stops : not (get_or s (literal_len s) 0 == 93) ≡ false = prefix_len_stops outside_bracket s 0 within in
     let bracket : get_or s (literal_len s) 0 ≡ 93 = grind (arith, nat_tests) in
     let next : suc (literal_len s) ≡ literal_len s + 1 = omega arith in
-    sym (take-append-drop (literal_len s) s)
-    ∙ ap (λ (rest : Line). take (literal_len s) s ++ rest)
+    sym (take-append-drop (literal_len s) s) ∙ ap (λ (rest : Line). take (literal_len s) s ++ rest)
     (drop-cons s (literal_len s) 0 within ∙ ap₂ (λ (b : ℕ) (n : ℕ). b ∷ drop n s) bracket next)
 
 literal_of_test : (s : Line) → is_literal_host s ≡ true → IsHost (91 ∷ s)
@@ -479,8 +452,7 @@ literal_of_test s h =
       port = port;
       is_host = inl (record { inside = inside; address = address_of_test inside parts.0; spelled = refl });
       is_port = digits;
-      spelled = ap (λ (s : Line). 91 ∷ s)
-          (cut s here.0 ∙ ap (λ (rest : Line). inside ++ (93 ∷ rest)) split
+      spelled = ap (λ (s : Line). 91 ∷ s) (cut s here.0 ∙ ap (λ (rest : Line). inside ++ (93 ∷ rest)) split
           ∙ sym (append_assoc inside (93 ∷ []) (port_text port)));
     }
 
@@ -498,42 +470,28 @@ named_of_test s h =
 
 pub host_of_test : (line : Line) → is_host line ≡ true → IsHost line
 host_of_test [] h = named_of_test [] h
-host_of_test (b ∷ s) h =
-    elim (cases_Bool (b == 91)) [
-      | inl t ↦
-          let bracket : b ≡ 91 = eqb-true b 91 t in
-          subst (λ (b : ℕ). IsHost (b ∷ s)) (sym bracket) (literal_of_test s (rw t at h))
-      | inr f ↦ named_of_test (b ∷ s) (rw f at h)
-    ]
+host_of_test (b ∷ s) h = grind (arith, cases_Bool, eqb-true, literal_of_test, named_of_test)
 
 -- ---- the field
 
 pub has_host_of_test : (protocol : Protocol) (lines : List Line) → has_host protocol lines ≡ true
     → HasHost protocol lines
-has_host_of_test Http10 [] h = tt
-has_host_of_test Http11 [] h = absurd (false≢true h)
-has_host_of_test Http10 (line ∷ []) h = host_of_test line h
-has_host_of_test Http11 (line ∷ []) h = host_of_test line h
-has_host_of_test Http10 (line ∷ other ∷ lines) h = absurd (false≢true h)
-has_host_of_test Http11 (line ∷ other ∷ lines) h = absurd (false≢true h)
+has_host_of_test Protocol.Http10 [] h = tt
+has_host_of_test Protocol.Http11 [] h = absurd (false≢true h)
+has_host_of_test Protocol.Http10 (line ∷ []) h = host_of_test line h
+has_host_of_test Protocol.Http11 (line ∷ []) h = host_of_test line h
+has_host_of_test Protocol.Http10 (line ∷ other ∷ lines) h = absurd (false≢true h)
+has_host_of_test Protocol.Http11 (line ∷ other ∷ lines) h = absurd (false≢true h)
 
-pub has_host_test : (protocol : Protocol) (lines : List Line) → HasHost protocol lines
-    → has_host protocol lines ≡ true
-has_host_test Http10 [] h = refl
-has_host_test Http11 [] h = absurd h
-has_host_test Http10 (line ∷ []) h = host_test line h
-has_host_test Http11 (line ∷ []) h = host_test line h
-has_host_test Http10 (line ∷ other ∷ lines) h = absurd h
-has_host_test Http11 (line ∷ other ∷ lines) h = absurd h
+pub has_host_test : (protocol : Protocol) (lines : List Line) → HasHost protocol lines → has_host protocol lines ≡ true
+has_host_test Protocol.Http10 [] h = refl
+has_host_test Protocol.Http11 [] h = absurd h
+has_host_test Protocol.Http10 (line ∷ []) h = host_test line h
+has_host_test Protocol.Http11 (line ∷ []) h = host_test line h
+has_host_test Protocol.Http10 (line ∷ other ∷ lines) h = absurd h
+has_host_test Protocol.Http11 (line ∷ other ∷ lines) h = absurd h
 
 -- a request without such a Host is rejected, and no other for its Host
 pub rejected_exactly : (protocol : Protocol) (lines : List Line)
     → (has_host protocol lines ≡ false) ↔ (HasHost protocol lines → ⊥)
-rejected_exactly protocol lines = (
-  λ f h. false≢true (sym f ∙ has_host_test protocol lines h),
-  λ none.
-      elim (cases_Bool (has_host protocol lines)) [
-        | inl t ↦ absurd (none (has_host_of_test protocol lines t))
-        | inr f ↦ f
-      ],
-)
+rejected_exactly protocol lines = grind (arith, false≢true, has_host_test, protocol, cases_Bool, has_host_of_test)

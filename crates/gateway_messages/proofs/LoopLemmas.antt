@@ -1,20 +1,15 @@
 -- The field line that a gateway adds to Via names it.
 use Rattle.std.proofs.Common.{◌≡◌, ℕ, true, false, ◌||◌, List, [], ◌∷◌, ◌++◌, refl, ◌∙◌, ap, codes, IsTrue, arith}
-use Rattle.std.{proofs.Common.subst, proofs.Math.Bool.or-true, proofs.lemmas.List.Elements.All-weaker}
-use Rattle.std.{proofs.lemmas.List.Folds.list_any-append, proofs.lemmas.List.Splits.slice_split_none}
-use Rattle.std.{proofs.lemmas.Bool.Decides.nat_tests, proofs.lemmas.Slice.Eq.bytes_eq-Decides}
-use Rattle.std.{proofs.lemmas.Bool.ne_eqb, specs.Prelude.◌==◌, specs.List.slice_split}
-use Rattle.http_header.{specs.Token.{IsToken, is_token_byte, lowercase}, proofs.TokenLemmas.token_byte_range}
-use Rattle.headers.{specs.LineMap.LineMap, specs.Lines.Line}
-use Rattle.gateway_messages.{specs.Forwarding.{Forwards, Message}, specs.Via.{ends_word, is_loop, names_gateway}}
-use Rattle.gateway_messages.{specs.Via.via_line, specs.declared.gateway.Gateway.Gateway}
-use Rattle.gateway_messages.specs.declared.protocol.Protocol.{Protocol}
-use Rattle.gateway_messages.specs.declared.protocol.Protocol.TheVariants.{Http10, Http11}
+use Rattle.std.proofs.{Common.subst, Math.Bool.or-true, lemmas.List.{Elements.All-weaker, Folds.list_any-append}}
+use Rattle.std.proofs.lemmas.{List.Splits.slice_split_none, Bool.{ne_eqb, Decides.nat_tests}, Slice.Eq.bytes_eq-Decides}
+use Rattle.{std.specs.{Prelude.◌==◌, List.slice_split}, http_header.specs.Token.{IsToken, is_token_byte, lowercase}}
+use Rattle.{http_header.proofs.TokenLemmas.token_byte_range, headers.specs.{LineMap.LineMap, Lines.Line}}
+use Rattle.gateway_messages.specs.{Forwarding.{Forwards, Message}, Via.{ends_word, is_loop, names_gateway, via_line}}
+use Rattle.gateway_messages.specs.declared.{gateway.Gateway.Gateway, protocol.Protocol.Protocol}
 
 no_comma : (b : ℕ) → IsTrue (is_token_byte b) → (b == 44) ≡ false
 unfolding is_token_byte
-no_comma b t = ne_eqb _ _ (λ e. let f : IsTrue (is_token_byte 44) =
-    subst (λ (x : ℕ). IsTrue (is_token_byte x)) e t in absurd (cc f))
+no_comma b t = grind (arith, ne_eqb, is_token_byte)
 
 -- a byte of a token ends no word
 inside : (b : ℕ) → IsTrue (is_token_byte b) → ends_word b ≡ false
@@ -22,15 +17,13 @@ inside b t = let c = no_comma b t in let r = token_byte_range b t in grind (arit
 
 words : (protocol : Protocol) (pseudonym : List ℕ) → IsToken pseudonym
     → (first : Line) × (slice_split ends_word (via_line protocol pseudonym) ≡ first ∷ pseudonym ∷ [])
-words Http10 pseudonym token = (
+words Protocol.Http10 pseudonym token = (
   codes "1.0",
-  ap (λ rest. codes "1.0" ∷ rest) (slice_split_none ends_word pseudonym
-      (All-weaker _ _ inside pseudonym token.1)),
+  ap (λ rest. codes "1.0" ∷ rest) (slice_split_none ends_word pseudonym (All-weaker _ _ inside pseudonym token.1)),
 )
-words Http11 pseudonym token = (
+words Protocol.Http11 pseudonym token = (
   codes "1.1",
-  ap (λ rest. codes "1.1" ∷ rest) (slice_split_none ends_word pseudonym
-      (All-weaker _ _ inside pseudonym token.1)),
+  ap (λ rest. codes "1.1" ∷ rest) (slice_split_none ends_word pseudonym (All-weaker _ _ inside pseudonym token.1)),
 )
 
 own_named : (protocol : Protocol) (pseudonym : List ℕ) → IsToken pseudonym
@@ -42,11 +35,4 @@ own_named protocol pseudonym token =
 pub own_loop : (gateway : Gateway) (message : Message) (received forwarded : LineMap) (added : List Line)
     → IsToken gateway.pseudonym → Forwards gateway message received forwarded
     → is_loop gateway.pseudonym (forwarded (codes "via") ++ added) ≡ true
-own_loop gateway message received forwarded added token p =
-    let line : Line = via_line message.protocol gateway.pseudonym in
-    let own : is_loop gateway.pseudonym (received (codes "via") ++ line ∷ []) ≡ true
-    = list_any-append (names_gateway gateway.pseudonym) (received (codes "via")) (line ∷ [])
-    ∙ rw (own_named message.protocol gateway.pseudonym token) (or-true _) in
-    ap (λ lines. is_loop gateway.pseudonym (lines ++ added)) p.via
-    ∙ list_any-append (names_gateway gateway.pseudonym) (received (codes "via") ++ line ∷ []) added
-    ∙ ap (λ b. b || is_loop gateway.pseudonym added) own
+own_loop gateway message received forwarded added token p = grind (arith, gateway, list_any-append, own_named, or-true)

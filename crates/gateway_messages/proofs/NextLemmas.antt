@@ -1,10 +1,9 @@
 -- The next gateway delimits the content as this one did, and a row of gateways is no longer than Max-Forwards allows.
 use Rattle.std.proofs.Common.{◌≡◌, ℕ, ◌+◌, ◌≤◌, ◌<◌, ◌-◌, ◌^◌, List, [], ◌∷◌, length, Option, Some, None, refl, sym}
 use Rattle.std.{proofs.Common.{◌∙◌, ap, arith, subst, codes, IsTrue}, specs.Prelude.{decimal, option_map}}
-use Rattle.headers.specs.Lines.{Line}
-use Rattle.gateway_messages.{specs.Chain.{IsChain, IsForwardedAs}, specs.Forwarding.replaced, specs.Requests.Request}
-use Rattle.gateway_messages.{specs.Hops.{HasHops, counts_hops, hops_in}, proofs.NumberLemmas.number_within-decimal}
-use Rattle.gateway_messages.proofs.NumberLemmas.{number_within-least}
+use Rattle.{headers.specs.Lines.Line, gateway_messages.specs.{Chain.{IsChain, IsForwardedAs}, Forwarding.replaced}}
+use Rattle.gateway_messages.specs.{Requests.Request, Hops.{HasHops, counts_hops, hops_in}}
+use Rattle.gateway_messages.proofs.NumberLemmas.{number_within-decimal, number_within-least}
 
 most_hops : (lines : List Line) (n : ℕ) → hops_in lines ≡ Some n → n ≤ 2 ^ 64 - 1
 most_hops [] n e = absurd (cc e)

@@ -1,15 +1,13 @@
 -- A message states one framing at most, and a request has one outcome.
 use Rattle.std.proofs.Common.{◌≡◌, ◌⊎◌, ℕ, ◌<◌, ◌^◌, true, false, List, [], ◌∷◌, length, Option, Some, None, refl, sym}
-use Rattle.std.{proofs.Common.{ap, arith, subst, inl, inr, IsTrue, nat_lt, codes}, proofs.lemmas.Bool.cases_Bool}
-use Rattle.std.{proofs.lemmas.Bool.{ltb-true, lt-ltb}, specs.List.list_all}
-use Rattle.headers.{specs.LineMap.LineMap, specs.Lines.Line, specs.Typed.HasLine}
-use Rattle.rfc_fields.specs.Members.{field_members}
+use Rattle.std.proofs.{Common.{ap, arith, subst, inl, inr, IsTrue, nat_lt, codes}, lemmas.Bool.{cases_Bool, ltb-true}}
+use Rattle.{std.{proofs.lemmas.Bool.lt-ltb, specs.List.list_all}, headers.specs.{LineMap.LineMap, Lines.Line}}
+use Rattle.{headers.specs.Typed.HasLine, rfc_fields.specs.Members.field_members}
 use Rattle.gateway_messages.specs.Framing.{RejectsFraming, States, StatesLength, ends_chunked, codings, first_number}
-use Rattle.gateway_messages.{specs.Framing.{is_chunked, lengths, writes_length}, specs.Hops.{HasHops, HasInvalidHops}}
-use Rattle.gateway_messages.{specs.Hops.{counts_hops, hops_in}, specs.declared.framing.Framing.Framing}
-use Rattle.gateway_messages.{specs.declared.protocol.Protocol.Protocol, specs.declared.rejection.Rejection.Rejection}
+use Rattle.gateway_messages.specs.{Framing.{is_chunked, lengths, writes_length}, Hops.{HasHops, HasInvalidHops}}
+use Rattle.gateway_messages.specs.{Hops.{counts_hops, hops_in}, declared.framing.Framing.Framing}
 use Rattle.gateway_messages.specs.declared.framing.Framing.TheVariants.{Unstated, Length, Chunked}
-use Rattle.gateway_messages.specs.declared.protocol.Protocol.TheVariants.{Http10, Http11}
+use Rattle.gateway_messages.specs.declared.{protocol.Protocol.Protocol, rejection.Rejection.Rejection}
 
 pub no_line : (lines : List Line) → HasLine lines → lines ≡ [] → ⊥
 no_line lines h e = let none : length lines ≡ 0 = ap length e in omega arith
@@ -105,8 +103,8 @@ framed_or_not protocol message = by (codings message) refl (lengths message) ref
   where
     coded : (p : Protocol) → protocol ≡ p → is_chunked (codings message) ≡ true → HasLine (codings message)
         → lengths message ≡ [] → IsFramedOrNot protocol message
-    coded Http10 v c h l = inl (Rejection.CodingInHttp10, (h, v))
-    coded Http11 v c h l = inr (Chunked, (l, c, v))
+    coded Protocol.Http10 v c h l = inl (Rejection.CodingInHttp10, (h, v))
+    coded Protocol.Http11 v c h l = inr (Chunked, (l, c, v))
 
     uncoded : HasLine (codings message) → is_chunked (codings message) ≡ false
         → (rejection : Rejection) × RejectsFraming protocol message rejection

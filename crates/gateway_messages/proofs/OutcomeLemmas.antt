@@ -1,29 +1,18 @@
 -- Each request has one outcome.
 use Rattle.std.proofs.Common.{◌≡◌, ℕ, ◌+◌, zero, suc, true, false, Option, Some, None, sym, arith, inl, inr, codes}
 use Rattle.std.{proofs.lemmas.Bool.cases_Bool, specs.Prelude.option_map}
-use Rattle.gateway_messages.{specs.Expectations.has_known_expectation, specs.Framing.RejectsFraming, specs.Hops.HasHops}
-use Rattle.gateway_messages.{specs.Via.is_loop, specs.declared.framing.Framing.Framing}
-use Rattle.gateway_messages.{specs.declared.gateway.Gateway.Gateway, specs.declared.rejection.Rejection.Rejection}
-use Rattle.gateway_messages.specs.HopByHop.{HasFairOptions, are_options, connection_options, names_protected}
-use Rattle.gateway_messages.{specs.Outcomes.{HasOneOutcome, HasOutcome, IsRejected}, specs.Requests.HasHopsLeft}
-use Rattle.gateway_messages.{specs.Requests.{IsAccepted, Rejects, Request, has_host}, proofs.OneLemmas.framed_or_not}
-use Rattle.gateway_messages.proofs.OneLemmas.{limit_or_not, limited, one_limit, unframed}
+use Rattle.gateway_messages.specs.{Expectations.has_known_expectation, Framing.RejectsFraming, Hops.HasHops}
+use Rattle.gateway_messages.specs.{Via.is_loop, declared.{framing.Framing.Framing, gateway.Gateway.Gateway}}
+use Rattle.gateway_messages.specs.{declared.rejection.Rejection.Rejection, HopByHop.{HasFairOptions, are_options}}
+use Rattle.gateway_messages.specs.{HopByHop.{connection_options, names_protected}, Outcomes.{HasOneOutcome, HasOutcome}}
+use Rattle.gateway_messages.specs.{Outcomes.IsRejected, Requests.{HasHopsLeft, IsAccepted, Rejects, Request, has_host}}
+use Rattle.gateway_messages.proofs.OneLemmas.{framed_or_not, limit_or_not, limited, one_limit, unframed}
 
 -- ---- no two
 
 pub unaccepted : (gateway : Gateway) (request : Request) (framing : Framing) (hops : Option ℕ) (rejection : Rejection)
     → IsAccepted gateway request framing → HasHops request.method request.fields hops
     → Rejects gateway request rejection → ⊥
-unaccepted gateway request framing hops Rejection.LengthAndCoding a h r =
-    unframed request.protocol request.fields framing Rejection.LengthAndCoding a.states r
-unaccepted gateway request framing hops Rejection.InvalidLength a h r =
-    unframed request.protocol request.fields framing Rejection.InvalidLength a.states r
-unaccepted gateway request framing hops Rejection.UnknownCoding a h r =
-    unframed request.protocol request.fields framing Rejection.UnknownCoding a.states r
-unaccepted gateway request framing hops Rejection.LastCodingNotChunked a h r =
-    unframed request.protocol request.fields framing Rejection.LastCodingNotChunked a.states r
-unaccepted gateway request framing hops Rejection.CodingInHttp10 a h r =
-    unframed request.protocol request.fields framing Rejection.CodingInHttp10 a.states r
 unaccepted gateway request framing hops Rejection.InvalidOption a h r = cc (a.options.listed, r)
 unaccepted gateway request framing hops Rejection.ProtectedOption a h r = cc (a.options.unprotected, r)
 unaccepted gateway request framing hops Rejection.InvalidHost a h r = cc (a.host, r)
@@ -31,6 +20,7 @@ unaccepted gateway request framing hops Rejection.InvalidHops a h r = limited re
 unaccepted gateway request framing hops Rejection.Loop a h r = cc (a.first_time, r)
 unaccepted gateway request framing hops Rejection.UnknownExpectation a h r = cc (a.expectation, r)
 unaccepted gateway request framing hops Rejection.SwitchedProtocols a h r = r
+unaccepted gateway request framing hops rejection a h r = grind (arith, unframed, framing, rejection)
 
 one_more : (left : Option ℕ) → Some 0 ≡ option_map (λ hops. hops + 1) left → ⊥
 one_more None e = cc e
@@ -39,23 +29,16 @@ one_more (Some n) e = let zero : 0 ≡ n + 1 = cc e in omega (arith, zero)
 -- what may be forwarded no more isn't
 pub final_unforwarded : (request : Request) (left : Option ℕ) → HasHops request.method request.fields (Some 0)
     → HasHopsLeft request left → ⊥
-final_unforwarded request left final counted =
-    one_more left (one_limit request.method request.fields _ _ final counted)
+final_unforwarded request left final counted = grind (arith, one_more, one_limit, counted)
 
 pub one_outcome : (gateway : Gateway) (request : Request) → HasOneOutcome gateway request
-one_outcome gateway request =
-    record {
-      not_final = λ r f. unaccepted gateway request f.0 (Some 0) r.0 f.1.accepted f.1.hops r.1;
-      not_forwarded = λ r f. unaccepted gateway request f.framing _ r.0 f.accepted f.hops r.1;
-      not_both = λ f g. final_unforwarded request g.left f.1.hops g.hops;
-    }
+one_outcome gateway request = grind (arith, unaccepted, gateway, final_unforwarded)
 
 -- ---- one of them
 
 accept : (gateway : Gateway) (request : Request) (framing : Framing) → IsAccepted gateway request framing
     → (hops : Option ℕ) → HasHops request.method request.fields hops → HasOutcome gateway request
-accept gateway request framing a None h =
-    inr (inr (record { framing = framing; left = None; accepted = a; hops = h }))
+accept gateway request framing a None h = grind (arith)
 accept gateway request framing a (Some zero) h = inr (inl (framing, record { accepted = a; hops = h }))
 accept gateway request framing a (Some (suc n)) h =
     inr (inr (record { framing = framing; left = Some n; accepted = a; hops = counted }))

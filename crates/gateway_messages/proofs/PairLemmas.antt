@@ -1,13 +1,10 @@
 -- Two gateways in a row are one.
-use Rattle.std.proofs.Common.{◌≡◌, ◌≢◌, ◌⊎◌, ℕ, true, false, List, [], ◌∷◌, ◌++◌, refl, sym, ◌∙◌, ap, append_assoc}
-use Rattle.std.{proofs.Common.{lit<, inl, inr}, proofs.lemmas.Bool.cases_Bool, proofs.lemmas.Slice.Eq.bytes_eq-Decides}
-use Rattle.std.specs.Prelude.{All, codes}
-use Rattle.headers.{specs.LineMap.LineMap, specs.Lines.Line}
-use Rattle.rfc_fields.{specs.Members.field_members, specs.Scan.Member}
-use Rattle.gateway_messages.{specs.Chain.IsOneGateway, specs.Spellings.is_misspelt, specs.Via.via_line}
-use Rattle.gateway_messages.{specs.declared.gateway.Gateway.Gateway, specs.Forwarding.{Forwards, IsEndToEnd}}
-use Rattle.gateway_messages.{specs.Forwarding.{IsHopByHop, Message, own_names}, specs.HopByHop.connection_options}
-use Rattle.gateway_messages.specs.HopByHop.{is_hop_by_hop, is_known}
+use Rattle.std.proofs.Common.{arith, ◌≡◌, ◌≢◌, ◌⊎◌, ℕ, true, false, List, [], sym, ◌∙◌, append_assoc, lit<, inl, inr}
+use Rattle.std.{proofs.lemmas.{Bool.cases_Bool, Slice.Eq.bytes_eq-Decides}, specs.Prelude.{All, codes}}
+use Rattle.{headers.specs.LineMap.LineMap, gateway_messages.specs.{Chain.IsOneGateway, Spellings.is_misspelt}}
+use Rattle.gateway_messages.specs.{declared.gateway.Gateway.Gateway, Forwarding.{Forwards, IsEndToEnd, IsHopByHop}}
+use Rattle.gateway_messages.specs.{Forwarding.{Message, own_names}, HopByHop.{connection_options, is_hop_by_hop}}
+use Rattle.gateway_messages.specs.HopByHop.{is_known}
 
 apart : codes "connection" ≢ codes "transfer-encoding"
 apart e = absurd (cc ((bytes_eq-Decides (codes "connection") (codes "transfer-encoding")).1 e))
@@ -16,9 +13,7 @@ module _ (first second : Gateway) (earlier later : Message) (received sent next 
     (p : Forwards first earlier received sent) (r : (name : List ℕ) → next name ≡ sent name)
     (q : Forwards second later next forwarded) where
   no_options : connection_options next ≡ []
-  no_options =
-      let none = r (codes "connection") ∙ p.hop_by_hop (codes "connection") refl apart in
-      ap (λ (lines : List Line). field_members true lines) none
+  no_options = grind (arith, apart)
 
   other : (name : List ℕ) → All (λ own. own ≢ name) own_names → name ≢ codes "transfer-encoding"
   other name others same = others 5 [] (lit< tt) (sym same)
@@ -26,11 +21,7 @@ module _ (first second : Gateway) (earlier later : Message) (received sent next 
   both_end_to_end : (name : List ℕ) → IsEndToEnd first received name
       → is_known second.consumes_credentials name ≡ false → is_misspelt first name ≡ false
       → is_misspelt second name ≡ false → All (λ own. own ≢ name) own_names → forwarded name ≡ received name
-  both_end_to_end name e k s t others =
-      let again : IsEndToEnd second next name
-      = ap (λ (options : List Member). is_hop_by_hop second.consumes_credentials options name) no_options
-      ∙ rw k refl in
-      q.end_to_end name again t others ∙ r name ∙ p.end_to_end name e s others
+  both_end_to_end name e k s t others = grind (arith, no_options)
 
   -- what the first doesn't forward, the second doesn't
   still_none : (name : List ℕ) → sent name ≡ [] → All (λ own. own ≢ name) own_names → forwarded name ≡ []
@@ -53,14 +44,4 @@ module _ (first second : Gateway) (earlier later : Message) (received sent next 
   either_hop_by_hop name e others = still_none name (p.hop_by_hop name e (other name others)) others
 
   pub one_gateway : IsOneGateway first second earlier.protocol later.protocol received forwarded
-  one_gateway =
-      record {
-        end_to_end = both_end_to_end;
-        misspelt = either_misspelt;
-        hop_by_hop = either_hop_by_hop;
-        via = q.via
-            ∙ ap (λ (lines : List Line). lines ++ via_line later.protocol second.pseudonym ∷ [])
-            (r (codes "via") ∙ p.via)
-            ∙ append_assoc (received (codes "via")) (via_line earlier.protocol first.pseudonym ∷ [])
-            (via_line later.protocol second.pseudonym ∷ []);
-      }
+  one_gateway = grind (arith, both_end_to_end, either_misspelt, either_hop_by_hop, append_assoc)

@@ -1,12 +1,10 @@
 -- What stands under each name of the received fields, and of those that pass a test.
 use Rattle.std.proofs.Common.{◌≡◌, ◌≢◌, ℕ, suc, ◌<◌, Bool, true, false, List, [], ◌∷◌, ◌++◌, length, refl, sym, ◌∙◌, ap}
-use Rattle.std.{proofs.Common.{inl, inr, arith, map, filter}, proofs.lemmas.Bool.cases_Bool}
-use Rattle.std.{proofs.lemmas.Slice.Eq.bytes_eq-Decides, proofs.lemmas.List.{append-nil, map-append}}
-use Rattle.std.specs.Prelude.{bytes_eq, if◌then◌else◌}
-use Rattle.http_header.{specs.FieldValue.FieldValue, specs.HeaderMap.{Entry, Entries, IsUnique, entry_at, entry_pairs}}
-use Rattle.http_header.specs.HeaderMap.{pairs}
-use Rattle.headers.{specs.LineMap.lines_at, specs.Lines.{Line, lines_of}}
-use Rattle.gateway_messages.specs.FieldLines.{Field, field_of, lines_under}
+use Rattle.std.proofs.{Common.{inl, inr, arith, map, filter}, lemmas.{Bool.cases_Bool, Slice.Eq.bytes_eq-Decides}}
+use Rattle.std.{proofs.lemmas.List.{append-nil, map-append}, specs.Prelude.{bytes_eq, if◌then◌else◌}}
+use Rattle.http_header.specs.{FieldValue.FieldValue, HeaderMap.{Entry, Entries, IsUnique, entry_at, entry_pairs, pairs}}
+use Rattle.{headers.specs.{LineMap.lines_at, Lines.{Line, lines_of}}, gateway_messages.specs.FieldLines.Field}
+use Rattle.gateway_messages.specs.FieldLines.{field_of, lines_under}
 
 pub differ : (a b : List ℕ) → a ≢ b → bytes_eq a b ≡ false
 differ a b n = elim (cases_Bool (bytes_eq a b)) [ inl t ↦ absurd (n ((bytes_eq-Decides a b).0 t)) | inr f ↦ f ]
@@ -15,10 +13,7 @@ pub lines_under-append : (fields others : List Field) (name : List ℕ)
     → lines_under (fields ++ others) name ≡ lines_under fields name ++ lines_under others name
 lines_under-append [] others name = refl
 lines_under-append (field ∷ fields) others name =
-    elim (cases_Bool (bytes_eq field.0 name)) [
-      | inl t ↦ rw t (ap (λ lines. field.1 ∷ lines) (lines_under-append fields others name))
-      | inr f ↦ rw f (lines_under-append fields others name)
-    ]
+    grind (arith, cases_Bool, bytes_eq, lines_under-append fields others name)
 
 -- ---- the fields whose name passes a test
 
@@ -32,40 +27,23 @@ module _ (test : List ℕ → Bool) where
 
   filtered_own : (field : Field) (fields : List Field) (name : List ℕ) → bytes_eq field.0 name ≡ true
       → IsFiltered fields name → IsFiltered (field ∷ fields) name
-  filtered_own field fields name own below =
-      let same : test field.0 ≡ test name = ap test ((bytes_eq-Decides field.0 name).0 own) in
-      elim (cases_Bool (test name)) [
-        | inl t ↦ rw (same ∙ t) (rw own (rw t (ap (λ lines. field.1 ∷ lines) (below ∙ rw t refl))))
-        | inr f ↦ rw (same ∙ f) (rw f (below ∙ rw f refl))
-      ]
+  filtered_own field fields name own below = grind (arith, bytes_eq-Decides, cases_Bool, below)
 
   filtered_other : (field : Field) (fields : List Field) (name : List ℕ) → bytes_eq field.0 name ≡ false
       → IsFiltered fields name → IsFiltered (field ∷ fields) name
-  filtered_other field fields name other below =
-      elim (cases_Bool (test field.0)) [
-        | inl t ↦ rw t (rw other below)
-        | inr f ↦ rw f (rw other below)
-      ]
+  filtered_other field fields name other below = grind (arith, cases_Bool, below)
 
   pub lines_under-filter : (fields : List Field) (name : List ℕ) → IsFiltered fields name
   lines_under-filter [] name = elim (cases_Bool (test name)) [ inl t ↦ rw t refl | inr f ↦ rw f refl ]
   lines_under-filter (field ∷ fields) name =
-      elim (cases_Bool (bytes_eq field.0 name)) [
-        | inl own ↦ filtered_own field fields name own (lines_under-filter fields name)
-        | inr other ↦ filtered_other field fields name other (lines_under-filter fields name)
-      ]
+      grind (arith, cases_Bool, bytes_eq, filtered_own, filtered_other, lines_under-filter fields name)
 
 -- ---- the pairs of a header map
 
 entry_lines : (own : List ℕ) (values : List FieldValue) (name : List ℕ)
-    → lines_under (map field_of (entry_pairs (own, values))) name
-    ≡ (if bytes_eq own name then lines_of values else [])
+    → lines_under (map field_of (entry_pairs (own, values))) name ≡ (if bytes_eq own name then lines_of values else [])
 entry_lines own [] name = elim (cases_Bool (bytes_eq own name)) [ inl t ↦ rw t refl | inr f ↦ rw f refl ]
-entry_lines own (value ∷ values) name =
-    elim (cases_Bool (bytes_eq own name)) [
-      | inl t ↦ rw t (ap (λ lines. value.bytes ∷ lines) (entry_lines own values name ∙ rw t refl))
-      | inr f ↦ rw f (entry_lines own values name ∙ rw f refl)
-    ]
+entry_lines own (value ∷ values) name = grind (arith, cases_Bool, bytes_eq, entry_lines own values name)
 
 abbrev map_lines : Entries FieldValue → List ℕ → List Line
 map_lines m name = lines_under (map field_of (pairs m)) name
@@ -90,8 +68,7 @@ absent_none (e ∷ m) name absent =
 pub received_lines : (m : Entries FieldValue) (name : List ℕ) → IsUnique m → map_lines m name ≡ lines_at m name
 received_lines [] name unique = refl
 received_lines (e ∷ m) name unique =
-    cons_lines e m name
-    ∙ elim (cases_Bool (bytes_eq e.0 name)) [
+    cons_lines e m name ∙ elim (cases_Bool (bytes_eq e.0 name)) [
       | inl t ↦ rw t (
           ap (λ rest. lines_of e.1 ++ rest) (absent_none m name (absent ((bytes_eq-Decides e.0 name).0 t)))
           ∙ append-nil (lines_of e.1))

@@ -1,23 +1,20 @@
 -- To all recipients that know the plain forms, what is forwarded states the same.
 use Rattle.std.proofs.Common.{◌≡◌, ◌≢◌, ℕ, ◌<◌, ◌^◌, ◌&&◌, not, Bool, true, false, List, [], ◌∷◌, ◌++◌, Option, Some}
-use Rattle.std.{proofs.Common.{None, refl, ◌∙◌, ap, codes, inl, inr, arith}, proofs.lemmas.Bool.cases_Bool}
-use Rattle.std.{proofs.lemmas.List.append-nil, proofs.lemmas.Slice.Eq.bytes_eq-Decides, specs.Prelude.bytes_eq}
-use Rattle.std.{specs.Prelude.{decimal, if◌then◌else◌, nat_lt, option_map, option_to_list}, specs.List.list_any}
-use Rattle.headers.{specs.LineMap.LineMap, specs.Lines.Line}
-use Rattle.gateway_messages.{specs.FieldLines.{Field, fields_of, lines_under}, specs.Forwarding.{Forwards, Message}}
-use Rattle.gateway_messages.{specs.declared.framing.Framing.Framing, specs.Spellings.dashed, specs.Trailers.may_trail}
-use Rattle.gateway_messages.{specs.Trailers.trailer_names, specs.declared.gateway.Gateway.Gateway}
-use Rattle.gateway_messages.specs.declared.protocol.Protocol.{Protocol}
-use Rattle.gateway_messages.{specs.declared.request.ForwardedRequest.ForwardedRequest, specs.Framing.States}
-use Rattle.gateway_messages.{specs.Framing.{coding_line, length_line}, specs.Recipients.{Fits, KnowsPlain, ParsesBelow}}
-use Rattle.gateway_messages.specs.Recipients.{Recipient, accepted_by, delimited_by, framing_by, is_within, lines_where}
-use Rattle.gateway_messages.specs.Recipients.{number_below, parse_below, picked_by, server, Spelling, Dash, DashOrMark}
-use Rattle.gateway_messages.specs.Recipients.{DashOrUnderscore, Pick, First, Last, Codings, SomeLine, LastLine}
-use Rattle.gateway_messages.specs.Recipients.{AnyCoding, Precedence, CodingFirst, LengthFirst, chunked_by, spelled_by}
-use Rattle.gateway_messages.specs.declared.framing.Framing.TheVariants.{Unstated, Length, Chunked}
-use Rattle.gateway_messages.specs.Requests.{IsForwarded, Request, message_of}
-use Rattle.gateway_messages.{proofs.NumberLemmas.number_within-decimal, proofs.ReceivedLemmas.lines_under-append}
-use Rattle.gateway_messages.proofs.SpellingLemmas.{lookalike, unlisted}
+use Rattle.std.proofs.{Common.{None, refl, ◌∙◌, ap, codes, inl, inr, arith}, lemmas.{Bool.cases_Bool, List.append-nil}}
+use Rattle.std.{proofs.lemmas.Slice.Eq.bytes_eq-Decides, specs.Prelude.{bytes_eq, decimal, if◌then◌else◌, nat_lt}}
+use Rattle.{std.specs.{Prelude.{option_map, option_to_list}, List.list_any}, headers.specs.LineMap.LineMap}
+use Rattle.{headers.specs.Lines.Line, gateway_messages.specs.FieldLines.{Field, fields_of, lines_under}}
+use Rattle.gateway_messages.specs.{Forwarding.{Forwards, Message}, declared.framing.Framing.Framing}
+use Rattle.gateway_messages.specs.declared.{gateway.Gateway.Gateway, protocol.Protocol.Protocol}
+use Rattle.gateway_messages.specs.{declared.request.ForwardedRequest.ForwardedRequest, Spellings.dashed}
+use Rattle.gateway_messages.specs.{Trailers.{may_trail, trailer_names}, Framing.{States, coding_line, length_line}}
+use Rattle.gateway_messages.specs.Recipients.{Fits, KnowsPlain, ParsesBelow, Recipient, accepted_by, delimited_by}
+use Rattle.gateway_messages.specs.Recipients.{framing_by, is_within, lines_where, number_below, parse_below, picked_by}
+use Rattle.gateway_messages.specs.Recipients.{server, Spelling, Dash, DashOrMark, DashOrUnderscore, Pick, First, Last}
+use Rattle.gateway_messages.specs.Recipients.{Codings, SomeLine, LastLine, AnyCoding, Precedence, CodingFirst}
+use Rattle.gateway_messages.specs.{Recipients.{LengthFirst, chunked_by, spelled_by}, Requests.{IsForwarded, Request}}
+use Rattle.gateway_messages.{specs.Requests.message_of, proofs.NumberLemmas.number_within-decimal}
+use Rattle.gateway_messages.proofs.{ReceivedLemmas.lines_under-append, SpellingLemmas.{lookalike, unlisted}}
 
 -- ---- names
 
@@ -29,11 +26,7 @@ module _ (test : List ℕ → Bool) (own : List ℕ) (takes : test own ≡ true)
   -- where a name has no field line, the first field isn't one, nor is any behind it
   unlike : (field : Field) (fields : List Field) (name : List ℕ) → lines_under (field ∷ fields) name ≡ []
       → (bytes_eq field.0 name ≡ false) × (lines_under fields name ≡ [])
-  unlike field fields name none =
-      elim (cases_Bool (bytes_eq field.0 name)) [
-        | inl t ↦ absurd (cc (rw t at none))
-        | inr f ↦ (f, rw f at none)
-      ]
+  unlike field fields name none = grind (arith, cases_Bool, bytes_eq, none)
 
   -- so only those of the name are taken
   taken : (fields : List Field) → IsAlone fields → lines_where test fields ≡ lines_under fields own
@@ -59,22 +52,12 @@ module _ (test : List ℕ → Bool) (own : List ℕ) (takes : test own ≡ true)
 pub read_alike : (gateway : Gateway) (message : Message) (received : LineMap) (fields : List Field)
     (recipient : Recipient) → Forwards gateway message received (lines_under fields) → Fits message.framing
     → KnowsPlain recipient → framing_by recipient fields ≡ accepted_by recipient message.framing
-read_alike gateway message received fields recipient p fits k =
-    let lengths : lines_where recipient.is_length fields ≡ option_to_list (length_line message.framing)
-    = taken recipient.is_length (codes "content-length") k.length_name fields
-    (λ name t other. p.misspelt name (lookalike _ _ _ (k.length_names name t) other refl)) ∙ p.content_length in
-    let codings : lines_where recipient.is_coding fields ≡ option_to_list (coding_line message.framing)
-    = taken recipient.is_coding (codes "transfer-encoding") k.coding_name fields
-    (λ name t other. p.misspelt name (lookalike _ _ _ (k.coding_names name t) other refl)) ∙ p.transfer_encoding in
-    ap (λ lines. recipient.delimits lines (lines_where recipient.is_coding fields)) lengths
-    ∙ ap (λ lines. recipient.delimits (option_to_list (length_line message.framing)) lines) codings
-    ∙ k.plain message.framing fits
+read_alike gateway message received fields recipient p fits k = grind (arith, option_to_list, taken, lookalike)
 
 pub fitting : (protocol : Protocol) (received : LineMap) (framing : Framing) → States protocol received framing
     → Fits framing
-fitting protocol received Unstated s = tt
-fitting protocol received (Length len) s = s.0.fits
-fitting protocol received Chunked s = tt
+fitting protocol received (Framing.Length len) s = s.0.fits
+fitting protocol received framing s = tt
 
 pub request_alike : (gateway : Gateway) (request : Request) (sent : ForwardedRequest) (recipient : Recipient)
     → IsForwarded gateway request sent → KnowsPlain recipient
@@ -100,17 +83,11 @@ untrailed gateway name own same none =
 pub lines_where-append : (test : List ℕ → Bool) (fields others : List Field)
     → lines_where test (fields ++ others) ≡ lines_where test fields ++ lines_where test others
 lines_where-append test [] others = refl
-lines_where-append test (field ∷ fields) others =
-    elim (cases_Bool (test field.0)) [
-      | inl t ↦ rw t (ap (λ lines. field.1 ∷ lines) (lines_where-append test fields others))
-      | inr f ↦ rw f (lines_where-append test fields others)
-    ]
+lines_where-append test (field ∷ fields) others = grind (arith, cases_Bool, lines_where-append test fields others)
 
 nothing_more : (test : List ℕ → Bool) (fields others : List Field) → lines_where test others ≡ []
     → lines_where test (fields ++ others) ≡ lines_where test fields
-nothing_more test fields others none =
-    lines_where-append test fields others ∙ ap (λ lines. lines_where test fields ++ lines) none
-    ∙ append-nil (lines_where test fields)
+nothing_more test fields others none = grind (arith, lines_where-append, none, append-nil)
 
 pub merged_alike : (gateway : Gateway) (fields others : List Field) (recipient : Recipient) → KnowsPlain recipient
     → ((name : List ℕ) → may_trail gateway name ≡ false → lines_under others name ≡ [])
@@ -127,9 +104,7 @@ merged_alike gateway fields others recipient k none =
 
 pub merged_lines : (fields others : List Field) (name : List ℕ) → lines_under others name ≡ []
     → lines_under (fields ++ others) name ≡ lines_under fields name
-merged_lines fields others name none =
-    lines_under-append fields others name ∙ ap (λ lines. lines_under fields name ++ lines) none
-    ∙ append-nil (lines_under fields name)
+merged_lines fields others name none = grind (arith, lines_under-append, none, append-nil)
 
 -- ---- the servers
 
@@ -142,11 +117,7 @@ spelled DashOrMark own underscored e = (bytes_eq-Decides (dashed own) own).1 e
 spellings : (spelling : Spelling) (own underscored name : List ℕ) → dashed own ≡ own → dashed underscored ≡ own
     → spelled_by spelling own underscored name ≡ true → dashed name ≡ own
 spellings Dash own underscored name e u t = ap dashed ((bytes_eq-Decides name own).0 t) ∙ e
-spellings DashOrUnderscore own underscored name e u t =
-    elim (cases_Bool (bytes_eq name own)) [
-      | inl s ↦ ap dashed ((bytes_eq-Decides name own).0 s) ∙ e
-      | inr f ↦ ap dashed ((bytes_eq-Decides name underscored).0 (rw f at t)) ∙ u
-    ]
+spellings DashOrUnderscore own underscored name e u t = grind (arith, cases_Bool, bytes_eq, bytes_eq-Decides)
 spellings DashOrMark own underscored name e u t = (bytes_eq-Decides (dashed name) own).0 t
 
 pub know_plain : (spelling : Spelling) (pick : Pick) (parse : Line → Option ℕ) (limit : ℕ) (codings : Codings)
@@ -171,37 +142,34 @@ know_plain spelling pick parse limit codings precedence decimals =
 
     uncoded : (codings : Codings) → chunked_by codings [] ≡ false
     uncoded SomeLine = refl
-    uncoded LastLine = refl
-    uncoded AnyCoding = refl
+    uncoded codings = refl
 
     coded : (codings : Codings) → chunked_by codings (codes "chunked" ∷ []) ≡ true
     coded SomeLine = refl
-    coded LastLine = refl
-    coded AnyCoding = refl
+    coded codings = refl
 
-    below : (len : ℕ) → option_map (λ n. Length n) (number_below limit len)
-        ≡ (if is_within limit (Length len) then Some (Length len) else None)
+    below : (len : ℕ) → option_map (λ n. Framing.Length n) (number_below limit len)
+        ≡ (if is_within limit (Framing.Length len) then Some (Framing.Length len) else None)
     below len = elim (cases_Bool (nat_lt len limit)) [ inl t ↦ rw t refl | inr f ↦ rw f refl ]
 
     plain : (framing : Framing) → Fits framing
         → delimited_by precedence (option_map parse (picked_by pick (option_to_list (length_line framing))))
         (chunked_by codings (option_to_list (coding_line framing)))
         ≡ (if is_within limit framing then Some framing else None)
-    plain Unstated fits = rw (none pick, uncoded codings) refl
-    plain (Length len) fits = rw (one pick (decimal len), uncoded codings, decimals len fits) (below len)
-    plain Chunked fits = rw (none pick, coded codings) refl
+    plain Framing.Unstated fits = rw (none pick, uncoded codings) refl
+    plain (Framing.Length len) fits = rw (one pick (decimal len), uncoded codings, decimals len fits) (below len)
+    plain Framing.Chunked fits = rw (none pick, coded codings) refl
 
 pub in_use : (limit : ℕ) → ParsesBelow limit (parse_below limit)
-in_use limit len fits =
-    let less : len < 2 ^ 64 = omega (arith, fits) in rw (number_within-decimal len less) refl
+in_use limit len fits = grind (arith, number_within-decimal)
 
 abbrev both : ℕ → List Field
 both len = (codes "content-length", decimal len) ∷ (codes "transfer-encoding", codes "chunked") ∷ []
 
 abbrev Disagree : Spelling → Pick → (Line → Option ℕ) → ℕ → Codings → ℕ → Type 0
 Disagree spelling pick parse limit codings len =
-    (framing_by (server spelling pick parse limit codings CodingFirst) (both len) ≡ Some Chunked)
-    × (framing_by (server spelling pick parse limit codings LengthFirst) (both len) ≡ Some (Length len))
+    (framing_by (server spelling pick parse limit codings CodingFirst) (both len) ≡ Some Framing.Chunked)
+    × (framing_by (server spelling pick parse limit codings LengthFirst) (both len) ≡ Some (Framing.Length len))
 
 pub disagree : (spelling : Spelling) (pick : Pick) (parse : Line → Option ℕ) (limit : ℕ) (codings : Codings) (len : ℕ)
     → parse (decimal len) ≡ Some len → Disagree spelling pick parse limit codings len

@@ -1,22 +1,17 @@
 -- Each response has one outcome, what is forwarded of it is certain, and recipients delimit it alike.
-use Rattle.std.proofs.Common.{◌≡◌, ℕ, Bool, true, false, List, refl, sym, ◌∙◌, ap, subst, inl, inr}
-use Rattle.std.{proofs.lemmas.Bool.cases_Bool, specs.Prelude.◌==◌}
-use Rattle.headers.specs.LineMap.{LineMap}
-use Rattle.gateway_messages.{specs.FieldLines.{fields_of, lines_under}, specs.Forwarding.Forwards}
-use Rattle.gateway_messages.{specs.Framing.RejectsFraming, specs.declared.framing.Framing.Framing}
-use Rattle.gateway_messages.{specs.declared.gateway.Gateway.Gateway, specs.declared.protocol.Protocol.Protocol}
-use Rattle.gateway_messages.specs.declared.rejection.Rejection.{Rejection}
-use Rattle.gateway_messages.{specs.declared.response.ForwardedResponse.ForwardedResponse, specs.HopByHop.HasFairOptions}
-use Rattle.gateway_messages.specs.HopByHop.{are_options, connection_options, names_protected}
+use Rattle.std.proofs.Common.{arith, ◌≡◌, ℕ, Bool, true, false, List, refl, sym, ◌∙◌, ap, subst, inl, inr}
+use Rattle.{std.{proofs.lemmas.Bool.cases_Bool, specs.Prelude.◌==◌}, headers.specs.LineMap.LineMap}
+use Rattle.gateway_messages.specs.{FieldLines.{fields_of, lines_under}, Forwarding.Forwards, Framing.RejectsFraming}
+use Rattle.gateway_messages.specs.declared.{framing.Framing.Framing, gateway.Gateway.Gateway}
+use Rattle.gateway_messages.specs.declared.protocol.Protocol.{Protocol, TheVariants.{Http10, Http11}}
+use Rattle.gateway_messages.specs.declared.{rejection.Rejection.Rejection, response.ForwardedResponse.ForwardedResponse}
+use Rattle.gateway_messages.specs.HopByHop.{HasFairOptions, are_options, connection_options, names_protected}
 use Rattle.gateway_messages.specs.Outcomes.{HasOneResponseOutcome, HasResponseOutcome, IsRejectedResponse}
 use Rattle.gateway_messages.specs.Recipients.{Fits, KnowsPlain, Recipient, accepted_by, framing_by}
 use Rattle.gateway_messages.specs.Responses.{IsAcceptedResponse, IsForwardedResponse, RejectsResponse, Response}
 use Rattle.gateway_messages.specs.Responses.{StatesUnless, content_of, is_known_to, response_message, sent_framing}
-use Rattle.gateway_messages.{specs.Responses.states_nothing, specs.declared.framing.Framing.TheVariants.Unstated}
-use Rattle.gateway_messages.specs.declared.framing.Framing.TheVariants.{Length, Chunked}
-use Rattle.gateway_messages.specs.declared.protocol.Protocol.TheVariants.{Http10, Http11}
-use Rattle.gateway_messages.{proofs.OneLemmas.{framed_or_not, one_framing, unframed}, proofs.RecipientLemmas.fitting}
-use Rattle.gateway_messages.{proofs.RecipientLemmas.read_alike, proofs.SureLemmas.sure}
+use Rattle.gateway_messages.{specs.Responses.states_nothing, proofs.OneLemmas.{framed_or_not, one_framing, unframed}}
+use Rattle.gateway_messages.proofs.{RecipientLemmas.{fitting, read_alike}, SureLemmas.sure}
 
 -- ---- what is stated
 
@@ -36,27 +31,17 @@ fits_stated true protocol fields framing s = subst Fits (sym s) tt
 fits_stated false protocol fields framing s = fitting protocol fields framing s
 
 fits_sent : (client : Protocol) (framing : Framing) → Fits framing → Fits (sent_framing client framing)
-fits_sent Http10 Unstated f = f
-fits_sent Http10 (Length len) f = f
-fits_sent Http10 Chunked f = tt
-fits_sent Http11 Unstated f = f
-fits_sent Http11 (Length len) f = f
-fits_sent Http11 Chunked f = f
+fits_sent Http10 Framing.Unstated f = f
+fits_sent Http10 (Framing.Length len) f = f
+fits_sent Http10 Framing.Chunked f = tt
+fits_sent Http11 Framing.Unstated f = f
+fits_sent Http11 (Framing.Length len) f = f
+fits_sent Http11 Framing.Chunked f = f
 
 -- ---- one outcome
 
 pub unaccepted : (gateway : Gateway) (response : Response) (framing : Framing) (rejection : Rejection)
     → IsAcceptedResponse gateway response framing → RejectsResponse gateway response rejection → ⊥
-unaccepted gateway response framing Rejection.LengthAndCoding a r =
-    unstated _ _ _ framing Rejection.LengthAndCoding a.states r.0 r.1
-unaccepted gateway response framing Rejection.InvalidLength a r =
-    unstated _ _ _ framing Rejection.InvalidLength a.states r.0 r.1
-unaccepted gateway response framing Rejection.UnknownCoding a r =
-    unstated _ _ _ framing Rejection.UnknownCoding a.states r.0 r.1
-unaccepted gateway response framing Rejection.LastCodingNotChunked a r =
-    unstated _ _ _ framing Rejection.LastCodingNotChunked a.states r.0 r.1
-unaccepted gateway response framing Rejection.CodingInHttp10 a r =
-    unstated _ _ _ framing Rejection.CodingInHttp10 a.states r.0 r.1
 unaccepted gateway response framing Rejection.InvalidOption a r = cc (a.options.listed, r)
 unaccepted gateway response framing Rejection.ProtectedOption a r = cc (a.options.unprotected, r)
 unaccepted gateway response framing Rejection.InvalidHost a r = r.1
@@ -64,14 +49,10 @@ unaccepted gateway response framing Rejection.InvalidHops a r = r.1
 unaccepted gateway response framing Rejection.Loop a r = r.1
 unaccepted gateway response framing Rejection.UnknownExpectation a r = r.1
 unaccepted gateway response framing Rejection.SwitchedProtocols a r = cc (a.same_protocol, r)
+unaccepted gateway response framing rejection a r = unstated _ _ _ framing rejection a.states r.0 r.1
 
 pub one_response_outcome : (gateway : Gateway) (response : Response) → HasOneResponseOutcome gateway response
-one_response_outcome gateway response =
-    record {
-      not_dropped = λ r d. unaccepted gateway response d.stated r.0 d.accepted r.1;
-      not_forwarded = λ r f. unaccepted gateway response f.stated r.0 f.accepted r.1;
-      not_both = λ d f. cc (d.unknown, f.known);
-    }
+one_response_outcome gateway response = grind (arith, unaccepted, gateway, response)
 
 pub some_response_outcome : (gateway : Gateway) (response : Response) → HasResponseOutcome gateway response
 some_response_outcome gateway response =
@@ -102,21 +83,15 @@ some_response_outcome gateway response =
     unframe e Rejection.UnknownCoding r = (Rejection.UnknownCoding, (e, r))
     unframe e Rejection.LastCodingNotChunked r = (Rejection.LastCodingNotChunked, (e, r))
     unframe e Rejection.CodingInHttp10 r = (Rejection.CodingInHttp10, (e, r))
-    unframe e Rejection.InvalidOption r = absurd r
-    unframe e Rejection.ProtectedOption r = absurd r
-    unframe e Rejection.InvalidHost r = absurd r
-    unframe e Rejection.InvalidHops r = absurd r
-    unframe e Rejection.Loop r = absurd r
-    unframe e Rejection.UnknownExpectation r = absurd r
-    unframe e Rejection.SwitchedProtocols r = absurd r
+    unframe e rejection r = absurd r
 
     by : (response.status == 101) ≡ false → HasFairOptions gateway response.fields → (ignored : Bool)
         → states_nothing response.method response.status ≡ ignored → HasResponseOutcome gateway response
     by same options true e =
         let states : StatesUnless (states_nothing response.method response.status) response.protocol response.fields
-        Unstated
-        = subst (λ (b : Bool). StatesUnless b response.protocol response.fields Unstated) (sym e) refl in
-        accept Unstated (record { states = states; options = options; same_protocol = same })
+        Framing.Unstated
+        = subst (λ (b : Bool). StatesUnless b response.protocol response.fields Framing.Unstated) (sym e) refl in
+        accept Framing.Unstated (record { states = states; options = options; same_protocol = same })
     by same options false e =
         elim (framed_or_not response.protocol response.fields) [
           | inl r ↦ inl (unframe e r.0 r.1)

@@ -1,14 +1,11 @@
 -- What is forwarded of the trailer fields, name by name.
-use Rattle.std.proofs.Common.{◌≡◌, ℕ, Bool, true, false, not, List, [], refl, ◌∙◌, ap, map, filter}
-use Rattle.std.specs.Prelude.{if◌then◌else◌}
-use Rattle.http_header.{specs.FieldValue.FieldValue, specs.HeaderMap.{Entries, IsUnique, pairs}}
-use Rattle.headers.specs.LineMap.{LineMap, lines_at}
-use Rattle.rfc_fields.specs.Scan.{Member}
-use Rattle.gateway_messages.{specs.FieldLines.{Field, field_of, lines_under}, specs.HopByHop.connection_options}
-use Rattle.gateway_messages.{specs.HopByHop.is_hop_by_hop, specs.Trailers.{ForwardsTrailers, may_trail}}
-use Rattle.gateway_messages.{specs.Trailers.trailer_goes_on, specs.declared.framing.Framing.Framing}
-use Rattle.gateway_messages.{specs.declared.framing.Framing.TheVariants.Chunked, specs.declared.gateway.Gateway.Gateway}
-use Rattle.gateway_messages.{proofs.ForwardLemmas.never, proofs.ReceivedLemmas.{lines_under-filter, received_lines}}
+use Rattle.std.proofs.Common.{arith, ◌≡◌, ℕ, Bool, true, false, not, List, [], refl, ◌∙◌, ap, map, filter}
+use Rattle.{std.specs.Prelude.if◌then◌else◌, http_header.specs.{FieldValue.FieldValue, HeaderMap.{Entries, IsUnique}}}
+use Rattle.{http_header.specs.HeaderMap.pairs, headers.specs.LineMap.{LineMap, lines_at}, rfc_fields.specs.Scan.Member}
+use Rattle.gateway_messages.specs.{FieldLines.{Field, field_of, lines_under}, HopByHop.connection_options}
+use Rattle.gateway_messages.specs.{HopByHop.is_hop_by_hop, Trailers.{ForwardsTrailers, may_trail, trailer_goes_on}}
+use Rattle.gateway_messages.specs.declared.{framing.Framing.{Framing, TheVariants.Chunked}, gateway.Gateway.Gateway}
+use Rattle.gateway_messages.proofs.{ForwardLemmas.never, ReceivedLemmas.{lines_under-filter, received_lines}}
 
 goes : (gateway : Gateway) (options : List Member) (name : List ℕ)
     → is_hop_by_hop gateway.consumes_credentials options name ≡ false → may_trail gateway name ≡ true
@@ -43,12 +40,4 @@ module _ (gateway : Gateway) (message : LineMap) (m : Entries FieldValue) (uniqu
   pub chunked_trailers : (fields : List Field) → fields ≡ filter (λ field. going field.0) (map field_of (pairs m))
       → (framing : Framing) → framing ≡ Chunked
       → ForwardsTrailers gateway framing message (lines_at m) (lines_under fields)
-  chunked_trailers fields e framing chunked =
-      record {
-        end_to_end = λ c name e2e may. by_name fields e name
-            ∙ rw (goes gateway (connection_options message) name e2e may) refl;
-        hop_by_hop = λ name h. left_out fields e name
-            (stops gateway (connection_options message) name h);
-        header_only = λ name h. left_out fields e name (denied _ _ _ h);
-        unchunked = λ other name. absurd (other chunked);
-      }
+  chunked_trailers fields e framing chunked = grind (arith, by_name, goes, gateway, left_out, stops, denied)

@@ -1,13 +1,12 @@
 -- A field line of Via is a value of a field, and so is a pseudonym.
-use Rattle.std.{proofs.Common.{ℕ, List, IsTrue, refl}, proofs.lemmas.List.Elements.All-append}
-use Rattle.http_header.{specs.FieldValue.IsFieldValue, specs.Token.{IsToken, is_value_byte}}
+use Rattle.std.proofs.{Common.{ℕ, List, IsTrue, refl}, lemmas.List.Elements.All-append}
+use Rattle.http_header.specs.{FieldValue.IsFieldValue, Token.{IsToken, is_value_byte}}
 use Rattle.http_header.proofs.TokenLemmas.{AllPass-from_test, IsFieldValue-from_visible, IsVisibleAscii-from_token}
-use Rattle.gateway_messages.{specs.Via.{version_text, via_line}, specs.declared.protocol.Protocol.Protocol}
-use Rattle.gateway_messages.specs.declared.protocol.Protocol.TheVariants.{Http10, Http11}
+use Rattle.gateway_messages.specs.{Via.{version_text, via_line}, declared.protocol.Protocol.Protocol}
 
 version_valid : (protocol : Protocol) → IsFieldValue (version_text protocol)
-version_valid Http10 = AllPass-from_test is_value_byte (version_text Http10) refl
-version_valid Http11 = AllPass-from_test is_value_byte (version_text Http11) refl
+version_valid Protocol.Http10 = AllPass-from_test is_value_byte (version_text Protocol.Http10) refl
+version_valid Protocol.Http11 = AllPass-from_test is_value_byte (version_text Protocol.Http11) refl
 
 pub IsFieldValue-via_line : (protocol : Protocol) (pseudonym : List ℕ) → IsFieldValue pseudonym
     → IsFieldValue (via_line protocol pseudonym)

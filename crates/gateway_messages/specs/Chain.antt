@@ -1,11 +1,10 @@
 -- Gateways in a row, each of which forwards what it received from the one before.
 use Rattle.std.specs.Prelude.{◌≡◌, ◌≢◌, ◌⊎◌, ℕ, true, false, List, [], ◌∷◌, ◌++◌, All, codes, ⊤}
-use Rattle.headers.specs.LineMap.{LineMap}
-use Rattle.gateway_messages.specs.{FieldLines.fields_of, FieldLines.lines_under, HopByHop.is_known}
-use Rattle.gateway_messages.specs.{Requests.IsForwarded, Requests.Request, Spellings.is_misspelt, Via.via_line}
-use Rattle.gateway_messages.specs.{declared.gateway.Gateway.Gateway, declared.protocol.Protocol.Protocol}
-use Rattle.gateway_messages.specs.{declared.request.ForwardedRequest.ForwardedRequest}
-use Rattle.gateway_messages.specs.Forwarding.{IsEndToEnd, IsHopByHop, own_names}
+use Rattle.{headers.specs.LineMap.LineMap, gateway_messages.specs.FieldLines.{fields_of, lines_under}}
+use Rattle.gateway_messages.specs.{HopByHop.is_known, Requests.{IsForwarded, Request}, Spellings.is_misspelt}
+use Rattle.gateway_messages.specs.{Via.via_line, declared.{gateway.Gateway.Gateway, protocol.Protocol.Protocol}}
+use Rattle.gateway_messages.specs.{declared.request.ForwardedRequest.ForwardedRequest, Forwarding.IsEndToEnd}
+use Rattle.gateway_messages.specs.Forwarding.{IsHopByHop, own_names}
 
 -- the next request has the method and the field lines that were forwarded, under each name
 pub record IsReceivedAs (forwarded : List ℕ) (sent : ForwardedRequest) (next : Request) : Type 0 where

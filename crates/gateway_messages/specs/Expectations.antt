@@ -1,13 +1,11 @@
 -- What the client of a request waits for before it sends the content (RFC 9110, section 10.1.1).
-use Rattle.std.specs.Prelude.{◌≡◌, ℕ, ◌==◌, ◌&&◌, not, Bool, true, false, List, [], ◌∷◌, codes}
-use Rattle.std.specs.List.{list_all, list_any}
-use Rattle.headers.specs.{LineMap.LineMap, LineMap.Field, Lines.Line}
-use Rattle.rfc_fields.specs.{Directives.is_same_token, Members.field_members}
-use Rattle.gateway_messages.specs.{declared.expectation.Expectation.Expectation, declared.framing.Framing.Framing}
-use Rattle.gateway_messages.specs.{declared.protocol.Protocol.Protocol}
+use Rattle.std.specs.{Prelude.{◌≡◌, ℕ, ◌==◌, ◌&&◌, not, Bool, true, false, List, [], ◌∷◌, codes}, List.list_all}
+use Rattle.std.specs.List.{list_any}
+use Rattle.{headers.specs.{LineMap.{LineMap, Field}, Lines.Line}, rfc_fields.specs.Directives.is_same_token}
+use Rattle.{rfc_fields.specs.Members.field_members, gateway_messages.specs.declared.expectation.Expectation.Expectation}
 use Rattle.gateway_messages.specs.declared.expectation.Expectation.TheVariants.{Absent, Forwarded, Answered}
-use Rattle.gateway_messages.specs.declared.framing.Framing.TheVariants.{Unstated, Length, Chunked}
-use Rattle.gateway_messages.specs.declared.protocol.Protocol.TheVariants.{Http10, Http11}
+use Rattle.gateway_messages.specs.declared.framing.Framing.{Framing, TheVariants.{Unstated, Length, Chunked}}
+use Rattle.gateway_messages.specs.declared.protocol.Protocol.{Protocol, TheVariants.{Http10, Http11}}
 
 -- the only expectation that is defined
 abbrev pub continue_name : List ℕ

@@ -1,13 +1,11 @@
 -- The field lines that a gateway forwards of a message (RFC 9110, section 7.6).
 use Rattle.std.specs.Prelude.{◌≡◌, ◌≢◌, ℕ, Bool, true, false, ◌||◌, ◌&&◌, not, List, [], ◌∷◌, ◌++◌, All, Option, Some}
-use Rattle.std.specs.Prelude.{None, bytes_eq, codes, decimal, is_some, option_map, option_to_list}
-use Rattle.std.specs.List.{list_any}
-use Rattle.headers.specs.{Date.fixdate, LineMap.LineMap, Lines.Line}
-use Rattle.rfc_fields.specs.Scan.{Member}
-use Rattle.gateway_messages.specs.{FieldLines.Field, Framing.coding_line, Framing.length_line}
-use Rattle.gateway_messages.specs.{HopByHop.connection_options, HopByHop.is_hop_by_hop, Spellings.is_misspelt}
-use Rattle.gateway_messages.specs.{Via.via_line, declared.framing.Framing.Framing, declared.gateway.Gateway.Gateway}
-use Rattle.gateway_messages.specs.{declared.protocol.Protocol.Protocol}
+use Rattle.std.specs.{Prelude.{None, bytes_eq, codes, decimal, is_some, option_map, option_to_list}, List.list_any}
+use Rattle.{headers.specs.{Date.fixdate, LineMap.LineMap, Lines.Line}, rfc_fields.specs.Scan.Member}
+use Rattle.gateway_messages.specs.{FieldLines.Field, Framing.{coding_line, length_line}, HopByHop.connection_options}
+use Rattle.gateway_messages.specs.{HopByHop.is_hop_by_hop, Spellings.is_misspelt, Via.via_line}
+use Rattle.gateway_messages.specs.declared.{framing.Framing.Framing, gateway.Gateway.Gateway}
+use Rattle.gateway_messages.specs.declared.protocol.Protocol.{Protocol}
 
 -- what the gateway itself says in the message that it sends: the version in which it received the message, the Host
 -- that takes the place of the received one, the Date that a response lacks, in seconds since 1970, how often the

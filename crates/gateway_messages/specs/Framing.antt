@@ -1,14 +1,12 @@
 -- What the fields of a message state about its content (RFC 9112, section 6).
 use Rattle.std.specs.Prelude.{◌≡◌, ℕ, ◌==◌, ◌-◌, ◌<◌, ◌^◌, Bool, true, false, List, [], ◌∷◌, Option, Some, None, codes}
-use Rattle.std.{specs.Prelude.{decimal, bytes_eq}, specs.List.{last_or, list_all}, specs.Option.option_map_or}
-use Rattle.headers.{specs.LineMap.LineMap, specs.Lines.{Line, only_line}, specs.Typed.HasLine}
-use Rattle.http_header.specs.Token.{lowercase}
-use Rattle.rfc_fields.{specs.Directives.is_same_token, specs.Members.field_members, specs.Numbers.number_within}
-use Rattle.rfc_fields.{specs.Scan.Member, specs.Scan.Member.{Whole, Malformed}}
-use Rattle.gateway_messages.{specs.declared.framing.Coding.Coding, specs.declared.framing.Framing.Framing}
-use Rattle.gateway_messages.{specs.declared.protocol.Protocol.Protocol, specs.declared.rejection.Rejection.Rejection}
-use Rattle.gateway_messages.specs.declared.framing.Framing.TheVariants.{Unstated, Length, Chunked}
-use Rattle.gateway_messages.specs.declared.protocol.Protocol.TheVariants.{Http10, Http11}
+use Rattle.std.specs.{Prelude.{decimal, bytes_eq}, List.{last_or, list_all}, Option.option_map_or}
+use Rattle.{headers.specs.{LineMap.LineMap, Lines.{Line, only_line}, Typed.HasLine}, http_header.specs.Token.lowercase}
+use Rattle.rfc_fields.specs.{Directives.is_same_token, Members.field_members, Numbers.number_within, Scan.Member}
+use Rattle.{rfc_fields.specs.Scan.Member.{Whole, Malformed}, gateway_messages.specs.declared.framing.Coding.Coding}
+use Rattle.gateway_messages.specs.declared.framing.Framing.{Framing, TheVariants.{Unstated, Length, Chunked}}
+use Rattle.gateway_messages.specs.declared.protocol.Protocol.{Protocol, TheVariants.{Http10, Http11}}
+use Rattle.gateway_messages.specs.declared.rejection.Rejection.{Rejection}
 
 -- ---- what each of the two fields says
 

@@ -1,11 +1,10 @@
 -- The value of Host: uri-host [ ":" port ] (RFC 9110, section 7.2; RFC 3986, sections 2.1 to 2.3, 3.2.2 and 3.2.3).
 use Rattle.std.specs.Prelude.{◌≡◌, ◌<◌, ◌⊎◌, ℕ, ◌==◌, Bool, true, false, ◌||◌, ◌&&◌, List, [], ◌∷◌, ◌++◌, length}
-use Rattle.std.{specs.Prelude.{Option, Some, None, codes, ⊤}, specs.Char.{is_ascii_alphanumeric, is_ascii_digit}}
-use Rattle.std.{specs.Char.is_ascii_hexdigit, specs.List.{concat, list_all}, specs.Net.Grammar.{IsIpv4Text, IsIpv6Text}}
-use Rattle.std.{specs.declared.net.ipv4_addr.Ipv4Addr.Ipv4Addr, specs.declared.net.ipv6_addr.Ipv6Addr.Ipv6Addr}
+use Rattle.std.specs.{Prelude.{Option, Some, None, codes, ⊤}, Char.{is_ascii_alphanumeric, is_ascii_digit}}
+use Rattle.std.specs.{Char.is_ascii_hexdigit, List.{concat, list_all}, Net.Grammar.{IsIpv4Text, IsIpv6Text}}
+use Rattle.std.specs.declared.net.{ipv4_addr.Ipv4Addr.Ipv4Addr, ipv6_addr.Ipv6Addr.Ipv6Addr}
 use Rattle.headers.specs.Lines.{Line}
-use Rattle.gateway_messages.specs.declared.protocol.Protocol.{Protocol}
-use Rattle.gateway_messages.specs.declared.protocol.Protocol.TheVariants.{Http10, Http11}
+use Rattle.gateway_messages.specs.declared.protocol.Protocol.{Protocol, TheVariants.{Http10, Http11}}
 
 -- - . _ ~
 abbrev pub is_mark : ℕ → Bool

@@ -1,10 +1,8 @@
 -- What a gateway says itself in the message that it sends, as its definitions see it.
 use Rattle.std.specs.Prelude.{ℕ, Bool, List, option_map}
-use Rattle.rfc_fields.specs.Scan.{Member}
-use Rattle.gateway_messages.specs.Forwarding.{Message, goes_on}
-use Rattle.gateway_messages.specs.{Trailers.trailer_goes_on, declared.gateway.Gateway.Gateway, declared.own.Own.Own}
-use Rattle.gateway_messages.specs.{declared.received.Section.Section}
-use Rattle.gateway_messages.specs.declared.received.Section.TheVariants.{Header, Trailer}
+use Rattle.{rfc_fields.specs.Scan.Member, gateway_messages.specs.Forwarding.{Message, goes_on}}
+use Rattle.gateway_messages.specs.{Trailers.trailer_goes_on, declared.{gateway.Gateway.Gateway, own.Own.Own}}
+use Rattle.gateway_messages.specs.declared.received.Section.{Section, TheVariants.{Header, Trailer}}
 
 abbrev pub message_of : Own → Message
 message_of own =

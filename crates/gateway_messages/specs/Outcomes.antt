@@ -2,8 +2,8 @@
 use Rattle.std.specs.Prelude.{◌⊎◌}
 use Rattle.gateway_messages.specs.Requests.{IsForGateway, IsForwardable, Rejects, Request}
 use Rattle.gateway_messages.specs.Responses.{IsDiscarded, IsForwardableResponse, RejectsResponse, Response}
-use Rattle.gateway_messages.specs.{declared.framing.Framing.Framing, declared.gateway.Gateway.Gateway}
-use Rattle.gateway_messages.specs.{declared.rejection.Rejection.Rejection}
+use Rattle.gateway_messages.specs.declared.{framing.Framing.Framing, gateway.Gateway.Gateway}
+use Rattle.gateway_messages.specs.declared.rejection.Rejection.{Rejection}
 
 -- there is a reason to reject the request
 abbrev pub IsRejected : Gateway → Request → Type 0

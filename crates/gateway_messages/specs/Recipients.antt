@@ -1,11 +1,10 @@
 -- How recipients differ in what the framing fields of a message mean to them (RFC 9112, sections 6.1, 6.3 and 11.2).
 use Rattle.std.specs.Prelude.{◌≡◌, ◌||◌, ℕ, ◌<◌, ◌-◌, ◌^◌, Bool, true, false, filter, map, List, [], ◌∷◌, length}
 use Rattle.std.specs.Prelude.{Option, Some, None, bytes_eq, if◌then◌else◌, ⊤, codes, decimal, nat_lt, option_map}
-use Rattle.std.{specs.Prelude.option_to_list, specs.List.list_any, specs.Option.{option_and_then, option_map_or}}
-use Rattle.headers.specs.Lines.{Line, first_line}
-use Rattle.gateway_messages.{specs.FieldLines.Field, specs.Spellings.dashed, specs.declared.framing.Framing.Framing}
+use Rattle.std.specs.{Prelude.option_to_list, List.list_any, Option.{option_and_then, option_map_or}}
+use Rattle.{headers.specs.Lines.{Line, first_line}, gateway_messages.specs.{FieldLines.Field, Spellings.dashed}}
+use Rattle.gateway_messages.specs.declared.framing.Framing.{Framing, TheVariants.{Unstated, Length, Chunked}}
 use Rattle.gateway_messages.specs.Framing.{coding_line, length_line, says_chunked}
-use Rattle.gateway_messages.specs.declared.framing.Framing.TheVariants.{Unstated, Length, Chunked}
 use Rattle.rfc_fields.specs.Numbers.{number_within}
 
 -- A recipient: the names that it takes for Content-Length and for Transfer-Encoding, what the field lines of both state

@@ -1,17 +1,15 @@
 -- What a gateway does with a request (RFC 9110, section 7.6; RFC 9112, sections 3.2 and 6).
 use Rattle.std.specs.Prelude.{◌≡◌, ◌⊎◌, ℕ, ◌+◌, Bool, true, false, List, [], ◌∷◌, Option, Some, None, codes, option_map}
-use Rattle.headers.{specs.LineMap.{LineMap, lines_at}, specs.Lines.Line}
-use Rattle.gateway_messages.{specs.Expectations.has_known_expectation, specs.FieldLines.{fields_of, lines_under}}
-use Rattle.gateway_messages.{specs.Forwarding.{Forwards, Message}, specs.Framing.{RejectsFraming, States}}
-use Rattle.gateway_messages.{specs.HopByHop.{HasFairOptions, RejectsOptions}, specs.Hops.{HasHops, HasInvalidHops}}
-use Rattle.gateway_messages.{specs.HostTests.is_host, specs.Via.is_loop, specs.declared.framing.Framing.Framing}
-use Rattle.gateway_messages.{specs.declared.gateway.Gateway.Gateway, specs.declared.protocol.Protocol.Protocol}
-use Rattle.gateway_messages.specs.declared.protocol.Protocol.TheVariants.{Http10, Http11}
-use Rattle.gateway_messages.specs.declared.rejection.Rejection.{Rejection}
-use Rattle.gateway_messages.specs.declared.request.ForwardedRequest.{ForwardedRequest}
-use Rattle.gateway_messages.specs.declared.request.RequestHead.{RequestHead}
-use Rattle.gateway_messages.specs.declared.request.RequestOutcome.{RequestOutcome}
-use Rattle.gateway_messages.specs.declared.request.RequestOutcome.TheVariants.{Forward, Respond, Reject}
+use Rattle.headers.specs.{LineMap.{LineMap, lines_at}, Lines.Line}
+use Rattle.gateway_messages.specs.{Expectations.has_known_expectation, FieldLines.{fields_of, lines_under}}
+use Rattle.gateway_messages.specs.{Forwarding.{Forwards, Message}, Framing.{RejectsFraming, States}}
+use Rattle.gateway_messages.specs.{HopByHop.{HasFairOptions, RejectsOptions}, Hops.{HasHops, HasInvalidHops}}
+use Rattle.gateway_messages.specs.{HostTests.is_host, Via.is_loop, declared.framing.Framing.Framing}
+use Rattle.gateway_messages.specs.declared.{gateway.Gateway.Gateway, protocol.Protocol.{Protocol, TheVariants.Http10}}
+use Rattle.gateway_messages.specs.declared.{protocol.Protocol.TheVariants.Http11, rejection.Rejection.Rejection}
+use Rattle.gateway_messages.specs.declared.request.{ForwardedRequest.ForwardedRequest, RequestHead.RequestHead}
+use Rattle.gateway_messages.specs.declared.request.RequestOutcome.{RequestOutcome, TheVariants.{Forward, Respond}}
+use Rattle.gateway_messages.specs.declared.request.RequestOutcome.TheVariants.{Reject}
 
 -- a request as a gateway receives it; the authority is that of a target in absolute-form
 pub record Request : Type 0 where

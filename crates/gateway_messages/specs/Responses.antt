@@ -1,17 +1,14 @@
 -- What a gateway does with a response (RFC 9110, sections 6.6.1, 7.6 and 15.2; RFC 9112, section 6.3).
 use Rattle.std.specs.Prelude.{◌≡◌, ℕ, ◌==◌, Bool, true, false, ◌||◌, ◌&&◌, not, nat_le, nat_lt, List, [], ◌∷◌, Option}
 use Rattle.std.specs.Prelude.{Some, None, bytes_eq, codes, if◌then◌else◌}
-use Rattle.headers.{specs.LineMap.{LineMap, lines_at}, specs.Lines.Line}
-use Rattle.gateway_messages.{specs.FieldLines.{fields_of, lines_under}, specs.Forwarding.{Forwards, Message}}
-use Rattle.gateway_messages.{specs.Framing.{RejectsFraming, States}, specs.HopByHop.{HasFairOptions, RejectsOptions}}
-use Rattle.gateway_messages.{specs.declared.framing.Framing.Framing, specs.declared.gateway.Gateway.Gateway}
-use Rattle.gateway_messages.specs.declared.protocol.Protocol.{Protocol}
-use Rattle.gateway_messages.specs.declared.protocol.Protocol.TheVariants.{Http10, Http11}
-use Rattle.gateway_messages.{specs.declared.rejection.Rejection.Rejection, specs.declared.response.Content.Content}
-use Rattle.gateway_messages.specs.declared.response.ForwardedResponse.{ForwardedResponse}
-use Rattle.gateway_messages.specs.declared.response.ResponseHead.{ResponseHead}
-use Rattle.gateway_messages.specs.declared.response.ResponseOutcome.{ResponseOutcome}
-use Rattle.gateway_messages.specs.declared.framing.Framing.TheVariants.{Unstated, Length, Chunked}
+use Rattle.{headers.specs.{LineMap.{LineMap, lines_at}, Lines.Line}, gateway_messages.specs.FieldLines.fields_of}
+use Rattle.gateway_messages.specs.{FieldLines.lines_under, Forwarding.{Forwards, Message}, Framing.RejectsFraming}
+use Rattle.gateway_messages.specs.{Framing.States, HopByHop.{HasFairOptions, RejectsOptions}}
+use Rattle.gateway_messages.specs.declared.framing.Framing.{Framing, TheVariants.{Unstated, Length, Chunked}}
+use Rattle.gateway_messages.specs.declared.{gateway.Gateway.Gateway, protocol.Protocol.{Protocol, TheVariants.Http10}}
+use Rattle.gateway_messages.specs.declared.{protocol.Protocol.TheVariants.Http11, rejection.Rejection.Rejection}
+use Rattle.gateway_messages.specs.declared.response.{Content.Content, ForwardedResponse.ForwardedResponse}
+use Rattle.gateway_messages.specs.declared.response.{ResponseHead.ResponseHead, ResponseOutcome.ResponseOutcome}
 use Rattle.gateway_messages.specs.declared.response.ResponseOutcome.TheVariants.{Forward, Discard, Reject}
 
 -- a response as a gateway receives it; the method and the version are those of the client's request

@@ -1,11 +1,9 @@
 -- The trailer fields that a gateway forwards (RFC 9110, sections 6.5 and 7.6.1; RFC 9112, section 7.1.2).
 use Rattle.std.specs.Prelude.{◌≡◌, ◌≢◌, ℕ, Bool, true, false, ◌&&◌, not, List, [], ◌∷◌, bytes_eq, codes}
 use Rattle.std.specs.List.{list_any}
-use Rattle.headers.specs.LineMap.{LineMap}
-use Rattle.rfc_fields.specs.Scan.{Member}
-use Rattle.gateway_messages.specs.Forwarding.{IsEndToEnd, IsHopByHop}
-use Rattle.gateway_messages.specs.{HopByHop.is_hop_by_hop, declared.framing.Framing.Framing}
-use Rattle.gateway_messages.specs.{declared.framing.Framing.TheVariants.Chunked, declared.gateway.Gateway.Gateway}
+use Rattle.{headers.specs.LineMap.LineMap, rfc_fields.specs.Scan.Member}
+use Rattle.gateway_messages.specs.{Forwarding.{IsEndToEnd, IsHopByHop}, HopByHop.is_hop_by_hop}
+use Rattle.gateway_messages.specs.declared.{framing.Framing.{Framing, TheVariants.Chunked}, gateway.Gateway.Gateway}
 
 -- The fields whose definitions permit them in a trailer section (RFC 9110, section 6.5.1): sections 8.8.3, 11.6.3, 11.7.3
 -- and 14.3 of RFC 9110, RFC 9421, RFC 9530, and Server Timing.

@@ -1,9 +1,7 @@
 -- The gateways that a message passed (RFC 9110, section 7.6.3).
-use Rattle.std.{specs.Prelude.{ℕ, Bool, ◌||◌, ◌==◌, List, ◌++◌, codes, bytes_eq}, specs.List.{list_any, slice_split}}
-use Rattle.http_header.specs.Token.{lowercase}
-use Rattle.headers.specs.Lines.{Line}
-use Rattle.gateway_messages.specs.declared.protocol.Protocol.{Protocol}
-use Rattle.gateway_messages.specs.declared.protocol.Protocol.TheVariants.{Http10, Http11}
+use Rattle.std.specs.{Prelude.{ℕ, Bool, ◌||◌, ◌==◌, List, ◌++◌, codes, bytes_eq}, List.{list_any, slice_split}}
+use Rattle.{http_header.specs.Token.lowercase, headers.specs.Lines.Line}
+use Rattle.gateway_messages.specs.declared.protocol.Protocol.{Protocol, TheVariants.{Http10, Http11}}
 
 -- received-protocol, without the protocol name HTTP, and a space
 abbrev pub version_text : Protocol → Line

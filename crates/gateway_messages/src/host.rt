@@ -1,11 +1,10 @@
 //! The field Host.
-ghost use Rattle.std.{specs.Prelude.{◌≡◌, ◌≤◌, codes, length}, specs.Char.is_ascii_digit, specs.List.list_all};
-ghost use Rattle.headers.specs.LineMap.{lines_at};
-ghost use Rattle.gateway_messages.specs.Hosts.{is_address_byte, is_mark, is_name_byte, is_sub_delim};
-ghost use Rattle.gateway_messages.specs.HostTests.{begins_encoded, begins_part, is_address, is_dotted_address};
-ghost use Rattle.gateway_messages.specs.HostTests.{is_future_address, is_host, is_ipv6, is_literal_host, is_named_host};
-ghost use Rattle.gateway_messages.specs.HostTests.{is_port, is_reg_name, is_versioned, literal_len, name_len};
-ghost use Rattle.gateway_messages.{specs.HostTests.version_len, specs.Requests.has_host};
+ghost use Rattle.std.specs.{Prelude.{◌≡◌, ◌≤◌, codes, length}, Char.is_ascii_digit, List.list_all};
+ghost use Rattle.{headers.specs.LineMap.lines_at, gateway_messages.specs.Hosts.{is_address_byte, is_mark}};
+ghost use Rattle.gateway_messages.specs.{Hosts.{is_name_byte, is_sub_delim}, HostTests.{begins_encoded, begins_part}};
+ghost use Rattle.gateway_messages.specs.HostTests.{is_address, is_dotted_address, is_future_address, is_host, is_ipv6};
+ghost use Rattle.gateway_messages.specs.HostTests.{is_literal_host, is_named_host, is_port, is_reg_name, is_versioned};
+ghost use Rattle.gateway_messages.specs.{HostTests.{literal_len, name_len, version_len}, Requests.has_host};
 
 use crate::protocol::Protocol;
 use headers::HeaderMap;

@@ -1,27 +1,22 @@
 //! Theorems about the definitions alone. To cite one in a proof, call it.
 ghost use Rattle.std.specs.Prelude.{◌≡◌, ◌≢◌, ◌≤◌, ◌++◌, ◌∷◌, [], ℕ, List, All, Option, Some, false, true, IsTrue};
 ghost use Rattle.std.specs.Prelude.{codes, ◌↔◌, decimal, length};
-ghost use Rattle.http_header.specs.Token.{IsToken};
-ghost use Rattle.headers.specs.{LineMap.LineMap, Lines.Line};
-ghost use Rattle.gateway_messages.specs.Chain.{IsChain, IsOneGateway, IsReceivedAs};
-ghost use Rattle.gateway_messages.specs.FieldLines.{Field, fields_of, lines_under};
-ghost use Rattle.gateway_messages.specs.Forwarding.{IsEndToEnd, IsHopByHop, own_names};
+ghost use Rattle.{http_header.specs.Token.IsToken, headers.specs.{LineMap.LineMap, Lines.Line}};
+ghost use Rattle.gateway_messages.specs.{Chain.{IsChain, IsOneGateway, IsReceivedAs}, FieldLines.{Field, fields_of}};
+ghost use Rattle.gateway_messages.specs.{FieldLines.lines_under, Forwarding.{IsEndToEnd, IsHopByHop, own_names}};
 ghost use Rattle.gateway_messages.specs.{Framing.States, Hosts.HasHost, Spellings.is_misspelt, Via.is_loop};
-ghost use Rattle.gateway_messages.specs.{declared.framing.Framing.Framing, declared.gateway.Gateway.Gateway};
-ghost use Rattle.gateway_messages.specs.{declared.protocol.Protocol.Protocol};
-ghost use Rattle.gateway_messages.specs.{declared.protocol.Protocol.TheVariants.Http11};
-ghost use Rattle.gateway_messages.specs.{declared.rejection.Rejection.Rejection};
-ghost use Rattle.gateway_messages.specs.{declared.request.ForwardedRequest.ForwardedRequest};
-ghost use Rattle.gateway_messages.specs.{declared.response.ForwardedResponse.ForwardedResponse};
-ghost use Rattle.gateway_messages.specs.Hops.{counts_hops, hops_in};
-ghost use Rattle.gateway_messages.specs.Outcomes.{HasOneOutcome, HasOneResponseOutcome, HasOutcome, HasResponseOutcome};
-ghost use Rattle.gateway_messages.specs.Recipients.{CodingFirst, LengthFirst, ParsesBelow, limits_in_use, server};
-ghost use Rattle.gateway_messages.specs.Recipients.{Codings, KnowsPlain, Pick, Precedence, Recipient, Spelling};
-ghost use Rattle.gateway_messages.specs.Recipients.{accepted_by, framing_by, parse_below};
-ghost use Rattle.gateway_messages.specs.Requests.{IsForGateway, IsForwarded, Rejects, Request, has_host};
-ghost use Rattle.gateway_messages.specs.Responses.{IsForwardedResponse, RejectsResponse, Response};
-ghost use Rattle.gateway_messages.specs.Trailers.{ForwardsTrailers, may_trail};
-ghost use Rattle.gateway_messages.specs.declared.framing.Framing.TheVariants.{Chunked, Length};
+ghost use Rattle.gateway_messages.specs.declared.framing.Framing.{Framing, TheVariants.{Chunked, Length}};
+ghost use Rattle.gateway_messages.specs.declared.{gateway.Gateway.Gateway, protocol.Protocol.Protocol};
+ghost use Rattle.gateway_messages.specs.declared.{protocol.Protocol.TheVariants.Http11, rejection.Rejection.Rejection};
+ghost use Rattle.gateway_messages.specs.declared.request.ForwardedRequest.{ForwardedRequest};
+ghost use Rattle.gateway_messages.specs.{declared.response.ForwardedResponse.ForwardedResponse, Hops.counts_hops};
+ghost use Rattle.gateway_messages.specs.{Hops.hops_in, Outcomes.{HasOneOutcome, HasOneResponseOutcome, HasOutcome}};
+ghost use Rattle.gateway_messages.specs.{Outcomes.HasResponseOutcome, Recipients.{CodingFirst, LengthFirst}};
+ghost use Rattle.gateway_messages.specs.Recipients.{ParsesBelow, limits_in_use, server, Codings, KnowsPlain, Pick};
+ghost use Rattle.gateway_messages.specs.Recipients.{Precedence, Recipient, Spelling, accepted_by, framing_by};
+ghost use Rattle.gateway_messages.specs.{Recipients.parse_below, Requests.{IsForGateway, IsForwarded, Rejects}};
+ghost use Rattle.gateway_messages.specs.{Requests.{Request, has_host}, Responses.IsForwardedResponse};
+ghost use Rattle.gateway_messages.specs.{Responses.{RejectsResponse, Response}, Trailers.{ForwardsTrailers, may_trail}};
 
 use rfc_fields::laws::lists_parse_one_way;
 

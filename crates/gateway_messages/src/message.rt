@@ -1,8 +1,8 @@
 //! What requests and responses have in common.
 ghost use Rattle.std.specs.Prelude.{IfErr, IfOk, OnOk};
 ghost use Rattle.headers.specs.LineMap.{lines_at};
-ghost use Rattle.gateway_messages.specs.{FieldLines.fields_of, FieldLines.lines_under, Forwarding.Forwards};
-ghost use Rattle.gateway_messages.specs.{HopByHop.HasFairOptions, HopByHop.RejectsOptions, Messages.message_of};
+ghost use Rattle.gateway_messages.specs.{FieldLines.{fields_of, lines_under}, Forwarding.Forwards};
+ghost use Rattle.gateway_messages.specs.{HopByHop.{HasFairOptions, RejectsOptions}, Messages.message_of};
 
 use crate::field_line::FieldLine;
 use crate::gateway::Gateway;

@@ -1,8 +1,8 @@
 //! The fields that a gateway writes itself.
 ghost use Rattle.std.specs.Prelude.{◌≡◌, ◌∷◌, [], ◌++◌, OnOk, codes, decimal, option_map};
 ghost use Rattle.headers.specs.Date.{fixdate};
-ghost use Rattle.gateway_messages.specs.{FieldLines.fields_of, Forwarding.field_if, Forwarding.own_fields};
-ghost use Rattle.gateway_messages.specs.{Framing.coding_line, Framing.length_line, Messages.message_of};
+ghost use Rattle.gateway_messages.specs.{FieldLines.fields_of, Forwarding.{field_if, own_fields}, Framing.coding_line};
+ghost use Rattle.gateway_messages.specs.{Framing.length_line, Messages.message_of};
 
 use crate::field_line::FieldLine;
 use crate::framing::Framing;

@@ -1,9 +1,8 @@
 //! The trailer fields of a message.
-ghost use Rattle.std.specs.{Prelude.◌≡◌, Prelude.IfOk, Prelude.OnErr, Prelude.bytes_eq, List.list_any};
+ghost use Rattle.std.specs.{Prelude.{◌≡◌, IfOk, OnErr, bytes_eq}, List.list_any};
 ghost use Rattle.headers.specs.LineMap.{lines_at};
-ghost use Rattle.gateway_messages.specs.FieldLines.{fields_of, lines_under};
-ghost use Rattle.gateway_messages.specs.Trailers.{ForwardsTrailers, may_trail, trailer_names};
-ghost use Rattle.gateway_messages.specs.declared.framing.Framing.TheVariants.{Chunked};
+ghost use Rattle.gateway_messages.specs.{FieldLines.{fields_of, lines_under}, Trailers.{ForwardsTrailers, may_trail}};
+ghost use Rattle.gateway_messages.specs.{Trailers.trailer_names, declared.framing.Framing.TheVariants.Chunked};
 
 use crate::field_line::FieldLine;
 use crate::framing::Framing;

@@ -1,6 +1,5 @@
-use Rattle.std.{proofs.Common.{◌≡◌, codes, length}, specs.List.list_all}
-use Rattle.headers.specs.LineMap.{lines_at}
-use Rattle.rfc_fields.{specs.Directives.is_same_token, specs.Members.field_left}
+use Rattle.{std.{proofs.Common.{◌≡◌, codes, length}, specs.List.list_all}, headers.specs.LineMap.lines_at}
+use Rattle.rfc_fields.specs.{Directives.is_same_token, Members.field_left}
 use Rattle.gateway_messages.specs.Expectations.{continue_name, has_known_expectation}
 use Rattle.gateway_messages.proofs.expectation.has_known_expectation.Given as goal
 

@@ -1,5 +1,4 @@
-use Rattle.std.{proofs.Common.{◌≡◌, length}, specs.List.list_all}
-use Rattle.rfc_fields.specs.Members.{field_left}
+use Rattle.{std.{proofs.Common.{◌≡◌, length}, specs.List.list_all}, rfc_fields.specs.Members.field_left}
 use Rattle.gateway_messages.specs.Framing.{writes_length}
 use Rattle.gateway_messages.proofs.framing.all_write.Given as goal
 

@@ -1,6 +1,5 @@
-use Rattle.std.{proofs.Common.{◌≡◌, None, codes, true, length}, specs.List.last_or, specs.Option.option_map}
-use Rattle.headers.specs.LineMap.{lines_at}
-use Rattle.rfc_fields.specs.Members.{field_left, field_members, member_of}
+use Rattle.std.{proofs.Common.{◌≡◌, None, codes, true, length}, specs.{List.last_or, Option.option_map}}
+use Rattle.{headers.specs.LineMap.lines_at, rfc_fields.specs.Members.{field_left, field_members, member_of}}
 use Rattle.gateway_messages.proofs.framing.ends_chunked.Given as goal
 
 abbrev pub invariant-loop-member : goal.invariant-loop-member

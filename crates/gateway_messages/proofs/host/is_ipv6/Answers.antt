@@ -1,5 +1,4 @@
-use Rattle.std.proofs.Common.{◌∙◌}
-use Rattle.gateway_messages.proofs.HostLemmas.{ipv6_result}
+use Rattle.{std.proofs.Common.◌∙◌, gateway_messages.proofs.HostLemmas.ipv6_result}
 use Rattle.gateway_messages.proofs.host.is_ipv6.Goals as goal
 
 pub returns : goal.returns

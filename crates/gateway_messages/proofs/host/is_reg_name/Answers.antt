@@ -1,5 +1,4 @@
-use Rattle.std.proofs.Common.{sym, ◌∙◌}
-use Rattle.gateway_messages.proofs.HostLemmas.{name_ends, name_goes_on, name_stops}
+use Rattle.{std.proofs.Common.{sym, ◌∙◌}, gateway_messages.proofs.HostLemmas.{name_ends, name_goes_on, name_stops}}
 use Rattle.gateway_messages.proofs.host.is_reg_name.Goals as goal
 
 pub returns-then-not-begins_part : goal.returns-then-not-begins_part

@@ -1,5 +1,4 @@
-use Rattle.std.proofs.Common.{◌≡◌, length}
-use Rattle.gateway_messages.specs.HostTests.{is_reg_name}
+use Rattle.{std.proofs.Common.{◌≡◌, length}, gateway_messages.specs.HostTests.is_reg_name}
 use Rattle.gateway_messages.proofs.host.is_reg_name.Given as goal
 
 abbrev pub invariant-loop-rest : goal.invariant-loop-rest

@@ -1,8 +1,6 @@
-use Rattle.std.proofs.Common.{◌≡◌, ◌++◌, ◌∙◌, ap, map, filter}
-use Rattle.http_header.specs.HeaderMap.{pairs}
-use Rattle.headers.specs.LineMap.{lines_at}
-use Rattle.gateway_messages.specs.{FieldLines.Field, FieldLines.field_of, FieldLines.fields_of, Forwarding.goes_on}
-use Rattle.gateway_messages.specs.{Forwarding.own_fields, HopByHop.connection_options, Messages.message_of}
+use Rattle.{std.proofs.Common.{◌≡◌, ◌++◌, ◌∙◌, ap, map, filter}, http_header.specs.HeaderMap.pairs}
+use Rattle.{headers.specs.LineMap.lines_at, gateway_messages.specs.FieldLines.{Field, field_of, fields_of}}
+use Rattle.gateway_messages.specs.{Forwarding.{goes_on, own_fields}, HopByHop.connection_options, Messages.message_of}
 use Rattle.gateway_messages.proofs.ForwardLemmas.{forwards}
 use Rattle.gateway_messages.proofs.message.forwarded_fields.Goals as goal
 

@@ -1,8 +1,6 @@
-use Rattle.std.proofs.Common.{◌≡◌, ◌++◌, filter, map, true}
-use Rattle.http_header.specs.HeaderMap.{pairs}
-use Rattle.headers.specs.Lines.{lines_of}
-use Rattle.rfc_fields.specs.Members.{field_members}
-use Rattle.gateway_messages.specs.{FieldLines.Field, FieldLines.field_of, FieldLines.fields_of, Messages.goes_on_in}
+use Rattle.{std.proofs.Common.{◌≡◌, ◌++◌, filter, map, true}, http_header.specs.HeaderMap.pairs}
+use Rattle.{headers.specs.Lines.lines_of, rfc_fields.specs.Members.field_members}
+use Rattle.gateway_messages.specs.{FieldLines.{Field, field_of, fields_of}, Messages.goes_on_in}
 use Rattle.gateway_messages.proofs.received.received_fields.Given as goal
 
 abbrev pub invariant-loop-name : goal.invariant-loop-name

@@ -1,5 +1,4 @@
-use Rattle.std.proofs.Common.{◌≡◌, length, bytes_eq}
-use Rattle.gateway_messages.specs.Spellings.{dashed}
+use Rattle.{std.proofs.Common.{◌≡◌, length, bytes_eq}, gateway_messages.specs.Spellings.dashed}
 use Rattle.gateway_messages.proofs.spelling.resembles.Given as goal
 
 abbrev pub invariant-loop-name : goal.invariant-loop-name

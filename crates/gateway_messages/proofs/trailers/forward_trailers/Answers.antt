@@ -1,9 +1,7 @@
-use Rattle.std.{proofs.Common.{◌≡◌, filter, map, rules}, proofs.lemmas.Result.IfOk-weaker}
-use Rattle.http_header.specs.HeaderMap.{pairs}
-use Rattle.headers.specs.LineMap.{lines_at}
-use Rattle.gateway_messages.{specs.FieldLines.{Field, field_of, fields_of}, specs.HopByHop.connection_options}
-use Rattle.gateway_messages.{specs.Trailers.trailer_goes_on, specs.declared.framing.Framing.TheVariants.Chunked}
-use Rattle.gateway_messages.proofs.TrailerLemmas.{chunked_trailers}
+use Rattle.{std.proofs.{Common.{◌≡◌, filter, map, rules}, lemmas.Result.IfOk-weaker}, http_header.specs.HeaderMap.pairs}
+use Rattle.{headers.specs.LineMap.lines_at, gateway_messages.specs.FieldLines.{Field, field_of, fields_of}}
+use Rattle.gateway_messages.specs.{HopByHop.connection_options, Trailers.trailer_goes_on}
+use Rattle.gateway_messages.{specs.declared.framing.Framing.TheVariants.Chunked, proofs.TrailerLemmas.chunked_trailers}
 use Rattle.gateway_messages.proofs.trailers.forward_trailers.Goals as goal
 
 pub returns-clause-forwarded : goal.returns-clause-forwarded

@@ -1,6 +1,5 @@
-use Rattle.std.proofs.Common.{rules, tests, ◌∙◌, bytes_eq}
-use Rattle.std.proofs.{lemmas.Iterator.Search.any_from_yields_List, lemmas.Iterator.Splits.YieldsList-from_slice_split}
-use Rattle.http_header.specs.Token.{lowercase}
+use Rattle.std.proofs.{Common.{rules, tests, ◌∙◌, bytes_eq}, lemmas.Iterator.Search.any_from_yields_List}
+use Rattle.{std.proofs.lemmas.Iterator.Splits.YieldsList-from_slice_split, http_header.specs.Token.lowercase}
 use Rattle.gateway_messages.specs.Via.{ends_word}
 use Rattle.gateway_messages.proofs.via.Pseudonym.is_in_line.Goals as goal
 

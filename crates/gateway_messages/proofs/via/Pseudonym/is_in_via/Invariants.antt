@@ -1,5 +1,4 @@
-use Rattle.std.proofs.Common.{◌≡◌, codes}
-use Rattle.headers.specs.{LineMap.lines_at, Lines.lines_of}
+use Rattle.{std.proofs.Common.{◌≡◌, codes}, headers.specs.{LineMap.lines_at, Lines.lines_of}}
 use Rattle.gateway_messages.specs.Via.{is_loop}
 use Rattle.gateway_messages.proofs.via.Pseudonym.is_in_via.Given as goal
 

@@ -1,5 +1,4 @@
-use Rattle.std.proofs.Common.{Err, ap, subst, sym, rules, ◌≡◌}
-use Rattle.http_header.specs.FieldValue.{IsFieldValue}
+use Rattle.{std.proofs.Common.{Err, ap, subst, sym, rules, ◌≡◌}, http_header.specs.FieldValue.IsFieldValue}
 use Rattle.gateway_messages.{specs.Via.via_line, proofs.ViaLemmas.IsFieldValue-via_line}
 use Rattle.gateway_messages.proofs.via.Pseudonym.line.Goals as goal
 

@@ -1,5 +1,4 @@
-use Rattle.std.proofs.Common.{Err, ap, rules}
-use Rattle.gateway_messages.proofs.ViaLemmas.{IsFieldValue-token}
+use Rattle.{std.proofs.Common.{Err, ap, rules}, gateway_messages.proofs.ViaLemmas.IsFieldValue-token}
 use Rattle.gateway_messages.proofs.via.Pseudonym.new.Goals as goal
 
 pub unreachable-requires : goal.unreachable-requires
