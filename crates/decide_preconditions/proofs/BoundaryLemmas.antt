@@ -1,9 +1,9 @@
 -- What a boundary is written in is a value of a field.
-use Rattle.std.{proofs.Common.{◌≡◌, ℕ, true, List, IsTrue, refl, rules, arith}, specs.List.list_all}
-use Rattle.std.{specs.Prelude.codes, proofs.lemmas.Bool.Decides.nat_tests, proofs.lemmas.List.Elements.All-append}
-use Rattle.std.{proofs.lemmas.List.Elements.All-weaker, proofs.lemmas.List.Sums.AllPass-from_list_all}
-use Rattle.http_header.{specs.FieldValue.IsFieldValue, specs.Token.is_value_byte, proofs.TokenLemmas.AllPass-from_test}
-use Rattle.decide_preconditions.specs.Boundaries.{is_boundary, is_boundary_byte, multipart_type}
+use Rattle.std.proofs.{Common.{◌≡◌, ℕ, true, List, IsTrue, refl, rules, arith}, lemmas.Bool.Decides.nat_tests}
+use Rattle.std.{proofs.lemmas.List.{Elements.{All-append, All-weaker}, Sums.AllPass-from_list_all}, specs.List.list_all}
+use Rattle.{std.specs.Prelude.codes, http_header.specs.{FieldValue.IsFieldValue, Token.is_value_byte}}
+use Rattle.{http_header.proofs.TokenLemmas.AllPass-from_test, decide_preconditions.specs.Boundaries.is_boundary}
+use Rattle.decide_preconditions.specs.Boundaries.{is_boundary_byte, multipart_type}
 
 pub value_byte : (b : ℕ) → is_boundary_byte b ≡ true → IsTrue (is_value_byte b)
 value_byte b e = grind (arith, nat_tests)

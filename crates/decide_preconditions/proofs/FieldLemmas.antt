@@ -1,24 +1,17 @@
 -- The fields of an answer in place of those that a server has set.
-use Rattle.std.proofs.Common.{◌≡◌, ◌≢◌, ℕ, Bool, true, false, All, List, [], ◌∷◌, refl, sym, ap, ◌∙◌, subst, inl, inr}
-use Rattle.std.{proofs.Common.arith, specs.Prelude.{Option, Some, None, ◌++◌, bytes_eq, codes, decimal, min}}
-use Rattle.std.{specs.Prelude.if◌then◌else◌, proofs.lemmas.Bool.cases_Bool, proofs.lemmas.Slice.Eq.bytes_eq-Decides}
-use Rattle.http_header.specs.FieldValue.{FieldValue}
-use Rattle.headers.{specs.ContentBytes.content_text, specs.Date.fixdate, specs.LineMap.{Field, LineMap, set, set_all}}
-use Rattle.headers.specs.Lines.{Line}
-use Rattle.decide_preconditions.{specs.Conditions.modified_of, specs.Contents.is_divisible, specs.Fields.IsModifiedBy}
+use Rattle.std.proofs.Common.{◌≡◌, ◌≢◌, ℕ, Bool, true, false, All, List, [], ◌∷◌, refl, sym, ap, ◌∙◌, subst, arith}
+use Rattle.std.{proofs.lemmas.{Bool.cases_Bool, Slice.Eq.bytes_eq-Decides}, specs.Prelude.{Option, ◌++◌, bytes_eq}}
+use Rattle.{std.specs.Prelude.{codes, decimal, if◌then◌else◌}, http_header.specs.FieldValue.FieldValue}
+use Rattle.headers.specs.{ContentBytes.content_text, Date.fixdate, LineMap.{Field, LineMap, set, set_all}, Lines.Line}
+use Rattle.decide_preconditions.specs.{Conditions.modified_of, Contents.is_divisible, Fields.IsModifiedBy}
 use Rattle.decide_preconditions.specs.Fields.{SendsFields, etag_of, etag_sent, fields_removed, fields_sent, is_whole}
 use Rattle.decide_preconditions.specs.Fields.{keeps_encoding, length_sent, lines_sent, modified_sent, not_after}
 use Rattle.decide_preconditions.specs.Fields.{range_sent, sent_names, type_sent, units_sent}
-use Rattle.decide_preconditions.{specs.declared.content.Content.Content, specs.declared.plan.Plan.Plan}
-use Rattle.decide_preconditions.specs.declared.resource.Resource.{Resource}
+use Rattle.decide_preconditions.specs.declared.{content.Content.Content, plan.Plan.Plan, resource.Resource.Resource}
 
 -- another name keeps its field lines
 pub set-other : (before : LineMap) (field : Field) (name : List ℕ) → field.0 ≢ name → set before field name ≡ before name
-set-other before field name other =
-    elim (cases_Bool (bytes_eq field.0 name)) [
-      | inl same ↦ absurd (other ((bytes_eq-Decides field.0 name).0 same))
-      | inr differs ↦ rw differs refl
-    ]
+set-other before field name other = grind (arith, cases_Bool, bytes_eq, bytes_eq-Decides)
 
 module _ (present : ℕ) (plan : Plan) (is_known : Bool) (resource : Resource) (content : Content)
     (multipart : FieldValue) (before : LineMap) where
@@ -59,12 +52,9 @@ module _ (present : ℕ) (plan : Plan) (is_known : Bool) (resource : Resource) (
 
   others : (name : List ℕ) → All (λ own. own ≢ name) sent_names → with_type name ≡ before name
   others name h =
-      set-other with_length _ name (h 6 [] (omega arith))
-      ∙ set-other with_range _ name (h 5 [] (omega arith))
-      ∙ set-other with_units _ name (h 4 [] (omega arith))
-      ∙ set-other with_modified _ name (h 3 [] (omega arith))
-      ∙ set-other with_etag _ name (h 2 [] (omega arith))
-      ∙ set-other before _ name (h 1 [] (omega arith))
+      set-other with_length _ name (h 6 [] (omega arith)) ∙ set-other with_range _ name (h 5 [] (omega arith))
+      ∙ set-other with_units _ name (h 4 [] (omega arith)) ∙ set-other with_modified _ name (h 3 [] (omega arith))
+      ∙ set-other with_etag _ name (h 2 [] (omega arith)) ∙ set-other before _ name (h 1 [] (omega arith))
 
   abbrev without_encoding : LineMap
   without_encoding = set with_type (codes "content-encoding", [])
@@ -154,11 +144,8 @@ module _ (present : ℕ) (plan : Plan) (is_known : Bool) (resource : Resource) (
   set_from_plan = finished (keeps_encoding plan is_known) (is_whole plan) refl refl
 
   dated : (modified : Option ℕ) → IsModifiedBy present (lines_sent fixdate (not_after present modified))
-  dated None = inl refl
-  dated (Some date) = inr (min present date, omega arith, refl)
+  dated modified = grind arith
 
   pub modified_by-set_all : IsModifiedBy present
       (set_all before (fields_sent present plan is_known resource content multipart) (codes "last-modified"))
-  modified_by-set_all =
-      rw set_from_plan.last_modified
-      (dated (modified_sent plan is_known (etag_of resource) (modified_of resource)))
+  modified_by-set_all = grind (arith, set_from_plan, dated)

@@ -1,23 +1,19 @@
 -- A request has one plan at most.
 use Rattle.std.proofs.Common.{◌≡◌, ◌≢◌, ◌↔◌, ℕ, ◌<◌, true, false, List, [], ◌∷◌, Option, Some, None, Any, length, refl}
-use Rattle.std.{proofs.Common.{sym, ap, ◌∙◌, subst, inl, inr, arith}, proofs.lemmas.List.Elements.All-nil}
-use Rattle.headers.specs.LineMap.{LineMap}
-use Rattle.decide_preconditions.{specs.Fields.status_of, specs.Parts.{AreCoalesced, Holds, IsJoined, IsPartOf}}
-use Rattle.decide_preconditions.specs.Plans.{IsPlan, IsPlanned, IsSamePlan, SendsParts, parts_sent}
-use Rattle.decide_preconditions.{specs.Preconditions.{Answers, IsGetOrHead}, specs.Selection.{Applies, ArePartsAsked}}
-use Rattle.decide_preconditions.{specs.Selection.{IsAsked, Selects}, specs.Limits.are_too_many}
-use Rattle.decide_preconditions.{specs.declared.limits.RangeLimits.RangeLimits, specs.declared.part.Part.Part}
-use Rattle.decide_preconditions.{specs.declared.plan.Plan.Plan, specs.declared.plan.Plan.TheVariants.NotModified}
-use Rattle.decide_preconditions.specs.declared.plan.Plan.TheVariants.{Failed, Full, Single, Multiple, Unsatisfiable}
-use Rattle.decide_preconditions.specs.declared.precondition.Precondition.{Precondition}
-use Rattle.decide_preconditions.specs.declared.precondition.Precondition.TheVariants as precondition
-use Rattle.decide_preconditions.specs.declared.resource.Resource.{Resource}
-use Rattle.decide_preconditions.specs.declared.resource.Resource.TheVariants.{Current}
-use Rattle.decide_preconditions.specs.declared.resource.Validators.{Validators}
-use Rattle.decide_preconditions.specs.declared.selection.Selection.TheVariants as selection
-use Rattle.decide_preconditions.{proofs.PartLemmas.coalesced_once, proofs.PreconditionLemmas.one_answer}
+use Rattle.std.proofs.{Common.{sym, ap, ◌∙◌, subst, inl, inr, arith}, lemmas.{List.Elements.All-nil, Bool.both_ways}}
+use Rattle.{headers.specs.LineMap.LineMap, decide_preconditions.specs.{Fields.status_of, Parts.{AreCoalesced, Holds}}}
+use Rattle.decide_preconditions.specs.{Parts.{IsJoined, IsPartOf}, Plans.{IsPlan, IsPlanned, IsSamePlan, SendsParts}}
+use Rattle.decide_preconditions.specs.{Plans.parts_sent, Preconditions.{Answers, IsGetOrHead}, Selection.Applies}
+use Rattle.decide_preconditions.specs.{Selection.{ArePartsAsked, IsAsked, Selects}, Limits.are_too_many}
+use Rattle.decide_preconditions.specs.declared.{limits.RangeLimits.RangeLimits, part.Part.Part, plan.Plan.Plan}
+use Rattle.decide_preconditions.specs.declared.plan.Plan.TheVariants.{NotModified, Failed, Full, Single, Multiple}
+use Rattle.decide_preconditions.specs.declared.plan.Plan.TheVariants.{Unsatisfiable}
+use Rattle.decide_preconditions.specs.declared.{precondition.Precondition.Precondition, resource.Resource.Resource}
+use Rattle.decide_preconditions.specs.declared.resource.{Resource.TheVariants.Current, Validators.Validators}
+use Rattle.decide_preconditions.proofs.{PartLemmas.coalesced_once, PreconditionLemmas.one_answer}
 use Rattle.decide_preconditions.proofs.SelectionLemmas.{same_set}
-use Rattle.std.proofs.lemmas.Bool.{both_ways}
+use Rattle.decide_preconditions.specs.declared.precondition.Precondition.TheVariants as precondition
+use Rattle.decide_preconditions.specs.declared.selection.Selection.TheVariants as selection
 
 -- what the preconditions of a plan come to
 abbrev answer_of : Plan → Precondition

@@ -1,17 +1,14 @@
 -- Parts that are in order, joined where they overlap or are close.
 use Rattle.std.proofs.Common.{◌≡◌, ℕ, suc, ◌+◌, ◌<◌, ◌≤◌, ◌↔◌, nat_le, nat_lt, max, List, [], ◌∷◌, length, get_or, refl}
 use Rattle.std.proofs.Common.{sym, ap, ◌∙◌, subst, arith, inl, inr, ◌⊎◌, ⊎_elim, All, Any, sum_by}
-use Rattle.std.{specs.Prelude.{AllPairs, Bool, true, false, ⊤, if◌then◌else◌}, specs.Bool.MatchBool}
-use Rattle.std.{specs.List.Retain.{DedupsFrom, IsDeduped}, specs.List.Sorted.{IsPermutation, IsNonDecreasingBy}}
-use Rattle.std.proofs.lemmas.Bool.{cases_Bool, leb-true, leb-false, ltb-true, ltb-false}
-use Rattle.std.{proofs.lemmas.List.get_or_default, proofs.lemmas.List.Elements.{All-nil, All-cons, All-head, All-tail}}
-use Rattle.std.{proofs.lemmas.List.Elements.All-weaker, proofs.lemmas.List.Kept.AllPairs-cons}
-use Rattle.std.{proofs.lemmas.List.Sums.sum_by-cons, proofs.lemmas.List.Sorted.{All-permutation, Contains-permutation}}
-use Rattle.std.proofs.lemmas.List.Sorted.{IsPermutation-sym, IsNonDecreasingBy-drop}
-use Rattle.headers.proofs.RangeLemmas.{any_cases, any_here, any_later}
-use Rattle.decide_preconditions.{specs.Merged.{joined, merged, merged_from}, specs.Parts.{AreCoalesced, Holds}}
-use Rattle.decide_preconditions.specs.Parts.{IsApartBefore, IsJoined, IsPartOf, part_size}
-use Rattle.decide_preconditions.specs.declared.part.Part.{Part}
+use Rattle.std.proofs.lemmas.{Bool.{cases_Bool, leb-true, leb-false, ltb-true, ltb-false}, List.get_or_default}
+use Rattle.std.proofs.lemmas.List.{Elements.{All-nil, All-cons, All-head, All-tail, All-weaker}, Sums.sum_by-cons}
+use Rattle.std.proofs.lemmas.List.Sorted.{All-permutation, Contains-permutation, IsPermutation-sym}
+use Rattle.std.{proofs.lemmas.List.Sorted.IsNonDecreasingBy-drop, specs.Prelude.{AllPairs, Bool, ⊤, if◌then◌else◌}}
+use Rattle.std.specs.{Bool.MatchBool, List.{Retain.{DedupsFrom, IsDeduped}, Sorted.{IsPermutation, IsNonDecreasingBy}}}
+use Rattle.{headers.proofs.RangeLemmas.{any_cases, any_here, any_later}, decide_preconditions.specs.Merged.joined}
+use Rattle.decide_preconditions.specs.{Merged.{merged, merged_from}, Parts.{AreCoalesced, Holds, IsApartBefore}}
+use Rattle.decide_preconditions.specs.{Parts.{IsJoined, IsPartOf, part_size}, declared.part.Part.Part}
 
 any_moved : {X : Type 0} (P : X → Type 0) (xs ys : List X) → IsPermutation xs ys → Any P xs → Any P ys
 any_moved P xs ys h a =
@@ -49,17 +46,9 @@ module _ {F : Type 0} (R : F → Part → Part → Bool → F → Part → Part 
 
   merged_by_answer : (b : Bool) (f' : F) (next part next' part' : Part) (rest ys : List Part) → IsMergedAfter rest
       → b ≡ nat_le next.first (part.last + gap + 1) → f' ≡ f → next' ≡ next
-      → part' ≡ (if b then joined part next else part)
-      → MatchBool b (DedupsFrom R f' part' rest ys)
-      ((zs : List Part) × DedupsFrom R f' next' rest zs × (ys ≡ part' ∷ zs))
-      → ys ≡ merged_from gap part (next ∷ rest)
-  merged_by_answer true f' next part next' part' rest ys more close same kept left told =
-      let e : ys ≡ merged_from gap (joined part next) rest =
-      more f' part' ys same told ∙ ap (λ p. merged_from gap p rest) left in rw (sym close) e
-  merged_by_answer false f' next part next' part' rest ys more apart same kept left told =
-      let later : told.0 ≡ merged_from gap next rest =
-      more f' next' told.0 same told.1 ∙ ap (λ p. merged_from gap p rest) kept in
-      let e : ys ≡ part ∷ merged_from gap next rest = told.2 ∙ (λ i. left i ∷ later i) in rw (sym apart) e
+      → part' ≡ (if b then joined part next else part) → MatchBool b (DedupsFrom R f' part' rest ys)
+      ((zs : List Part) × DedupsFrom R f' next' rest zs × (ys ≡ part' ∷ zs)) → ys ≡ merged_from gap part (next ∷ rest)
+  merged_by_answer b f' next part next' part' rest ys more close same kept left told = grind arith
 
   merged_after : (rest : List Part) → IsMergedAfter rest
   merged_after [] g part ys e told = told
@@ -69,8 +58,7 @@ module _ {F : Type 0} (R : F → Part → Part → Bool → F → Part → Part 
       merged_by_answer told.0 told.1 next part told.2 told.3 rest ys (merged_after rest) one.0 one.1 one.2 one.3 told.5
 
   pub merged_from_dedup : (xs ys : List Part) → IsDeduped R f xs ys → ys ≡ merged gap xs
-  merged_from_dedup [] ys k = k.told
-  merged_from_dedup (part ∷ rest) ys k = merged_after rest f part ys refl k.told
+  merged_from_dedup xs ys k = grind (arith, merged_after)
 
 -- ---- joined parts
 
@@ -113,30 +101,13 @@ joined_holds gap P part next p close covered follows last first h =
 
 -- a position of which P holds is joined to itself
 pub joined_itself : (gap : ℕ) (P : ℕ → Type 0) (p : ℕ) → P p → IsJoined gap P p
-joined_itself gap P p h =
-    record {
-      before = p;
-      after = p;
-      is_before = h;
-      is_after = h;
-      low = omega arith;
-      high = omega arith;
-      close = omega arith;
-    }
+joined_itself gap P p h = grind (arith)
 
 abbrev IsOrdered : Part → Type 0
 IsOrdered part = part.first ≤ part.last
 
 last_of : (P : ℕ → Type 0) (part next : Part) → P part.last → P next.last → P (max part.last next.last)
-last_of P part next h k =
-    elim (cases_Bool (nat_le part.last next.last)) [
-      | inl y ↦
-          let l : part.last ≤ next.last = leb-true _ _ y in
-          let e : next.last ≡ max part.last next.last = omega arith in subst P e k
-      | inr n ↦
-          let l : next.last < part.last = leb-false _ _ n in
-          let e : part.last ≡ max part.last next.last = omega arith in subst P e h
-    ]
+last_of P part next h k = grind (arith, cases_Bool, nat_le, leb-true, leb-false)
 
 -- what joined parts hold is joined to positions of the parts
 merged_joins : (gap : ℕ) (P : ℕ → Type 0) (part : Part) (rest : List Part) (p : ℕ)
@@ -169,8 +140,7 @@ merged_joins gap P part (next ∷ rest) p covered last follows ordered a =
 -- the parts are held by what they are joined to
 holds_joined : (p : ℕ) (part next : Part) → part.first ≤ next.first → Holds p part ⊎ Holds p next
     → Holds p (joined part next)
-holds_joined p part next l (inl h) = let low = h.0 in let high = h.1 in (omega arith, omega arith)
-holds_joined p part next l (inr h) = let low = h.0 in let high = h.1 in (omega arith, omega arith)
+holds_joined p part next l h4 = grind arith
 
 pub merged_holds : (gap p : ℕ) (part : Part) (rest : List Part) → Rises part.first rest
     → Any (Holds p) (part ∷ rest) → Any (Holds p) (merged_from gap part rest)
@@ -181,10 +151,8 @@ merged_holds gap p part (next ∷ rest) h a =
       | inl y ↦
           let both : Any (Holds p) (joined part next ∷ rest) =
           ⊎_elim (λ here. any_here (Holds p) (joined part next) rest (holds_joined p part next l (inl here)))
-          (λ b. ⊎_elim
-          (λ here. any_here (Holds p) (joined part next) rest (holds_joined p part next l (inr here)))
-          (λ later. any_later (Holds p) (joined part next) rest later)
-          (any_cases (Holds p) next rest b))
+          (λ b. ⊎_elim (λ here. any_here (Holds p) (joined part next) rest (holds_joined p part next l (inr here)))
+          (λ later. any_later (Holds p) (joined part next) rest later) (any_cases (Holds p) next rest b))
           (any_cases (Holds p) part (next ∷ rest) a) in
           rw y (merged_holds gap p (joined part next) rest (rises_lower part.first next.first rest l h.1) both)
       | inr n ↦
@@ -215,32 +183,34 @@ merged_low : (low gap : ℕ) (part : Part) (rest : List Part) → low ≤ part.f
     → All (StartsFrom low) (merged_from gap part rest)
 merged_low low gap part [] l h = All-cons (StartsFrom low) part [] l (All-nil (StartsFrom low))
 merged_low low gap part (next ∷ rest) l h =
-    let k = h.0 in
-    elim (cases_Bool (nat_le next.first (part.last + gap + 1))) [
-      | inl y ↦ rw y (merged_low low gap (joined part next) rest l (rises_lower part.first next.first rest k h.1))
-      | inr n ↦
-          rw n (All-cons (StartsFrom low) part (merged_from gap next rest) l
-          (merged_low low gap next rest (omega arith) h.1))
-    ]
+    grind (
+      arith,
+      cases_Bool,
+      nat_le,
+      rises_lower,
+      merged_low low gap (joined part next) rest l (rises_lower part.first
+          next.first rest (h.0) h.1),
+      merged_low low gap next rest (omega arith) h.1,
+    )
 
 pub none_apart : (gap : ℕ) → AllPairs (IsApartBefore gap) []
 none_apart gap i j d l m = absurd (omega (arith, m))
 
 pub merged_apart : (gap : ℕ) (part : Part) (rest : List Part) → Rises part.first rest
     → AllPairs (IsApartBefore gap) (merged_from gap part rest)
-merged_apart gap part [] h =
-    AllPairs-cons (IsApartBefore gap) part [] (All-nil (IsApartBefore gap part)) (none_apart gap)
+merged_apart gap part [] h = grind (arith, none_apart)
 merged_apart gap part (next ∷ rest) h =
-    let k = h.0 in
-    elim (cases_Bool (nat_le next.first (part.last + gap + 1))) [
-      | inl y ↦ rw y (merged_apart gap (joined part next) rest (rises_lower part.first next.first rest k h.1))
-      | inr n ↦
-          let far : part.last + gap + 1 < next.first = leb-false _ _ n in
-          rw n (AllPairs-cons (IsApartBefore gap) part (merged_from gap next rest)
-          (All-weaker (StartsFrom next.first) (IsApartBefore gap part) (λ q s. omega (arith, s, far))
-          (merged_from gap next rest) (merged_low next.first gap next rest (omega arith) h.1))
-          (merged_apart gap next rest h.1))
-    ]
+    grind (
+      arith,
+      cases_Bool,
+      nat_le,
+      rises_lower,
+      leb-false,
+      merged_low,
+      merged_apart gap (joined part next) rest
+          (rises_lower part.first next.first rest (h.0) h.1),
+      merged_apart gap next rest h.1,
+    )
 
 abbrev InOrder : List Part → Type 0
 InOrder parts = IsNonDecreasingBy (λ (part : Part). part.first) parts
@@ -328,16 +298,7 @@ joined_held len gap xs h p j =
     )
 
 pub joined_weaker : (gap : ℕ) (P Q : ℕ → Type 0) (p : ℕ) → ((q : ℕ) → P q → Q q) → IsJoined gap P p → IsJoined gap Q p
-joined_weaker gap P Q p is j =
-    record {
-      before = j.before;
-      after = j.after;
-      is_before = is j.before j.is_before;
-      is_after = is j.after j.is_after;
-      low = j.low;
-      high = j.high;
-      close = j.close;
-    }
+joined_weaker gap P Q p is j = grind (arith)
 
 pub IsJoined-same : (gap : ℕ) (P Q : ℕ → Type 0) (p : ℕ) → ((q : ℕ) → P q ↔ Q q) → IsJoined gap P p ↔ IsJoined gap Q p
 IsJoined-same gap P Q p same =
@@ -368,16 +329,14 @@ sizes_from low len gap (part ∷ rest) l from within apart =
     let f : part.last + gap + 1 < (get_or rest k e).first = apart 0 (suc k) e (omega arith) (omega arith) in
     omega (arith, f) in
     let more : part.last + 1 + sum_by part_size rest ≤ len =
-    sizes_from (part.last + 1) len gap rest (omega arith) behind
-    (All-tail (IsPartOf len) part rest within)
+    sizes_from (part.last + 1) len gap rest (omega arith) behind (All-tail (IsPartOf len) part rest within)
     (λ i j e m n. apart (suc i) (suc j) e (omega arith) (omega arith)) in
     omega (arith, sum_by-cons part_size part rest)
 
 pub sizes_of_coalesced : (len gap : ℕ) (parts : List Part) → AreCoalesced len gap parts → sum_by part_size parts ≤ len
 sizes_of_coalesced len gap parts h =
     let more : 0 + sum_by part_size parts ≤ len =
-    sizes_from 0 len gap parts (omega arith) (λ k d l. omega arith) h.within
-    h.apart in omega arith
+    sizes_from 0 len gap parts (omega arith) (λ k d l. omega arith) h.within h.apart in omega arith
 
 -- ---- coalesced parts are the only ones that cover their positions
 
@@ -391,10 +350,7 @@ apart_rest gap x xs apart = λ i j d l m. apart (suc i) (suc j) d (omega arith) 
 
 -- a position of the parts that follow lies past the part and one position more
 behind_past : (gap p : ℕ) (x : Part) (xs : List Part) → All (IsApartBefore gap x) xs → Any (Holds p) xs → x.last + 1 < p
-behind_past gap p x xs behind a =
-    let far : x.last + gap + 1 < a.1.first =
-    subst (λ (q : Part). x.last + gap + 1 < q.first) a.3 (behind a.0 a.1 a.2) in
-    let low = a.4.0 in omega (arith, far, low)
+behind_past gap p x xs behind a = grind (arith)
 
 abbrev CoversAll : List Part → List Part → Type 0
 CoversAll xs ys = (p : ℕ) → Any (Holds p) xs → Any (Holds p) ys
@@ -431,9 +387,7 @@ rest_covers gap x y xs ys same behind covers p a =
     (any_cases (Holds p) y ys (covers p (any_later (Holds p) x xs a)))
 
 same_part : (x y : Part) → x.first ≡ y.first → x.last ≡ y.last → x ≡ y
-same_part x y e f =
-    let make : ℕ → ℕ → Part = λ m n. record { first = m; last = n } in
-    ap (λ m. make m x.last) e ∙ ap (λ n. make y.first n) f
+same_part x y e f = grind (arith)
 
 none_covered : (len : ℕ) (x : Part) (xs : List Part) → IsPartOf len x → ¬ (CoversAll (x ∷ xs) [])
 none_covered len x xs w covers =

@@ -1,19 +1,18 @@
 -- What follows from the rows of `Answers`.
 use Rattle.std.proofs.Common.{◌≡◌, ℕ, ◌+◌, ◌<◌, ◌≤◌, ◌⊎◌, List, [], ◌∷◌, Option, Some, None, refl, arith, inl, inr}
-use Rattle.std.{proofs.Common.{IfSome, IsTrue, Bool, true, false}, specs.Prelude.{IsSomeAnd, bytes_eq, codes}}
-use Rattle.std.{proofs.lemmas.Bool.{cases_Bool, both_ways, cases_lt}, proofs.lemmas.Slice.Eq.bytes_eq-Decides}
-use Rattle.rfc_values.specs.Calendar.{unix_epoch}
-use Rattle.headers.{specs.LineMap.LineMap, specs.Lines.Line, specs.Typed.HasLine, specs.EntityTagRange.star}
-use Rattle.decide_preconditions.specs.Conditions.{ModifiedSinceLets, UnmodifiedSinceLets, dates}
-use Rattle.decide_preconditions.specs.Preconditions.{Answers, AreIgnored, IsGetOrHead, IsRead, IsUnconditional}
-use Rattle.decide_preconditions.specs.Preconditions.{MayBeThere, ReadsMissing, IsStoredByDate, IsStoredByTag}
-use Rattle.decide_preconditions.{specs.Preconditions.{StateIsLost, StateIsKept, StepsAnswer}, specs.Tags.may_name}
-use Rattle.decide_preconditions.{specs.Tags.names, specs.declared.precondition.Precondition.Precondition}
-use Rattle.decide_preconditions.specs.declared.precondition.Precondition.TheVariants.{Perform, NotModified, Failed}
-use Rattle.decide_preconditions.{specs.declared.resource.Resource.Resource, specs.declared.tags.Comparison.Comparison}
+use Rattle.std.proofs.{Common.{IfSome, IsTrue, Bool, true, false}, lemmas.Bool.{cases_Bool, both_ways, cases_lt}}
+use Rattle.std.{proofs.lemmas.Slice.Eq.bytes_eq-Decides, specs.Prelude.{IsSomeAnd, bytes_eq, codes}}
+use Rattle.{rfc_values.specs.Calendar.unix_epoch, headers.specs.{LineMap.LineMap, Lines.Line, Typed.HasLine}}
+use Rattle.{headers.specs.EntityTagRange.star, decide_preconditions.specs.Conditions.ModifiedSinceLets}
+use Rattle.decide_preconditions.specs.{Conditions.{UnmodifiedSinceLets, dates}, Preconditions.{Answers, AreIgnored}}
+use Rattle.decide_preconditions.specs.Preconditions.{IsGetOrHead, IsRead, IsUnconditional, MayBeThere, ReadsMissing}
+use Rattle.decide_preconditions.specs.Preconditions.{IsStoredByDate, IsStoredByTag, StateIsLost, StateIsKept}
+use Rattle.decide_preconditions.specs.{Preconditions.StepsAnswer, Tags.{may_name, names}}
+use Rattle.decide_preconditions.specs.declared.precondition.Precondition.{Precondition, TheVariants.Perform}
+use Rattle.decide_preconditions.specs.declared.precondition.Precondition.TheVariants.{NotModified, Failed}
+use Rattle.decide_preconditions.specs.declared.resource.Resource.{Resource, TheVariants.{Missing, Current}}
+use Rattle.decide_preconditions.specs.declared.{resource.Validators.Validators, tags.Comparison.Comparison}
 use Rattle.decide_preconditions.specs.declared.tags.Comparison.TheVariants.{Strong, Weak}
-use Rattle.decide_preconditions.specs.declared.resource.Resource.TheVariants.{Missing, Current}
-use Rattle.decide_preconditions.specs.declared.resource.Validators.{Validators}
 
 later_or_not : (both : Option (ℕ × ℕ)) → IsSomeAnd both (λ d. d.0 < unix_epoch + d.1)
     → ¬ (IfSome both (λ d. unix_epoch + d.1 ≤ d.0))

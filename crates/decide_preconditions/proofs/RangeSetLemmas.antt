@@ -1,16 +1,14 @@
 -- Cuts, elements and parts of a range-set.
-use Rattle.std.proofs.Common.{◌≡◌, ℕ, ◌↔◌, Bool, true, false, not, ◌==◌, nat_lt, nat_le, List, [], ◌∷◌, length, Option}
-use Rattle.std.proofs.Common.{Some, None, MatchOption, sym, ap, ◌∙◌, arith, inl, inr, ⊎_elim, All, Any, filter_map}
-use Rattle.std.{specs.Bool.MatchBool, specs.Prelude.is_some, specs.List.{cons_option, list_any, position_or_len}}
-use Rattle.std.{specs.List.{before_first, after_first}, specs.Option.option_and_then, proofs.lemmas.Bool.cases_Bool}
-use Rattle.std.{proofs.lemmas.Bool.{leb-true, leb-false, ltb-true, ltb-false}, proofs.lemmas.List.Elements.All-nil}
-use Rattle.std.{proofs.lemmas.List.Elements.All-cons, proofs.lemmas.List.Splits.{slice_split_first, slice_split_none}}
-use Rattle.std.proofs.lemmas.List.Sums.{fails_before_first}
-use Rattle.headers.{specs.ByteRanges.pieces, proofs.RangeLemmas.{any_cases, any_here, any_later}}
-use Rattle.rfc_fields.specs.Cuts.{cut}
-use Rattle.decide_preconditions.{specs.Parts.{Holds, IsPartOf}, specs.RangeSets.{RangeSpec, part_in, part_of, spec_of}}
-use Rattle.decide_preconditions.{specs.RangeSets.{Covers, selects_some}, specs.RangeSets.RangeSpec.{Between, From}}
-use Rattle.decide_preconditions.{specs.RangeSets.RangeSpec.Suffix, specs.declared.part.Part.Part}
+use Rattle.std.proofs.Common.{◌≡◌, ℕ, ◌↔◌, Bool, true, false, not, ◌==◌, nat_lt, nat_le, List, [], ◌∷◌, Option, Some}
+use Rattle.std.proofs.Common.{None, MatchOption, sym, arith, inl, inr, ⊎_elim, All, Any, filter_map}
+use Rattle.std.proofs.lemmas.{Bool.{cases_Bool, leb-true, leb-false, ltb-true, ltb-false}, List.Elements.All-nil}
+use Rattle.std.proofs.lemmas.List.{Splits.{slice_split_first, slice_split_none}, Sums.fails_before_first}
+use Rattle.std.specs.{Bool.MatchBool, Prelude.is_some, List.{cons_option, list_any, position_or_len, before_first}}
+use Rattle.{std.specs.{List.after_first, Option.option_and_then}, headers.specs.ByteRanges.pieces}
+use Rattle.{headers.proofs.RangeLemmas.{any_cases, any_here, any_later}, rfc_fields.specs.Cuts.cut}
+use Rattle.decide_preconditions.specs.{Parts.{Holds, IsPartOf}, RangeSets.{RangeSpec, part_in, part_of, spec_of}}
+use Rattle.decide_preconditions.specs.RangeSets.{Covers, selects_some, RangeSpec.{Between, From, Suffix}}
+use Rattle.decide_preconditions.specs.declared.part.Part.{Part}
 
 -- ---- cuts
 
@@ -20,25 +18,22 @@ is_at c b = b == c
 -- a piece before a comma, and what follows
 pub piece_next : (s x y : List ℕ) → Some (x, y) ≡ cut 44 s → pieces s ≡ x ∷ pieces y
 piece_next s x y e =
-    elim (cases_Bool (nat_lt (position_or_len (is_at 44) s) (length s))) [
-      | inl h ↦
-          let both : Some (x, y) ≡ Some (before_first (is_at 44) s, after_first (is_at 44) s) = rw h at e in
-          let same : (x, y) ≡ (before_first (is_at 44) s, after_first (is_at 44) s) = cc both in
-          slice_split_first (is_at 44) s 0 (ltb-true _ _ h)
-          ∙ ap (λ (parts : List ℕ × List ℕ). parts.0 ∷ pieces parts.1) (sym same)
-      | inr h ↦ let none : Some (x, y) ≡ None = rw h at e in absurd (cc none)
-    ]
+    grind (arith, cases_Bool, nat_lt, position_or_len, before_first, after_first, slice_split_first, ltb-true)
 
 -- the last piece
 pub piece_last : (s : List ℕ) → None ≡ cut 44 s → pieces s ≡ s ∷ []
 piece_last s e =
-    elim (cases_Bool (nat_lt (position_or_len (is_at 44) s) (length s))) [
-      | inl h ↦
-          let some : None ≡ Some (before_first (is_at 44) s, after_first (is_at 44) s) = rw h at e in absurd (cc some)
-      | inr h ↦
-          let past = ltb-false _ _ h in
-          slice_split_none (is_at 44) s (λ k d l. fails_before_first (is_at 44) s k d (omega (arith, past, l)))
-    ]
+    grind (
+      arith,
+      cases_Bool,
+      nat_lt,
+      position_or_len,
+      before_first,
+      after_first,
+      ltb-false,
+      slice_split_none,
+      fails_before_first,
+    )
 
 -- ---- parts
 
@@ -49,68 +44,16 @@ SelectsCovered len spec found =
     (λ part. IsPartOf len part × ((p : ℕ) → Holds p part ↔ Covers len p spec))
 
 selects_to : (len first last : ℕ) → SelectsCovered len (Between first last) (part_of len (Between first last))
-selects_to len first last =
-    elim (cases_Bool (nat_le first last)) [
-      | inl y ↦
-          let l = leb-true _ _ y in
-          elim (cases_Bool (nat_lt first len)) [
-            | inl z ↦
-                let m = ltb-true _ _ z in
-                rw (y, z) (
-                  (omega arith, omega arith),
-                  (λ p. (
-                    (λ h. let a = h.0 in let b = h.1 in (omega arith, (omega arith, omega arith))),
-                    (λ h. let a = h.0 in let b = h.1.0 in let d = h.1.1 in (omega arith, omega arith)),
-                  )),
-                )
-            | inr z ↦
-                let m = ltb-false _ _ z in
-                rw (y, z) (λ p h. let a = h.0 in let b = h.1.0 in omega arith)
-          ]
-      | inr y ↦
-          let l = leb-false _ _ y in
-          rw y (λ p h. let a = h.1.0 in let b = h.1.1 in omega arith)
-    ]
+selects_to len first last = grind (arith, cases_Bool, nat_le, leb-true, nat_lt, ltb-true, ltb-false, leb-false)
 
 selects_from : (len first : ℕ) → SelectsCovered len (From first) (part_of len (From first))
-selects_from len first =
-    elim (cases_Bool (nat_lt first len)) [
-      | inl z ↦
-          let m = ltb-true _ _ z in
-          rw z (
-            (omega arith, omega arith),
-            (λ p. (
-              (λ h. let a = h.0 in let b = h.1 in (omega arith, omega arith)),
-              (λ h. let a = h.0 in let b = h.1 in (omega arith, omega arith)),
-            )),
-          )
-      | inr z ↦ let m = ltb-false _ _ z in rw z (λ p h. let a = h.0 in let b = h.1 in omega arith)
-    ]
+selects_from len first = grind (arith, cases_Bool, nat_lt, ltb-true, ltb-false)
 
 selects_last : (len n : ℕ) → SelectsCovered len (Suffix n) (part_of len (Suffix n))
-selects_last len n =
-    elim (cases_Bool (nat_lt 0 n)) [
-      | inl y ↦
-          let l = ltb-true _ _ y in
-          elim (cases_Bool (nat_lt 0 len)) [
-            | inl z ↦
-                let m = ltb-true _ _ z in
-                rw (y, z) (
-                  (omega arith, omega arith),
-                  (λ p. (
-                    (λ h. let a = h.0 in let b = h.1 in (omega arith, omega arith)),
-                    (λ h. let a = h.0 in let b = h.1 in (omega arith, omega arith)),
-                  )),
-                )
-            | inr z ↦ let m = ltb-false _ _ z in rw (y, z) (λ p h. let a = h.0 in omega arith)
-          ]
-      | inr y ↦ let l = ltb-false _ _ y in rw y (λ p h. let a = h.0 in let b = h.1 in omega arith)
-    ]
+selects_last len n = grind (arith, cases_Bool, nat_lt, ltb-true, ltb-false)
 
 selects_covered : (len : ℕ) (spec : RangeSpec) → SelectsCovered len spec (part_of len spec)
-selects_covered len (Between first last) = selects_to len first last
-selects_covered len (From first) = selects_from len first
-selects_covered len (Suffix n) = selects_last len n
+selects_covered len spec = grind (arith, selects_to, selects_from, selects_last)
 
 -- one spec before others
 part_first : (len p : ℕ) (spec : RangeSpec) (others : List RangeSpec) (found : Option Part) (parts : List Part)
@@ -145,14 +88,11 @@ parts_cover len p (e ∷ es) =
 
 part_within : (len : ℕ) (spec : RangeSpec) (found : Option Part) (parts : List Part) → SelectsCovered len spec found
     → All (IsPartOf len) parts → All (IsPartOf len) (cons_option found parts)
-part_within len spec None parts h all = all
-part_within len spec (Some part) parts h all = All-cons (IsPartOf len) part parts h.0 all
+part_within len spec found parts h all = grind arith
 
 element_within : (len : ℕ) (spec : Option RangeSpec) (parts : List Part) → All (IsPartOf len) parts
     → All (IsPartOf len) (cons_option (option_and_then (part_of len) spec) parts)
-element_within len None parts all = all
-element_within len (Some spec) parts all =
-    part_within len spec (part_of len spec) parts (selects_covered len spec) all
+element_within len spec parts all = grind (arith, part_within, selects_covered)
 
 pub parts_within : (len : ℕ) (es : List (List ℕ)) → All (IsPartOf len) (filter_map (part_in len) es)
 parts_within len [] = All-nil (IsPartOf len)
@@ -176,12 +116,7 @@ first_covers_none : (len p : ℕ) (spec : Option RangeSpec) (others : List Range
     → is_some (option_and_then (part_of len) spec) ≡ false → ¬ (Any (Covers len p) others)
     → ¬ (Any (Covers len p) (cons_option spec others))
 first_covers_none len p None others e none = none
-first_covers_none len p (Some spec) others e none = by (part_of len spec) (selects_covered len spec) e
-  where
-    by : (found : Option Part) → SelectsCovered len spec found → is_some found ≡ false
-        → ¬ (Any (Covers len p) (spec ∷ others))
-    by None h e a = ⊎_elim (λ here. h p here) (λ later. none later) (any_cases (Covers len p) spec others a)
-    by (Some part) h e a = cc e
+first_covers_none len p (Some spec) others e none = grind (arith, selects_covered, is_some, any_cases)
 
 later_covers : (len p : ℕ) (spec : Option RangeSpec) (others : List RangeSpec) → Any (Covers len p) others
     → Any (Covers len p) (cons_option spec others)

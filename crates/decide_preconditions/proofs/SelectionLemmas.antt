@@ -1,16 +1,13 @@
 -- What follows from the rows of `Selects`.
 use Rattle.std.proofs.Common.{◌≡◌, ℕ, ◌+◌, ◌*◌, ◌<◌, ◌≤◌, Bool, true, false, ◌||◌, List, ap, ◌∙◌, subst, ◌↔◌, Any, inl}
-use Rattle.std.{proofs.Common.{inr, length, arith, sum_by, nat_lt}, proofs.Math.Bool.or-true}
-use Rattle.std.proofs.lemmas.Bool.{cases_Bool, both_ways, and_from, lt-ltb, ltb-false}
-use Rattle.headers.specs.LineMap.{LineMap}
-use Rattle.decide_preconditions.{specs.Limits.are_too_many, specs.Parts.{AreCoalesced, Holds, IsJoined, part_size}}
+use Rattle.std.proofs.{Common.{inr, length, arith, sum_by, nat_lt}, Math.Bool.or-true, lemmas.Bool.cases_Bool}
+use Rattle.{std.proofs.lemmas.Bool.{both_ways, and_from, lt-ltb, ltb-false}, headers.specs.LineMap.LineMap}
+use Rattle.decide_preconditions.specs.{Limits.are_too_many, Parts.{AreCoalesced, Holds, IsJoined, part_size}}
 use Rattle.decide_preconditions.specs.Selection.{Applies, ArePartsAsked, AsksFor, AsksForTooMany, IsAsked}
-use Rattle.decide_preconditions.specs.Selection.{IsSameSelection, Selects}
-use Rattle.decide_preconditions.{specs.declared.limits.RangeLimits.RangeLimits, specs.declared.part.Part.Part}
-use Rattle.decide_preconditions.specs.declared.resource.Validators.{Validators}
-use Rattle.decide_preconditions.specs.declared.selection.Selection.{Selection}
-use Rattle.decide_preconditions.specs.declared.selection.Selection.TheVariants.{Whole, Parts, Unsatisfiable}
-use Rattle.decide_preconditions.proofs.PartLemmas.{coalesced_once, joined_itself, sizes_of_coalesced, some_position}
+use Rattle.decide_preconditions.specs.{Selection.{IsSameSelection, Selects}, declared.limits.RangeLimits.RangeLimits}
+use Rattle.decide_preconditions.specs.declared.{part.Part.Part, resource.Validators.Validators}
+use Rattle.decide_preconditions.{specs.declared.selection.Selection.Selection, proofs.PartLemmas.coalesced_once}
+use Rattle.decide_preconditions.proofs.PartLemmas.{joined_itself, sizes_of_coalesced, some_position}
 
 pub same_parts : (len gap : ℕ) (set : List ℕ) (xs ys : List Part) → ArePartsAsked len gap set xs
     → ArePartsAsked len gap set ys → xs ≡ ys
@@ -42,8 +39,7 @@ module _ (present : ℕ) (method : List ℕ) (request : LineMap) (current : Vali
 
   -- coalesced parts that hold what is asked for, of which there is some, are what Range asks for
   pub asks_for : (set : List ℕ) (parts : List Part) → Applies present method request current len set
-      → AreCoalesced len limits.gap parts
-      → ((p : ℕ) → Any (Holds p) parts ↔ IsJoined limits.gap (IsAsked len set) p)
+      → AreCoalesced len limits.gap parts → ((p : ℕ) → Any (Holds p) parts ↔ IsJoined limits.gap (IsAsked len set) p)
       → ((p : ℕ) × IsAsked len set p) → Asks set parts
   asks_for set parts applies coalesced covers asked =
       let there = (covers asked.0).1 (joined_itself limits.gap (IsAsked len set) asked.0 asked.1) in
@@ -74,33 +70,32 @@ module _ (present : ℕ) (method : List ℕ) (request : LineMap) (current : Vali
       let some = some_asked len limits.gap l xs h.asked in
       none some.0 (subst (λ (s : List ℕ). IsAsked len s some.0) e some.1)
 
-  whole_or_none : Selects present method request current len limits Whole
-      → ¬ (Selects present method request current len limits Unsatisfiable)
+  whole_or_none : Selects present method request current len limits Selection.Whole
+      → ¬ (Selects present method request current len limits Selection.Unsatisfiable)
   whole_or_none (inl ignored) k = ignored k.0 k.1
   whole_or_none (inr many) k = some_or_none many.0 k.0 many.1 many.2 k.1 k.2
 
   whole_or_parts : (set : List ℕ) (ys : List Part)
-      → Selects present method request current len limits Whole → Asks set ys
+      → Selects present method request current len limits Selection.Whole → Asks set ys
       → ¬ (are_too_many limits len ys ≡ false)
   whole_or_parts set ys (inl ignored) k few = ignored set k.applies
   whole_or_parts set ys (inr many) k few = many_or_few many set ys k few
 
   pub one_selection : (s t : Selection) → Selects present method request current len limits s
       → Selects present method request current len limits t → IsSameSelection s t
-  one_selection Whole Whole h k = tt
-  one_selection Whole Unsatisfiable h k = whole_or_none h k
-  one_selection Whole (Parts ys) h k = whole_or_parts k.0 ys.items h k.1 k.2
-  one_selection Unsatisfiable Whole h k = whole_or_none k h
-  one_selection Unsatisfiable Unsatisfiable h k = tt
-  one_selection Unsatisfiable (Parts ys) h k = some_or_none k.0 h.0 ys.items k.1 h.1 h.2
-  one_selection (Parts xs) Whole h k = whole_or_parts h.0 xs.items k h.1 h.2
-  one_selection (Parts xs) Unsatisfiable h k = some_or_none h.0 k.0 xs.items h.1 k.1 k.2
-  one_selection (Parts xs) (Parts ys) h k = same_asked h.0 k.0 xs.items ys.items h.1 k.1
+  one_selection Selection.Whole Selection.Whole h k = tt
+  one_selection Selection.Whole Selection.Unsatisfiable h k = whole_or_none h k
+  one_selection Selection.Whole (Selection.Parts ys) h k = whole_or_parts k.0 ys.items h k.1 k.2
+  one_selection Selection.Unsatisfiable Selection.Whole h k = whole_or_none k h
+  one_selection Selection.Unsatisfiable Selection.Unsatisfiable h k = tt
+  one_selection Selection.Unsatisfiable (Selection.Parts ys) h k = some_or_none k.0 h.0 ys.items k.1 h.1 h.2
+  one_selection (Selection.Parts xs) Selection.Whole h k = whole_or_parts h.0 xs.items k h.1 h.2
+  one_selection (Selection.Parts xs) Selection.Unsatisfiable h k = some_or_none h.0 k.0 xs.items h.1 k.1 k.2
+  one_selection (Selection.Parts xs) (Selection.Parts ys) h k = same_asked h.0 k.0 xs.items ys.items h.1 k.1
 
   -- several parts that aren't too many cost no more than the whole has bytes
   pub parts_twice : (set : List ℕ) (parts : List Part) → Asks set parts → are_too_many limits len parts ≡ false
-      → 1 < length parts
-      → sum_by part_size parts + length parts * limits.head ≤ len + len
+      → 1 < length parts → sum_by part_size parts + length parts * limits.head ≤ len + len
   parts_twice set parts h few more =
       let sizes = sizes_of_coalesced len limits.gap parts h.asked.coalesced in
       let several : nat_lt 1 (length parts) ≡ true = lt-ltb 1 (length parts) more in

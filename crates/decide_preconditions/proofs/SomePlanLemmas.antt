@@ -1,12 +1,9 @@
 -- Every request has a plan, or none.
-use Rattle.std.proofs.Common.{ℕ, List, inl, inr, refl}
-use Rattle.headers.specs.LineMap.{LineMap}
-use Rattle.decide_preconditions.{specs.Plans.HasPlan, specs.Preconditions.Answers}
-use Rattle.decide_preconditions.specs.declared.limits.RangeLimits.{RangeLimits}
-use Rattle.decide_preconditions.specs.declared.precondition.Precondition.{Precondition}
-use Rattle.decide_preconditions.specs.declared.precondition.Precondition.TheVariants.{Perform, NotModified, Failed}
-use Rattle.decide_preconditions.specs.declared.resource.Resource.{Resource}
-use Rattle.decide_preconditions.specs.declared.resource.Resource.TheVariants.{Missing, Current}
+use Rattle.{std.proofs.Common.{ℕ, List, inl, inr, refl}, headers.specs.LineMap.LineMap}
+use Rattle.decide_preconditions.specs.{Plans.HasPlan, Preconditions.Answers, declared.limits.RangeLimits.RangeLimits}
+use Rattle.decide_preconditions.specs.declared.precondition.Precondition.{Precondition, TheVariants.Perform}
+use Rattle.decide_preconditions.specs.declared.precondition.Precondition.TheVariants.{NotModified, Failed}
+use Rattle.decide_preconditions.specs.declared.resource.Resource.{Resource, TheVariants.{Missing, Current}}
 use Rattle.decide_preconditions.proofs.PreconditionLemmas.{read_or_not, some_answer}
 use Rattle.decide_preconditions.proofs.SomeSelectionLemmas.{some_selection}
 

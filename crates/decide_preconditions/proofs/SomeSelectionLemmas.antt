@@ -1,18 +1,17 @@
 -- Every request has a selection.
 use Rattle.std.proofs.Common.{◌≡◌, ◌↔◌, ◌⊎◌, ⊎_elim, ℕ, ◌≤◌, nat_le, List, [], ◌∷◌, Option, Some, None, All, length}
-use Rattle.std.{proofs.Common.{arith, inl, inr, filter_map, refl}, specs.Prelude.{codes, if◌then◌else◌}}
-use Rattle.std.proofs.lemmas.Bool.{both_ways, cases_Bool, cases_lt, leb-true, leb-false}
-use Rattle.std.proofs.lemmas.List.Elements.{All-cons, All-head, All-tail}
-use Rattle.headers.{proofs.RangeLemmas.{any_cases, any_here, any_later}, specs.LineMap.LineMap}
-use Rattle.decide_preconditions.{specs.Limits.are_too_many, specs.Merged.merged, specs.Parts.{AreCoalesced, Holds}}
-use Rattle.decide_preconditions.{specs.Parts.{IsJoined, IsPartOf}, specs.RangeSets.{elements, part_in}}
+use Rattle.std.proofs.{Common.{arith, inl, inr, filter_map, refl}, lemmas.Bool.{both_ways, cases_Bool, cases_lt}}
+use Rattle.std.proofs.lemmas.{Bool.{leb-true, leb-false}, List.Elements.{All-cons, All-head, All-tail}}
+use Rattle.{std.specs.Prelude.{codes, if◌then◌else◌}, headers.proofs.RangeLemmas.{any_cases, any_here, any_later}}
+use Rattle.{headers.specs.LineMap.LineMap, decide_preconditions.specs.{Limits.are_too_many, Merged.merged}}
+use Rattle.decide_preconditions.specs.{Parts.{AreCoalesced, Holds, IsJoined, IsPartOf}, RangeSets.{elements, part_in}}
 use Rattle.decide_preconditions.specs.Selection.{Applies, AsksFor, HasSelection, IsAsked, IsIgnored, if_range_lets}
-use Rattle.decide_preconditions.{specs.Selection.set_asked, specs.declared.limits.RangeLimits.RangeLimits}
-use Rattle.decide_preconditions.{specs.declared.part.Part.Part, specs.declared.resource.Validators.Validators}
-use Rattle.decide_preconditions.proofs.PartLemmas.{HeldBy, IsJoined-same, Rises, held_joins, joined_held, joined_weaker}
+use Rattle.decide_preconditions.specs.{Selection.set_asked, declared.{limits.RangeLimits.RangeLimits, part.Part.Part}}
+use Rattle.decide_preconditions.{specs.declared.resource.Validators.Validators, proofs.PartLemmas.HeldBy}
+use Rattle.decide_preconditions.proofs.PartLemmas.{IsJoined-same, Rises, held_joins, joined_held, joined_weaker}
 use Rattle.decide_preconditions.proofs.PartLemmas.{merged_apart, merged_holds, merged_within, none_apart}
-use Rattle.decide_preconditions.{proofs.PreconditionLemmas.same_or_not, proofs.RangeSetLemmas.parts_cover}
-use Rattle.decide_preconditions.{proofs.RangeSetLemmas.parts_within, proofs.SelectionLemmas.none_asked}
+use Rattle.decide_preconditions.proofs.{PreconditionLemmas.same_or_not, RangeSetLemmas.{parts_cover, parts_within}}
+use Rattle.decide_preconditions.proofs.SelectionLemmas.{none_asked}
 
 -- ---- parts in order
 

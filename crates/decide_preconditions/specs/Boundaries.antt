@@ -1,6 +1,6 @@
 -- The boundary of a `multipart/byteranges` (RFC 2046, section 5.1.1, and RFC 9110, section 14.6).
 use Rattle.std.specs.Prelude.{ℕ, Bool, ◌&&◌, ◌||◌, ◌==◌, List, ◌++◌, length, nat_lt, nat_le, codes}
-use Rattle.std.{specs.Char.is_ascii_alphanumeric, specs.List.list_all}
+use Rattle.std.specs.{Char.is_ascii_alphanumeric, List.list_all}
 use Rattle.headers.specs.Lines.{Line}
 
 -- a letter, a digit, or one of '+-._ : the bytes of a boundary that need no quotes

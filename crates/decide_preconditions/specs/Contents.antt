@@ -1,6 +1,6 @@
 -- The content of a representation, and which ranges of it are sent.
 use Rattle.std.specs.Prelude.{ℕ, Bool, ◌&&◌, Option, Some, None, is_some}
-use Rattle.decide_preconditions.{specs.Limits.usual_limits, specs.declared.content.Content.Content}
+use Rattle.decide_preconditions.specs.{Limits.usual_limits, declared.content.Content.Content}
 use Rattle.decide_preconditions.specs.declared.limits.RangeLimits.{RangeLimits}
 
 -- ranges of it are sent: the server sends some, and the length is known

@@ -1,14 +1,12 @@
 -- The status and the fields of a response (RFC 9110).
 use Rattle.std.specs.Prelude.{◌≡◌, ◌≢◌, ◌⊎◌, ℕ, ◌+◌, ◌^◌, ◌<◌, ◌≤◌, ⊤, Bool, nat_lt, List, [], ◌∷◌, ◌++◌, length, All}
 use Rattle.std.specs.Prelude.{Option, Some, None, codes, decimal, min, option_map, true, false, not, if◌then◌else◌}
-use Rattle.http_header.specs.FieldValue.{FieldValue}
-use Rattle.headers.{specs.ContentBytes.{ContentBytes, content_text}, specs.Date.fixdate, specs.LineMap.{LineMap, Field}}
-use Rattle.headers.specs.Lines.{Line}
-use Rattle.decide_preconditions.{specs.Conditions.modified_of, specs.Contents.is_divisible, specs.Parts.part_size}
-use Rattle.decide_preconditions.{specs.declared.content.Content.Content, specs.declared.part.Part.Part}
-use Rattle.decide_preconditions.{specs.declared.plan.Plan.Plan, specs.declared.plan.Plan.TheVariants.NotModified}
-use Rattle.decide_preconditions.specs.declared.plan.Plan.TheVariants.{Failed, Full, Single, Multiple, Unsatisfiable}
-use Rattle.decide_preconditions.specs.declared.resource.Resource.{Resource}
+use Rattle.{http_header.specs.FieldValue.FieldValue, headers.specs.ContentBytes.{ContentBytes, content_text}}
+use Rattle.headers.specs.{Date.fixdate, LineMap.{LineMap, Field}, Lines.Line}
+use Rattle.decide_preconditions.specs.{Conditions.modified_of, Contents.is_divisible, Parts.part_size}
+use Rattle.decide_preconditions.specs.declared.{content.Content.Content, part.Part.Part, plan.Plan.Plan}
+use Rattle.decide_preconditions.specs.declared.plan.Plan.TheVariants.{NotModified, Failed, Full, Single, Multiple}
+use Rattle.decide_preconditions.specs.declared.{plan.Plan.TheVariants.Unsatisfiable, resource.Resource.Resource}
 use Rattle.decide_preconditions.specs.declared.resource.Resource.TheVariants.{Missing, Current}
 
 -- sections 15.3.1, 15.3.7, 15.4.5, 15.5.13 and 15.5.17

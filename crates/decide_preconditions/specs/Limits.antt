@@ -1,6 +1,6 @@
 -- Limits on the parts of a response (RFC 9110, sections 14.2 and 15.3.7.2).
 use Rattle.std.specs.Prelude.{ℕ, ◌*◌, Bool, ◌&&◌, ◌||◌, nat_lt, List, length}
-use Rattle.decide_preconditions.{specs.declared.limits.RangeLimits.RangeLimits, specs.declared.part.Part.Part}
+use Rattle.decide_preconditions.specs.declared.{limits.RangeLimits.RangeLimits, part.Part.Part}
 
 abbrev pub usual_limits : RangeLimits
 usual_limits = record { gap = 80; head = 512; parts = 100 }

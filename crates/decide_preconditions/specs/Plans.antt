@@ -1,17 +1,13 @@
 -- The response to a request for a representation (RFC 9110, sections 13.2.2, 14.2 and 15).
 use Rattle.std.specs.Prelude.{◌≡◌, ◌≢◌, ◌⊎◌, ⊤, ℕ, ◌<◌, false, List, [], ◌∷◌, length, Option, Some, None}
-use Rattle.headers.specs.LineMap.{LineMap}
-use Rattle.decide_preconditions.{specs.Fields.status_of, specs.Limits.are_too_many, specs.Preconditions.Answers}
-use Rattle.decide_preconditions.{specs.Preconditions.IsGetOrHead, specs.Selection.{AsksFor, AsksForSome, HasSelection}}
-use Rattle.decide_preconditions.{specs.Selection.Selects, specs.declared.limits.RangeLimits.RangeLimits}
-use Rattle.decide_preconditions.{specs.declared.part.Part.Part, specs.declared.plan.Plan.Plan}
-use Rattle.decide_preconditions.specs.declared.plan.Plan.TheVariants.{NotModified, Failed, Full, Single, Multiple}
-use Rattle.decide_preconditions.specs.declared.plan.Plan.TheVariants.{Unsatisfiable}
+use Rattle.{headers.specs.LineMap.LineMap, decide_preconditions.specs.{Fields.status_of, Limits.are_too_many}}
+use Rattle.decide_preconditions.specs.{Preconditions.{Answers, IsGetOrHead}, Selection.{AsksFor, AsksForSome}}
+use Rattle.decide_preconditions.specs.{Selection.{HasSelection, Selects}, declared.limits.RangeLimits.RangeLimits}
+use Rattle.decide_preconditions.specs.declared.{part.Part.Part, plan.Plan.{Plan, TheVariants.{NotModified, Failed}}}
+use Rattle.decide_preconditions.specs.declared.plan.Plan.TheVariants.{Full, Single, Multiple, Unsatisfiable}
+use Rattle.decide_preconditions.specs.declared.resource.Resource.{Resource, TheVariants.{Missing, Current}}
+use Rattle.decide_preconditions.specs.declared.{resource.Validators.Validators, selection.Selection.Selection}
 use Rattle.decide_preconditions.specs.declared.precondition.Precondition.TheVariants as precondition
-use Rattle.decide_preconditions.specs.declared.resource.Resource.{Resource}
-use Rattle.decide_preconditions.specs.declared.resource.Resource.TheVariants.{Missing, Current}
-use Rattle.decide_preconditions.specs.declared.resource.Validators.{Validators}
-use Rattle.decide_preconditions.specs.declared.selection.Selection.{Selection}
 use Rattle.decide_preconditions.specs.declared.selection.Selection.TheVariants as selection
 
 module _ (present : ℕ) (method : List ℕ) (request : LineMap) (resource : Resource) where

@@ -1,12 +1,11 @@
 -- The result of the preconditions of a request (RFC 9110, section 13.2.2).
 use Rattle.std.specs.Prelude.{◌≡◌, ◌⊎◌, ℕ, List, codes}
-use Rattle.headers.specs.LineMap.{LineMap}
-use Rattle.decide_preconditions.specs.Conditions.{IsPresent, IfMatchIsTrue, IfNoneMatchIsFalse, IfNoneMatchMayBeFalse}
-use Rattle.decide_preconditions.specs.Conditions.{ModifiedSinceIsFalse, ModifiedSinceLets, UnmodifiedSinceIsFalse}
-use Rattle.decide_preconditions.{specs.Conditions.UnmodifiedSinceLets, specs.declared.resource.Resource.Resource}
-use Rattle.decide_preconditions.specs.declared.resource.Resource.TheVariants.{Missing, Current}
-use Rattle.decide_preconditions.specs.declared.precondition.Precondition.{Precondition}
-use Rattle.decide_preconditions.specs.declared.precondition.Precondition.TheVariants.{Perform, NotModified, Failed}
+use Rattle.{headers.specs.LineMap.LineMap, decide_preconditions.specs.Conditions.{IsPresent, IfMatchIsTrue}}
+use Rattle.decide_preconditions.specs.Conditions.{IfNoneMatchIsFalse, IfNoneMatchMayBeFalse, ModifiedSinceIsFalse}
+use Rattle.decide_preconditions.specs.Conditions.{ModifiedSinceLets, UnmodifiedSinceIsFalse, UnmodifiedSinceLets}
+use Rattle.decide_preconditions.specs.declared.resource.Resource.{Resource, TheVariants.{Missing, Current}}
+use Rattle.decide_preconditions.specs.declared.precondition.Precondition.{Precondition, TheVariants.Perform}
+use Rattle.decide_preconditions.specs.declared.precondition.Precondition.TheVariants.{NotModified, Failed}
 
 -- the method selects and modifies no representation
 abbrev pub IsUnconditional : List ℕ → Type 0

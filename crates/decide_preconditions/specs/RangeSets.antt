@@ -1,11 +1,10 @@
 -- The byte ranges in a range-set (RFC 9110, sections 14.1.1 and 14.1.2).
 use Rattle.std.specs.Prelude.{ℕ, ◌+◌, ◌-◌, ◌^◌, ◌<◌, ◌≤◌, Bool, ◌&&◌, ◌==◌, nat_lt, nat_le, min, List, [], ◌∷◌, length}
-use Rattle.std.{specs.Prelude.{Option, Some, None, if◌then◌else◌, is_some}, specs.Char.is_ascii_digit}
-use Rattle.std.{specs.List.{list_all, filter_map}, specs.Option.option_and_then, specs.Str.Parse.digits_value}
-use denote.Ref.{Bor}
-use Rattle.headers.{specs.ByteRanges.{dash, pieces, pieces_left}, specs.Text.trim}
-use Rattle.rfc_fields.specs.Cuts.{cut}
+use Rattle.std.specs.{Prelude.{Option, Some, None, if◌then◌else◌, is_some}, Char.is_ascii_digit, List.list_all}
+use Rattle.std.specs.{List.filter_map, Option.option_and_then, Str.Parse.digits_value}
+use Rattle.{headers.specs.{ByteRanges.{dash, pieces, pieces_left}, Text.trim}, rfc_fields.specs.Cuts.cut}
 use Rattle.decide_preconditions.specs.declared.part.Part.{Part}
+use denote.Ref.{Bor}
 
 -- 1*DIGIT, of any length, without a sign
 abbrev pub is_numeral : List ℕ → Bool

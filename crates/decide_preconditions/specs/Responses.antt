@@ -1,11 +1,10 @@
 -- The response to a request for a representation.
 use Rattle.std.specs.Prelude.{◌≡◌, ◌⊎◌, ℕ, List, Option, Some, None}
 use Rattle.http_header.specs.FieldValue.{FieldValue}
-use Rattle.headers.specs.LineMap.{LineMap, fields_of}
-use Rattle.decide_preconditions.{specs.Contents.{divisible_len, limits_of}, specs.Fields.{fields_sent, is_known_by}}
-use Rattle.decide_preconditions.{specs.Fields.status_of, specs.Plans.{IsPlan, IsPlanned, ReadsSome}}
-use Rattle.decide_preconditions.{specs.declared.content.Content.Content, specs.declared.plan.Plan.Plan}
-use Rattle.decide_preconditions.{specs.declared.response.Response.Response, specs.declared.resource.Resource.Resource}
+use Rattle.{headers.specs.LineMap.{LineMap, fields_of}, decide_preconditions.specs.Contents.{divisible_len, limits_of}}
+use Rattle.decide_preconditions.specs.{Fields.{fields_sent, is_known_by, status_of}, Plans.{IsPlan, IsPlanned}}
+use Rattle.decide_preconditions.specs.{Plans.ReadsSome, declared.{content.Content.Content, plan.Plan.Plan}}
+use Rattle.decide_preconditions.specs.declared.{response.Response.Response, resource.Resource.Resource}
 
 -- the response has the plan of the request, and the status and the fields of the plan
 pub record IsResponse (present : ℕ) (method : List ℕ) (request : LineMap) (resource : Resource) (content : Content)

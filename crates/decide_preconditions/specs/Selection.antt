@@ -1,14 +1,12 @@
 -- The part of a representation that a request selects (RFC 9110, sections 13.1.5 and 14.2).
 use Rattle.std.specs.Prelude.{◌≡◌, ◌↔◌, ◌⊎◌, ℕ, ◌+◌, ◌<◌, Bool, true, false, ◌&&◌, ◌==◌, List, length, Option, Some}
 use Rattle.std.specs.Prelude.{None, Any, map, take, drop, bytes_eq, codes, nat_le, ⊤, if◌then◌else◌}
-use Rattle.std.{specs.Char.to_ascii_lowercase, specs.Option.{option_and_then, option_map_or}}
-use Rattle.rfc_values.{specs.Calendar.unix_epoch, specs.Date.timestamp}
-use Rattle.headers.{specs.EntityTag.is_tag, specs.LineMap.LineMap, specs.Lines.Line}
-use Rattle.decide_preconditions.{specs.Conditions.only_text, specs.Limits.are_too_many, specs.Parts.AreCoalesced}
-use Rattle.decide_preconditions.{specs.Parts.{Holds, IsJoined}, specs.RangeSets.{Covers, is_range_set, specs}}
-use Rattle.decide_preconditions.{specs.Tags.is_tag_of, specs.declared.limits.RangeLimits.RangeLimits}
-use Rattle.decide_preconditions.{specs.declared.part.Part.Part, specs.declared.resource.Validators.Validators}
-use Rattle.decide_preconditions.specs.declared.selection.Selection.{Selection}
+use Rattle.std.specs.{Char.to_ascii_lowercase, Option.{option_and_then, option_map_or}}
+use Rattle.{rfc_values.specs.{Calendar.unix_epoch, Date.timestamp}, headers.specs.{EntityTag.is_tag, LineMap.LineMap}}
+use Rattle.{headers.specs.Lines.Line, decide_preconditions.specs.{Conditions.only_text, Limits.are_too_many}}
+use Rattle.decide_preconditions.specs.{Parts.{AreCoalesced, Holds, IsJoined}, RangeSets.{Covers, is_range_set, specs}}
+use Rattle.decide_preconditions.specs.{Tags.is_tag_of, declared.{limits.RangeLimits.RangeLimits, part.Part.Part}}
+use Rattle.decide_preconditions.specs.declared.{resource.Validators.Validators, selection.Selection.Selection}
 use Rattle.decide_preconditions.specs.declared.selection.Selection.TheVariants.{Whole, Parts, Unsatisfiable}
 use Rattle.decide_preconditions.specs.declared.tags.Comparison.TheVariants.{Strong}
 

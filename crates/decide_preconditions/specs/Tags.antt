@@ -1,13 +1,11 @@
 -- Entity tags in a request (RFC 9110, sections 8.8.3, 13.1.1 and 13.1.2).
-use Rattle.std.{specs.Prelude.{Bool, false, ◌&&◌, ◌||◌, not, List, Option, Some, None, bytes_eq}, specs.List.list_all}
-use Rattle.std.{specs.List.list_any, specs.Option.option_map_or}
+use Rattle.std.specs.{Prelude.{Bool, false, ◌&&◌, ◌||◌, not, List, Option, Some, None, bytes_eq}, List.list_all}
+use Rattle.std.specs.{List.list_any, Option.option_map_or}
 use Rattle.http_header.specs.FieldValue.{FieldValue}
-use Rattle.rfc_fields.{specs.Members.field_members, specs.Scan.Member, specs.Scan.Member.{Whole, Malformed}}
-use Rattle.headers.{specs.EntityTag.{is_tag, parts_of}, specs.EntityTagRange.star, specs.Lines.{Line, only_line}}
-use Rattle.decide_preconditions.specs.declared.resource.Resource.{Resource}
-use Rattle.decide_preconditions.specs.declared.resource.Resource.TheVariants.{Missing, Current}
-use Rattle.decide_preconditions.specs.declared.tags.Comparison.{Comparison}
-use Rattle.decide_preconditions.specs.declared.tags.Comparison.TheVariants.{Strong, Weak}
+use Rattle.rfc_fields.specs.{Members.field_members, Scan.{Member, Member.{Whole, Malformed}}}
+use Rattle.headers.specs.{EntityTag.{is_tag, parts_of}, EntityTagRange.star, Lines.{Line, only_line}}
+use Rattle.decide_preconditions.specs.declared.resource.Resource.{Resource, TheVariants.{Missing, Current}}
+use Rattle.decide_preconditions.specs.declared.tags.Comparison.{Comparison, TheVariants.{Strong, Weak}}
 
 -- Both are entity tags, and their opaque parts are equal; in the strong comparison neither is weak (section 8.8.3.2).
 abbrev pub are_equal : Comparison → Line → Line → Bool

@@ -1,5 +1,5 @@
 //! The boundary between several parts.
-ghost use Rattle.std.{specs.Prelude.{◌≡◌, ◌↔◌, IfOk, true, false}, specs.List.list_all};
+ghost use Rattle.std.specs.{Prelude.{◌≡◌, ◌↔◌, IfOk, true, false}, List.list_all};
 ghost use Rattle.headers.specs.Refusal.{IsInvalid};
 ghost use Rattle.decide_preconditions.specs.Boundaries.{is_boundary, is_boundary_byte, multipart_type};
 

@@ -1,12 +1,12 @@
 //! The fields of a response.
 ghost use Rattle.std.specs.Prelude.{◌≡◌, ◌++◌, [], IfOk, OnOk, codes, decimal, option_copied};
 ghost use Rattle.http_header.specs.FieldValue.{FieldValue};
-ghost use Rattle.headers.{specs.ContentBytes.content_text, specs.Date.fixdate, specs.LineMap.{field_of, fields_of}};
-ghost use Rattle.headers.specs.Lines.{Line};
-ghost use Rattle.decide_preconditions.{specs.Conditions.modified_of, specs.Fields.{etag_of, etag_sent, modified_sent}};
+ghost use Rattle.headers.specs.{ContentBytes.content_text, Date.fixdate};
+ghost use Rattle.headers.specs.{LineMap.{field_of, fields_of}, Lines.Line};
+ghost use Rattle.decide_preconditions.specs.{Conditions.modified_of, Fields.{etag_of, etag_sent, modified_sent}};
 ghost use Rattle.decide_preconditions.specs.Fields.{units_sent, range_sent, length_sent, type_sent, lines_sent};
 ghost use Rattle.decide_preconditions.specs.Fields.{fields_sent, IsSized, digests_removed, encoding_removed, is_whole};
-ghost use Rattle.decide_preconditions.{specs.Fields.{keeps_encoding, not_after, written}, specs.Contents.is_divisible};
+ghost use Rattle.decide_preconditions.specs.{Fields.{keeps_encoding, not_after, written}, Contents.is_divisible};
 
 use crate::boundary::Boundary;
 use crate::content::{Content, Sending};

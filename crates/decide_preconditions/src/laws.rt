@@ -1,24 +1,19 @@
 //! Theorems about the definitions alone. To cite one in a proof, call it.
 ghost use Rattle.std.specs.Prelude.{◌≡◌, ◌+◌, ◌*◌, ◌<◌, ◌≤◌, ◌↔◌, ℕ, Bool, List, Option, [], ◌∷◌, IsTrue, codes, false};
 ghost use Rattle.std.specs.Prelude.{length, sum_by, true};
-ghost use Rattle.headers.{specs.EntityTag.{AreTags, StronglyEqual, WeaklyEqual}, specs.EntityTagRange.star};
-ghost use Rattle.headers.{specs.LineMap.{LineMap, remove, set_all}, specs.Lines.Line};
+ghost use Rattle.headers.specs.{EntityTag.{AreTags, StronglyEqual, WeaklyEqual}, EntityTagRange.star, LineMap.LineMap};
+ghost use Rattle.headers.specs.{LineMap.{remove, set_all}, Lines.Line};
 ghost use Rattle.http_header.specs.FieldValue.{FieldValue};
-ghost use Rattle.decide_preconditions.{specs.Fields.{IsModifiedBy, SendsFields, fields_sent}, specs.Parts.AreCoalesced};
-ghost use Rattle.decide_preconditions.{specs.Parts.part_size, specs.Plans.{HasPlan, IsPlanned, IsSamePlan}};
-ghost use Rattle.decide_preconditions.{specs.Preconditions.{Answers, IsGetOrHead}, specs.Selection.AsksFor};
-ghost use Rattle.decide_preconditions.specs.Selection.{HasSelection, IsSameSelection, Selects};
-ghost use Rattle.decide_preconditions.{specs.Limits.are_too_many, specs.Tags.{are_equal, names}};
-ghost use Rattle.decide_preconditions.specs.declared.selection.Selection.{Selection};
-ghost use Rattle.decide_preconditions.specs.declared.content.Content.{Content};
-ghost use Rattle.decide_preconditions.{specs.declared.limits.RangeLimits.RangeLimits, specs.declared.part.Part.Part};
-ghost use Rattle.decide_preconditions.specs.declared.plan.Plan.{Plan};
-ghost use Rattle.decide_preconditions.specs.declared.precondition.Precondition.{Precondition};
-ghost use Rattle.decide_preconditions.specs.declared.precondition.Precondition.TheVariants.{Perform};
-ghost use Rattle.decide_preconditions.specs.declared.resource.Resource.{Resource};
-ghost use Rattle.decide_preconditions.specs.declared.resource.Resource.TheVariants.{Missing, Current};
-ghost use Rattle.decide_preconditions.specs.declared.resource.Validators.{Validators};
-ghost use Rattle.decide_preconditions.specs.declared.tags.Comparison.{Comparison};
+ghost use Rattle.decide_preconditions.specs.{Fields.{IsModifiedBy, SendsFields, fields_sent}, Parts.AreCoalesced};
+ghost use Rattle.decide_preconditions.specs.{Parts.part_size, Plans.{HasPlan, IsPlanned, IsSamePlan}};
+ghost use Rattle.decide_preconditions.specs.{Preconditions.{Answers, IsGetOrHead}, Selection.{AsksFor, HasSelection}};
+ghost use Rattle.decide_preconditions.specs.{Selection.{IsSameSelection, Selects}, Limits.are_too_many, Tags.are_equal};
+ghost use Rattle.decide_preconditions.specs.{Tags.names, declared.selection.Selection.Selection};
+ghost use Rattle.decide_preconditions.specs.declared.{content.Content.Content, limits.RangeLimits.RangeLimits};
+ghost use Rattle.decide_preconditions.specs.declared.{part.Part.Part, plan.Plan.Plan};
+ghost use Rattle.decide_preconditions.specs.declared.precondition.Precondition.{Precondition, TheVariants.Perform};
+ghost use Rattle.decide_preconditions.specs.declared.resource.Resource.{Resource, TheVariants.{Missing, Current}};
+ghost use Rattle.decide_preconditions.specs.declared.{resource.Validators.Validators, tags.Comparison.Comparison};
 ghost use Rattle.decide_preconditions.specs.declared.tags.Comparison.TheVariants.{Strong, Weak};
 
 /// Theorem: every request has exactly one answer by the definition `Answers`; `evaluate` returns

@@ -1,8 +1,8 @@
 //! Parts of a representation.
 ghost use Rattle.std.specs.Prelude.{◌≡◌, ◌↔◌, ◌+◌, ◌^◌, ◌<◌, ◌≤◌, ℕ, All, Any, Some, nat_le, if◌then◌else◌};
 ghost use Rattle.std.specs.List.Sorted.{IsNonDecreasingBy, IsPermutation};
-ghost use Rattle.decide_preconditions.{specs.Merged.{joined, merged}, specs.Parts.{AreCoalesced, Holds, IsJoined}};
-ghost use Rattle.decide_preconditions.specs.Parts.{IsPartOf, part_size};
+ghost use Rattle.decide_preconditions.specs.Merged.{joined};
+ghost use Rattle.decide_preconditions.specs.{Merged.merged, Parts.{AreCoalesced, Holds, IsJoined, IsPartOf, part_size}};
 
 use headers::ContentRange;
 use std::ops::Bound;

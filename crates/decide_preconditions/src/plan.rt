@@ -1,7 +1,7 @@
 //! What the response to a request for a representation has.
 ghost use Rattle.std.specs.Prelude.{◌≡◌, IfOk, OnErr};
 ghost use Rattle.headers.specs.LineMap.{lines_at};
-ghost use Rattle.decide_preconditions.{specs.Plans.{IsPlanned, IsSentAs, ReadsSome}, specs.Fields.status_of};
+ghost use Rattle.decide_preconditions.specs.{Plans.{IsPlanned, IsSentAs, ReadsSome}, Fields.status_of};
 
 use crate::limits::RangeFacts;
 use crate::part::Part;

@@ -1,6 +1,6 @@
 //! Preconditions (RFC 9110, section 13).
-ghost use Rattle.std.{specs.Prelude.{◌≡◌, ◌⊎◌}, specs.Bool.MatchBool};
-ghost use Rattle.headers.{specs.LineMap.lines_at, specs.Lines.lines_of};
+ghost use Rattle.std.specs.{Prelude.{◌≡◌, ◌⊎◌}, Bool.MatchBool};
+ghost use Rattle.headers.specs.{LineMap.lines_at, Lines.lines_of};
 ghost use Rattle.decide_preconditions.specs.Conditions.{date_in, modified_of, ModifiedSinceIsFalse, ModifiedSinceLets};
 ghost use Rattle.decide_preconditions.specs.Conditions.{UnmodifiedSinceIsFalse, UnmodifiedSinceLets};
 ghost use Rattle.decide_preconditions.specs.Preconditions.{Answers, AreIgnored, IsGetOrHead, IsRead, IsStoredByDate};

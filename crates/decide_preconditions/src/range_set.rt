@@ -1,11 +1,10 @@
 //! The range-set of a Range, in bytes (RFC 9110, sections 14.1.1 and 14.1.2).
-ghost use Rattle.std.{specs.Prelude.{◌≡◌, ℕ, true, IfOk, is_some, length, nat_le, nat_lt}, specs.Char.is_ascii_digit};
-ghost use Rattle.std.{specs.Iterator.YieldsFirstBy, specs.Bool.MatchBool, specs.List.{filter_map, list_all, list_any}};
-ghost use Rattle.std.{specs.Option.option_and_then, specs.Str.Parse.digits_value};
-ghost use Rattle.decide_preconditions.{specs.Selection.IsAsked, specs.NumeralOrder.{is_below, is_ordered}};
-ghost use Rattle.decide_preconditions.{specs.NumeralOrder.without_zeros, specs.RangeSets.{capped, elements}};
-ghost use Rattle.decide_preconditions.specs.RangeSets.{is_numeral, is_range_set, is_range_spec, part_in, part_of};
-ghost use Rattle.decide_preconditions.specs.RangeSets.{part_to, selects_some, spec_between, Suffix};
+ghost use Rattle.std.specs.{Prelude.{◌≡◌, ℕ, true, IfOk, is_some, length, nat_le, nat_lt}, Char.is_ascii_digit};
+ghost use Rattle.std.specs.{Iterator.YieldsFirstBy, Bool.MatchBool, List.{filter_map, list_all, list_any}};
+ghost use Rattle.std.specs.{Option.option_and_then, Str.Parse.digits_value};
+ghost use Rattle.decide_preconditions.specs.{Selection.IsAsked, NumeralOrder.{is_below, is_ordered, without_zeros}};
+ghost use Rattle.decide_preconditions.specs.RangeSets.{capped, elements, is_numeral, is_range_set, is_range_spec};
+ghost use Rattle.decide_preconditions.specs.RangeSets.{part_in, part_of, part_to, selects_some, spec_between, Suffix};
 ghost use Rattle.headers.specs.ByteRanges.{pieces_left};
 
 use crate::part::Part;

@@ -1,7 +1,7 @@
 //! Responses to requests for a representation.
 ghost use Rattle.std.specs.Prelude.{◌≡◌, IfOk, OnErr};
 ghost use Rattle.headers.specs.LineMap.{lines_at};
-ghost use Rattle.decide_preconditions.{specs.Fields.is_known_by, specs.Responses.{IsAnswered, IsPlannedAtAll}};
+ghost use Rattle.decide_preconditions.specs.{Fields.is_known_by, Responses.{IsAnswered, IsPlannedAtAll}};
 
 use crate::content::Sending;
 use crate::limits::RangeFacts;

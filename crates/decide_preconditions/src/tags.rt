@@ -1,8 +1,8 @@
 //! Entity tags in a request (RFC 9110, sections 13.1.1 and 13.1.2).
 ghost use Rattle.std.specs.Prelude.{◌≡◌, option_copied, option_map};
-ghost use Rattle.headers.{specs.EntityTag.is_tag, specs.Lines.{lines_of, only_line}, specs.Text.trim};
+ghost use Rattle.headers.specs.{EntityTag.is_tag, Lines.{lines_of, only_line}, Text.trim};
 ghost use Rattle.decide_preconditions.specs.Tags.{are_equal, are_tags, is_malformed, is_star, is_tag_of, lists};
-ghost use Rattle.decide_preconditions.{specs.Tags.{may_name, names}, specs.declared.tags.Comparison.TheVariants.Strong};
+ghost use Rattle.decide_preconditions.specs.{Tags.{may_name, names}, declared.tags.Comparison.TheVariants.Strong};
 ghost use Rattle.decide_preconditions.specs.declared.tags.Comparison.TheVariants.{Weak};
 
 use crate::resource::Resource;

@@ -1,6 +1,6 @@
-use Rattle.std.proofs.Common.{subst, sym, List, ◌↔◌, Any}
-use Rattle.decide_preconditions.{specs.Parts.{AreCoalesced, Holds, IsJoined}, specs.declared.part.Part.Part}
-use Rattle.decide_preconditions.proofs.PartLemmas.{coalesced_from, covers_from}
+use Rattle.{std.proofs.Common.{subst, sym, List, ◌↔◌, Any}, decide_preconditions.specs.Parts.{AreCoalesced, Holds}}
+use Rattle.decide_preconditions.{specs.{Parts.IsJoined, declared.part.Part.Part}, proofs.PartLemmas.coalesced_from}
+use Rattle.decide_preconditions.proofs.PartLemmas.{covers_from}
 use Rattle.decide_preconditions.proofs.part.coalesce.Goals as goal
 
 pub returns-clause-coalesced : goal.returns-clause-coalesced

@@ -1,5 +1,4 @@
-use Rattle.std.proofs.Common.{rules}
-use Rattle.decide_preconditions.proofs.PartLemmas.{merged_from_dedup}
+use Rattle.{std.proofs.Common.rules, decide_preconditions.proofs.PartLemmas.merged_from_dedup}
 use Rattle.decide_preconditions.proofs.part.merge.Goals as goal
 
 pub returns : goal.returns

@@ -1,4 +1,4 @@
-use Rattle.std.{proofs.Common.rules, proofs.lemmas.List.Sorted.IsNonDecreasingBy-from_sort_by_key}
+use Rattle.std.proofs.{Common.rules, lemmas.List.Sorted.IsNonDecreasingBy-from_sort_by_key}
 use Rattle.decide_preconditions.specs.declared.part.Part.{Part}
 use Rattle.decide_preconditions.proofs.part.sort.Goals as goal
 

@@ -1,5 +1,5 @@
-use Rattle.std.{proofs.Common.{◌≡◌, length}, specs.List.list_all}
-use Rattle.decide_preconditions.specs.RangeSets.{elements, is_range_spec}
+use Rattle.{std.{proofs.Common.{◌≡◌, length}, specs.List.list_all}, decide_preconditions.specs.RangeSets.elements}
+use Rattle.decide_preconditions.specs.RangeSets.{is_range_spec}
 use Rattle.decide_preconditions.proofs.range_set.are_range_specs.Given as goal
 
 abbrev pub invariant-loop-element : goal.invariant-loop-element

@@ -1,5 +1,5 @@
-use Rattle.std.proofs.Common.{◌≡◌, ◌+◌, take, arith}
-use Rattle.decide_preconditions.{specs.RangeSets.capped, proofs.NumeralLemmas.capped_more}
+use Rattle.{std.proofs.Common.{◌≡◌, ◌+◌, take, arith}, decide_preconditions.specs.RangeSets.capped}
+use Rattle.decide_preconditions.proofs.NumeralLemmas.{capped_more}
 use Rattle.decide_preconditions.proofs.range_set.capped_value.Goals as goal
 
 pub loop-byte-preserved : goal.loop-byte-preserved

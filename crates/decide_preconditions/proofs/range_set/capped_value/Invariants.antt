@@ -1,5 +1,4 @@
-use Rattle.std.proofs.Common.{◌≡◌, take}
-use Rattle.decide_preconditions.specs.RangeSets.{capped}
+use Rattle.{std.proofs.Common.{◌≡◌, take}, decide_preconditions.specs.RangeSets.capped}
 use Rattle.decide_preconditions.proofs.range_set.capped_value.Given as goal
 
 abbrev pub invariant-loop-byte : goal.invariant-loop-byte

@@ -1,5 +1,5 @@
-use Rattle.std.proofs.Common.{◌∙◌, ap}
-use Rattle.decide_preconditions.{specs.NumeralOrder.{is_ordered, without_zeros}, proofs.NumeralLemmas.order_of_numerals}
+use Rattle.{std.proofs.Common.{◌∙◌, ap}, decide_preconditions.specs.NumeralOrder.{is_ordered, without_zeros}}
+use Rattle.decide_preconditions.proofs.NumeralLemmas.{order_of_numerals}
 use Rattle.decide_preconditions.proofs.range_set.is_at_most.Goals as goal
 
 pub returns : goal.returns

@@ -1,5 +1,4 @@
-use Rattle.std.proofs.Common.{◌≡◌, length}
-use Rattle.decide_preconditions.specs.NumeralOrder.{is_below}
+use Rattle.{std.proofs.Common.{◌≡◌, length}, decide_preconditions.specs.NumeralOrder.is_below}
 use Rattle.decide_preconditions.proofs.range_set.is_below.Given as goal
 
 abbrev pub invariant-loop-digits : goal.invariant-loop-digits

@@ -1,5 +1,5 @@
-use Rattle.std.{proofs.Common.{◌≡◌, length}, specs.List.list_any}
-use Rattle.decide_preconditions.specs.RangeSets.{elements, selects_some}
+use Rattle.{std.{proofs.Common.{◌≡◌, length}, specs.List.list_any}, decide_preconditions.specs.RangeSets.elements}
+use Rattle.decide_preconditions.specs.RangeSets.{selects_some}
 use Rattle.decide_preconditions.proofs.range_set.is_satisfiable.Given as goal
 
 abbrev pub invariant-loop-element : goal.invariant-loop-element

@@ -1,5 +1,4 @@
-use Rattle.std.proofs.Common.{◌∙◌, ap}
-use Rattle.headers.specs.ByteRanges.{pieces_left}
+use Rattle.{std.proofs.Common.{◌∙◌, ap}, headers.specs.ByteRanges.pieces_left}
 use Rattle.decide_preconditions.proofs.RangeSetLemmas.{piece_next, piece_last}
 use Rattle.decide_preconditions.proofs.range_set.next_piece.Goals as goal
 

@@ -1,5 +1,4 @@
-use Rattle.std.proofs.Common.{◌≡◌, length}
-use Rattle.decide_preconditions.specs.NumeralOrder.{without_zeros}
+use Rattle.{std.proofs.Common.{◌≡◌, length}, decide_preconditions.specs.NumeralOrder.without_zeros}
 use Rattle.decide_preconditions.proofs.range_set.without_zeros.Given as goal
 
 abbrev pub invariant-loop-rest : goal.invariant-loop-rest

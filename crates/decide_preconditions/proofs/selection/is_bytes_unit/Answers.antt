@@ -1,5 +1,4 @@
-use Rattle.std.{proofs.Common.map, specs.Prelude.codes, specs.Char.to_ascii_lowercase}
-use Rattle.std.proofs.lemmas.Slice.Eq.{bytes_eq-Decides}
+use Rattle.std.{proofs.{Common.map, lemmas.Slice.Eq.bytes_eq-Decides}, specs.{Prelude.codes, Char.to_ascii_lowercase}}
 use Rattle.decide_preconditions.proofs.TagLemmas.{bool_of}
 use Rattle.decide_preconditions.proofs.selection.is_bytes_unit.Goals as goal
 

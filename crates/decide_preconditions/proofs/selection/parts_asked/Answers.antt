@@ -1,7 +1,6 @@
-use Rattle.std.proofs.Common.{subst, sym, List, All, Any, ◌↔◌}
-use Rattle.decide_preconditions.{specs.Parts.{Holds, IsPartOf}, specs.RangeSets.elements, specs.Selection.IsAsked}
-use Rattle.decide_preconditions.{specs.declared.part.Part.Part, proofs.PartLemmas.IsJoined-same}
-use Rattle.decide_preconditions.proofs.RangeSetLemmas.{parts_cover, parts_within}
+use Rattle.{std.proofs.Common.{subst, sym, List, All, Any, ◌↔◌}, decide_preconditions.specs.Parts.{Holds, IsPartOf}}
+use Rattle.decide_preconditions.specs.{RangeSets.elements, Selection.IsAsked, declared.part.Part.Part}
+use Rattle.decide_preconditions.proofs.{PartLemmas.IsJoined-same, RangeSetLemmas.{parts_cover, parts_within}}
 use Rattle.decide_preconditions.proofs.selection.parts_asked.Goals as goal
 
 pub coalesce-requires : goal.coalesce-requires

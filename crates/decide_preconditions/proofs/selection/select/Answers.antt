@@ -1,5 +1,4 @@
-use Rattle.std.proofs.Common.{inr, rules}
-use Rattle.headers.specs.LineMap.{lines_at}
+use Rattle.{std.proofs.Common.{inr, rules}, headers.specs.LineMap.lines_at}
 use Rattle.decide_preconditions.{specs.Selection.AsksForSome, proofs.SelectionLemmas.asks_for}
 use Rattle.decide_preconditions.proofs.selection.select.Goals as goal
 

@@ -1,7 +1,5 @@
-use Rattle.std.{proofs.Common.{◌≡◌, length}, specs.List.list_all}
-use Rattle.headers.specs.Lines.{lines_of}
-use Rattle.rfc_fields.specs.Members.{field_left}
-use Rattle.decide_preconditions.specs.Tags.{are_tags, is_tag_member}
+use Rattle.{std.{proofs.Common.{◌≡◌, length}, specs.List.list_all}, headers.specs.Lines.lines_of}
+use Rattle.{rfc_fields.specs.Members.field_left, decide_preconditions.specs.Tags.{are_tags, is_tag_member}}
 use Rattle.decide_preconditions.proofs.tags.are_tags.Given as goal
 
 abbrev pub invariant-loop-member : goal.invariant-loop-member

@@ -1,5 +1,4 @@
-use Rattle.std.proofs.Common.{◌∙◌}
-use Rattle.headers_syntax.proofs.EntityTagLemmas.{is_tag_found}
+use Rattle.{std.proofs.Common.◌∙◌, headers_syntax.proofs.EntityTagLemmas.is_tag_found}
 use Rattle.decide_preconditions.proofs.tags.is_tag.Goals as goal
 
 pub returns : goal.returns

@@ -1,6 +1,5 @@
-use Rattle.std.proofs.Common.{◌∙◌, ap}
-use Rattle.http_header.specs.FieldValue.{FieldValue}
-use Rattle.decide_preconditions.{specs.Tags.are_equal, specs.declared.tags.Comparison.TheVariants.Weak}
+use Rattle.{std.proofs.Common.{◌∙◌, ap}, http_header.specs.FieldValue.FieldValue}
+use Rattle.decide_preconditions.specs.{Tags.are_equal, declared.tags.Comparison.TheVariants.Weak}
 use Rattle.decide_preconditions.proofs.TagLemmas.{bool_of, weakly_equal}
 use Rattle.decide_preconditions.proofs.tags.is_weakly_equal.Goals as goal
 

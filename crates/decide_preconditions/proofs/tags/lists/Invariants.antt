@@ -1,7 +1,5 @@
-use Rattle.std.{proofs.Common.{◌≡◌, length, option_copied}, specs.List.list_any}
-use Rattle.headers.specs.Lines.{lines_of}
-use Rattle.rfc_fields.specs.Members.{field_left}
-use Rattle.decide_preconditions.specs.Tags.{is_equal_member, lists}
+use Rattle.{std.{proofs.Common.{◌≡◌, length, option_copied}, specs.List.list_any}, headers.specs.Lines.lines_of}
+use Rattle.{rfc_fields.specs.Members.field_left, decide_preconditions.specs.Tags.{is_equal_member, lists}}
 use Rattle.decide_preconditions.proofs.tags.lists.Given as goal
 
 abbrev pub invariant-loop-member : goal.invariant-loop-member

@@ -1,7 +1,6 @@
 use Rattle.std.{proofs.Common.{◌≡◌, true, Err, ap, subst, sym, rules}, specs.Prelude.string_bytes}
-use Rattle.http_header.specs.FieldValue.{IsFieldValue}
-use Rattle.decide_preconditions.specs.Boundaries.{is_boundary, multipart_type}
-use Rattle.decide_preconditions.proofs.BoundaryLemmas.{IsFieldValue-multipart_type}
+use Rattle.{http_header.specs.FieldValue.IsFieldValue, decide_preconditions.specs.Boundaries.is_boundary}
+use Rattle.decide_preconditions.{specs.Boundaries.multipart_type, proofs.BoundaryLemmas.IsFieldValue-multipart_type}
 use Rattle.decide_preconditions.proofs.boundary.Boundary.new.Goals as goal
 
 pub unreachable-requires : goal.unreachable-requires

@@ -1,5 +1,4 @@
-use Rattle.std.proofs.Common.{◌≡◌, length}
-use Rattle.decide_preconditions.specs.RangeSets.{elements_left}
+use Rattle.{std.proofs.Common.{◌≡◌, length}, decide_preconditions.specs.RangeSets.elements_left}
 use Rattle.headers.specs.ByteRanges.{pieces_left}
 use Rattle.decide_preconditions.proofs.range_set.Elements.next.Given as goal
 
