@@ -76,16 +76,12 @@ HasNoFraming method =
 get_unframed : HasNoFraming (codes "GET")
 unfolding known_fields eq_ignore_case trim_ows
 get_unframed framing is =
-    let same : Ok NoBody ≡ Ok framing = is in
-    let none : NoBody ≡ framing = cc in
-    sym none
+    let same : Ok NoBody ≡ Ok framing = is in cc same
 
 head_unframed : HasNoFraming (codes "HEAD")
 unfolding known_fields eq_ignore_case trim_ows
 head_unframed framing is =
-    let same : Ok NoBody ≡ Ok framing = is in
-    let none : NoBody ≡ framing = cc in
-    sym none
+    let same : Ok NoBody ≡ Ok framing = is in cc same
 
 empty_body : (limits : Limits) (framing : Framing) (body : Body) (rest : List ℕ) → framing ≡ NoBody
     → ReadsBody limits framing [] body rest → (body.bytes ≡ []) × (rest ≡ [])
@@ -176,7 +172,7 @@ module _ (present : ℕ) (site : Resource) (v : Vec Representation) (file : File
   module _ (asked : Asked) (reads : IsGetOrHead asked.method) where
     only_place : (choice : Option ℕ) → Picks (score site.negotiation asked.fields) v.items choice
         → place_of v.items choice ≡ Some 0
-    only_place None picks = ap (λ (l : List Representation). place_of l None) items
+    only_place None picks = rw items
     only_place (Some place) picks =
         let one : length v.items ≡ 1 = ap length items in
         let none : place ≡ 0 = omega (arith, picks.within, one) in
@@ -190,29 +186,19 @@ module _ (present : ℕ) (site : Resource) (v : Vec Representation) (file : File
     response_full status sent own None h same_status same_sent same_own is =
         absurd (elim h.1 [ inl missing ↦ cc missing | inr other ↦ other reads ])
     response_full status sent own (Some response) h same_status same_sent same_own is =
-        let known = is_known_by asked.fields in
         let code : status_of response.plan ≡ 200 =
         sym h.status ∙ (sym (ap (status_for 404 Admitted) same_status) ∙ is) in
         let full : response.plan ≡ Full = full_by response.plan code in
         record {
           sends = same_sent ∙ ap (λ (p : Plan). Planned (Some 0) p) full;
-          fields =
-              same_own
-              ∙ ap (λ (l : List Field). metadata_fields (describes response.plan known) mine ++ l) h.fields
-              ∙ ap
-              (λ (p : Plan). metadata_fields (describes p known) mine
-              ++ fields_sent present p known (current_of present file) (file_content file) site.boundary) full;
+          fields = same_own ∙ rw (h.fields, full);
         }
 
     goes_full : (status : Option ℕ) (sent : Sends) (own : List Field) → Goes present here asked status sent own
         → status_for 404 Admitted status ≡ 200 → IsFull present file asked.fields site.boundary sent own
     goes_full status sent own h is =
         let place : h.place ≡ Some 0 = h.selected.is ∙ only_place h.selected.choice h.selected.picks in
-        let goes : GoesOn present here asked (Some 0) (Some mine) status sent own =
-        subst
-        (λ (xs : List Representation). GoesOn present here asked (Some 0) (slice_get xs 0) status sent own) items
-        (subst
-        (λ (at : Option ℕ). GoesOn present here asked at (at_place v.items at) status sent own) place h.goes) in
+        let goes : GoesOn present here asked (Some 0) (Some mine) status sent own = simp (place, items) at h.goes in
         response_full status sent own goes.response goes.answered goes.has_status goes.sends goes.has_fields is
 
     denied : (why : Option Denial) → is_some why ≡ true → denied_status why ≢ 200
@@ -253,16 +239,12 @@ module _ (present : ℕ) (site : Resource) (v : Vec Representation) (file : File
         let by =
         by_reason asked reads (is_admitted answer.reason) answer.reason refl answer.status answer.sends h.own h.first.is
         h.gives is in
-        let alone : h.shared ≡ [] =
-        subst
-        (λ c. IsShared c asked (vary_lines here answer.reason) h.shared) cors h.is_shared in
+        let alone : h.shared ≡ [] = rw cors at h.is_shared in
         let vary : vary_fields (vary_lines here answer.reason) ≡ [] =
         ap (λ (r : Reason). vary_fields (vary_lines here r)) by.0 ∙ nothing_varies in
         record {
           sends = by.1.sends;
-          fields =
-              h.fields ∙ ap (λ (l : List Field). (h.own ++ vary_fields (vary_lines here answer.reason)) ++ l) alone
-              ∙ append-nil _ ∙ ap (λ (l : List Field). h.own ++ l) vary ∙ append-nil _ ∙ by.1.fields;
+          fields = h.fields ∙ rw (alone, append-nil, vary, append-nil) by.1.fields;
         }
 
     decided_full : (asked : Asked) → IsGetOrHead asked.method → (divider : List ℕ) (files : List File)
@@ -334,13 +316,6 @@ asks_for_all negotiates m is =
       accept_encoding = λ on. at (codes "accept-encoding") refl;
     }
 
-served_anywhere : (site : Resource) (asked : Asked) → site.hosts ≡ None → is_misdirected site asked ≡ false
-served_anywhere site asked none =
-    ap
-    (λ hosts. option_map_or
-    (λ (hosts : Vec FieldValue).
-    not (is_own hosts.items (host_named asked.authority (asked.fields (codes "host"))))) hosts false) none
-
 -- ---- the response
 
 module _ (now : Option ℕ) (left : ℕ) (settings : Settings) (site : Site) (store : Memory)
@@ -389,37 +364,26 @@ module _ (now : Option ℕ) (left : ℕ) (settings : Settings) (site : Site) (st
     Look path entry = entry ≡ Readable file
 
     looked : IsAnswerAt now left site Look request response source
-    looked = record {
-      found = x.found;
-      leads =
-          inl (
-            codes "index.html",
-            names,
+    looked =
+        answered_as x
+        (inl (
+          codes "index.html",
+          names,
+          (
+            Readable file,
+            refl,
             (
-              Readable file,
-              refl,
-              (
-                given.2.state,
-                given.2.status,
-                subst (λ (b : Bool). AreContents b Look (codes "index.html") file x.found.files.items) (sym negotiates)
-                    given.2.files,
-              ),
+              given.2.state,
+              given.2.status,
+              subst (λ (b : Bool). AreContents b Look (codes "index.html") file x.found.files.items) (sym negotiates)
+                  given.2.files,
             ),
-          );
-      resource = x.resource;
-      described = x.described;
-      asked = x.asked;
-      asks = x.asks;
-      answer = x.answer;
-      decides = x.decides;
-      carries = x.carries;
-      opens = x.opens;
-    }
+          ),
+        )) x.asked x.asks x.decides
 
     fields_at : (name : List ℕ) (lines : List Line) → lines_at host_map name ≡ lines → x.asked.fields name ≡ lines
     fields_at name lines is =
-        ap (λ (f : LineMap). f name) x.asks.2.fields
-        ∙ ap (λ (m : Entries FieldValue). lines_at m name) asks.headers ∙ is
+        rw (x.asks.2.fields, asks.headers) is
 
     all_sent : (response.status ≡ 200) × SendsContent file response source
     all_sent =
@@ -427,7 +391,7 @@ module _ (now : Option ℕ) (left : ℕ) (settings : Settings) (site : Site) (st
         response source x.asked of.is_site x.asks
         (ap (has_host x.asked.protocol) (fields_at (codes "host") (codes "a.example" ∷ []) refl)
         ∙ host_valid x.asked.protocol)
-        (served_anywhere resource x.asked hosts)
+        (rw hosts)
         (ap has_known_expectation (fields_at (codes "expect") [] refl) ∙ none_expected) asks.method names refl
         (asks_for_all resource.negotiation.coding (head_of request).headers asks.headers) looked
 
@@ -435,16 +399,10 @@ module _ (now : Option ℕ) (left : ℕ) (settings : Settings) (site : Site) (st
     ok = all_sent.0
 
     described : x.resource ≡ record resource { state = state.Current; representations = x.described.representations }
-    described =
-        x.described.is
-        ∙ ap (λ (s : State). record resource { state = s; representations = x.described.representations })
-        given.2.state
+    described = x.described.is ∙ rw given.2.state
 
     one : x.described.representations.items ≡ representation_of present file ∷ []
-    one = x.described.are ∙ ap (λ (l : List File). represented_at l) given.2.files
-      where
-        represented_at : List File → List Representation
-        represented_at l = map (representation_of present) l
+    one = x.described.are ∙ ap (map (representation_of present)) given.2.files
 
     code : status_for 404 x.answer.reason x.answer.status ≡ 200
     code =
@@ -454,11 +412,7 @@ module _ (now : Option ℕ) (left : ℕ) (settings : Settings) (site : Site) (st
     full =
         decided_full present resource x.described.representations file one cors of.is_site.media_type
         of.is_site.language negotiates x.asked (inl (x.asks.2.method ∙ asks.method)) (string_bytes site.divider)
-        x.found.files.items x.answer
-        (subst
-        (λ (r : Resource). Decides present (string_bytes site.divider) x.found.files.items r x.asked x.answer) described
-        x.decides)
-        code
+        x.found.files.items x.answer (rw described at x.decides) code
 
     abbrev last_code : ℕ
     last_code = status_for x.found.status x.answer.reason x.answer.status
@@ -473,17 +427,7 @@ module _ (now : Option ℕ) (left : ℕ) (settings : Settings) (site : Site) (st
     whole : IsWhole now left site file response source
     whole = record {
       status = ok;
-      fields =
-          x.carries.headers
-          ∙ ap
-          (λ (s : Sends).
-          trimmed_lines (((first_fields now left ++ cache_sent s site.cache_control)
-          ++ headers_sent (is_some resource.cors) (encoded_fields x.answer.fields.items))
-          ++ explained_fields last_code s)) full.sends
-          ∙ ap trimmed_lines (append-nil _)
-          ∙ ap
-          (λ (l : List Header).
-          trimmed_lines ((first_fields now left ++ cache_fields site.cache_control) ++ l)) shown;
+      fields = x.carries.headers ∙ simp (full.sends, append-nil, shown);
       pieces =
           x.carries.pieces
           ∙ (λ i. pieces_for (string_bytes site.divider) site.pages.items (given.2.files i) last_code (full.sends i));
@@ -575,10 +519,7 @@ no_room_at (suc n) name =
 
 no_part_error : (e : Error) → ¬ (IsPartError e (codes "GET") headers)
 unfolding is_name_byte
-no_part_error Invalid.StatusCode why = why
 no_part_error Invalid.Method why = why (omega arith, AllPass-from_list_all is_name_byte (codes "GET") refl)
-no_part_error (Invalid.Uri e) why = why
-no_part_error (Invalid.UriParts e) why = why
 no_part_error Invalid.HeaderName why =
     any_one (λ (h : Header). ¬ (IsFieldName h.0)) (codes "Host", codes "a.example") why
     ((omega arith, AllPass-from_list_all is_name_byte (codes "Host") refl), omega arith)
@@ -586,7 +527,7 @@ no_part_error Invalid.HeaderValue why =
     any_one (λ (h : Header). ¬ (IsFieldValue h.1)) (codes "Host", codes "a.example") why
     (AllPass-from_list_all is_value_byte (codes "a.example") refl)
 no_part_error Invalid.MaxSizeReached why = no_room_at why.0 why.1 why.2
-no_part_error Invalid.OutOfMemory why = why
+no_part_error e why = why
 
 parts_are_valid : (e : Error) → ¬ (HasInvalidPart e message)
 unfolding trim_ows
@@ -755,9 +696,6 @@ module _ {H : Type 0} (plans : Plans H) (gives : H → Gives) (config : Config) 
       by_state : (state : Stage) (answered : List Call) (text interim rest sent : List ℕ) → IsClosing state
           → Progress answered rest → IsLiteral plans gives config first last state stream h.calls sent
           → Stands state config h answered text interim rest → Result sent
-      by_state Open answered text interim rest sent closing at literal x = absurd closing
-      by_state Upgraded answered text interim rest sent closing at literal x = absurd closing
-      by_state Aborted answered text interim rest sent closing at literal x = absurd closing
       by_state (Closing ended.Asked) answered text interim rest sent closing at literal x =
           let some : length h.calls ≡ length answered + 1 = ap length x.4 ∙ length-append answered (x.0 ∷ []) in
           sent_all literal.text sent literal.later literal.is_later literal.out
@@ -775,6 +713,7 @@ module _ {H : Type 0} (plans : Plans H) (gives : H → Gives) (config : Config) 
           ]
       by_state (Closing (ended.Refused why)) answered text interim rest sent closing at literal x =
           absurd (refuses why answered rest at x.0)
+      by_state state answered text interim rest sent closing at literal x = absurd closing
 
   -- a whole connection that got this request sent its response
   pub one_call : AreSendable → (now : H) (sent : List ℕ) → Exchanged plans gives config first now stream sent true
@@ -866,9 +805,7 @@ module _ (config : Config) (settings : Settings) (first : FileService Memory) (r
     len_is : content_len plan ≡ length content
     len_is =
         let len : content_len plan ≡ len_of the_file.source + 0 = ap total_len is_whole.pieces in
-        let bytes : len_of the_file.source ≡ length content =
-        ap len_of kept.1 ∙ ap (λ (l : List ℕ). length l) kept.2 in
-        omega (arith, len, bytes)
+        let bytes : len_of the_file.source ≡ length content = rw (kept.1, kept.2) in omega (arith, len, bytes)
 
     fields_are : plan_fields plan ≡ ok_fields time content_tag (length content) type
     fields_are =

@@ -1,19 +1,19 @@
--- Answers that are written out.
-use Rattle.std.specs.Prelude.{◌≡◌, ℕ, false, List, [], ◌∷◌, ◌++◌, Option, Some, None, codes, decimal}
+-- Answers that are written out, and what is read of them.
+use Rattle.std.specs.Prelude.{◌≡◌, ℕ, false, List, [], ◌∷◌, ◌++◌, Option, Some, None, codes, decimal, ◌+◌, bytes_eq}
+use Rattle.std.specs.Prelude.{flat_map, if◌then◌else◌}
 use Rattle.http1.specs.Fields.{Header}
 use Rattle.http_header.specs.FieldValue.{FieldValue}
-use Rattle.headers.specs.Date.{fixdate}
+use Rattle.headers.{specs.Date.fixdate, specs.LineMap.LineMap, specs.Lines.Line}
 use Rattle.server_connection.{specs.Pieces.AreSent, specs.declared.piece.Piece.Piece}
-use Rattle.server_connection.specs.declared.piece.Piece.TheVariants.{Range}
-use Rattle.server_connection.specs.declared.plan.Plan.{Plan as Response}
-use Rattle.decide_preconditions.specs.Fields.{lines_sent, not_after}
+use Rattle.server_connection.{specs.declared.piece.Piece.TheVariants.Range, specs.declared.plan.Plan.{Plan as Response}}
+use Rattle.decide_preconditions.{specs.Fields.{lines_sent, not_after}, specs.declared.part.Part.Part}
 use Rattle.decide_resource.specs.Fields.{lines_of_value}
 use Rattle.server_service.{specs.Answer.{cache_fields, clock, first_fields}, specs.File.{coding_value, gives_of}}
 use Rattle.server_service.{specs.File.{len_of, tag_of}, specs.Response.{fields_of, lines_under, trimmed_lines}}
 use Rattle.server_service.{specs.declared.file.File.File, specs.declared.settings.Settings.Settings}
 use Rattle.server_service.{specs.declared.settings.Site.Site, specs.declared.source.Source.Source}
-use Rattle.server_files.specs.declared.kept.Kept.{Kept}
 use Rattle.server_service.specs.declared.source.Source.TheVariants.{Kept as InMemory}
+use Rattle.server_files.specs.declared.kept.Kept.{Kept}
 
 -- Cache-Control isn't asked for, all hosts are served, no codings are negotiated, and there is no policy for requests
 -- from other origins.
@@ -54,3 +54,17 @@ abbrev pub SendsContent : File → Response → Option Source → Type 0
 SendsContent file response source =
     (kept : Kept) (sent : List ℕ) → file.source ≡ InMemory kept
     → AreSent (gives_of source) response.pieces.items sent → sent ≡ kept.content
+
+-- one part begins at the start of a content of this length, and the other where that one ends, and goes to the end
+pub record JoinTo (len : ℕ) (first second : Part) : Type 0 where
+  pub begins : first.first ≡ 0
+  pub meet : second.first ≡ first.last + 1
+  pub ends : second.last + 1 ≡ len
+
+-- the value of a field line, if it has this name
+abbrev pub line_named : List ℕ → Header → List Line
+line_named name header = if bytes_eq header.0 name then header.1 ∷ [] else []
+
+-- the field lines under each name, in order
+abbrev pub lines_in : List Header → LineMap
+lines_in headers name = flat_map (line_named name) headers

@@ -1,11 +1,6 @@
-pub mod Again
 pub mod Answered
-pub mod Framed
-pub mod Joined
 pub mod Literal
 pub mod Requests
-pub mod ResponseLines
 pub mod Sendable
 pub mod Served
-pub mod Similar
 pub mod Stores

@@ -1,13 +1,15 @@
--- Requests that are written out.
-use Rattle.std.specs.Prelude.{◌≡◌, ℕ, List, [], ◌∷◌, ◌++◌, Option, Some, None, codes, decimal}
+-- Requests and responses that are written out.
+use Rattle.std.specs.Prelude.{◌≡◌, ℕ, List, [], ◌∷◌, ◌++◌, Option, Some, None, codes, decimal, true}
 use Rattle.http.{specs.declared.request.Request.Request, specs.Request.{body_of, head_of}}
 use Rattle.httparse.specs.Grammar.{RequestHead}
 use Rattle.http_header.specs.FieldValue.{plain_value}
 use Rattle.http_uri.specs.Uri.{uri_authority, uri_path, uri_query}
-use Rattle.http1.{specs.Fields.Header, specs.Head.request_head}
+use Rattle.http1.{specs.Fields.Header, specs.Head.request_head, specs.declared.framing.MethodKind.TheVariants.Other}
+use Rattle.http1.{specs.Conn.keeps_alive, specs.Framing.method_kind, specs.Message.known_of}
 use Rattle.http1_typed.specs.Parts.{version_of}
 use Rattle.headers.specs.Date.{fixdate}
 use Rattle.server_service.specs.Answer.{date_fields}
+use Rattle.server_connection.{specs.declared.plan.Plan.Plan, specs.Encoding.{content_len, plan_fields}}
 
 -- a request for the root of a host, without content
 abbrev pub request_text : List ℕ → List ℕ
@@ -51,3 +53,14 @@ ok_text now tag len media_type =
     ++ (field_text (codes "etag") tag ++ (codes "accept-ranges: bytes\r\n"
     ++ (field_text (codes "content-length") (decimal len)
     ++ field_text (codes "content-type") media_type))))) ++ codes "\r\n")
+
+-- the request is one of HTTP/1.1 that lets the connection stay open, and neither HEAD nor CONNECT
+pub record StaysOpen (head : RequestHead) : Type 0 where
+  pub minor : head.minor ≡ 1
+  pub keeps : keeps_alive head.minor (known_of head.fields) ≡ true
+  pub method : method_kind head.method ≡ Other
+
+-- the plan is that of a 200 with these fields, which state the length of its content
+pub record IsOk (now : Option ℕ) (tag media_type : List ℕ) (plan : Plan) : Type 0 where
+  pub status : plan.status ≡ 200
+  pub fields : plan_fields plan ≡ ok_fields now tag (content_len plan) media_type

@@ -2,15 +2,15 @@
 use Rattle.std.specs.Prelude.{◌≡◌, ℕ, ◌-◌, ◌≤◌, List, [], ◌++◌, length, map, All, Option, None, codes}
 use Rattle.httparse.{specs.Grammar.{print_response, status_code}, specs.Spans.name_and_value}
 use Rattle.http1.{specs.declared.conn.Limits.Limits, specs.Fields.Header, specs.Framing.method_kind}
-use Rattle.http1.specs.Message as Wire
 use Rattle.http1.specs.Message.{ReadsResponseMessage}
-use Rattle.http_server.{specs.declared.response.Response.Response, specs.Exchange.IsAdded}
+use Rattle.http_server.specs.Exchange.{IsAdded}
 use Rattle.headers.specs.Text.{trim}
 use Rattle.server_connection.{specs.Pieces.Gives, specs.Plan.Plans}
 use Rattle.server_service.{specs.Answer.{IsAnswer, IsSameSite}, specs.File.gives_of, specs.Memory.HasOne}
 use Rattle.server_service.{specs.declared.memory.Memory.Memory, specs.declared.service.FileService.FileService}
 use Rattle.server_files.specs.Tags.{content_digest, strong_tag}
 use Rattle.server_laws.specs.Literal.{ok_fields, ok_text}
+use Rattle.http1.specs.Message as Wire
 
 abbrev pub plans : Plans (FileService Memory)
 plans before request plan after =

@@ -43,66 +43,64 @@ module _ (resource : Resource) (protocol : Protocol) (authority : Option Line) (
   read_as_get method (inl e) reason = ap (λ (m : List ℕ). applies_to m reason) e
   read_as_get method (inr e) reason = ap (λ (m : List ℕ). applies_to m reason) e ∙ head_as_get reason
 
--- ---- lists of things that are scored alike
+-- ---- things that are scored alike are chosen alike
 
-module _ {A B C : Type 0} (f : B → ℕ) (g : C → ℕ) (left : A → B) (right : A → C)
-    (same : (x : A) → f (left x) ≡ g (right x)) where
-  score_at : (xs : List A) (k : ℕ) (a : B) (b : C) → k < length xs
-      → f (get_or (map left xs) k a) ≡ g (get_or (map right xs) k b)
-  score_at [] k a b low = absurd (omega (arith, low))
-  score_at (x ∷ xs) zero a b low = same x
-  score_at (x ∷ xs) (suc k) a b low = score_at xs k a b (omega (arith, low))
+module _ {A B : Type 0} (f : A → ℕ) (g : B → ℕ) where
+  score_at : (xs : List A) (ys : List B) → map f xs ≡ map g ys → (k : ℕ) (a : A) (b : B) → k < length xs
+      → f (get_or xs k a) ≡ g (get_or ys k b)
+  score_at [] ys e k a b low = absurd (omega (arith, low))
+  score_at (x ∷ xs) [] e k a b low = absurd (cc e)
+  score_at (x ∷ xs) (y ∷ ys) e zero a b low = cc e
+  score_at (x ∷ xs) (y ∷ ys) e (suc k) a b low =
+      let rest : map f xs ≡ map g ys = cc e in score_at xs ys rest k a b (omega arith)
 
   -- some element, where there is a place
   element : (xs : List A) (k : ℕ) → k < length xs → A
   element [] k low = absurd (omega (arith, low))
   element (x ∷ xs) k low = x
 
-  picks_across : (xs : List A) (choice : Option ℕ) → Picks f (map left xs) choice → Picks g (map right xs) choice
-  picks_across xs None h =
-      let one : length (map left xs) ≡ length xs = length-map xs left in
-      let other : length (map right xs) ≡ length xs = length-map xs right in
-      λ k x low.
-      let here : k < length xs = omega (arith, low, other) in
-      let y : B = left (element xs k here) in
-      sym (score_at xs k y x here) ∙ h k y (omega (arith, here, one))
-  picks_across xs (Some place) h =
-      let one : length (map left xs) ≡ length xs = length-map xs left in
-      let other : length (map right xs) ≡ length xs = length-map xs right in
-      let within : place < length xs = omega (arith, h.within, one) in
-      let y : B = left (element xs place within) in
+  picks_across : (xs : List A) (ys : List B) → map f xs ≡ map g ys → length xs ≡ length ys → (choice : Option ℕ)
+      → Picks f xs choice → Picks g ys choice
+  picks_across xs ys e len None h = λ k y low.
+      let here : k < length xs = omega (arith, low, len) in
+      let x : A = element xs k here in
+      sym (score_at xs ys e k x y here) ∙ h k x here
+  picks_across xs ys e len (Some place) h =
+      let x : A = element xs place h.within in
       record {
-        within = omega (arith, within, other);
-        positive = λ x. omega (arith, score_at xs place y x within, h.positive y);
-        greatest = λ k x low.
-            let here : k < length xs = omega (arith, low, other) in
+        within = omega (arith, h.within, len);
+        positive = λ y. omega (arith, score_at xs ys e place x y h.within, h.positive x);
+        greatest = λ k y low.
+            let here : k < length xs = omega (arith, low, len) in
             omega (
               arith,
-              score_at xs k y x here,
-              score_at xs place y x within,
-              h.greatest k y (omega (arith, here, one)),
+              score_at xs ys e k x y here,
+              score_at xs ys e place x y h.within,
+              h.greatest k x here,
             );
-        first = λ k x low.
-            let here : k < length xs = omega (arith, low, within) in
-            omega (arith, score_at xs k y x here, score_at xs place y x within, h.first k y low);
+        first = λ k y low.
+            let here : k < length xs = omega (arith, low, h.within) in
+            omega (arith, score_at xs ys e k x y here, score_at xs ys e place x y h.within, h.first k x low);
       }
 
-  none_across : (xs : List A)
-      → list_all (λ (b : B). f b == 0) (map left xs) ≡ list_all (λ (c : C). g c == 0) (map right xs)
-  none_across [] = refl
-  none_across (x ∷ xs) =
-      ap (λ (n : ℕ). (n == 0) && list_all (λ (b : B). f b == 0) (map left xs)) (same x)
-      ∙ ap (λ (b : Bool). (g (right x) == 0) && b) (none_across xs)
+-- a choice is at the same place in lists of one length
+place_alike : (s : State) (xs ys : List Representation) → length xs ≡ length ys → (choice : Option ℕ)
+    → place_in s xs choice ≡ place_in s ys choice
+place_alike state.Current [] [] len choice = refl
+place_alike state.Current (x ∷ xs) (y ∷ ys) len (Some place) = refl
+place_alike state.Current (x ∷ xs) (y ∷ ys) len None = refl
+place_alike state.Current [] (y ∷ ys) len choice = absurd (omega (arith, len))
+place_alike state.Current (x ∷ xs) [] len choice = absurd (omega (arith, len))
+place_alike s xs ys len choice = refl
 
 -- ---- what a label says
 
-abbrev label_score : Negotiation → LineMap → Label → ℕ
-label_score negotiation fields label =
-    joined
-    (rank_by (quality_by media_type_says) negotiation.media_type (fields (codes "accept"))
-    (Some label.media_type.bytes))
-    (rank_by (quality_by language_says) negotiation.language (fields (codes "accept-language")) None)
-    (rank_by encoding_quality negotiation.coding (fields (codes "accept-encoding"))
+-- by the field lines of Accept, Accept-Language and Accept-Encoding
+abbrev label_score : Negotiation → List Line → List Line → List Line → Label → ℕ
+label_score negotiation accept languages codings label =
+    joined (rank_by (quality_by media_type_says) negotiation.media_type accept (Some label.media_type.bytes))
+    (rank_by (quality_by language_says) negotiation.language languages None)
+    (rank_by encoding_quality negotiation.coding codings
     (Some (option_map_or (λ (value : FieldValue). value.bytes) (coding_value label.coding) (codes "identity"))))
 
 -- what the preconditions see of a file with this label
@@ -116,10 +114,20 @@ validators_by present label = record {
 abbrev pub current_by : ℕ → Label → Target
 current_by present label = Current (validators_by present label)
 
-score_is : (negotiation : Negotiation) (fields : LineMap) (present : ℕ) (x : File)
-    → score negotiation fields (representation_of present x) ≡ label_score negotiation fields (label_of x)
-unfolding score
-score_is negotiation fields present x = refl
+module _ (n : Negotiation) (fields : LineMap) (present : ℕ) where
+  scores_are : (fs : List File)
+      → map (score n fields) (map (representation_of present) fs)
+      ≡ map
+      (label_score n (fields (codes "accept")) (fields (codes "accept-language")) (fields (codes "accept-encoding")))
+      (map label_of fs)
+  unfolding score
+  scores_are [] = refl
+  scores_are (x ∷ fs) =
+      ap
+      (λ (l : List ℕ).
+      label_score n (fields (codes "accept")) (fields (codes "accept-language")) (fields (codes "accept-encoding"))
+      (label_of x) ∷ l)
+      (scores_are fs)
 
 -- ---- two requests
 
@@ -131,15 +139,9 @@ pub record AskAlike (f g : LineMap) : Type 0 where
   pub accept_language : f (codes "accept-language") ≡ g (codes "accept-language")
   pub accept_encoding : f (codes "accept-encoding") ≡ g (codes "accept-encoding")
 
--- the place of what is selected, where this is the place for no choice
-abbrev place_if : State → Option ℕ → Option ℕ → Option ℕ
-place_if state.Current other (Some place) = Some place
-place_if state.Current other None = other
-place_if s other choice = None
-
-first_of_map : {A B : Type 0} (of : A → B) (xs : List A) → first_place (map of xs) ≡ first_place xs
-first_of_map of [] = refl
-first_of_map of (x ∷ xs) = refl
+no_options : (b : Bool) → (b && false) ≡ false
+no_options true = refl
+no_options false = refl
 
 module _ (site : Resource) (st : State) (v w : Vec Representation) (now later : ℕ) (fs gs : List File)
     (mine : v.items ≡ map (representation_of now) fs) (theirs : w.items ≡ map (representation_of later) gs)
@@ -157,39 +159,23 @@ module _ (site : Resource) (st : State) (v w : Vec Representation) (now later : 
   abbrev n : Negotiation
   n = site.negotiation
 
-  score_then : (x : File) → score n f (representation_of now x) ≡ label_score n f (label_of x)
-  score_then x = score_is n f now x
+  scores : map (score n f) v.items ≡ map (score n g) w.items
+  scores =
+      ap (map (score n f)) mine ∙ scores_are n f now fs
+      ∙ (λ i. map (label_score n (same.accept i) (same.accept_language i) (same.accept_encoding i)) (labels i))
+      ∙ sym (scores_are n g later gs) ∙ sym (ap (map (score n g)) theirs)
 
-  score_now : (x : File) → label_score n f (label_of x) ≡ score n g (representation_of later x)
-  score_now x =
-      (λ i. joined
-      (rank_by (quality_by media_type_says) n.media_type (same.accept i) (Some x.media_type.bytes))
-      (rank_by (quality_by language_says) n.language (same.accept_language i) None)
-      (rank_by encoding_quality n.coding (same.accept_encoding i)
-      (Some (option_map_or (λ (value : FieldValue). value.bytes) (coding_value x.coding) (codes "identity")))))
-      ∙ sym (score_is n g later x)
-
-  same_length : length (map (representation_of now) fs) ≡ length (map (representation_of later) gs)
-  same_length =
-      length-map fs (representation_of now) ∙ sym (length-map fs label_of) ∙ ap length labels
-      ∙ length-map gs label_of ∙ sym (length-map gs (representation_of later))
-
-  same_none : are_unacceptable n f (map (representation_of now) fs)
-      ≡ are_unacceptable n g (map (representation_of later) gs)
-  same_none =
-      none_across (score n f) (label_score n f) (representation_of now) label_of score_then fs
-      ∙ ap (λ (ls : List Label). list_all (λ (l : Label). label_score n f l == 0) ls) labels
-      ∙ none_across (label_score n f) (score n g) label_of (representation_of later) score_now gs
+  same_length : length v.items ≡ length w.items
+  same_length = sym (length-map v.items (score n f)) ∙ ap length scores ∙ length-map w.items (score n g)
 
   unacceptable_same : is_unacceptable first (reading protocol authority get f)
       ≡ is_unacceptable second (reading protocol authority get g)
   unfolding is_unacceptable
   unacceptable_same =
-      rw (mine, theirs, same_length, same_none)
-
-  no_options : (b : Bool) → (b && false) ≡ false
-  no_options true = refl
-  no_options false = refl
+      let none : are_unacceptable n f v.items ≡ are_unacceptable n g w.items =
+      sym (list_all-map (λ (k : ℕ). k == 0) (score n f) v.items)
+      ∙ ap (list_all (λ (k : ℕ). k == 0)) scores ∙ list_all-map (λ (k : ℕ). k == 0) (score n g) w.items in
+      rw (same_length, none)
 
   -- what doesn't keep the first from being performed doesn't keep the second from it
   still : (reason : Reason) → applies first (reading protocol authority get f) reason ≡ false
@@ -226,33 +212,11 @@ module _ (site : Resource) (st : State) (v w : Vec Representation) (now later : 
       (applies second (reading protocol authority again g))
       (λ reason. sym (read_as_get second protocol authority g again read_again reason)) Admitted theirs_get
 
-  -- the first place is chosen for none, if there is one
-  place_is : {A : Type 0} (of : A → Representation) (s : State) (xs : List A) (choice : Option ℕ)
-      → place_in s (map of xs) choice ≡ place_if s (first_place xs) choice
-  place_is of state.Current xs (Some place) = refl
-  place_is of state.Current [] None = refl
-  place_is of state.Current (x ∷ xs) None = refl
-  place_is of s xs choice = refl
-
-  same_first : first_place fs ≡ first_place gs
-  same_first = sym (first_of_map label_of fs) ∙ ap first_place labels ∙ first_of_map label_of gs
-
   pub selected_again : (place : Option ℕ) → IsSelected first f place → IsSelected second g place
   selected_again place h = record {
     choice = h.choice;
-    picks =
-        rw theirs
-        (picks_across (label_score n f) (score n g) label_of (representation_of later) score_now gs h.choice
-        (rw labels at
-        (picks_across (score n f) (label_score n f) (representation_of now) label_of score_then fs h.choice
-        (rw mine at h.picks))));
-    is =
-        h.is
-        ∙ ap (λ (items : List Representation). place_in st items h.choice) mine
-        ∙ place_is (representation_of now) st fs h.choice
-        ∙ ap (λ (o : Option ℕ). place_if st o h.choice) same_first
-        ∙ sym (place_is (representation_of later) st gs h.choice)
-        ∙ ap (λ (items : List Representation). place_in st items h.choice) (sym theirs);
+    picks = picks_across (score n f) (score n g) v.items w.items scores same_length h.choice h.picks;
+    is = h.is ∙ place_alike st v.items w.items same_length h.choice;
   }
 
 -- ---- the file whose tag is sent
@@ -268,52 +232,47 @@ bare_untagged s = refl
 abbrev pub target_at : State → List Representation → Option ℕ → Target
 target_at s items place = target_of s (at_place items place)
 
-abbrev pub label_at : List File → Option ℕ → Option Label
-label_at files place = option_map label_of (file_at files place)
+at_file : (present : ℕ) (files : List File) (place : Option ℕ)
+    → at_place (map (representation_of present) files) place
+    ≡ option_map (representation_of present) (file_at files place)
+at_file present files None = refl
+at_file present files (Some place) = slice_get-map (representation_of present) files place
 
-target_is : (s : State) (files : List File) (place : ℕ) (found : Option File) → slice_get files place ≡ found
-    → (present : ℕ)
-    → target_at s (map (representation_of present) files) (Some place)
-    ≡ target_of s (option_map (representation_of present) found)
-target_is s files place found e present =
-    ap (target_of s)
-    (slice_get-map (representation_of present) files place ∙ ap (option_map (representation_of present)) e)
-
-pub target_of_label : (s : State) (files : List File) (place : Option ℕ) (label : Label)
-    → label_at files place ≡ Some label → (present : ℕ)
-    → target_at s (map (representation_of present) files) place ≡ current_by present label
-target_of_label s files None label e present = absurd (cc e)
-target_of_label s files (Some place) label e present = by (slice_get files place) refl e
-  where
-    by : (found : Option File) → slice_get files place ≡ found → option_map label_of found ≡ Some label
-        → target_at s (map (representation_of present) files) (Some place) ≡ current_by present label
-    by None is of = absurd (cc of)
-    by (Some file) is of =
-        let same : label_of file ≡ label = cc of in
-        target_is s files place (Some file) is present ∙ ap (current_by present) same
+pub target_of_label : (s : State) (files : List File) (place : Option ℕ) (file : File)
+    → file_at files place ≡ Some file → (present : ℕ)
+    → target_at s (map (representation_of present) files) place ≡ current_by present (label_of file)
+target_of_label s files place file e present =
+    ap (target_of s) (at_file present files place ∙ ap (option_map (representation_of present)) e)
 
 pub file_of_tag : (s : State) (files : List File) (place : Option ℕ) (present : ℕ) (tag : Line)
     → tag_lines (target_at s (map (representation_of present) files) place) ≡ tag ∷ []
     → (file : File) × (file_at files place ≡ Some file)
-file_of_tag s files None present tag e = let clash : [] ≡ tag ∷ [] = sym (bare_untagged s) ∙ e in absurd (cc clash)
-file_of_tag s files (Some place) present tag e = by (slice_get files place) refl
+file_of_tag s files place present tag e =
+    by (file_at files place) refl (rw (at_file present files place) at e)
   where
-    by : (found : Option File) → slice_get files place ≡ found
-        → (file : File) × (slice_get files place ≡ Some file)
-    by (Some file) is = (file, is)
-    by None is =
-        let clash : [] ≡ tag ∷ [] =
-        sym (ap tag_lines (target_is s files place None is present) ∙ bare_untagged s) ∙ e in
-        absurd (cc clash)
+    by : (found : Option File) → file_at files place ≡ found
+        → tag_lines (target_of s (option_map (representation_of present) (file_at files place))) ≡ tag ∷ []
+        → (file : File) × (file_at files place ≡ Some file)
+    by (Some file) is e = (file, is)
+    by None is e =
+        let clash : [] ≡ tag ∷ [] = sym (bare_untagged s) ∙ (rw is at e) in absurd (cc clash)
 
 -- files with the same labels have the same label at a place
-pub same_label : (fs gs : List File) (place : Option ℕ) → map label_of fs ≡ map label_of gs
-    → label_at fs place ≡ label_at gs place
-same_label fs gs None labels = refl
-same_label fs gs (Some place) labels =
-    sym (slice_get-map label_of fs place)
-    ∙ ap (λ (ls : List Label). slice_get ls place) labels
-    ∙ slice_get-map label_of gs place
+pub labelled_alike : (fs gs : List File) (place : Option ℕ) (file : File) → map label_of fs ≡ map label_of gs
+    → file_at fs place ≡ Some file → (other : File) × (file_at gs place ≡ Some other) × (label_of other ≡ label_of file)
+labelled_alike fs gs None file labels e = absurd (cc e)
+labelled_alike fs gs (Some place) file labels e =
+    by (slice_get gs place) refl
+    (sym (slice_get-map label_of gs place) ∙ ap (λ (ls : List Label). slice_get ls place) (sym labels)
+    ∙ slice_get-map label_of fs place ∙ ap (option_map label_of) e)
+  where
+    by : (found : Option File) → slice_get gs place ≡ found
+        → option_map label_of (slice_get gs place) ≡ Some (label_of file)
+        → (other : File) × (slice_get gs place ≡ Some other) × (label_of other ≡ label_of file)
+    by None is h = let clash : None ≡ Some (label_of file) = rw is at h in absurd (cc clash)
+    by (Some other) is h =
+        let same : Some (label_of other) ≡ Some (label_of file) = rw is at h in
+        let label : label_of other ≡ label_of file = cc same in (other, is, label)
 
 -- ---- the conditions on the state
 
@@ -479,19 +438,13 @@ element_of false opaque = Quoted (map Plain opaque) ∷ []
 
 element_is : (is_weak : Bool) (opaque : List ℕ)
     → element_text (element_of is_weak opaque) ≡ weak_prefix is_weak ++ quote ∷ (opaque ++ quote ∷ [])
-element_is true opaque =
-    ap (λ (t : List ℕ). 87 ∷ 47 ∷ quote ∷ t)
-    (append-nil (flat_map octet_text (map Plain opaque) ++ quote ∷ [])
-    ∙ ap (λ (t : List ℕ). t ++ quote ∷ []) (octets_text opaque))
-element_is false opaque =
-    ap (λ (t : List ℕ). quote ∷ t)
-    (append-nil (flat_map octet_text (map Plain opaque) ++ quote ∷ [])
-    ∙ ap (λ (t : List ℕ). t ++ quote ∷ []) (octets_text opaque))
+element_is true opaque = simp (append_assoc, octets_text opaque)
+element_is false opaque = simp (append_assoc, octets_text opaque)
 
 element_valid : (is_weak : Bool) (opaque : List ℕ) → list_all is_tag_byte opaque ≡ true
     → list_all (is_element comma false) (element_of is_weak opaque ∷ []) ≡ true
-element_valid true opaque all = ap (λ (b : Bool). (b && true) && true) (octets_valid opaque all)
-element_valid false opaque all = ap (λ (b : Bool). (b && true) && true) (octets_valid opaque all)
+element_valid true opaque all = simp (octets_valid opaque all)
+element_valid false opaque all = simp (octets_valid opaque all)
 
 -- ---- it is one member
 
@@ -568,13 +521,7 @@ module _ (parse : ParsesOneWay) (tag : Line) (parts : TagParts) (is : IsTag tag 
       → (is_star (tag ∷ []) || (are_tags (tag ∷ []) && list_any test (field_members false (tag ∷ [])))) ≡ true
   named_by test passes =
       let one = one_member parse tag parts is in
-      let tags : are_tags (tag ∷ []) ≡ true =
-      ap (list_all is_tag_member) one ∙ ap (λ (b : Bool). b && true) (is_tag-true tag parts is) in
-      let listed : list_any test (field_members false (tag ∷ [])) ≡ true =
-      ap (list_any test) one ∙ ap (λ (b : Bool). b || false) passes in
-      ap (λ (b : Bool). is_star (tag ∷ []) || (b && list_any test (field_members false (tag ∷ [])))) tags
-      ∙ ap (λ (b : Bool). is_star (tag ∷ []) || b) listed
-      ∙ or-true (is_star (tag ∷ []))
+      simp (one, is_tag-true tag parts is, passes, or-true)
 
   module _ (validators : Validators) (own : lines_sent (λ (t : FieldValue). t.bytes) validators.etag ≡ tag ∷ []) where
     -- the field line of a representation's own tag names it
@@ -595,84 +542,23 @@ module _ (parse : ParsesOneWay) (tag : Line) (parts : TagParts) (is : IsTag tag 
 abbrev pub etag : List ℕ
 etag = codes "etag"
 
-pub etag_is_of_answer : IsOfAnswer etag
-etag_is_of_answer =
-    record { kept = refl; date = refl; sniff = refl; connection = refl; cache = refl; media_type = refl }
-
 -- ---- which fields have no tag
-
-vary_untagged : (lines : List Line) → is_named etag (vary_fields lines) ≡ false
-vary_untagged [] = refl
-vary_untagged (line ∷ lines) = refl
-
-policy_untagged : (policy : Policy) (pre : Bool) (line : Option Line) (lines : List Line)
-    → is_named etag (grant_fields policy pre line ++ vary_sent policy lines) ≡ false
-policy_untagged policy pre line lines = by (is_some policy.origins) (covers_origin lines)
-  where
-    by : (b c : Bool)
-        → is_named etag
-        (grant_fields policy pre line
-        ++ (if b then (if c then [] else (codes "vary", lines ++ codes "origin" ∷ []) ∷ []) else []))
-        ≡ false
-    by true true = refl
-    by true false = refl
-    by false c = refl
 
 shared_untagged : (cors : Option Policy) (request : Asked) (lines : List Line) (fields : List Field)
     → IsShared cors request lines fields → is_named etag fields ≡ false
 shared_untagged None request lines fields none = ap (is_named etag) none
 shared_untagged (Some policy) request lines fields shares =
-    ap (is_named etag) (shares.2 ∙ shares.1.fields)
-    ∙ policy_untagged policy (is_preflight shares.0.kind) (granted policy (request.fields (codes "origin"))) lines
+    ap (is_named etag) (shares.2 ∙ shares.1.fields) ∙ by (is_some policy.origins) (covers_origin lines)
+  where
+    by : (b c : Bool)
+        → is_named etag (cond b (cond c [] ((codes "vary", lines ++ codes "origin" ∷ []) ∷ [])) []) ≡ false
+    by true true = refl
+    by true false = refl
+    by false c = refl
 
 two_untagged : (xs ys : List Field) → is_named etag xs ≡ false → is_named etag ys ≡ false
     → is_named etag (xs ++ ys) ≡ false
-two_untagged xs ys e f =
-    list_any-append (λ (field : Field). bytes_eq field.0 etag) xs ys ∙ ap (λ (b : Bool). b || is_named etag ys) e ∙ f
-
-offered_untagged : (patch post : Option MethodRule)
-    → is_named etag (types_fields (codes "accept-patch") patch ++ types_fields (codes "accept-post") post) ≡ false
-offered_untagged None None = refl
-offered_untagged None (Some post) = refl
-offered_untagged (Some patch) None = refl
-offered_untagged (Some patch) (Some post) = refl
-
-accept_untagged : (is_patch : Bool) (own : Option MethodRule)
-    → is_named etag
-    (types_fields (codes "accept") own ++ (if is_patch then types_fields (codes "accept-patch") own else [])) ≡ false
-accept_untagged true None = refl
-accept_untagged true (Some own) = refl
-accept_untagged false None = refl
-accept_untagged false (Some own) = refl
-
-codings_untagged : (own : Option MethodRule) → is_named etag (accept_encoding_fields own) ≡ false
-codings_untagged None = refl
-codings_untagged (Some own) = refl
-
-denied_untagged : (why : Option Denial) → is_named etag (denied_fields why) ≡ false
-denied_untagged None = refl
-denied_untagged (Some (denials.Unauthenticated challenge)) = refl
-denied_untagged (Some denials.Forbidden) = refl
-denied_untagged (Some (denials.TooManyRequests None)) = refl
-denied_untagged (Some (denials.TooManyRequests (Some seconds))) = refl
-denied_untagged (Some (denials.Unavailable None)) = refl
-denied_untagged (Some (denials.Unavailable (Some seconds))) = refl
-
-location_untagged : (s : State) → is_named etag (location_fields s) ≡ false
-location_untagged (state.Moved redirect location) = refl
-location_untagged s = refl
-
-module _ (resource : Resource) (request : Asked) where
-  reason_untagged : (reason : Reason) → is_named etag (reason_fields resource request reason) ≡ false
-  reason_untagged Denied = denied_untagged request.denied
-  reason_untagged MethodNotAllowed = refl
-  reason_untagged Options =
-      offered_untagged (rule_for resource.rules.items (codes "PATCH")) (rule_for resource.rules.items (codes "POST"))
-  reason_untagged Moved = location_untagged resource.state
-  reason_untagged UnsupportedMediaType =
-      accept_untagged (bytes_eq request.method (codes "PATCH")) (rule resource request)
-  reason_untagged UnsupportedCoding = codings_untagged (rule resource request)
-  reason_untagged reason = refl
+two_untagged xs ys e f = simp (list_any-append, e, f)
 
 -- ---- the field that has the tag
 
@@ -683,24 +569,6 @@ tail_of (field ∷ fields) = fields
 abbrev pub sent_tag : Plan → Target → List Line
 sent_tag plan target = lines_sent (λ (tag : FieldValue). tag.bytes) (etag_sent plan (etag_of target))
 
-removed_untagged : (plan : Plan) (known : Bool) → is_named etag (fields_removed plan known) ≡ false
-removed_untagged plan known = by (keeps_encoding plan known) (is_whole plan)
-  where
-    by : (b c : Bool)
-        → is_named etag
-        ((if b then [] else (codes "content-encoding", []) ∷ [])
-        ++ (if c then [] else (codes "content-digest", []) ∷ (codes "content-md5", []) ∷ []))
-        ≡ false
-    by true true = refl
-    by true false = refl
-    by false true = refl
-    by false false = refl
-
-metadata_untagged : (keeps : Bool) (representation : Representation)
-    → is_named etag (metadata_fields keeps representation) ≡ false
-metadata_untagged true representation = refl
-metadata_untagged false representation = refl
-
 planned_tag : (present : ℕ) (plan : Plan) (target : Target) (content : Content) (multipart : FieldValue)
     (fields : LineMap) (representation : Option Representation)
     → HasField etag (sent_tag plan target)
@@ -710,14 +578,14 @@ planned_tag present plan target content multipart fields None = record {
   after = tail_of (fields_sent present plan (is_known_by fields) target content multipart);
   are = refl;
   first = refl;
-  last = removed_untagged plan (is_known_by fields);
+  last = sides_unnamed etag refl _ (removed_side (keeps_encoding plan (is_known_by fields)) (is_whole plan));
 }
 planned_tag present plan target content multipart fields (Some representation) = record {
   before = metadata_fields (describes plan (is_known_by fields)) representation;
   after = tail_of (fields_sent present plan (is_known_by fields) target content multipart);
   are = refl;
-  first = metadata_untagged (describes plan (is_known_by fields)) representation;
-  last = removed_untagged plan (is_known_by fields);
+  first = sides_unnamed etag refl _ (metadata_side (describes plan (is_known_by fields)) representation);
+  last = sides_unnamed etag refl _ (removed_side (keeps_encoding plan (is_known_by fields)) (is_whole plan));
 }
 
 -- ---- reads
@@ -775,7 +643,7 @@ module _ (present : ℕ) (resource : Resource) (asked : Asked) where
     after_untagged : is_named etag after_own ≡ false
     after_untagged =
         two_untagged (vary_fields (vary_lines resource answer.reason)) a.shared
-        (vary_untagged (vary_lines resource answer.reason))
+        (sides_unnamed etag refl _ (vary_side (vary_lines resource answer.reason)))
         (shared_untagged resource.cors asked (vary_lines resource answer.reason) a.shared a.is_shared)
 
     given_are : encoded_fields answer.fields.items ≡ a.own ++ after_own
@@ -786,8 +654,14 @@ module _ (present : ℕ) (resource : Resource) (asked : Asked) where
         → lines_in (headers_sent has_policy (encoded_fields answer.fields.items)) etag ≡ lines
     tag_given has_policy lines h =
         ap (λ (fs : List Field). lines_in (headers_sent has_policy fs) etag) given_are
-        ∙ sent-one etag has_policy lines (a.own ++ after_own)
-        (HasField-append etag lines a.own after_own h after_untagged)
+        ∙ HasField-sent etag has_policy lines (a.own ++ after_own)
+        (record {
+          before = h.before;
+          after = h.after ++ after_own;
+          are = rw h.are (simp append_assoc);
+          first = h.first;
+          last = two_untagged h.after after_own h.last after_untagged;
+        })
 
     none_given : (has_policy : Bool) → is_named etag a.own ≡ false
         → lines_in (headers_sent has_policy (encoded_fields answer.fields.items)) etag ≡ []
@@ -807,12 +681,6 @@ module _ (present : ℕ) (resource : Resource) (asked : Asked) where
         resource.boundary asked.fields representation)
 
   module _ (read : IsGetOrHead asked.method) where
-    -- a read that is performed finds the target as the request would have it
-    performed_kept : (target : Target) (current : Validators) → target ≡ Current current
-        → Decide target precondition.Perform → StateIsKept present asked.fields target
-    performed_kept target current is h =
-        (h.conditional (rw is (never_ignored current asked.method read))).0
-
     -- ---- an answer with a tag
 
     -- a response with a tag has that of the target, which is as the request would have it
@@ -823,7 +691,8 @@ module _ (present : ℕ) (resource : Resource) (asked : Asked) where
         ((h.conditional (λ is. let no = h.unconditional is in absurd (cc no))).0, e)
     tag_of_plan target len limits tag Failed h e = absurd (cc e)
     tag_of_plan target len limits tag Unsatisfiable h e = absurd (cc e)
-    tag_of_plan target len limits tag plan h e = (performed_kept target h.0 h.1.is_current h.1.performs, e)
+    tag_of_plan target len limits tag plan h e =
+        ((h.1.performs.conditional (rw h.1.is_current (never_ignored h.0 asked.method read))).0, e)
 
     module _ (answer : Answer) (a : IsAnswer present resource asked answer) (has_policy : Bool) (tag : Line)
         (told : lines_in (headers_sent has_policy (encoded_fields answer.fields.items)) etag ≡ tag ∷ []) where
@@ -847,7 +716,7 @@ module _ (present : ℕ) (resource : Resource) (asked : Asked) where
           record {
             place = place;
             selected = selected;
-            first = subst (IsFirst (applies resource asked)) admits a.first;
+            first = rw admits at a.first;
             kept = both.0;
             tagged = both.1;
             plan = response.plan;
@@ -858,7 +727,9 @@ module _ (present : ℕ) (resource : Resource) (asked : Asked) where
           → GivesIf admitted present resource asked answer.reason answer.status answer.sends a.own
           → IsTagged tag answer.sends
       tagged_by false is h =
-          absurd (no_tag (ap (is_named etag) h.has_fields ∙ reason_untagged resource asked answer.reason))
+          absurd
+          (no_tag
+          (ap (is_named etag) h.has_fields ∙ sides_unnamed etag refl _ (reason_side resource asked answer.reason)))
       tagged_by true is h =
           tagged_at (admitted_is answer.reason is) h.place h.selected h.goes.response h.goes.answered
           h.goes.has_fields h.goes.sends
@@ -868,17 +739,13 @@ module _ (present : ℕ) (resource : Resource) (asked : Asked) where
 
     -- ---- the answer to a request whose preconditions are evaluated
 
-    other_result : (target : Target) (result other : Precondition) → Decide target result → Decide target other
-        → result ≡ other
-    other_result target result other h k = one_answer present asked.fields target asked.method result other h k
-
     only_not_modified : (target : Target) (len : ℕ) (limits : RangeLimits) (plan : Plan)
         → Decide target precondition.NotModified → IsPlanFor target len limits plan → plan ≡ NotModified
     only_not_modified target len limits NotModified h p = refl
     only_not_modified target len limits Failed h p =
-        let no = other_result target precondition.NotModified precondition.Failed h p in absurd (cc no)
+        let no = one_answer present asked.fields target asked.method _ _ h p in absurd (cc no)
     only_not_modified target len limits plan h p =
-        let no = other_result target precondition.NotModified precondition.Perform h p.1.performs in absurd (cc no)
+        let no = one_answer present asked.fields target asked.method _ _ h p.1.performs in absurd (cc no)
 
     other_status : (target : Target) (len : ℕ) (limits : RangeLimits) (plan : Plan)
         → ¬ (Decide target precondition.Failed) → IsPlanFor target len limits plan → status_of plan ≢ 412
@@ -906,8 +773,7 @@ module _ (present : ℕ) (resource : Resource) (asked : Asked) where
           → answer.status ≡ status_sent response → answer.sends ≡ is_sent place response
           → a.own ≡ response_fields asked.fields here response → IsUnmodified answer a.own place
       unmodified_by decided None answered status sends fields =
-          let no = other_result (seen_at place) precondition.NotModified precondition.Perform decided answered.0 in
-          absurd (cc no)
+          let no = one_answer present asked.fields (seen_at place) asked.method _ _ decided answered.0 in absurd (cc no)
       unmodified_by decided (Some response) answered status sends fields =
           let plan : response.plan ≡ NotModified =
           only_not_modified (seen_at place) (divisible_len (content_of here)) (limits_of (content_of here))
@@ -989,7 +855,7 @@ module _ (now : Option ℕ) (left : ℕ) (site : Site) (look : List ℕ → Entr
   etag_lines : lines_in (fields_of response) etag
       ≡ lines_in (headers_sent (is_some site.resource.cors) (encoded_fields x.answer.fields.items)) etag
   etag_lines =
-      lines_in-carried etag etag_is_of_answer now left site x.found.files.items
+      lines_in-carried etag refl now left site x.found.files.items
       (status_for x.found.status x.answer.reason x.answer.status) x.answer.sends
       (encoded_fields x.answer.fields.items) response x.carries
 
@@ -1032,10 +898,9 @@ kept_tag now left site look request response kept tag read x told =
     let opens : Some (InMemory kept) ≡ Some found.0.source =
     x.opens ∙ ap (source_sent files) tagged.sends ∙ ap source_of found.1 in
     let memory : InMemory kept ≡ found.0.source = cc opens in
-    let labelled : label_at files tagged.place ≡ Some (label_of found.0) = ap (option_map label_of) found.1 in
     let own : digest_tag kept ∷ [] ≡ tag ∷ [] =
     ap (λ (s : Source). lines_sent (λ (t : FieldValue). t.bytes) (tag_of s)) memory
-    ∙ sym (ap tag_lines (target_of_label st files tagged.place (label_of found.0) labelled (clock now files)))
+    ∙ sym (ap tag_lines (target_of_label st files tagged.place found.0 found.1 (clock now files)))
     ∙ seen in
     let same : digest_tag kept ≡ tag = cc own in (
       sym same,
@@ -1149,21 +1014,19 @@ module _ (now later : Option ℕ) (left more : ℕ) (site : Site) (look other : 
   abbrev label : Label
   label = label_of found.0
 
-  labelled_then : label_at fs tagged.place ≡ Some label
-  labelled_then = ap (option_map label_of) found.1
-
-  labelled_now : label_at gs tagged.place ≡ Some label
-  labelled_now = sym (same_label fs gs tagged.place alike.labels) ∙ labelled_then
+  found_now : (file : File) × (file_at gs tagged.place ≡ Some file) × (label_of file ≡ label)
+  found_now = labelled_alike fs gs tagged.place found.0 alike.labels found.1
 
   then_seen : target_at st v.items tagged.place ≡ current_by (clock now fs) label
   then_seen =
       ap (λ (items : List Representation). target_at st items tagged.place) x.described.are
-      ∙ target_of_label st fs tagged.place label labelled_then (clock now fs)
+      ∙ target_of_label st fs tagged.place found.0 found.1 (clock now fs)
 
   now_seen : target_at st w.items tagged.place ≡ current_by (clock later gs) label
   now_seen =
       ap (λ (items : List Representation). target_at st items tagged.place) y.described.are
-      ∙ target_of_label st gs tagged.place label labelled_now (clock later gs)
+      ∙ target_of_label st gs tagged.place found_now.0 found_now.1 (clock later gs)
+      ∙ ap (current_by (clock later gs)) found_now.2
 
   own_tag : lines_sent (λ (t : FieldValue). t.bytes) label.tag ≡ tag ∷ []
   own_tag = sym (ap tag_lines then_seen) ∙ tagged.tagged
@@ -1298,8 +1161,8 @@ unchanged : (fields : LineMap) → fields (codes "range") ≡ [] → (name : Lis
 unchanged fields none name = by (bytes_eq (codes "range") name) refl
   where
     by : (b : Bool) → bytes_eq (codes "range") name ≡ b → remove fields (codes "range") name ≡ fields name
-    by true e = rw e (sym (subst (λ (n : List ℕ). fields n ≡ []) ((bytes_eq-Decides (codes "range") name).0 e) none))
-    by false e = rw e refl
+    by true e = rw (e, ← ((bytes_eq-Decides (codes "range") name).0 e), none)
+    by false e = rw e
 
 get_is : (asked : Asked) → asked.method ≡ codes "GET" → asked.fields (codes "range") ≡ [] → get_of asked ≡ asked
 get_is asked is none = λ i. record {
@@ -1342,26 +1205,34 @@ module _ (get head : Request (List ℕ)) (is : IsHeadOf get head) where
     },
   )
 
+-- what is found, decided and sent answers another request, or a request at another store, where it is that there too
+pub answered_as : {now : Option ℕ} {left : ℕ} {site : Site} {has also : List ℕ → Entry → Type 0}
+    {request other : Request (List ℕ)} {response : Response} {source : Option Source}
+    (x : IsAnswerAt now left site has request response source)
+    → LeadsTo site.resource.negotiation.coding also (head_of other).uri x.found → (asked : Asked) → Asks other asked
+    → Decides (clock now x.found.files.items) (string_bytes site.divider) x.found.files.items x.resource asked x.answer
+    → IsAnswerAt now left site also other response source
+answered_as x leads asked asks decides = record {
+  found = x.found;
+  leads = leads;
+  resource = x.resource;
+  described = x.described;
+  asked = asked;
+  asks = asks;
+  answer = x.answer;
+  decides = decides;
+  carries = x.carries;
+  opens = x.opens;
+}
+
 pub head_answered : AsHead → (now : Option ℕ) (left : ℕ) (site : Site) (look : List ℕ → Entry)
     (get head : Request (List ℕ)) (response : Response) (source : Option Source) → IsHeadOf get head
     → IsAnswerAt now left site (has_at look) get response source
     → IsAnswerAt now left site (has_at look) head response source
 head_answered law now left site look get head response source is x =
-    let none : x.asked.fields (codes "range") ≡ []
-    = ap (λ (fields : LineMap). fields (codes "range")) x.asks.2.fields ∙ is.no_range in
-    record {
-      found = x.found;
-      leads = rw is.uri x.leads;
-      resource = x.resource;
-      described = x.described;
-      asked = as_head x.asked;
-      asks = asks_head get head is x.asked x.asks;
-      answer = x.answer;
-      decides = decides_head law (clock now x.found.files.items) x.resource x.asked (x.asks.2.method ∙ is.is_get) none
-          (string_bytes site.divider) x.found.files.items x.answer x.decides;
-      carries = x.carries;
-      opens = x.opens;
-    }
+    answered_as x (rw is.uri x.leads) (as_head x.asked) (asks_head get head is x.asked x.asks)
+    (decides_head law (clock now x.found.files.items) x.resource x.asked (x.asks.2.method ∙ is.is_get)
+    (rw x.asks.2.fields is.no_range) (string_bytes site.divider) x.found.files.items x.answer x.decides)
 
 -- ---- a store that has the same where the request looks
 
@@ -1389,17 +1260,13 @@ module _ (look other : List ℕ → Entry) where
     finds : (named : List ℕ) (entry : Entry) → Names (uri_path uri) (Some named)
         → FindsEntry negotiates (has_at look) uri named entry found
         → FindsEntry negotiates (has_at other) uri named entry found
-    finds named Missing names h = h
-    finds named Forbidden names h = h
-    finds named Unavailable names h = h
-    finds named Folder names h = h
-    finds named (Listed listing) names h = h
     finds named (Readable file) names h = (
       h.0,
       h.1,
       contents negotiates named file found.files.items
           (λ coding is. alike.beside named coding is names) h.2,
     )
+    finds named entry names h = h
 
     pub leads : LeadsTo negotiates (has_at look) uri found → LeadsTo negotiates (has_at other) uri found
     leads x =
@@ -1429,17 +1296,11 @@ module _ (name : List ℕ) where
           (m name)
       by true e true f =
           let same : field.0 ≡ name = (bytes_eq-Decides field.0 name).0 e in
-          let replaced : is_named field.0 fields ≡ true = ap (λ (n : List ℕ). is_named n fields) same ∙ f in
-          sym (ap (λ (b : Bool). lines_in (lines_unless b field ++ headers_set fields) name) replaced)
+          let replaced : is_named field.0 fields ≡ true = rw same f in simp replaced
       by true e false f =
           let same : field.0 ≡ name = (bytes_eq-Decides field.0 name).0 e in
-          let stays : is_named field.0 fields ≡ false = ap (λ (n : List ℕ). is_named n fields) same ∙ f in
-          sym
-          (ap (λ (b : Bool). lines_in (lines_unless b field ++ headers_set fields) name) stays
-          ∙ lines_in-append name (lines_under field) (headers_set fields)
-          ∙ ap (λ (ls : List Line). ls ++ lines_in (headers_set fields) name) (lines_of_same name field.0 field.1 e)
-          ∙ ap (λ (ls : List Line). field.1 ++ ls) (sent-other name true fields f)
-          ∙ append-nil field.1)
+          let stays : is_named field.0 fields ≡ false = rw same f in
+          simp (stays, lines_in-append, lines_of_same name field.0 field.1 e, sent-other name true fields f, append-nil)
       by false e true f =
           sym
           (lines_in-other name (lines_unless (is_named field.0 fields) field) (headers_set fields)
@@ -1451,10 +1312,8 @@ module _ (name : List ℕ) where
     where
       by : (b : Bool) → is_named name fields ≡ b
           → lines_in (headers_set fields) name ≡ cond (is_named name fields) (lines_in (headers_set fields) name) []
-      by true e = sym (ap (λ (b : Bool). cond b (lines_in (headers_set fields) name) []) e)
-      by false e =
-          sent-other name true fields e
-          ∙ sym (ap (λ (b : Bool). cond b (lines_in (headers_set fields) name) []) e)
+      by true e = simp e
+      by false e = simp (e, sent-other name true fields e)
 
 -- ---- what a browser reads of a response to a preflight
 
@@ -1492,13 +1351,7 @@ module _ (resource : Resource) (asked : Asked) (policy : Policy) (has : resource
     (host : has_host asked.protocol (asked.fields (codes "host")) ≡ true)
     (own : is_misdirected resource asked ≡ false) where
   asks_leave : applies resource asked Preflight ≡ true
-  asks_leave =
-      ap (λ (cors : Option Policy). is_some cors && is_preflight_request asked.method asked.fields) has
-      ∙ ap (λ (m : List ℕ). is_preflight_request m asked.fields) asks.options
-      ∙ ap
-      (λ (lines : List Line). is_present lines && is_present (asked.fields (codes "access-control-request-method")))
-      asks.origin
-      ∙ ap is_present asks.asked
+  asks_leave = simp (has, asks.options, asks.origin, asks.asked)
 
   no_other : (b : Bool) (reason : Reason) → b ≡ true → b ≡ false → reason ≡ Preflight
   no_other b reason t f = absurd (cc (t, f))
@@ -1555,27 +1408,19 @@ module _ (now : Option ℕ) (left : ℕ) (site : Site) (look : List ℕ → Entr
   abbrev given : List Field
   given = encoded_fields x.answer.fields.items
 
-  read_as_set : (name : List ℕ) → IsOfAnswer name → lines_in (fields_of response) name ≡ set_all nothing given name
-  read_as_set name free =
-      lines_in-carried name free now left site x.found.files.items
+  read_as_set : (name : List ℕ) → is_kept name ≡ true → lines_in (fields_of response) name ≡ set_all nothing given name
+  read_as_set name kept =
+      lines_in-carried name kept now left site x.found.files.items
       (status_for x.found.status x.answer.reason x.answer.status) x.answer.sends given response x.carries
       ∙ ap (λ (cors : Option Policy). lines_in (headers_sent (is_some cors) given) name) has
       ∙ sent_as_set name given
 
   read_alike : IsReadAlike (lines_in (fields_of response)) (set_all nothing given)
   read_alike = record {
-    origin =
-        read_as_set (codes "access-control-allow-origin")
-        (record { kept = refl; date = refl; sniff = refl; connection = refl; cache = refl; media_type = refl });
-    credentials =
-        read_as_set (codes "access-control-allow-credentials")
-        (record { kept = refl; date = refl; sniff = refl; connection = refl; cache = refl; media_type = refl });
-    methods =
-        read_as_set (codes "access-control-allow-methods")
-        (record { kept = refl; date = refl; sniff = refl; connection = refl; cache = refl; media_type = refl });
-    names =
-        read_as_set (codes "access-control-allow-headers")
-        (record { kept = refl; date = refl; sniff = refl; connection = refl; cache = refl; media_type = refl });
+    origin = read_as_set (codes "access-control-allow-origin") refl;
+    credentials = read_as_set (codes "access-control-allow-credentials") refl;
+    methods = read_as_set (codes "access-control-allow-methods") refl;
+    names = read_as_set (codes "access-control-allow-headers") refl;
   }
 
   pub preflight_answered : PreflightIsAnswered → (rules : CorsRules) (sent : Sent) (asked : Asked)
@@ -1621,7 +1466,7 @@ module _ (now : Option ℕ) (left : ℕ) (site : Site) (look : List ℕ → Entr
       )
     where
       passed : {A : Type 0} → x.answer.reason ≡ Preflight → Before x.answer.reason Preflight ⊎ A → A
-      passed reason (inl low) = let level : stage x.answer.reason ≡ 2 = ap stage reason in absurd (omega (arith, level, low))
+      passed reason (inl low) = absurd (omega (arith, low, ap stage reason))
       passed reason (inr answered) = answered
 
   pub response_shared : ResponseIsShared → (rules : CorsRules) (sent : Sent) → IsLawful rules
@@ -1649,17 +1494,12 @@ module _ (now : Option ℕ) (left : ℕ) (site : Site) (look : List ℕ → Entr
 
 -- ==== Two parts that join are the content.
 
--- what the law of bytes in memory says
-abbrev SendsRanges : Type 0
-SendsRanges = (kept : Kept) (pieces : List Piece) (sent : List ℕ) → AreSent (gives_at (InMemory kept)) pieces sent
-    → sent ≡ bytes_of kept.content pieces
-
 part_pieces : (divider : List ℕ) (file : Option File) (part : Part) (source : Source) → Some source ≡ source_of file
     → pieces_of divider file (Single part) ≡ Range (part_extent part) ∷ []
 part_pieces divider None part source e = absurd (cc e)
 part_pieces divider (Some file) part source e = refl
 
-module _ (law : SendsRanges) (now : Option ℕ) (left : ℕ) (site : Site) (look : List ℕ → Entry)
+module _ (now : Option ℕ) (left : ℕ) (site : Site) (look : List ℕ → Entry)
     (request : Request (List ℕ)) (response : Response) (kept : Kept)
     (x : IsAnswerAt now left site (has_at look) request response (Some (InMemory kept))) (place : Option ℕ)
     (part : Part) (sends : x.answer.sends ≡ Planned place (Single part)) where
@@ -1675,7 +1515,7 @@ module _ (law : SendsRanges) (now : Option ℕ) (left : ℕ) (site : Site) (look
   pub sent_part : (sent : List ℕ) → AreSent (gives_of (Some (InMemory kept))) response.pieces.items sent
       → sent ≡ take (part.last + 1 - part.first) (drop part.first kept.content)
   sent_part sent h =
-      law kept response.pieces.items sent h ∙ ap (λ (p : List Piece). bytes_of kept.content p) pieces_are
+      sent_bytes kept response.pieces.items sent h ∙ ap (λ (p : List Piece). bytes_of kept.content p) pieces_are
       ∙ append-nil (take (part.last + 1 - part.first) (drop part.first kept.content))
 
 pub halves : (content : List ℕ) (first second : Part) → JoinTo (length content) first second

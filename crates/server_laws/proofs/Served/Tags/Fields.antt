@@ -2,59 +2,98 @@
 mod Wire
 unfoldable pub use Wire.*
 
--- ==== Fields none of which says where a message ends, but for one that states the length.
-
 -- ---- lists with something in their midst
 
+all_imp : {X : Type 0} (p q : X → Bool) → ((x : X) → p x ≡ true → q x ≡ true) → (xs : List X) → list_all p xs ≡ true
+    → list_all q xs ≡ true
+all_imp p q h [] e = refl
+all_imp p q h (x ∷ xs) e =
+    let both = and_parts (p x) (list_all p xs) e in and_from _ _ (h x both.0) (all_imp p q h xs both.1)
+
 -- the elements pass the test, but for these in their midst
-pub record Between {X : Type 0} (test : X → Bool) (middle xs : List X) : Type 0 where
-  pub before : List X
-  pub after : List X
-  pub are : xs ≡ before ++ (middle ++ after)
-  pub first : list_all test before ≡ true
-  pub last : list_all test after ≡ true
+record Between {X : Type 0} (test : X → Bool) (middle xs : List X) : Type 0 where
+  before : List X
+  after : List X
+  are : xs ≡ before ++ (middle ++ after)
+  first : list_all test before ≡ true
+  last : list_all test after ≡ true
 
 module _ {X : Type 0} (test : X → Bool) where
   pub all_append : (xs ys : List X) → list_all test xs ≡ true → list_all test ys ≡ true
       → list_all test (xs ++ ys) ≡ true
-  all_append xs ys x y = list_all-append test xs ys ∙ and_from (list_all test xs) (list_all test ys) x y
+  all_append xs ys x y = simp (list_all-append, x, y)
 
-  pub none_between : (xs : List X) → list_all test xs ≡ true → Between test [] xs
+  none_between : (xs : List X) → list_all test xs ≡ true → Between test [] xs
   none_between xs all = record { before = xs; after = []; are = sym (append-nil xs); first = all; last = refl }
 
-  pub after_all : (middle xs ys : List X) → list_all test xs ≡ true → Between test middle ys
+  after_all : (middle xs ys : List X) → list_all test xs ≡ true → Between test middle ys
       → Between test middle (xs ++ ys)
   after_all middle xs ys all b = record {
     before = xs ++ b.before;
     after = b.after;
-    are = ap (λ (l : List X). xs ++ l) b.are ∙ sym (append_assoc xs b.before (middle ++ b.after));
+    are = rw b.are (simp append_assoc);
     first = all_append xs b.before all b.first;
     last = b.last;
   }
 
-  pub before_all : (middle xs ys : List X) → Between test middle xs → list_all test ys ≡ true
+  before_all : (middle xs ys : List X) → Between test middle xs → list_all test ys ≡ true
       → Between test middle (xs ++ ys)
   before_all middle xs ys b all = record {
     before = b.before;
     after = b.after ++ ys;
-    are =
-        ap (λ (l : List X). l ++ ys) b.are ∙ append_assoc b.before (middle ++ b.after) ys
-        ∙ ap (λ (l : List X). b.before ++ l) (append_assoc middle b.after ys);
+    are = rw b.are (simp append_assoc);
     first = b.first;
     last = all_append b.after ys b.last all;
   }
 
--- ---- plain fields
+-- ---- fields that say nothing of where the message ends
 
--- The field says nothing of where the message ends. If its values stay as they are, they have no white space at their
--- ends.
-abbrev pub is_plain : Field → Bool
+-- nor do values of this name stay as they are
+abbrev pub is_side : List ℕ → Bool
+is_side name = not (is_framing_field (name, [])) && not (is_kept name)
+
+abbrev pub are_side : List Field → Bool
+are_side fields = list_all (λ (field : Field). is_side field.0) fields
+
+abbrev are_side_lines : List Header → Bool
+are_side_lines hs = list_all (λ (h : Header). is_side h.0) hs
+
+-- values that stay as they are have no white space at their ends
+abbrev is_plain : Field → Bool
 is_plain field = not (is_framing_field (field.0, [])) && (not (is_kept field.0) || list_all is_bare field.1)
 
-abbrev pub is_plain_line : Header → Bool
+abbrev is_plain_line : Header → Bool
 is_plain_line h = is_plain (h.0, h.1 ∷ [])
 
-abbrev pub length_name : List ℕ
+plain_side : (field : Field) → is_side field.0 ≡ true → is_plain field ≡ true
+plain_side field t =
+    let both = and_parts (not (is_framing_field (field.0, []))) (not (is_kept field.0)) t in
+    and_from _ _ both.0 (ap (λ (b : Bool). b || list_all is_bare field.1) both.1)
+
+sides_plain : (fields : List Field) → are_side fields ≡ true → list_all is_plain fields ≡ true
+sides_plain = all_imp (λ (field : Field). is_side field.0) is_plain plain_side
+
+side_lines_plain : (hs : List Header) → are_side_lines hs ≡ true → list_all is_plain_line hs ≡ true
+side_lines_plain = all_imp (λ (h : Header). is_side h.0) is_plain_line (λ h. plain_side (h.0, h.1 ∷ []))
+
+not_side : (name other : List ℕ) → is_side other ≡ true → is_kept name ≡ true → bytes_eq other name ≡ false
+not_side name other side kept =
+    elim (cases_Bool (bytes_eq other name)) [
+      | inl same ↦
+          let no = not-true _ (and_parts (not (is_framing_field (other, []))) _ side).1 in
+          let yes : is_kept other ≡ true = ap is_kept ((bytes_eq-Decides other name).0 same) ∙ kept in
+          absurd (cc (no, yes))
+      | inr free ↦ free
+    ]
+
+pub sides_unnamed : (name : List ℕ) → is_kept name ≡ true → (fields : List Field) → are_side fields ≡ true
+    → is_named name fields ≡ false
+sides_unnamed name kept [] e = refl
+sides_unnamed name kept (field ∷ fields) e =
+    let both = and_parts (is_side field.0) (are_side fields) e in
+    simp (not_side name field.0 both.0 kept, sides_unnamed name kept fields both.1)
+
+abbrev length_name : List ℕ
 length_name = codes "content-length"
 
 lines_plain : (free : Bool) (lines : List Line) → (free || list_all is_bare lines) ≡ true
@@ -65,168 +104,152 @@ lines_plain false (line ∷ lines) t =
     let both = and_parts (is_bare line) (list_all is_bare lines) t in
     and_from (is_bare line && true) _ (and_from (is_bare line) true both.0 refl) (lines_plain false lines both.1)
 
-plain_under : (field : Field) → is_plain field ≡ true → list_all is_plain_line (lines_under field) ≡ true
-plain_under field t =
+plain_unless : (b : Bool) (field : Field) → is_plain field ≡ true
+    → list_all is_plain_line (lines_unless b field) ≡ true
+plain_unless true field t = refl
+plain_unless false field t =
     let both = and_parts (not (is_framing_field (field.0, []))) _ t in
     list_all-map is_plain_line (λ (line : Line). (field.0, line)) field.1
     ∙ ap
     (λ (b : Bool). list_all (λ (line : Line). b && (not (is_kept field.0) || (is_bare line && true))) field.1) both.0
     ∙ lines_plain (not (is_kept field.0)) field.1 both.1
 
-plain_unless : (b : Bool) (field : Field) → is_plain field ≡ true
-    → list_all is_plain_line (lines_unless b field) ≡ true
-plain_unless true field t = refl
-plain_unless false field t = plain_under field t
-
--- ---- the field lines of fields
-
--- the field of a length, if there is one, and its lines
-abbrev pub length_field : Option (List Line) → List Field
-length_field None = []
-length_field (Some lines) = (length_name, lines) ∷ []
-
-abbrev pub length_lines : Option (List Line) → List Header
-length_lines None = []
-length_lines (Some lines) = lines_under (length_name, lines)
-
-sent-cons : (has_policy : Bool) (field : Field) (fields : List Field)
-    → headers_sent has_policy (field ∷ fields)
-    ≡ lines_unless (has_policy && is_given field.0 fields) field ++ headers_sent has_policy fields
-sent-cons true field fields = refl
-sent-cons false field fields = refl
-
-sent-nil : (has_policy : Bool) → headers_sent has_policy [] ≡ []
-sent-nil true = refl
-sent-nil false = refl
-
-module _ (has_policy : Bool) where
-  abbrev is_replaced : Field → List Field → Bool
-  is_replaced field fields = has_policy && is_given field.0 fields
-
-  plain_sent : (fields : List Field) → list_all is_plain fields ≡ true
-      → list_all is_plain_line (headers_sent has_policy fields) ≡ true
-  plain_sent [] t = ap (list_all is_plain_line) (sent-nil has_policy)
-  plain_sent (field ∷ fields) t =
-      let both = and_parts (is_plain field) (list_all is_plain fields) t in
-      ap (list_all is_plain_line) (sent-cons has_policy field fields)
-      ∙ all_append is_plain_line (lines_unless (is_replaced field fields) field) (headers_sent has_policy fields)
-      (plain_unless (is_replaced field fields) field both.0) (plain_sent fields both.1)
-
-  not_given : (fields : List Field) → list_all is_plain fields ≡ true → is_given length_name fields ≡ false
-  unfolding eq_ignore_case
-  not_given [] t = refl
-  not_given (field ∷ fields) t =
-      let both = and_parts (is_plain field) (list_all is_plain fields) t in
-      elim (cases_Bool (bytes_eq field.0 length_name)) [
-        | inl same ↦
-            let is : field.0 ≡ length_name = (bytes_eq-Decides field.0 length_name).0 same in
-            let framing : is_plain field ≡ false = ap (λ (name : List ℕ). is_plain (name, field.1)) is in
-            absurd (cc (both.0, framing))
-        | inr other ↦ let later = not_given fields both.1 in λ i. other i || later i
-      ]
-
-  length_in : (lines : List Line) (before after : List Field) → list_all is_plain before ≡ true
-      → list_all is_plain after ≡ true
-      → Between is_plain_line (lines_under (length_name, lines))
-      (headers_sent has_policy (before ++ ((length_name, lines) ∷ after)))
-  length_in lines [] after first last = record {
-    before = [];
-    after = headers_sent has_policy after;
-    are =
-        sent-cons has_policy (length_name, lines) after
-        ∙ ap
-        (λ (b : Bool). lines_unless (has_policy && b) (length_name, lines) ++ headers_sent has_policy after)
-        (not_given after last)
-        ∙ ap (λ (b : Bool). lines_unless b (length_name, lines) ++ headers_sent has_policy after)
-        (and-false has_policy);
-    first = refl;
-    last = plain_sent after last;
-  }
-  length_in lines (field ∷ before) after first last =
-      let both = and_parts (is_plain field) (list_all is_plain before) first in
-      let rest : List Field = before ++ ((length_name, lines) ∷ after) in
-      subst (Between is_plain_line (lines_under (length_name, lines))) (sym (sent-cons has_policy field rest))
-      (after_all is_plain_line (lines_under (length_name, lines)) (lines_unless (is_replaced field rest) field)
-      (headers_sent has_policy rest) (plain_unless (is_replaced field rest) field both.0)
-      (length_in lines before after both.1 last))
-
-  pub between_sent : (own : Option (List Line)) (fields : List Field) → Between is_plain (length_field own) fields
-      → Between is_plain_line (length_lines own) (headers_sent has_policy fields)
-  between_sent None fields b =
-      none_between is_plain_line (headers_sent has_policy fields)
-      (plain_sent fields (ap (list_all is_plain) b.are ∙ all_append is_plain b.before b.after b.first b.last))
-  between_sent (Some lines) fields b =
-      subst (λ (l : List Field). Between is_plain_line (lines_under (length_name, lines)) (headers_sent has_policy l))
-      (sym b.are) (length_in lines b.before b.after b.first b.last)
-
--- ---- what is left of the values
+-- ---- what field lines state, once white space at the ends of values is gone
 
 header_by : (h : Header) → is_line h ≡ true → is_bare h.1 ≡ true → is_header h ≡ true
 header_by h line bare =
     let parts = and_parts (is_token h.0) (is_field_value h.1) line in
     let ends = and_parts (starts_visible h.1) (starts_visible (reverse h.1)) bare in
-    and_from (is_token h.0) _ parts.0
-    (and_from (starts_visible h.1) _ ends.0
-    (and_from (starts_visible (reverse h.1)) (is_field_value h.1) ends.1 parts.1))
+    simp (parts.0, ends.0, ends.1, parts.1)
 
 module _ (n : ℕ) where
-  states_line : (h : Header) → is_plain_line h ≡ true → is_line (trimmed_line h) ≡ true
-      → StatesLength n false (trimmed_line h ∷ [])
-  states_line h plain line =
+  -- valid, they state this length once, or nothing
+  abbrev Tells : Bool → List Header → Type 0
+  Tells b hs = list_all is_line (trimmed_lines hs) ≡ true → StatesLength n b (trimmed_lines hs)
+
+  tells_both : (a b c : Bool) (xs ys : List Header) → Tells a xs → Tells b ys
+      → cond a (decimal n ∷ []) [] ++ cond b (decimal n ∷ []) [] ≡ cond c (decimal n ∷ []) [] → Tells c (xs ++ ys)
+  tells_both a b c xs ys x y lengths valid =
+      let same = map-append trimmed_line xs ys in
+      let both =
+      and_parts _ _ (sym (list_all-append is_line (trimmed_lines xs) (trimmed_lines ys)) ∙ (rw same at valid)) in
+      rw same (states_both n a b c (trimmed_lines xs) (trimmed_lines ys) (x both.0) (y both.1) lengths)
+
+  tells_line : (h : Header) → is_plain_line h ≡ true → Tells false (h ∷ [])
+  tells_line h plain valid =
       let both = and_parts (not (is_framing_field (h.0, []))) _ plain in
+      let line = (and_parts (is_line (trimmed_line h)) true valid).0 in
       let other : is_framing_field (h.0, []) ≡ false = not-true (is_framing_field (h.0, [])) both.0 in
       elim (cases_Bool (is_kept h.0)) [
         | inl kept ↦
             let same : trimmed_line h ≡ h = cond-true (is_kept h.0) h (h.0, trim h.1) kept in
             let bare : (is_bare h.1 && true) ≡ true =
             sym (ap (λ (b : Bool). not b || (is_bare h.1 && true)) kept) ∙ both.1 in
-            subst (λ (l : Header). StatesLength n false (l ∷ [])) (sym same)
+            rw same
             (states_other n h
             (header_by h (sym (ap is_line same) ∙ line) (and_parts (is_bare h.1) true bare).0) other)
         | inr free ↦
             let same : trimmed_line h ≡ (h.0, trim h.1) = cond-false (is_kept h.0) h (h.0, trim h.1) free in
-            subst (λ (l : Header). StatesLength n false (l ∷ [])) (sym same)
+            rw same
             (states_other n (h.0, trim h.1)
             (header_by (h.0, trim h.1) (sym (ap is_line same) ∙ line) (trim_bare h.1)) other)
       ]
 
-  states_plain : (hs : List Header) → list_all is_plain_line hs ≡ true → list_all is_line (trimmed_lines hs) ≡ true
-      → StatesLength n false (trimmed_lines hs)
-  states_plain [] plain lines = states_none n
-  states_plain (h ∷ hs) plain lines =
+  tells_plain : (hs : List Header) → list_all is_plain_line hs ≡ true → Tells false hs
+  tells_plain [] plain valid = states_none n
+  tells_plain (h ∷ hs) plain valid =
       let p = and_parts (is_plain_line h) (list_all is_plain_line hs) plain in
-      let l = and_parts (is_line (trimmed_line h)) (list_all is_line (trimmed_lines hs)) lines in
-      states_then n (trimmed_line h ∷ []) (trimmed_lines hs) false (states_line h p.0 l.0) (states_plain hs p.1 l.1)
+      tells_both false false false (h ∷ []) hs (tells_line h p.0) (tells_plain hs p.1) refl valid
 
   -- the field line of the length, if it is stated
-  abbrev pub stated_line : Bool → List Header
+  abbrev stated_line : Bool → List Header
   stated_line stated = cond stated ((length_name, decimal n) ∷ []) []
 
-  states_own : (stated : Bool) → n < 2 ^ 64 → StatesLength n stated (trimmed_lines (stated_line stated))
-  states_own true short =
-      subst (λ (text : List ℕ). StatesLength n true ((length_name, text) ∷ []))
-      (sym (decimal_trimmed n short ∙ decimal_is_numeral n short)) (states_length n short)
-  states_own false short = states_none n
+  tells_own : (stated : Bool) → n < 2 ^ 64 → Tells stated (stated_line stated)
+  tells_own true short valid =
+      rw (decimal_trimmed n short, decimal_is_numeral n short) (states_length n short)
+  tells_own false short valid = states_none n
 
-  pub states_trimmed : (stated : Bool) (hs : List Header) → n < 2 ^ 64 → Between is_plain_line (stated_line stated) hs
-      → list_all is_line (trimmed_lines hs) ≡ true → StatesLength n stated (trimmed_lines hs)
-  states_trimmed stated hs short b lines =
-      let own = trimmed_lines (stated_line stated) in
-      let same : trimmed_lines hs ≡ trimmed_lines b.before ++ (own ++ trimmed_lines b.after) =
-      ap trimmed_lines b.are ∙ map-append trimmed_line b.before (stated_line stated ++ b.after)
-      ∙ ap (λ (l : List Header). trimmed_lines b.before ++ l) (map-append trimmed_line (stated_line stated) b.after) in
-      let all = sym (list_all-append is_line (trimmed_lines b.before) (own ++ trimmed_lines b.after))
-      ∙ sym (ap (list_all is_line) same) ∙ lines in
-      let first = and_parts (list_all is_line (trimmed_lines b.before)) _ all in
-      let rest = sym (list_all-append is_line own (trimmed_lines b.after)) ∙ first.1 in
-      let last = and_parts (list_all is_line own) (list_all is_line (trimmed_lines b.after)) rest in
-      subst (StatesLength n stated) (sym same)
-      (states_then n (trimmed_lines b.before) (own ++ trimmed_lines b.after) stated
-      (states_plain b.before b.first first.0)
-      (states_before n own (trimmed_lines b.after) stated (states_own stated short)
-      (states_plain b.after b.last last.1)))
+-- ---- the field lines of fields
 
--- ==== The field lines that a response has under a name.
+abbrev length_field : Option (List Line) → List Field
+length_field None = []
+length_field (Some lines) = (length_name, lines) ∷ []
+
+abbrev length_lines : Option (List Line) → List Header
+length_lines None = []
+length_lines (Some lines) = lines_under (length_name, lines)
+
+not_given : (fields : List Field) → list_all is_plain fields ≡ true → is_named length_name fields ≡ false
+unfolding eq_ignore_case
+not_given [] t = refl
+not_given (field ∷ fields) t =
+    let both = and_parts (is_plain field) (list_all is_plain fields) t in
+    elim (cases_Bool (bytes_eq field.0 length_name)) [
+      | inl same ↦
+          let is : field.0 ≡ length_name = (bytes_eq-Decides field.0 length_name).0 same in
+          let framing : is_plain field ≡ false = ap (λ (name : List ℕ). is_plain (name, field.1)) is in
+          absurd (cc (both.0, framing))
+      | inr other ↦ let later = not_given fields both.1 in λ i. other i || later i
+    ]
+
+module _ (has_policy : Bool) where
+  sent-cons : (field : Field) (fields : List Field)
+      → headers_sent has_policy (field ∷ fields)
+      ≡ lines_unless (has_policy && is_named field.0 fields) field ++ headers_sent has_policy fields
+  sent-cons field fields = by has_policy
+    where
+      by : (b : Bool) → headers_sent b (field ∷ fields)
+          ≡ lines_unless (b && is_named field.0 fields) field ++ headers_sent b fields
+      by true = refl
+      by false = refl
+
+  sent-nil : headers_sent has_policy [] ≡ []
+  sent-nil = by has_policy
+    where
+      by : (b : Bool) → headers_sent b [] ≡ []
+      by true = refl
+      by false = refl
+
+  plain_sent : (fields : List Field) → list_all is_plain fields ≡ true
+      → list_all is_plain_line (headers_sent has_policy fields) ≡ true
+  plain_sent [] t = ap (list_all is_plain_line) sent-nil
+  plain_sent (field ∷ fields) t =
+      let both = and_parts (is_plain field) (list_all is_plain fields) t in
+      rw (sent-cons field fields)
+      (all_append is_plain_line _ _ (plain_unless _ field both.0) (plain_sent fields both.1))
+
+  -- the one field of its name, which nothing replaces
+  sent-one : (field : Field) (after : List Field) → is_named field.0 after ≡ false
+      → headers_sent has_policy (field ∷ after) ≡ lines_under field ++ headers_sent has_policy after
+  sent-one field after e = rw (sent-cons field after) (simp (e, and-false))
+
+  module _ (n : ℕ) (stated : Bool) (short : n < 2 ^ 64) where
+    tells_in : (lines : List Line) → lines_under (length_name, lines) ≡ stated_line n stated
+        → (before after : List Field) → list_all is_plain before ≡ true → list_all is_plain after ≡ true
+        → Tells n stated (headers_sent has_policy (before ++ ((length_name, lines) ∷ after)))
+    tells_in lines own [] after first last =
+        rw (sent-one (length_name, lines) after (not_given after last), own)
+        (tells_both n stated false stated (stated_line n stated) (headers_sent has_policy after)
+        (tells_own n stated short) (tells_plain n _ (plain_sent after last)) (append-nil _))
+    tells_in lines own (field ∷ before) after first last =
+        let both = and_parts (is_plain field) (list_all is_plain before) first in
+        rw (sent-cons field (before ++ ((length_name, lines) ∷ after)))
+        (tells_both n false stated stated _ _ (tells_plain n _ (plain_unless _ field both.0))
+        (tells_in lines own before after both.1 last) refl)
+
+    tells_sent : (own : Option (List Line)) → length_lines own ≡ stated_line n stated → (fields : List Field)
+        → Between is_plain (length_field own) fields → Tells n stated (headers_sent has_policy fields)
+    tells_sent None lines fields b =
+        by stated lines
+      where
+        by : (s : Bool) → [] ≡ stated_line n s → Tells n s (headers_sent has_policy fields)
+        by true lines = absurd (cc lines)
+        by false lines =
+            tells_plain n _ (plain_sent fields (rw b.are (all_append is_plain b.before b.after b.first b.last)))
+    tells_sent (Some ls) lines fields b = rw b.are (tells_in ls lines b.before b.after b.first b.last)
+
+-- ---- the field lines under a name
 
 module _ (name : List ℕ) where
   pub lines_in-append : (xs ys : List Header) → lines_in (xs ++ ys) name ≡ lines_in xs name ++ lines_in ys name
@@ -234,54 +257,38 @@ module _ (name : List ℕ) where
 
   -- the first part has none of the name
   pub lines_in-other : (xs ys : List Header) → lines_in xs name ≡ [] → lines_in (xs ++ ys) name ≡ lines_in ys name
-  lines_in-other xs ys none = lines_in-append xs ys ∙ ap (λ (ls : List Line). ls ++ lines_in ys name) none
+  lines_in-other xs ys none = rw (lines_in-append xs ys, none)
 
-  -- ---- one field
-
-  pub lines_of_other : (other : List ℕ) (lines : List Line) → bytes_eq other name ≡ false
+  lines_of_other : (other : List ℕ) (lines : List Line) → bytes_eq other name ≡ false
       → lines_in (lines_under (other, lines)) name ≡ []
   lines_of_other other [] e = refl
-  lines_of_other other (line ∷ lines) e =
-      ap (λ (b : Bool). cond b (line ∷ []) [] ++ lines_in (lines_under (other, lines)) name) e
-      ∙ lines_of_other other lines e
+  lines_of_other other (line ∷ lines) e = simp (e, lines_of_other other lines e)
 
   pub lines_of_same : (same : List ℕ) (lines : List Line) → bytes_eq same name ≡ true
       → lines_in (lines_under (same, lines)) name ≡ lines
   lines_of_same same [] e = refl
-  lines_of_same same (line ∷ lines) e =
-      ap (λ (b : Bool). cond b (line ∷ []) [] ++ lines_in (lines_under (same, lines)) name) e
-      ∙ ap (λ (ls : List Line). line ∷ ls) (lines_of_same same lines e)
+  lines_of_same same (line ∷ lines) e = simp (e, lines_of_same same lines e)
 
   pub lines_unless-other : (replaced : Bool) (field : Field) → bytes_eq field.0 name ≡ false
       → lines_in (lines_unless replaced field) name ≡ []
   lines_unless-other true field e = refl
   lines_unless-other false field e = lines_of_other field.0 field.1 e
 
-  -- ---- fields none of which has the name
-
   sent-skip : (has_policy : Bool) (before rest : List Field) → is_named name before ≡ false
       → lines_in (headers_sent has_policy (before ++ rest)) name ≡ lines_in (headers_sent has_policy rest) name
   sent-skip has_policy [] rest e = refl
   sent-skip has_policy (field ∷ before) rest e =
       let other = or_parts (bytes_eq field.0 name) (is_named name before) e in
-      let replaced : Bool = has_policy && is_named field.0 (before ++ rest) in
       ap (λ (hs : List Header). lines_in hs name) (sent-cons has_policy field (before ++ rest))
-      ∙ lines_in-other (lines_unless replaced field) (headers_sent has_policy (before ++ rest))
-      (lines_unless-other replaced field other.0)
+      ∙ lines_in-other _ _ (lines_unless-other _ field other.0)
       ∙ sent-skip has_policy before rest other.1
-
-  none_sent : (has_policy : Bool) → lines_in (headers_sent has_policy []) name ≡ []
-  none_sent true = refl
-  none_sent false = refl
 
   pub sent-other : (has_policy : Bool) (fields : List Field) → is_named name fields ≡ false
       → lines_in (headers_sent has_policy fields) name ≡ []
   sent-other has_policy fields e =
       ap (λ (fs : List Field). lines_in (headers_sent has_policy fs) name) (sym (append-nil fields))
       ∙ sent-skip has_policy fields [] e
-      ∙ none_sent has_policy
-
-  -- ---- fields one of which has the name
+      ∙ ap (λ (hs : List Header). lines_in hs name) (sent-nil has_policy)
 
   -- the fields have these field lines under the name, by one field
   pub record HasField (lines : List Line) (fields : List Field) : Type 0 where
@@ -291,38 +298,16 @@ module _ (name : List ℕ) where
     pub first : is_named name before ≡ false
     pub last : is_named name after ≡ false
 
-  pub HasField-append : (lines : List Line) (fields rest : List Field) → HasField lines fields
-      → is_named name rest ≡ false → HasField lines (fields ++ rest)
-  HasField-append lines fields rest h e = record {
-    before = h.before;
-    after = h.after ++ rest;
-    are = ap (λ (fs : List Field). fs ++ rest) h.are ∙ append_assoc h.before ((name, lines) ∷ h.after) rest;
-    first = h.first;
-    last =
-        list_any-append (λ (field : Field). bytes_eq field.0 name) h.after rest
-        ∙ ap (λ (b : Bool). b || is_named name rest) h.last ∙ e;
-  }
-
-  own_name : bytes_eq name name ≡ true
-  own_name = (bytes_eq-Decides name name).1 refl
-
-  one_sent : (has_policy : Bool) (lines : List Line) (after : List Field) → is_named name after ≡ false
-      → lines_in (headers_sent has_policy ((name, lines) ∷ after)) name ≡ lines
-  one_sent has_policy lines after e =
-      ap (λ (hs : List Header). lines_in hs name) (sent-cons has_policy (name, lines) after)
-      ∙ ap
-      (λ (b : Bool). lines_in (lines_unless b (name, lines) ++ headers_sent has_policy after) name)
-      (ap (λ (b : Bool). has_policy && b) e ∙ and-false has_policy)
-      ∙ lines_in-append (lines_under (name, lines)) (headers_sent has_policy after)
-      ∙ (λ i. lines_of_same name lines own_name i ++ sent-other has_policy after e i)
-      ∙ append-nil lines
-
-  pub sent-one : (has_policy : Bool) (lines : List Line) (fields : List Field) → HasField lines fields
+  pub HasField-sent : (has_policy : Bool) (lines : List Line) (fields : List Field) → HasField lines fields
       → lines_in (headers_sent has_policy fields) name ≡ lines
-  sent-one has_policy lines fields h =
+  HasField-sent has_policy lines fields h =
       ap (λ (fs : List Field). lines_in (headers_sent has_policy fs) name) h.are
       ∙ sent-skip has_policy h.before ((name, lines) ∷ h.after) h.first
-      ∙ one_sent has_policy lines h.after h.last
+      ∙ ap (λ (hs : List Header). lines_in hs name) (sent-one has_policy (name, lines) h.after h.last)
+      ∙ lines_in-append (lines_under (name, lines)) (headers_sent has_policy h.after)
+      ∙ (λ i. lines_of_same name lines ((bytes_eq-Decides name name).1 refl) i
+      ++ sent-other has_policy h.after h.last i)
+      ∙ append-nil lines
 
   -- ---- white space at the ends of values
 
@@ -333,8 +318,7 @@ module _ (name : List ℕ) where
       by : (b : Bool) → bytes_eq h.0 name ≡ b → (c : Bool) → is_kept h.0 ≡ c
           → line_named name (cond c h (h.0, trim h.1)) ≡ line_named name h
       by b e true f = refl
-      by false e false f =
-          ap (λ (t : Bool). cond t (trim h.1 ∷ []) []) e ∙ sym (ap (λ (t : Bool). cond t (h.1 ∷ []) []) e)
+      by false e false f = simp e
       by true e false f =
           let other = sym (ap is_kept ((bytes_eq-Decides h.0 name).0 e)) ∙ f in absurd (cc (kept, other))
 
@@ -342,144 +326,134 @@ module _ (name : List ℕ) where
   lines_in-trimmed kept [] = refl
   lines_in-trimmed kept (h ∷ hs) = λ i. one_kept h kept i ++ lines_in-trimmed kept hs i
 
-  -- ---- the other fields of a response
+  lines_in-side : is_kept name ≡ true → (hs : List Header) → are_side_lines hs ≡ true → lines_in hs name ≡ []
+  lines_in-side kept [] e = refl
+  lines_in-side kept (h ∷ hs) e =
+      let both = and_parts (is_side h.0) (are_side_lines hs) e in
+      simp (not_side name h.0 both.0 kept, lines_in-side kept hs both.1)
 
-  -- the name is that of none of the fields that a response has beside those of the answer, and its values are kept
-  pub record IsOfAnswer : Type 0 where
-    pub kept : is_kept name ≡ true
-    pub date : bytes_eq (codes "date") name ≡ false
-    pub sniff : bytes_eq (codes "x-content-type-options") name ≡ false
-    pub connection : bytes_eq (codes "connection") name ≡ false
-    pub cache : bytes_eq (codes "cache-control") name ≡ false
-    pub media_type : bytes_eq (codes "content-type") name ≡ false
+-- ---- the fields around those of an answer
 
-  one_other : (other value : List ℕ) → bytes_eq other name ≡ false → lines_in ((other, value) ∷ []) name ≡ []
-  one_other other value e = ap (λ (b : Bool). cond b (value ∷ []) [] ++ []) e
+dates_side : (now : Option ℕ) → are_side_lines (date_fields now ++ sniff_field ∷ []) ≡ true
+unfolding eq_ignore_case
+dates_side None = refl
+dates_side (Some seconds) = refl
 
-  module _ (free : IsOfAnswer) where
-    no_date : (now : Option ℕ) → lines_in (date_fields now) name ≡ []
-    no_date None = refl
-    no_date (Some seconds) = one_other (codes "date") (fixdate seconds) free.date
+closing_side : (b : Bool) → are_side_lines (cond b [] ((codes "connection", codes "close") ∷ [])) ≡ true
+unfolding eq_ignore_case
+closing_side true = refl
+closing_side false = refl
 
-    no_closing : (left : ℕ) → lines_in (closing_fields left) name ≡ []
-    no_closing left = by (nat_lt 1 left)
-      where
-        by : (more : Bool)
-            → lines_in (if more then [] else (codes "connection", codes "close") ∷ []) name ≡ []
-        by true = refl
-        by false = one_other (codes "connection") (codes "close") free.connection
+cache_side : (b : Bool) (value : Option FieldValue) → are_side_lines (cond b (cache_fields value) []) ≡ true
+unfolding eq_ignore_case
+cache_side true None = refl
+cache_side true (Some value) = refl
+cache_side false value = refl
 
-    no_first : (now : Option ℕ) (left : ℕ) → lines_in (first_fields now left) name ≡ []
-    no_first now left =
-        lines_in-other (date_fields now ++ sniff_field ∷ []) (closing_fields left)
-        (lines_in-other (date_fields now) (sniff_field ∷ []) (no_date now)
-        ∙ one_other (codes "x-content-type-options") (codes "nosniff") free.sniff)
-        ∙ no_closing left
+page_side : (b : Bool) → are_side_lines (cond b [] (html_field ∷ [])) ≡ true
+unfolding eq_ignore_case
+page_side true = refl
+page_side false = refl
 
-    no_cache : (sent : Sends) (cache_control : Option FieldValue) → lines_in (cache_sent sent cache_control) name ≡ []
-    no_cache sent cache_control = by (is_stored sent) cache_control
-      where
-        by : (stored : Bool) (value : Option FieldValue)
-            → lines_in (if stored then cache_fields value else []) name ≡ []
-        by false value = refl
-        by true None = refl
-        by true (Some value) = one_other (codes "cache-control") value.bytes free.cache
+explained_side : (code : ℕ) (sent : Sends) → are_side_lines (explained_fields code sent) ≡ true
+explained_side code sends.Nothing = page_side _
+explained_side code sends.Alternatives = page_side _
+explained_side code sent = refl
 
-    no_page : (code : ℕ) → lines_in (page_fields code) name ≡ []
-    no_page code = by (code == 204)
-      where
-        by : (empty : Bool) → lines_in (if empty then [] else html_field ∷ []) name ≡ []
-        by true = refl
-        by false = one_other (codes "content-type") (codes "text/html; charset=utf-8") free.media_type
+front_side : (now : Option ℕ) (left : ℕ) (sent : Sends) (cache_control : Option FieldValue)
+    → are_side_lines (first_fields now left ++ cache_sent sent cache_control) ≡ true
+front_side now left sent cache_control =
+    all_append _ (first_fields now left) (cache_sent sent cache_control)
+    (all_append _ (date_fields now ++ sniff_field ∷ []) (closing_fields left) (dates_side now)
+    (closing_side (nat_lt 1 left))) (cache_side (is_stored sent) cache_control)
 
-    no_explained : (code : ℕ) (sent : Sends) → lines_in (explained_fields code sent) name ≡ []
-    no_explained code Nothing = no_page code
-    no_explained code Alternatives = no_page code
-    no_explained code sent = refl
-
-    -- the field lines are those of the answer's fields
-    pub lines_in-carried : (now : Option ℕ) (left : ℕ) (site : Site) (files : List File) (code : ℕ) (sent : Sends)
-        (given : List Field) (response : Response)
-        → Carries (first_fields now left) site files code sent given response
-        → lines_in (fields_of response) name ≡ lines_in (headers_sent (is_some site.resource.cors) given) name
-    lines_in-carried now left site files code sent given response h =
-        let front : List Header = first_fields now left ++ cache_sent sent site.cache_control in
-        let own : List Header = headers_sent (is_some site.resource.cors) given in
-        ap (λ (hs : List Header). lines_in hs name) h.headers
-        ∙ lines_in-trimmed free.kept ((front ++ own) ++ explained_fields code sent)
-        ∙ lines_in-append (front ++ own) (explained_fields code sent)
-        ∙ ap (λ (ls : List Line). lines_in (front ++ own) name ++ ls) (no_explained code sent)
-        ∙ append-nil (lines_in (front ++ own) name)
-        ∙ lines_in-other front own
-        (lines_in-other (first_fields now left) (cache_sent sent site.cache_control) (no_first now left)
-        ∙ no_cache sent site.cache_control)
-
--- ==== Each answer of the file server is one that `http1` sends.
+-- under a name whose values stay as they are, a response has the field lines of the answer
+pub lines_in-carried : (name : List ℕ) → is_kept name ≡ true → (now : Option ℕ) (left : ℕ) (site : Site)
+    (files : List File) (code : ℕ) (sent : Sends) (given : List Field) (response : Response)
+    → Carries (first_fields now left) site files code sent given response
+    → lines_in (fields_of response) name ≡ lines_in (headers_sent (is_some site.resource.cors) given) name
+lines_in-carried name kept now left site files code sent given response h =
+    let front : List Header = first_fields now left ++ cache_sent sent site.cache_control in
+    let own : List Header = headers_sent (is_some site.resource.cors) given in
+    ap (λ (hs : List Header). lines_in hs name) h.headers
+    ∙ lines_in-trimmed name kept ((front ++ own) ++ explained_fields code sent)
+    ∙ lines_in-append name (front ++ own) (explained_fields code sent)
+    ∙ ap (λ (ls : List Line). lines_in (front ++ own) name ++ ls)
+    (lines_in-side name kept _ (explained_side code sent))
+    ∙ append-nil (lines_in (front ++ own) name)
+    ∙ lines_in-other name front own (lines_in-side name kept front (front_side now left sent site.cache_control))
 
 -- ---- the fields of an answer
 
-location_plain : (now : State) → list_all is_plain (location_fields now) ≡ true
-unfolding eq_ignore_case
-location_plain (state.Moved redirect location) = refl
-location_plain now = refl
+types_side : (name : List ℕ) → is_side name ≡ true → (own : Option MethodRule) → are_side (types_fields name own) ≡ true
+types_side name is None = refl
+types_side name is (Some own) = and_from _ _ is refl
 
-denied_plain : (why : Option Denial) → list_all is_plain (denied_fields why) ≡ true
-unfolding eq_ignore_case
-denied_plain None = refl
-denied_plain (Some (denials.Unauthenticated challenge)) = refl
-denied_plain (Some denials.Forbidden) = refl
-denied_plain (Some (denials.TooManyRequests None)) = refl
-denied_plain (Some (denials.TooManyRequests (Some seconds))) = refl
-denied_plain (Some (denials.Unavailable None)) = refl
-denied_plain (Some (denials.Unavailable (Some seconds))) = refl
+side_if : (b : Bool) (fields : List Field) → are_side fields ≡ true → are_side (cond b fields []) ≡ true
+side_if true fields e = e
+side_if false fields e = refl
 
-codings_plain : (own : Option MethodRule) → list_all is_plain (accept_encoding_fields own) ≡ true
+retry_side : (seconds : Option ℕ) → are_side (retry_fields seconds) ≡ true
 unfolding eq_ignore_case
-codings_plain None = refl
-codings_plain (Some own) = refl
+retry_side None = refl
+retry_side (Some seconds) = refl
 
-offered_plain : (patch post : Option MethodRule)
-    → list_all is_plain (types_fields (codes "accept-patch") patch ++ types_fields (codes "accept-post") post) ≡ true
+denied_side : (why : Option Denial) → are_side (denied_fields why) ≡ true
 unfolding eq_ignore_case
-offered_plain None None = refl
-offered_plain None (Some post) = refl
-offered_plain (Some patch) None = refl
-offered_plain (Some patch) (Some post) = refl
+denied_side None = refl
+denied_side (Some (denials.Unauthenticated challenge)) = refl
+denied_side (Some denials.Forbidden) = refl
+denied_side (Some (denials.TooManyRequests seconds)) = retry_side seconds
+denied_side (Some (denials.Unavailable seconds)) = retry_side seconds
 
-accept_plain : (patches : Bool) (own : Option MethodRule)
-    → list_all is_plain
-    (types_fields (codes "accept") own ++ cond patches (types_fields (codes "accept-patch") own) []) ≡ true
+location_side : (now : State) → are_side (location_fields now) ≡ true
 unfolding eq_ignore_case
-accept_plain true None = refl
-accept_plain true (Some own) = refl
-accept_plain false None = refl
-accept_plain false (Some own) = refl
+location_side (state.Moved redirect location) = refl
+location_side now = refl
 
-module _ (resource : Resource) (request : Asked) where
-  reason_plain : (reason : Reason) → list_all is_plain (reason_fields resource request reason) ≡ true
-  unfolding eq_ignore_case
-  reason_plain Denied = denied_plain request.denied
-  reason_plain MethodNotAllowed = refl
-  reason_plain Options =
-      offered_plain (rule_for resource.rules.items (codes "PATCH")) (rule_for resource.rules.items (codes "POST"))
-  reason_plain Moved = location_plain resource.state
-  reason_plain UnsupportedMediaType = accept_plain (bytes_eq request.method (codes "PATCH")) (rule resource request)
-  reason_plain UnsupportedCoding = codings_plain (rule resource request)
-  reason_plain reason = refl
-
-vary_plain : (lines : List Line) → list_all is_plain (vary_fields lines) ≡ true
+codings_side : (own : Option MethodRule) → are_side (accept_encoding_fields own) ≡ true
 unfolding eq_ignore_case
-vary_plain [] = refl
-vary_plain (line ∷ lines) = refl
+codings_side None = refl
+codings_side (Some own) = refl
+
+pub reason_side : (resource : Resource) (request : Asked) (reason : Reason)
+    → are_side (reason_fields resource request reason) ≡ true
+unfolding eq_ignore_case
+reason_side resource request Denied = denied_side request.denied
+reason_side resource request MethodNotAllowed = refl
+reason_side resource request Options =
+    all_append _ (types_fields (codes "accept-patch") (rule_for resource.rules.items (codes "PATCH"))) _
+    (types_side (codes "accept-patch") refl _) (types_side (codes "accept-post") refl _)
+reason_side resource request Moved = location_side resource.state
+reason_side resource request UnsupportedMediaType =
+    all_append _ (types_fields (codes "accept") (rule resource request)) _ (types_side (codes "accept") refl _)
+    (side_if (bytes_eq request.method (codes "PATCH")) (types_fields (codes "accept-patch") (rule resource request))
+    (types_side (codes "accept-patch") refl (rule resource request)))
+reason_side resource request UnsupportedCoding = codings_side (rule resource request)
+reason_side resource request reason = refl
+
+pub vary_side : (lines : List Line) → are_side (vary_fields lines) ≡ true
+unfolding eq_ignore_case
+vary_side [] = refl
+vary_side (line ∷ lines) = refl
+
+pub removed_side : (keeps whole : Bool)
+    → are_side
+    (cond keeps [] ((codes "content-encoding", []) ∷ [])
+    ++ cond whole [] ((codes "content-digest", []) ∷ (codes "content-md5", []) ∷ []))
+    ≡ true
+unfolding eq_ignore_case
+removed_side true true = refl
+removed_side true false = refl
+removed_side false true = refl
+removed_side false false = refl
+
+pub metadata_side : (b : Bool) (x : Representation) → are_side (metadata_fields b x) ≡ true
+unfolding eq_ignore_case
+metadata_side true x = refl
+metadata_side false x = refl
 
 -- ---- the fields of a policy
-
-varied_plain : (listed covered : Bool) (lines : List Line)
-    → list_all is_plain (cond listed (cond covered [] ((codes "vary", lines) ∷ [])) []) ≡ true
-unfolding eq_ignore_case
-varied_plain true true lines = refl
-varied_plain true false lines = refl
-varied_plain false covered lines = refl
 
 abbrev is_bare_if_any : Option Line → Bool
 is_bare_if_any line = option_map_or is_bare line true
@@ -510,28 +484,30 @@ grant_bare (Some listed) None bare = refl
 grant_bare (Some listed) (Some line) bare =
     bare_if (list_any (bytes_eq line) listed) line (listed_bare line listed bare)
 
+-- Vary is all that is left of the fields of a policy, once those whose values stay as they are have passed a test
+pub varied : (p : Field → Bool) → ((lines : List Line) → p (codes "vary", lines) ≡ true)
+    → (b c : Bool) (lines : List Line) → list_all p (cond b (cond c [] ((codes "vary", lines) ∷ [])) []) ≡ true
+varied p passes true true lines = refl
+varied p passes true false lines = and_from _ _ (passes lines) refl
+varied p passes false c lines = refl
+
 policy_plain : (policy : Policy) (leave : Bool) (sent varying : List Line) → IsBarePolicy policy
     → list_all is_plain (policy_fields policy leave sent varying) ≡ true
 unfolding eq_ignore_case
 policy_plain policy leave sent varying bare =
     let line : Option Line = grant policy.origins (only_line sent) in
-    let grants : Bool = is_some line in
-    and_from (list_all is_bare (lines_if grants line)) _
-    (lines_bare grants line (grant_bare policy.origins (only_line sent) bare.origins))
-    (and_from (list_all is_bare (lines_if (grants && policy.credentials) (Some (codes "true")))) _
-    (lines_bare (grants && policy.credentials) (Some (codes "true")) refl)
-    (and_from (list_all is_bare (lines_if (grants && not leave) (filled_line policy.exposed))) _
-    (lines_bare (grants && not leave) (filled_line policy.exposed)
-    (bare_if (is_filled policy.exposed) policy.exposed (λ is. bare.exposed)))
-    (and_from (list_all is_bare (lines_if (grants && leave) (Some policy.methods))) _
-    (lines_bare (grants && leave) (Some policy.methods) bare.methods)
-    (and_from (list_all is_bare (lines_if (grants && leave) (filled_line policy.names))) _
-    (lines_bare (grants && leave) (filled_line policy.names)
-    (bare_if (is_filled policy.names) policy.names (λ is. bare.names)))
-    (and_from (list_all is_bare (lines_if (grants && leave) policy.max_age))
-    (list_all is_plain (vary_sent policy varying))
-    (lines_bare (grants && leave) policy.max_age bare.max_age)
-    (varied_plain (is_some policy.origins) (covers_origin varying) (varying ++ codes "origin" ∷ [])))))))
+    let g : Bool = is_some line in
+    simp (
+      lines_bare g line (grant_bare policy.origins (only_line sent) bare.origins),
+      lines_bare (g && policy.credentials) (Some (codes "true")) refl,
+      lines_bare (g && not leave) (filled_line policy.exposed)
+          (bare_if (is_filled policy.exposed) policy.exposed (λ is. bare.exposed)),
+      lines_bare (g && leave) (Some policy.methods) bare.methods,
+      lines_bare (g && leave) (filled_line policy.names)
+          (bare_if (is_filled policy.names) policy.names (λ is. bare.names)),
+      lines_bare (g && leave) policy.max_age bare.max_age,
+    )
+    (varied is_plain (λ lines. refl) (is_some policy.origins) (covers_origin varying) (varying ++ codes "origin" ∷ []))
 
 shared_plain : (cors : Option Policy) (request : Asked) (lines : List Line) (shared : List Field) → IsBareIfAny cors
     → IsShared cors request lines shared → list_all is_plain shared ≡ true
@@ -539,24 +515,6 @@ shared_plain None request lines shared bare h = ap (list_all is_plain) h
 shared_plain (Some policy) request lines shared bare h =
     ap (list_all is_plain) (h.2 ∙ h.1.fields)
     ∙ policy_plain policy (is_preflight h.0.kind) (request.fields (codes "origin")) lines bare
-
--- ---- the fields of a plan
-
-removed_plain : (keeps whole : Bool)
-    → list_all is_plain
-    (cond keeps [] ((codes "content-encoding", []) ∷ [])
-    ++ cond whole [] ((codes "content-digest", []) ∷ (codes "content-md5", []) ∷ []))
-    ≡ true
-unfolding eq_ignore_case
-removed_plain true true = refl
-removed_plain true false = refl
-removed_plain false true = refl
-removed_plain false false = refl
-
-metadata_plain : (b : Bool) (x : Representation) → list_all is_plain (metadata_fields b x) ≡ true
-unfolding eq_ignore_case
-metadata_plain true x = refl
-metadata_plain false x = refl
 
 tag_bare : (tag : Option FieldValue) → is_bare_tag tag ≡ true
     → list_all is_bare (lines_sent (λ (x : FieldValue). x.bytes) tag) ≡ true
@@ -597,7 +555,7 @@ module _ (present : ℕ) (plan : Plan) (target : Target) (content : Content) (mu
         first =
             and_from (list_all is_bare (lines_sent (λ (x : FieldValue). x.bytes) (etag_sent plan (etag_of target))))
             true (etag_bare plan (etag_of target) bare) refl;
-        last = removed_plain (keeps_encoding plan known) (is_whole plan);
+        last = sides_plain (after_five all) (removed_side (keeps_encoding plan known) (is_whole plan));
       }
 
   with_between : (fields : LineMap) (x : Option Representation) → is_bare_tag (etag_of target) ≡ true
@@ -607,35 +565,7 @@ module _ (present : ℕ) (plan : Plan) (target : Target) (content : Content) (mu
   with_between fields (Some x) bare =
       after_all is_plain own_field (metadata_fields (describes plan (is_known_by fields)) x)
       (fields_sent present plan (is_known_by fields) target content multipart)
-      (metadata_plain (describes plan (is_known_by fields)) x) (sent_between (is_known_by fields) bare)
-
--- ---- the fields around those of the answer
-
-dates_plain : (now : Option ℕ) → list_all is_plain_line (date_fields now ++ sniff_field ∷ []) ≡ true
-unfolding eq_ignore_case
-dates_plain None = refl
-dates_plain (Some seconds) = refl
-
-closing_plain : (b : Bool) → list_all is_plain_line (cond b [] ((codes "connection", codes "close") ∷ [])) ≡ true
-unfolding eq_ignore_case
-closing_plain true = refl
-closing_plain false = refl
-
-cache_plain : (b : Bool) (value : Option FieldValue) → list_all is_plain_line (cond b (cache_fields value) []) ≡ true
-unfolding eq_ignore_case
-cache_plain true None = refl
-cache_plain true (Some value) = refl
-cache_plain false value = refl
-
-page_plain : (b : Bool) → list_all is_plain_line (cond b [] (html_field ∷ [])) ≡ true
-unfolding eq_ignore_case
-page_plain true = refl
-page_plain false = refl
-
-explained_plain : (code : ℕ) (sent : Sends) → list_all is_plain_line (explained_fields code sent) ≡ true
-explained_plain code sends.Nothing = page_plain _
-explained_plain code sends.Alternatives = page_plain _
-explained_plain code sent = refl
+      (sides_plain _ (metadata_side (describes plan (is_known_by fields)) x)) (sent_between (is_known_by fields) bare)
 
 -- ---- the status and the length
 
@@ -700,11 +630,18 @@ found_explained negotiates has uri found x =
       | inr h ↦ ap is_explained h.1.status
     ]
 
+-- what isn't a refusal
+abbrev is_open : Reason → Bool
+is_open Admitted = true
+is_open Options = true
+is_open Preflight = true
+is_open reason = false
+
 -- what a server offers is answered by 204 without content
 abbrev IsOffer : ℕ → State → Option Denial → Reason → Type 0
 IsOffer absent now why reason =
-    ((reason ≡ Options) ⊎ (reason ≡ Preflight))
-    × (status_for absent reason (Some (code_of now why reason)) ≡ 204) × (sent_for reason ≡ sends.Nothing)
+    (is_open reason ≡ true) × (status_for absent reason (Some (code_of now why reason)) ≡ 204)
+    × (sent_for reason ≡ sends.Nothing)
 
 -- what stops a request that isn't denied is explained, but for OPTIONS and a preflight
 reason_explained : (absent : ℕ) → is_explained absent ≡ true → (now : State) (why : Option Denial) (reason : Reason)
@@ -713,8 +650,8 @@ reason_explained : (absent : ℕ) → is_explained absent ≡ true → (now : St
     ⊎ (is_explained (status_for absent reason (Some (code_of now why reason))) ≡ true)
 reason_explained absent missing now why Admitted other moved admits = absurd (cc other)
 reason_explained absent missing now why Denied other moved admits = absurd (admits refl)
-reason_explained absent missing now why Preflight other moved admits = inl (inr refl, refl, refl)
-reason_explained absent missing now why Options other moved admits = inl (inl refl, refl, refl)
+reason_explained absent missing now why Preflight other moved admits = inl (refl, refl, refl)
+reason_explained absent missing now why Options other moved admits = inl (refl, refl, refl)
 reason_explained absent missing now why NotFound other moved admits = inr missing
 reason_explained absent missing now why Moved other moved admits = inr (by now (moved refl))
   where
@@ -747,11 +684,8 @@ module _ (divider : List ℕ) (present : ℕ) where
   sized : (file : Option File) (plan : Plan) → Fits (divisible_len (content_of (shown file))) plan
       → IsSized file plan
   sized None the_plan.Full fits = record { stated = false; lines = refl; bodiless = λ is. absurd (omega (arith, is)) }
-  sized (Some file) the_plan.Full fits = record {
-    stated = true;
-    lines = ap (λ (m : ℕ). decimal m ∷ []) (whole (len_of file.source));
-    bodiless = λ is. absurd (omega (arith, is));
-  }
+  sized (Some file) the_plan.Full fits =
+      record { stated = true; lines = ap (λ m. decimal m ∷ []) (whole _); bodiless = λ is. absurd (omega (arith, is)) }
   sized None (the_plan.Single part) fits = let low = fits.1 in absurd (omega (arith, low))
   sized (Some file) (the_plan.Single part) fits = record {
     stated = true;
@@ -762,13 +696,8 @@ module _ (divider : List ℕ) (present : ℕ) where
       record { stated = false; lines = refl; bodiless = λ is. absurd (omega (arith, is)) }
   sized None the_plan.NotModified fits = record { stated = false; lines = refl; bodiless = λ is. (refl, refl) }
   sized (Some file) the_plan.NotModified fits = record { stated = false; lines = refl; bodiless = λ is. (refl, refl) }
-  sized None the_plan.Failed fits = record { stated = true; lines = refl; bodiless = λ is. absurd (omega (arith, is)) }
-  sized (Some file) the_plan.Failed fits =
-      record { stated = true; lines = refl; bodiless = λ is. absurd (omega (arith, is)) }
-  sized None the_plan.Unsatisfiable fits =
-      record { stated = true; lines = refl; bodiless = λ is. absurd (omega (arith, is)) }
-  sized (Some file) the_plan.Unsatisfiable fits =
-      record { stated = true; lines = refl; bodiless = λ is. absurd (omega (arith, is)) }
+  sized None plan fits = record { stated = true; lines = refl; bodiless = λ is. absurd (omega (arith, is)) }
+  sized (Some file) plan fits = record { stated = true; lines = refl; bodiless = λ is. absurd (omega (arith, is)) }
 
   none_tagged : (now : State) → is_bare_tag (etag_of (target_of now None)) ≡ true
   none_tagged state.Current = refl
@@ -781,31 +710,30 @@ module _ (divider : List ℕ) (present : ℕ) where
 
 -- ---- CONNECT
 
-connect_by : (a b : Bool) → is_connect (cond a Method.Head (cond b Method.Connect Method.Other)) ≡ true → b ≡ true
-connect_by true b e = absurd (cc e)
-connect_by false true e = refl
-connect_by false false e = absurd (cc e)
-
 connect_named : (method : List ℕ) → is_connect (method_kind method) ≡ true → method ≡ codes "CONNECT"
 connect_named method e =
     (bytes_eq-Decides method (codes "CONNECT")).0
-    (connect_by (bytes_eq method (codes "HEAD")) (bytes_eq method (codes "CONNECT")) e)
+    (by (bytes_eq method (codes "HEAD")) (bytes_eq method (codes "CONNECT")) e)
+  where
+    by : (a b : Bool) → is_connect (cond a Method.Head (cond b Method.Connect Method.Other)) ≡ true → b ≡ true
+    by a true e = refl
+    by true false e = absurd (cc e)
+    by false false e = absurd (cc e)
 
 no_connect : (rules : List MethodRule) (own : MethodRule) → rules ≡ own ∷ [] → own.method ≡ codes "GET"
     → has_method rules (codes "CONNECT") ≡ false
 unfolding rule_for
 no_connect rules own alone get =
-    ap (λ (l : List MethodRule). is_some (find (λ (r : MethodRule). bytes_eq r.method (codes "CONNECT")) l)) alone
-    ∙ ap (λ (name : List ℕ). is_some (cond (bytes_eq name (codes "CONNECT")) (Some own) None)) get
+    rw alone (simp get)
 
 -- ---- the answer
 
 module _ (present : ℕ) (resource : Resource) (own_rule : MethodRule) (alone : resource.rules.items ≡ own_rule ∷ [])
     (get : own_rule.method ≡ codes "GET") where
-  -- CONNECT isn't admitted
-  admits : (request : Asked) → IsFirst (applies resource request) Admitted
+  -- CONNECT is refused
+  free_of : (request : Asked) (reason : Reason) → IsFirst (applies resource request) reason → is_open reason ≡ true
       → is_connect (method_kind request.method) ≡ false
-  admits request first =
+  free_of request Admitted first is =
       elim (cases_Bool (is_connect (method_kind request.method))) [
         | inl connects ↦
             let named = connect_named request.method connects in
@@ -817,20 +745,13 @@ module _ (present : ℕ) (resource : Resource) (own_rule : MethodRule) (alone : 
             absurd (cc (allowed, refused))
         | inr other ↦ other
       ]
-
-  offers : (request : Asked) → IsFirst (applies resource request) Options
-      → is_connect (method_kind request.method) ≡ false
-  offers request first =
-      let named = (bytes_eq-Decides request.method (codes "OPTIONS")).0 first.is in
-      ap (λ (name : List ℕ). is_connect (method_kind name)) named
-
-  grants : (request : Asked) → IsFirst (applies resource request) Preflight
-      → is_connect (method_kind request.method) ≡ false
-  grants request first =
+  free_of request Options first is =
+      let named = (bytes_eq-Decides request.method (codes "OPTIONS")).0 first.is in rw named
+  free_of request Preflight first is =
       let leave = and_parts (is_some resource.cors) _ first.is in
       let options = and_parts (bytes_eq request.method (codes "OPTIONS")) _ leave.1 in
-      let named = (bytes_eq-Decides request.method (codes "OPTIONS")).0 options.0 in
-      ap (λ (name : List ℕ). is_connect (method_kind name)) named
+      let named = (bytes_eq-Decides request.method (codes "OPTIONS")).0 options.0 in rw named
+  free_of request reason first is = absurd (cc is)
 
   stopped_several : (reason : Reason) → sends_several (sent_for reason) ≡ false
   stopped_several NotAcceptable = refl
@@ -893,13 +814,7 @@ module _ (present : ℕ) (resource : Resource) (own_rule : MethodRule) (alone : 
             states = Some (own_lines present plan target content boundary);
             lines = ap (λ (ls : List Line). map (λ (line : Line). (length_name, line)) ls) x.lines ∙ own x.stated;
             fields = with_between present plan target content boundary request.fields (shown divider present file) bare;
-            final = record {
-              least = least plan;
-              greatest = greatest plan;
-              other = other plan;
-              bodiless = λ is. elim is [ inl a ↦ absurd (filled plan a) | inr b ↦ x.bodiless b ];
-              connect = successful (status_of plan);
-            };
+            final = final plan (len_for divider present file plan) x.stated x.bodiless;
             text = text plan;
           }
         where
@@ -910,21 +825,22 @@ module _ (present : ℕ) (resource : Resource) (own_rule : MethodRule) (alone : 
           own true = refl
           own false = refl
 
-          least : (plan : Plan) → 200 ≤ status_of plan
-          least the_plan.Full = omega arith
-          least plan = omega arith
-
-          greatest : (plan : Plan) → status_of plan ≤ 999
-          greatest the_plan.Full = omega arith
-          greatest plan = omega arith
-
-          other : (plan : Plan) → status_of plan ≢ 205
-          other the_plan.Full is = omega (arith, is)
-          other plan is = omega (arith, is)
-
-          filled : (plan : Plan) → status_of plan ≢ 204
-          filled the_plan.Full is = omega (arith, is)
-          filled plan is = omega (arith, is)
+          final : (plan : Plan) (n : ℕ) (stated : Bool) → (status_of plan ≡ 304 → (n ≡ 0) × (stated ≡ false))
+              → IsFinal method (status_of plan) n stated
+          final the_plan.Full n stated none = record {
+            least = omega arith;
+            greatest = omega arith;
+            other = λ is. omega (arith, is);
+            bodiless = λ is. absurd (elim is [ inl a ↦ omega (arith, a) | inr b ↦ omega (arith, b) ]);
+            connect = successful 200;
+          }
+          final plan n stated none = record {
+            least = omega arith;
+            greatest = omega arith;
+            other = λ is. omega (arith, is);
+            bodiless = λ is. elim is [ inl a ↦ absurd (omega (arith, a)) | inr b ↦ none b ];
+            connect = successful (status_of plan);
+          }
 
           text : (plan : Plan) → is_field_value (reason_of (status_of plan)) ≡ true
           text the_plan.Full = refl
@@ -964,14 +880,14 @@ module _ (present : ℕ) (resource : Resource) (own_rule : MethodRule) (alone : 
 
     by_reason : (admitted : Bool) (reason : Reason) → is_admitted reason ≡ admitted → (status : Option ℕ) (sent : Sends)
         (own : List Field) → applies resource request reason ≡ true
-        → (((reason ≡ Options) ⊎ (reason ≡ Preflight)) ⊎ (reason ≡ Admitted) → is_connect method ≡ false)
+        → (is_open reason ≡ true → is_connect method ≡ false)
         → GivesIf admitted present resource request reason status sent own → is_bare_tag (tag_sent files sent) ≡ true
         → Accepts (status_for absent reason status) sent own
-    by_reason true Admitted is status sent own t free g tagged = goes (free (inr refl)) status sent own g tagged
+    by_reason true Admitted is status sent own t free g tagged = goes (free refl) status sent own g tagged
     by_reason true reason is status sent own t free g tagged = absurd (cc is)
     by_reason false reason is status sent own t free g tagged =
         let plain : list_all is_plain own ≡ true =
-        ap (list_all is_plain) g.has_fields ∙ reason_plain resource request reason in
+        ap (list_all is_plain) g.has_fields ∙ sides_plain _ (reason_side resource request reason) in
         elim
         (reason_explained absent missing resource.state request.denied reason is
         (λ moved. sym (ap (applies resource request) moved) ∙ t)
@@ -982,7 +898,7 @@ module _ (present : ℕ) (resource : Resource) (own_rule : MethodRule) (alone : 
               let code : status_for absent reason status ≡ 204 =
               ap (status_for absent reason) g.has_status ∙ offer.1 in
               rw (code, g.sends ∙ offer.2)
-              (empty (free (inl offer.0)) 204 own (omega arith) (omega arith) (λ is. omega (arith, is)) refl plain)
+              (empty (free offer.0) 204 own (omega arith) (omega arith) (λ is. omega (arith, is)) refl plain)
           | inr page ↦
               explained method (status_for absent reason status) _ own
               (ap (λ (s : Option ℕ). is_explained (status_for absent reason s)) g.has_status ∙ page) plain
@@ -990,8 +906,7 @@ module _ (present : ℕ) (resource : Resource) (own_rule : MethodRule) (alone : 
 
     -- with Vary, and with what the policy says
     answer_accepted : (answer : Answer) → (h : IsAnswer present resource request answer)
-        → (((answer.reason ≡ Options) ⊎ (answer.reason ≡ Preflight)) ⊎ (answer.reason ≡ Admitted)
-        → is_connect method ≡ false)
+        → (is_open answer.reason ≡ true → is_connect method ≡ false)
         → IsBareIfAny resource.cors → is_bare_tag (tag_sent files answer.sends) ≡ true
         → Accepts (status_for absent answer.reason answer.status) answer.sends (encoded_fields answer.fields.items)
     answer_accepted answer h free bare tagged =
@@ -1007,7 +922,7 @@ module _ (present : ℕ) (resource : Resource) (own_rule : MethodRule) (alone : 
           fields =
               rw h.fields
               (before_all is_plain own (h.own ++ vary_fields lines) h.shared
-              (before_all is_plain own h.own (vary_fields lines) x.fields (vary_plain lines))
+              (before_all is_plain own h.own (vary_fields lines) x.fields (sides_plain _ (vary_side lines)))
               (shared_plain resource.cors request lines h.shared bare h.is_shared));
           final = x.final;
           text = x.text;
@@ -1059,47 +974,34 @@ module _ (limits : Limits) (head : RequestHead) (framing : Framing) (now : Optio
       found_explained site.resource.negotiation.coding has (head_of request).uri x.found x.leads
 
   accepts : (asked : Asked) → asked.denied ≡ None → IsAnswer present x.resource asked x.answer
-      → (((x.answer.reason ≡ Options) ⊎ (x.answer.reason ≡ Preflight)) ⊎ (x.answer.reason ≡ Admitted)
-      → is_connect sender ≡ false)
+      → (is_open x.answer.reason ≡ true → is_connect sender ≡ false)
       → IsAccepted sender code len given
   accepts asked admitted h free =
       answer_accepted present x.resource is_site.rule rules is_site.is_read.method divider site.pages.items files
       x.found.status missing representations_are sender asked admitted x.answer h free bare_policy x.carries.tagged
 
+  -- the request of a first reason that isn't a refusal
+  frees : (reason : Reason) → IsFirst (applies x.resource x.asked) reason → is_open reason ≡ true
+      → is_connect sender ≡ false
+  frees reason first goes =
+      ap is_connect asked_kind
+      ∙ free_of present x.resource is_site.rule rules is_site.is_read.method x.asked reason first goes
+
   accepted : IsAccepted sender code len given
   accepted =
       elim x.decides [
-        | inl h ↦
-            accepts x.asked x.asks.2.admitted h.1
-            (λ why.
-            let other : is_connect (method_kind x.asked.method) ≡ false =
-            elim why [
-              | inl offer ↦
-                  elim offer [
-                    | inl is ↦
-                        offers present x.resource is_site.rule rules is_site.is_read.method x.asked
-                        (subst (IsFirst (applies x.resource x.asked)) is h.1.first)
-                    | inr is ↦
-                        grants present x.resource is_site.rule rules is_site.is_read.method x.asked
-                        (subst (IsFirst (applies x.resource x.asked)) is h.1.first)
-                  ]
-              | inr is ↦
-                  admits present x.resource is_site.rule rules is_site.is_read.method x.asked
-                  (subst (IsFirst (applies x.resource x.asked)) is h.1.first)
-            ] in
-            ap is_connect asked_kind ∙ other)
+        | inl h ↦ accepts x.asked x.asks.2.admitted h.1 (frees x.answer.reason h.1.first)
         | inr h ↦
-            let free : is_connect (method_kind x.asked.method) ≡ false =
+            let free : is_connect sender ≡ false =
             elim (cases_Bool (sends_several h.0.sends)) [
               | inl several ↦
-                  let is =
-                  several_admitted present x.resource is_site.rule rules is_site.is_read.method x.asked h.0.reason
-                  h.0.status h.0.sends h.2.own h.2.gives several in
-                  admits present x.resource is_site.rule rules is_site.is_read.method x.asked
-                  (subst (IsFirst (applies x.resource x.asked)) is h.2.first)
+                  frees h.0.reason h.2.first
+                  (ap is_open
+                  (several_admitted present x.resource is_site.rule rules is_site.is_read.method x.asked h.0.reason
+                  h.0.status h.0.sends h.2.own h.2.gives several))
               | inr one ↦ absurd (h.1 (λ several. absurd (cc (one, several))))
             ] in
-            accepts (as_head x.asked) x.asks.2.admitted h.3 (λ why. ap is_connect asked_kind ∙ free)
+            accepts (as_head x.asked) x.asks.2.admitted h.3 (λ goes. free)
       ]
 
   len_is : content_len response ≡ len
@@ -1114,38 +1016,23 @@ module _ (limits : Limits) (head : RequestHead) (framing : Framing) (now : Optio
   abbrev page : List Header
   page = explained_fields code x.answer.sends
 
-  front_plain : list_all is_plain_line front ≡ true
-  front_plain =
-      all_append is_plain_line (first_fields now left) (cache_sent x.answer.sends site.cache_control)
-      (all_append is_plain_line (date_fields now ++ sniff_field ∷ []) (closing_fields left) (dates_plain now)
-      (closing_plain (nat_lt 1 left)))
-      (cache_plain (is_stored x.answer.sends) site.cache_control)
-
   short : len < 2 ^ 64
   short = rw len_is at x.carries.short
 
   states : StatesLength len accepted.stated (plan_fields response)
   states =
       let stated = accepted.stated in
-      let sent =
-      subst (λ (l : List Header). Between is_plain_line l own) accepted.lines
-      (between_sent (is_some site.resource.cors) accepted.states given accepted.fields) in
-      let joined =
-      before_all is_plain_line (stated_line len stated) (front ++ own) page
-      (after_all is_plain_line (stated_line len stated) front own front_plain sent)
-      (explained_plain code x.answer.sends) in
-      let lines = subst (λ (l : List Header). list_all is_line l ≡ true) x.carries.headers x.carries.valid in
-      subst (StatesLength len stated) (sym x.carries.headers)
-      (states_trimmed len stated ((front ++ own) ++ page) short joined lines)
+      rw x.carries.headers
+      (tells_both len stated false stated (front ++ own) page
+      (tells_both len false stated stated front own
+      (tells_plain len front (side_lines_plain front (front_side now left x.answer.sends site.cache_control)))
+      (tells_sent (is_some site.resource.cors) len stated short accepted.states accepted.lines given accepted.fields)
+      refl)
+      (tells_plain len page (side_lines_plain page (explained_side code x.answer.sends))) (append-nil _)
+      (rw x.carries.headers at x.carries.valid))
 
   pub answer_sent : response_refusal (answering limits head framing) response.status (reason_of response.status)
       (plan_size response) (plan_fields response) ≡ None
   answer_sent =
-      let n : ℕ = content_len response in
-      let stated = accepted.stated in
-      let final =
-      subst (λ (c : ℕ). IsFinal sender c n stated) (sym x.carries.status)
-      (subst (λ (m : ℕ). IsFinal sender code m stated) (sym len_is) accepted.final) in
-      let text =
-      subst (λ (c : ℕ). is_field_value (reason_of c) ≡ true) (sym x.carries.status) accepted.text in
-      plan_sent limits head framing response stated x.carries.short minor text (rw len_is states) final
+      plan_sent limits head framing response accepted.stated x.carries.short minor (rw x.carries.status accepted.text)
+      (rw len_is states) (simp (x.carries.status, len_is) accepted.final)

@@ -4,7 +4,6 @@ use Rattle.server_laws.proofs.laws.parts_join_to_the_content.Goals as goal
 
 pub returns : goal.returns
 returns c now later left more site look request next r s kept first second p q a b x y e f joins h k =
-    let law = c.sent_bytes_are_those_of_the_ranges.ensures in
-    (λ i. sent_part law now left site look request r kept x p first e a h i
-    ++ sent_part law later more site look next s kept y q second f b k i)
+    (λ i. sent_part now left site look request r kept x p first e a h i
+    ++ sent_part later more site look next s kept y q second f b k i)
     ∙ halves kept.content first second joins

@@ -34,44 +34,28 @@ pub states_other : (n : ℕ) (h : Header) → is_header h ≡ true → is_framin
     → StatesLength n false (h ∷ [])
 states_other n h valid other =
     let neither = or_parts (has_name (codes "content-length") h) (has_name (codes "transfer-encoding") h) other in
-    record {
-      valid = and_from _ _ valid refl;
-      codings = ap (λ (b : Bool). cond b (h.1 ∷ []) [] ++ []) neither.1;
-      lengths = ap (λ (b : Bool). cond b (h.1 ∷ []) [] ++ []) neither.0;
-    }
+    record { valid = simp valid; codings = simp neither.1; lengths = simp neither.0 }
 
 pub states_length : (n : ℕ) → n < 2 ^ 64 → StatesLength n true (length_header n ∷ [])
 unfolding eq_ignore_case is_token_byte
-states_length n short = record {
-  valid = and_from _ _ (decimal_is_trimmed n) refl;
-  codings = refl;
-  lengths = ap (λ (text : List ℕ). text ∷ []) (sym (decimal_is_numeral n short));
+states_length n short =
+    let is = decimal_is_numeral n short in
+    record { valid = and_from _ _ (decimal_is_trimmed n) refl; codings = refl; lengths = simp is }
+
+pub states_both : (n : ℕ) (a b c : Bool) (xs ys : List Header) → StatesLength n a xs → StatesLength n b ys
+    → cond a (decimal n ∷ []) [] ++ cond b (decimal n ∷ []) [] ≡ cond c (decimal n ∷ []) []
+    → StatesLength n c (xs ++ ys)
+states_both n a b c xs ys x y lengths = record {
+  valid = simp (list_all-append, x.valid, y.valid);
+  codings = simp (flat_map-append, x.codings, y.codings);
+  lengths = simp (flat_map-append, x.lengths, y.lengths, lengths);
 }
-
-module _ (n : ℕ) (xs ys : List Header) where
-  joined_lengths : (a b c : Bool) → StatesLength n a xs → StatesLength n b ys
-      → cond a (decimal n ∷ []) [] ++ cond b (decimal n ∷ []) [] ≡ cond c (decimal n ∷ []) []
-      → StatesLength n c (xs ++ ys)
-  joined_lengths a b c x y lengths = record {
-    valid = list_all-append is_header xs ys ∙ and_from _ _ x.valid y.valid;
-    codings = flat_map-append _ xs ys ∙ (λ i. x.codings i ++ y.codings i);
-    lengths = flat_map-append _ xs ys ∙ (λ i. x.lengths i ++ y.lengths i) ∙ lengths;
-  }
-
-  pub states_then : (b : Bool) → StatesLength n false xs → StatesLength n b ys → StatesLength n b (xs ++ ys)
-  states_then b x y = joined_lengths false b b x y refl
-
-  pub states_before : (a : Bool) → StatesLength n a xs → StatesLength n false ys → StatesLength n a (xs ++ ys)
-  states_before a x y = joined_lengths a false a x y (append-nil _)
 
 -- what field lines without Transfer-Encoding say, by the lengths that they state
 record Counts (lengths : List (List ℕ)) (hs : List Header) : Type 0 where
   codings : elements_named (codes "transfer-encoding") hs ≡ []
   count : count_by is_framing_field hs ≡ length lengths
   plain : list_all frames_plainly hs ≡ list_all is_plain_number lengths
-
-one_more : (a b : ℕ) → a ≡ b → 1 + a ≡ suc b
-one_more a b e = omega (arith, e)
 
 counts : (hs : List Header) → values_named (codes "transfer-encoding") hs ≡ []
     → Counts (values_named (codes "content-length") hs) hs
@@ -87,55 +71,29 @@ counts (h ∷ hs) none =
     by sized true s c none more = absurd (cc none)
     by true false s c none more =
         let rest = more none in
-        let coding : Bool = cond (has_name (codes "transfer-encoding") h) (is_plain_chunked h.1) true in
         record {
-          codings =
-              ap
-              (λ (b : Bool). cond b (elements h.1) [] ++ elements_named (codes "transfer-encoding") hs) c
-              ∙ rest.codings;
-          count =
-              sum_by-cons _ h hs
-              ∙ ap
-              (λ (b : Bool).
-              cond (b || has_name (codes "transfer-encoding") h) 1 0 + count_by is_framing_field hs) s
-              ∙ one_more _ _ rest.count;
-          plain =
-              ap (λ (b : Bool). cond b (is_plain_number h.1) coding && list_all frames_plainly hs) s
-              ∙ ap (λ (b : Bool). is_plain_number h.1 && b) rest.plain;
+          codings = simp (c, rest.codings);
+          count = sum_by-cons _ h hs ∙ simp (s, c, rest.count) (omega arith);
+          plain = simp (s, c, rest.plain);
         }
     by false false s c none more =
         let rest = more none in
         record {
-          codings =
-              ap
-              (λ (b : Bool). cond b (elements h.1) [] ++ elements_named (codes "transfer-encoding") hs) c
-              ∙ rest.codings;
-          count =
-              sum_by-cons _ h hs ∙ (λ i. cond (s i || c i) 1 0 + count_by is_framing_field hs)
-              ∙ zero-add _ ∙ rest.count;
-          plain =
-              (λ i. cond (s i) (is_plain_number h.1) (cond (c i) (is_plain_chunked h.1) true)
-              && list_all frames_plainly hs)
-              ∙ rest.plain;
+          codings = simp (c, rest.codings);
+          count = sum_by-cons _ h hs ∙ simp (s, c, rest.count) (omega arith);
+          plain = simp (s, c, rest.plain);
         }
 
-states_option : (n : ℕ) (option : List ℕ) → is_trimmed_value option ≡ true
-    → StatesLength n false (connection_header option ∷ [])
+states_option : (n : ℕ) (b : Bool) (option : List ℕ) → is_trimmed_value option ≡ true
+    → StatesLength n false (cond b (connection_header option ∷ []) [])
 unfolding eq_ignore_case is_token_byte
-states_option n option trimmed = states_other n (connection_header option) trimmed refl
+states_option n true option trimmed = states_other n (connection_header option) trimmed refl
+states_option n false option trimmed = states_none n
 
 states_connection : (n : ℕ) (r : Serving) (k : KnownFields) (keep : Bool)
     → StatesLength n false (connection_headers r k keep)
-states_connection n r k true = by_test ((eqb r.minor 0) && not k.keep_alive)
-  where
-    by_test : (t : Bool) → StatesLength n false (cond t (connection_header (codes "keep-alive") ∷ []) [])
-    by_test true = states_option n (codes "keep-alive") refl
-    by_test false = states_none n
-states_connection n r k false = by_test (not k.close)
-  where
-    by_test : (t : Bool) → StatesLength n false (cond t (connection_header (codes "close") ∷ []) [])
-    by_test true = states_option n (codes "close") refl
-    by_test false = states_none n
+states_connection n r k true = states_option n ((eqb r.minor 0) && not k.keep_alive) (codes "keep-alive") refl
+states_connection n r k false = states_option n (not k.close) (codes "close") refl
 
 -- the summary of such fields
 record Knows (n : ℕ) (stated : Bool) (k : KnownFields) : Type 0 where
@@ -144,37 +102,46 @@ record Knows (n : ℕ) (stated : Bool) (k : KnownFields) : Type 0 where
   count : k.framing_fields ≡ cond stated 1 0
   plain : k.plain_framing ≡ true
 
-length_of : (n : ℕ) (stated : Bool) → n < 2 ^ 64
-    → content_length (cond stated (decimal n ∷ []) []) ≡ cond stated (Length.Value n) Length.Absent
-length_of n true short =
-    ap (λ (text : List ℕ). content_length (text ∷ [])) (decimal_is_numeral n short)
-    ∙ ap (λ (b : Bool). cond (b && true) (Length.Value (digits_value 10 (numeral 10 n))) Length.Invalid)
-    (decimal_is_number n short)
-    ∙ ap Length.Value (numeral_reads_back 10 n (omega arith) (omega arith)).value
-length_of n false short = refl
-
 knows : (n : ℕ) (stated : Bool) (hs : List Header) → n < 2 ^ 64 → StatesLength n stated hs
     → Knows n stated (known_fields hs)
 unfolding known_fields
 knows n stated hs short x =
-    let by = counts hs x.codings in
-    record {
-      coding = ap transfer_encoding by.codings;
-      len = ap content_length x.lengths ∙ length_of n stated short;
-      count =
-          ap (λ (c : ℕ). min c 2) by.count ∙ ap (λ (ls : List (List ℕ)). min (length ls) 2) x.lengths ∙ least stated;
-      plain = by.plain ∙ ap (list_all is_plain_number) x.lengths ∙ number stated;
-    }
+    let c = counts hs x.codings in by stated x.lengths
   where
-    least : (b : Bool) → min (length (cond b (decimal n ∷ []) [])) 2 ≡ cond b 1 0
-    least true = refl
-    least false = refl
+    by : (b : Bool) → values_named (codes "content-length") hs ≡ cond b (decimal n ∷ []) []
+        → Knows n b (known_fields hs)
+    by true lengths =
+        let c = counts hs x.codings in
+        let is = decimal_is_numeral n short in
+        record {
+          coding = simp c.codings;
+          len =
+              ap content_length lengths ∙ ap (λ (t : List ℕ). content_length (t ∷ [])) is
+              ∙ ap (λ (b : Bool). cond (b && true) (Length.Value (digits_value 10 (numeral 10 n))) Length.Invalid)
+              (decimal_is_number n short)
+              ∙ ap Length.Value (numeral_reads_back 10 n (omega arith) (omega arith)).value;
+          count = simp (c.count, lengths);
+          plain = simp (c.plain, lengths, is, decimal_is_plain n short);
+        }
+    by false lengths =
+        let c = counts hs x.codings in
+        let p : (known_fields hs).plain_framing ≡ true = simp (c.plain, lengths) in
+        record { coding = simp c.codings; len = simp lengths; count = simp (c.count, lengths); plain = p }
 
-    number : (b : Bool) → list_all is_plain_number (cond b (decimal n ∷ []) []) ≡ true
-    number true =
-        ap (λ (text : List ℕ). is_plain_number text && true) (decimal_is_numeral n short)
-        ∙ and_from _ _ (decimal_is_plain n short) refl
-    number false = refl
+Knows-states : (n : ℕ) (stated : Bool) (k : KnownFields) → Knows n stated k → states_framing k ≡ stated
+Knows-states n true k x = simp x.count
+Knows-states n false k x = simp x.count
+
+Knows-plain : (n : ℕ) (stated : Bool) (k : KnownFields) → Knows n stated k → is_usual k ≡ true
+Knows-plain n true k x = simp (x.count, x.plain)
+Knows-plain n false k x = simp (x.count, x.plain)
+
+framing_is : (none : Bool) (minor n : ℕ) (stated : Bool) (k : KnownFields) → Knows n stated k
+    → cond none (Ok NoBody) (by_fields minor UntilClose (Ok UntilClose) k.transfer_encoding k.content_length)
+    ≡ Ok (cond none NoBody (cond stated (Sized n) UntilClose))
+framing_is true minor n stated k x = refl
+framing_is false minor n true k x = simp (x.coding, x.len)
+framing_is false minor n false k x = simp (x.coding, x.len)
 
 -- ---- the plan
 
@@ -182,203 +149,124 @@ size_stated : (minor n : ℕ) → size_headers minor (size_for n) ≡ length_hea
 size_stated minor n = by_test (eqb n 0) refl
   where
     by_test : (t : Bool) → eqb n 0 ≡ t → size_headers minor (cond t Empty (Known n)) ≡ length_header n ∷ []
-    by_test true is = ap (λ (m : ℕ). length_header m ∷ []) (sym (eqb-true n 0 is))
+    by_test true is = simp (eqb-true n 0 is)
     by_test false some = refl
 
 sized_fits : (n : ℕ) → fits (Sized n) (size_for n) ≡ true
-sized_fits n = by_test (eqb n 0) refl
-  where
-    by_test : (t : Bool) → eqb n 0 ≡ t → fits (Sized n) (cond t Empty (Known n)) ≡ true
-    by_test true is = is
-    by_test false some = eq-eqb n n refl
+sized_fits n = grind (arith, nat_tests)
 
-empty_fits : (n : ℕ) → n ≡ 0 → fits NoBody (size_for n) ≡ true
-empty_fits n is = ap (λ (m : ℕ). fits NoBody (size_for m)) is
+-- the plan is made, and its field lines are valid; where the fields state the length, the connection adds only what it
+-- says of itself
+pub record IsPlanned (r : Serving) (status n : ℕ) (stated : Bool) (hs : List Header)
+    (planned : Result WirePlan WriteError) : Type 0 where
+  pub plan : WirePlan
+  pub is : planned ≡ Ok plan
+  pub valid : list_all is_header (hs ++ plan.extra) ≡ true
+  pub extra : stated ≡ true
+      → plan.extra ≡ connection_headers r (known_fields (hs ++ []))
+      (stays_open r (known_fields (hs ++ [])) (cond (is_bodiless_status status) NoBody (Sized n)))
+  pub framing : stated ≡ true → plan.framing ≡ cond (has_no_body r.method status) NoBody (Sized n)
 
-framing_is : (bodiless : Bool) (minor n : ℕ) (stated : Bool) (k : KnownFields) → Knows n stated k
-    → cond bodiless (Ok NoBody) (by_fields minor UntilClose (Ok UntilClose) k.transfer_encoding k.content_length)
-    ≡ Ok (cond bodiless NoBody (cond stated (Sized n) UntilClose))
-framing_is true minor n stated k x = refl
-framing_is false minor n true k x =
-    λ i. by_fields minor UntilClose (Ok UntilClose) (x.coding i) (x.len i)
-framing_is false minor n false k x =
-    λ i. by_fields minor UntilClose (Ok UntilClose) (x.coding i) (x.len i)
-
--- the plan is made, and its field lines are valid
-abbrev pub IsPlanned : List Header → Result WirePlan WriteError → Type 0
-IsPlanned hs planned = (p : WirePlan) × (planned ≡ Ok p) × (list_all is_header (hs ++ p.extra) ≡ true)
+abbrev framing_of : ℕ → ℕ → Bool → Framing
+framing_of status n stated = cond (is_bodiless_status status) NoBody (cond stated (Sized n) UntilClose)
 
 module _ (r : Serving) (status n : ℕ) (hs : List Header) (short : n < 2 ^ 64) where
-  abbrev size : BodySize
-  size = size_for n
-
-  -- the plan of fields to which these were added
-  abbrev plan_with : List Header → Result WirePlan WriteError
-  plan_with first =
-      let k = known_fields (hs ++ first) in
-      cond (eqb status 204 && states_framing k) (Err Refusal.BodySize)
-      (cond (is_205_with_content r status size k) (Err Refusal.BodySize)
-      (cond (is_coded_304 r status k) (Err (Refusal.Framing UnexpectedTransferEncoding))
-      (plan_stated r status size hs first (response_framing Method.Other status r.minor k))))
-
+  -- the plan of fields to which these were added, which state the length or not
   module _ (first : List Header) (stated : Bool) (x : StatesLength n stated (hs ++ first)) where
     abbrev k : KnownFields
     k = known_fields (hs ++ first)
 
-    told : Knows n stated k
-    told = knows n stated (hs ++ first) short x
+    abbrev second : List Header
+    second = connection_headers r k (stays_open r k (framing_of status n stated))
 
-    states : states_framing k ≡ stated
-    states = ap (nat_lt 0) told.count ∙ by_test stated
-      where
-        by_test : (t : Bool) → nat_lt 0 (cond t 1 0) ≡ t
-        by_test true = refl
-        by_test false = refl
+    all_stated : StatesLength n stated (hs ++ (first ++ second))
+    all_stated =
+        rw (← (append_assoc hs first second))
+        (states_both n stated false stated (hs ++ first) second x
+        (states_connection n r k (stays_open r k (framing_of status n stated))) (append-nil _))
 
-    module _ (framing : Framing) (fit : fits framing size ≡ true) where
-      abbrev second : List Header
-      second = connection_headers r k (stays_open r k framing)
+    abbrev last : WirePlan
+    last = record {
+      extra = first ++ second;
+      framing = cond (has_no_body r.method status) NoBody (cond stated (Sized n) UntilClose);
+      keep_alive = stays_open r k (framing_of status n stated);
+    }
 
-      abbrev all : List Header
-      all = hs ++ (first ++ second)
-
-      all_stated : StatesLength n stated all
-      all_stated =
-          subst (StatesLength n stated) (append_assoc hs first second)
-          (states_before n (hs ++ first) second stated x (states_connection n r k (stays_open r k framing)))
-
-      all_told : Knows n stated (known_fields all)
-      all_told = knows n stated all short all_stated
-
-      all_plain : is_usual (known_fields all) ≡ true
-      all_plain = and_from _ _ (ap (λ (c : ℕ). nat_lt c 2) all_told.count ∙ by_test stated) all_told.plain
-        where
-          by_test : (t : Bool) → nat_lt (cond t 1 0) 2 ≡ true
-          by_test true = refl
-          by_test false = refl
-
-      abbrev last : WirePlan
-      last = record {
-        extra = first ++ second;
-        framing = cond (has_no_body r.method status) NoBody (cond stated (Sized n) UntilClose);
-        keep_alive = stays_open r k framing;
-      }
-
-      plan_made : plan_stated r status size hs first (Ok framing) ≡ Ok last
-      plan_made =
-          cond-false _ _ _ (ap (λ (b : Bool). is_sized r size && not b) fit ∙ and-false _)
-          ∙ cond-false _ _ _ (ap not all_plain)
-          ∙ ap (with_framing (first ++ second) (stays_open r k framing))
-          (framing_is (has_no_body r.method status) r.minor n stated (known_fields all) all_told)
-
-    planned_with : status ≢ 205 → (eqb status 204 && stated) ≡ false
-        → fits (cond (is_bodiless_status status) NoBody (cond stated (Sized n) UntilClose)) size ≡ true
-        → IsPlanned hs (plan_with first)
-    planned_with other late fit =
-        let framing = cond (is_bodiless_status status) NoBody (cond stated (Sized n) UntilClose) in (
-          last framing fit,
-          cond-false _ _ _ (ap (λ (b : Bool). eqb status 204 && b) states ∙ late)
-              ∙ cond-false _ _ _
-              (ap (λ (b : Bool). b && (is_sized r size && not (states_no_content k))) (ne_eqb status 205 other))
-              ∙ cond-false _ _ _ (ap (λ c. eqb status 304 && (eqb r.minor 0 && is_coded c)) told.coding
-              ∙ ap (λ (b : Bool). eqb status 304 && b) (and-false _) ∙ and-false _)
-              ∙ ap (plan_stated r status size hs first) (framing_is (is_bodiless_status status) r.minor n stated k told)
-              ∙ plan_made framing fit,
-          (all_stated framing fit).valid,
-        )
+    plan_with : status ≢ 205 → (eqb status 204 && stated) ≡ false
+        → fits (framing_of status n stated) (size_for n) ≡ true
+        → cond (eqb status 204 && states_framing k) (Err Refusal.BodySize)
+        (cond (is_205_with_content r status (size_for n) k) (Err Refusal.BodySize)
+        (cond (is_coded_304 r status k) (Err (Refusal.Framing UnexpectedTransferEncoding))
+        (plan_stated r status (size_for n) hs first (response_framing Method.Other status r.minor k))))
+        ≡ Ok last
+    plan_with other late fit =
+        let told = knows n stated (hs ++ first) short x in
+        let all = knows n stated (hs ++ (first ++ second)) short all_stated in
+        let states = Knows-states n stated k told in
+        let plain = Knows-plain n stated _ all in
+        let framed = framing_is (is_bodiless_status status) r.minor n stated k told in
+        let framed_all = framing_is (has_no_body r.method status) r.minor n stated _ all in
+        rw framed (simp (framed_all, states, late, ne_eqb status 205 other, told.coding, fit, plain, and-false))
 
   module _ (stated : Bool) (x : StatesLength n stated hs) (s : IsFinal r.method status n stated) where
-    abbrev test : Bool
-    test =
-        is_sized r size && (not (eqb status 204) && (not (eqb status 304) && not (states_framing (known_fields hs))))
+    -- the connection adds the length
+    abbrev adds : Bool
+    adds =
+        is_sized r (size_for n)
+        && (not (eqb status 204) && (not (eqb status 304) && not (states_framing (known_fields hs))))
 
     bare_stated : StatesLength n stated (hs ++ [])
-    bare_stated = subst (StatesLength n stated) (sym (append-nil hs)) x
+    bare_stated = rw append-nil x
 
-    states_bare : states_framing (known_fields hs) ≡ stated
-    states_bare =
-        ap (λ (l : List Header). states_framing (known_fields l)) (sym (append-nil hs)) ∙ states [] stated bare_stated
+    states : states_framing (known_fields hs) ≡ stated
+    states = Knows-states n stated _ (knows n stated hs short x)
 
     is_bodiless : is_bodiless_status status ≡ (eqb status 204 || eqb status 304)
     is_bodiless = let low = s.least in grind (arith, nat_tests)
 
-    -- nothing is added
-    kept : (b : Bool) → is_bodiless_status status ≡ b
-        → fits (cond b NoBody (cond stated (Sized n) UntilClose)) size ≡ true
-    kept true is = empty_fits n (s.bodiless (bodiless_by is)).0
-      where
-        bodiless_by : is_bodiless_status status ≡ true → (status ≡ 204) ⊎ (status ≡ 304)
-        bodiless_by is =
-            elim (or_cases (eqb status 204) (eqb status 304) (sym is_bodiless ∙ is)) [
-              | inl e ↦ inl (eqb-true status 204 e)
-              | inr e ↦ inr (eqb-true status 304 e)
-            ]
-    kept false is = by_stated stated
-      where
-        by_stated : (t : Bool) → fits (cond t (Sized n) UntilClose) size ≡ true
-        by_stated true = sized_fits n
-        by_stated false = refl
-
     late : (eqb status 204 && stated) ≡ false
-    late =
-        elim (cases_Bool (eqb status 204)) [
-          | inl e ↦ ap (λ (b : Bool). eqb status 204 && b) (s.bodiless (inl (eqb-true status 204 e))).1 ∙ and-false _
-          | inr e ↦ ap (λ (b : Bool). b && stated) e
-        ]
+    late = let none = s.bodiless in grind (arith, nat_tests)
 
-    planned_by : (t : Bool) → test ≡ t → IsPlanned hs (planned_for r status size hs)
+    kept : fits (framing_of status n stated) (size_for n) ≡ true
+    kept = let none = s.bodiless in let sized = sized_fits n in rw is_bodiless (grind (arith, nat_tests))
+
+    planned_by : (t : Bool) → adds ≡ t → IsPlanned r status n stated hs (planned_for r status (size_for n) hs)
     unfolding planned_for
-    planned_by false is =
-        subst (λ (first : List Header). IsPlanned hs (plan_with first))
-        (sym (cond-false test (size_headers r.minor size) [] is))
-        (planned_with [] stated bare_stated s.other late (kept (is_bodiless_status status) refl))
+    planned_by false is = record {
+      plan = last [] stated bare_stated;
+      is = rw is (plan_with [] stated bare_stated s.other late kept);
+      valid = (all_stated [] stated bare_stated).valid;
+      extra = λ says. simp says;
+      framing = λ says. simp says;
+    }
     planned_by true is =
-        let one = and_parts (is_sized r size) _ is in
+        let one = and_parts (is_sized r (size_for n)) _ is in
         let two = and_parts (not (eqb status 204)) _ one.1 in
         let three = and_parts (not (eqb status 304)) _ two.1 in
         let has_content : eqb status 204 ≡ false = not-true _ two.0 in
         let is_sent : eqb status 304 ≡ false = not-true _ three.0 in
-        let silent : stated ≡ false = sym states_bare ∙ not-true _ three.1 in
+        let silent : stated ≡ false = sym states ∙ not-true _ three.1 in
         let body : is_bodiless_status status ≡ false = is_bodiless ∙ (λ i. has_content i || is_sent i) in
-        let added = states_then n hs (length_header n ∷ []) true
-        (subst (λ (b : Bool). StatesLength n b hs) silent x) (states_length n short) in
-        subst (λ (first : List Header). IsPlanned hs (plan_with first))
-        (sym (cond-true test (size_headers r.minor size) [] is ∙ size_stated r.minor n))
-        (planned_with (length_header n ∷ []) true added s.other (ap (λ (b : Bool). b && true) has_content)
-        (ap (λ (b : Bool). fits (cond b NoBody (Sized n)) size) body ∙ sized_fits n))
+        let added : StatesLength n true (hs ++ length_header n ∷ []) =
+        states_both n false true true hs (length_header n ∷ []) (rw silent at x) (states_length n short) refl in
+        record {
+          plan = last (length_header n ∷ []) true added;
+          is =
+              rw (is, size_stated r.minor n)
+              (plan_with (length_header n ∷ []) true added s.other (simp has_content) (simp body (sized_fits n)));
+          valid = (all_stated (length_header n ∷ []) true added).valid;
+          extra = λ says. absurd (cc (silent, says));
+          framing = λ says. absurd (cc (silent, says));
+        }
 
-    abbrev framing : Framing
-    framing = cond (is_bodiless_status status) NoBody (cond stated (Sized n) UntilClose)
-
-    -- where the fields state the length, the connection adds only what it says of itself
-    pub planned_stated : stated ≡ true
-        → (p : WirePlan) × (planned_for r status size hs ≡ Ok p)
-        × (p.extra ≡ connection_headers r (known_fields (hs ++ [])) (stays_open r (known_fields (hs ++ [])) framing))
-        × (p.framing ≡ cond (has_no_body r.method status) NoBody (cond stated (Sized n) UntilClose))
-    unfolding planned_for planned_with
-    planned_stated says =
-        let whole = planned_with [] stated bare_stated s.other late (kept (is_bodiless_status status) refl) in
-        let silent : test ≡ false =
-        ap (λ (b : Bool). is_sized r size && (not (eqb status 204) && (not (eqb status 304) && not b)))
-        (states_bare ∙ says)
-        ∙ ap (λ (b : Bool). is_sized r size && (not (eqb status 204) && b)) (and-false _)
-        ∙ ap (λ (b : Bool). is_sized r size && b) (and-false _) ∙ and-false _ in
-        (whole.0, ap plan_with (cond-false test (size_headers r.minor size) [] silent) ∙ whole.1, refl, refl)
-
-    pub planned : IsPlanned hs (planned_for r status size hs)
-    planned = planned_by test refl
+    pub planned : IsPlanned r status n stated hs (planned_for r status (size_for n) hs)
+    planned = planned_by adds refl
 
 -- ---- the response
 
-valid_line : (minor status : ℕ) (reason : List ℕ) → minor ≤ 1 → 100 ≤ status → status ≤ 999
-    → is_field_value reason ≡ true → is_status_line minor status reason ≡ true
-valid_line minor status reason old low high text =
-    and_from _ _ (le-leb minor 1 old)
-    (and_from _ _ (le-leb 100 status low) (and_from _ _ (le-leb status 999 high) text))
-
 accepted : (line : Bool) (hs : List Header) → line ≡ true → list_all is_header hs ≡ true → head_refusal line hs ≡ None
 unfolding are_headers
-accepted line hs valid all = cond-true _ _ _ valid ∙ cond-true _ _ _ all
+accepted line hs valid all = simp (valid, all)
 
 -- a response with such a status and such fields is sent
 pub plan_sent : (limits : Limits) (h : RequestHead) (framing : Framing) (plan : Response) (stated : Bool)
@@ -388,17 +276,13 @@ pub plan_sent : (limits : Limits) (h : RequestHead) (framing : Framing) (plan : 
     → response_refusal (answering limits h framing) plan.status (reason_of plan.status) (plan_size plan)
     (plan_fields plan) ≡ None
 plan_sent limits h framing plan stated short old text x s =
-    let server = answering limits h framing in
     let status : ℕ = plan.status in
-    let hs = plan_fields plan in
-    let p = planned server.request status (content_len plan) hs short stated x s in
+    let server = answering limits h framing in
+    let p = planned server.request status (content_len plan) (plan_fields plan) short stated x s in
     let low : nat_lt status 200 ≡ false = (let e = s.least in grind (arith, nat_tests)) in
-    let is : response_plan server status (plan_size plan) hs ≡ Ok p.0 =
-    cond-false _ _ _ (λ i. low i || s.connect i) ∙ p.1 in
-    let line = is_status_line h.minor status (reason_of status) in
-    ap (λ q. plan_refusal q line hs) is
-    ∙ accepted line (hs ++ p.0.extra)
-    (valid_line h.minor status (reason_of status) old (let e = s.least in omega (arith, e)) s.greatest text) p.2
+    let line : is_status_line h.minor status (reason_of status) ≡ true =
+    (let e = s.least in let f = s.greatest in grind (arith, nat_tests, text)) in
+    simp (low, s.connect, p.is) (accepted _ (plan_fields plan ++ p.plan.extra) line p.valid)
 
 -- ==== Values of the server's own that have no white space at their ends.
 
@@ -518,9 +402,9 @@ module _ (tag : List ℕ) (len : ℕ) (media_type : List ℕ) (short : len < 2 ^
         let hs = fields now in
         let made = response_plan (answering limits h framing) 200 (size_for len) hs in
         let valid = valid_by made (is_status_line h.minor 200 (reason_of 200)) hs none in
-        let p = planned_stated request 200 len hs short true (ok_states now valid) final refl in
+        let p = planned request 200 len hs short true (ok_states now valid) final in
         let late : (false || (is_connect (method_kind h.method) && nat_lt 200 300)) ≡ false = final.connect in
-        (p.0, cond-false _ _ _ late ∙ p.1, p.2 ∙ quiet request now minor keeps refl, p.3)
+        (p.plan, cond-false _ _ _ late ∙ p.is, p.extra refl ∙ quiet request now minor keeps refl, p.framing refl)
 
     -- the head of the response, if it is sent at all
     pub ok_written : (now : Option ℕ)
