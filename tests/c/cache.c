@@ -103,7 +103,7 @@ static struct typed_headers_cache_request request_for(const char *target, const 
 }
 
 static bool opens(const char *targets, uint64_t wait, uint8_t wanted) {
-    const struct typed_headers_cache_options options = {4, 16, 1000000, 60, true};
+    const struct typed_headers_cache_options options = {4, 16, 40000, 60, true};
     const struct typed_headers_cache_extensions extensions = {text(targets ? targets : ""), true, wait};
     CALL(targets ? typed_headers_cache_new_with(&cache, &options, &extensions, &KEYS)
                  : typed_headers_cache_new(&cache, &options, &KEYS));
@@ -378,14 +378,16 @@ static void play(void) {
                  TYPED_HEADERS_REPLY_AND_VALIDATE) && has_content("old"), "stale");
     AGAIN(writes(typed_headers_pass_validation, "x: y\ncache-control: no-cache\n"), "the request of its validation");
     AGAIN(begins("/h", "GET", "x: y\ncache-control: no-cache\n", 1020, TYPED_HEADERS_VALIDATE), "its validation");
-    /* As much as the cache may have, and a byte more. */
-    static char large[1002];
-    memset(large, 'a', 1000);
+    /* As much as the cache may have, and a byte more: beside the content 2 bytes of the target, 63 and 3 times 256 of
+     * the fields, and 1,024. */
+    enum { MOST = 40000 - 2 - 63 - 3 * 256 - 1024 };
+    static char large[MOST + 2];
+    memset(large, 'a', MOST);
     AGAIN(stores("/i", "", 1000, FRESH, large), "as much as may be");
-    large[1000] = 'a';
+    large[MOST] = 'a';
     AGAIN(begins("/j", "GET", "", 1000, TYPED_HEADERS_ASK) && comes(200, FRESH, 1000, TYPED_HEADERS_PASS_ON_TO_END)
           && ends(large, true, 1000, false) && begins("/i", "GET", "", 1010, TYPED_HEADERS_REPLY), "too much");
-    large[1000] = 0;
+    large[MOST] = 0;
     close_all();
     /* RFC 8246, and RFC 9213, section 2.2: the first targeted field that is there, valid and not empty, counts. */
     AGAIN(opens("no name", 0, TYPED_HEADERS_REFUSED), "a name that is none");

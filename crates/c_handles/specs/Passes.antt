@@ -1,5 +1,6 @@
 -- Calls on the handles of a cache and of a pass.
-use Rattle.std.specs.Prelude.{◌≡◌, ℕ, List, Option, Some, None, Result, Ok, Err, Vec}
+use Rattle.std.specs.Prelude.{◌≡◌, ℕ, List, Option, Some, None, Result, Ok, Err}
+use Rattle.std.specs.Global.{Vec}
 use Rattle.c_parts.{specs.declared.status.Failure.Failure, specs.declared.status.Failure.TheVariants.{Refused, Absent}}
 use Rattle.c_pass.{specs.Steps.{Copies, FailsBegin, IsBegun, response_of}, specs.declared.held.Shared.Shared}
 use Rattle.c_pass.{specs.declared.held.Stepped.Stepped, specs.declared.reading.CacheRequest.CacheRequest}

@@ -1,5 +1,6 @@
 -- The request by which what a pass has sent stale is validated, as text.
-use Rattle.std.specs.Prelude.{◌≡◌, ◌⊎◌, ℕ, List, flat_map, Result, Ok, Err, Vec}
+use Rattle.std.specs.Prelude.{◌≡◌, ◌⊎◌, ℕ, List, flat_map, Result, Ok, Err}
+use Rattle.std.specs.Global.{Vec}
 use Rattle.http_header.{specs.FieldValue.FieldValue, specs.HeaderMap.{Entries, pairs}}
 use Rattle.headers.specs.LineMap.{lines_at}
 use Rattle.headers_section.specs.CanonicalText.{line_text}

@@ -24,7 +24,7 @@ pub fn validation_text(alloc: Global, stepped: &Stepped) -> Result<Vec<u8>, Fail
     ensures { ShowsValidation stepped.now.pass result }
 {
     match stepped.pass.validation(alloc) {
-        Ok(validation) => Ok(map_text(alloc, validation.head().fields)?),
+        Ok(validation) => Ok(map_text(alloc, validation.fields())?),
         Err(InsertError::Memory) => Err(Failure::Memory),
         Err(InsertError::Full) => Err(Failure::TooLarge),
     }

@@ -83,6 +83,13 @@ impl Pass {
         }
     }
 
+    /// The fields of its request.
+    pub fn fields(&self) -> &HeaderMap
+        ensures { result.now ≡ self.now.request }
+    {
+        &self.request
+    }
+
     /// How far it has come.
     pub fn phase(&self) -> &Phase
         ensures { result.now ≡ self.now.phase }

@@ -1,37 +1,31 @@
 -- A request has one plan at most.
-use Rattle.std.proofs.Common.{◌≡◌, ◌≢◌, ◌↔◌, ℕ, ◌<◌, true, false, List, [], ◌∷◌, Option, Some, None, Any, length, refl}
-use Rattle.std.proofs.{Common.{sym, ap, ◌∙◌, subst, inl, inr, arith}, lemmas.{List.Elements.All-nil, Bool.both_ways}}
+use Rattle.std.proofs.Common.{◌≡◌, ◌≢◌, ◌↔◌, ℕ, ◌<◌, false, List, [], ◌∷◌, Option, Some, None, Any, length, arith, true}
+use Rattle.std.proofs.{Common.{refl, sym, ap, ◌∙◌, subst, inl, inr}, lemmas.{List.Elements.All-nil, Bool.both_ways}}
 use Rattle.{headers.specs.LineMap.LineMap, decide_preconditions.specs.{Fields.status_of, Parts.{AreCoalesced, Holds}}}
 use Rattle.decide_preconditions.specs.{Parts.{IsJoined, IsPartOf}, Plans.{IsPlan, IsPlanned, IsSamePlan, SendsParts}}
 use Rattle.decide_preconditions.specs.{Plans.parts_sent, Preconditions.{Answers, IsGetOrHead}, Selection.Applies}
-use Rattle.decide_preconditions.specs.{Selection.{ArePartsAsked, IsAsked, Selects}, Limits.are_too_many}
+use Rattle.decide_preconditions.specs.{Selection.{IsAsked, Selects, ArePartsAsked}, Limits.are_too_many}
 use Rattle.decide_preconditions.specs.declared.{limits.RangeLimits.RangeLimits, part.Part.Part, plan.Plan.Plan}
 use Rattle.decide_preconditions.specs.declared.plan.Plan.TheVariants.{NotModified, Failed, Full, Single, Multiple}
 use Rattle.decide_preconditions.specs.declared.plan.Plan.TheVariants.{Unsatisfiable}
 use Rattle.decide_preconditions.specs.declared.{precondition.Precondition.Precondition, resource.Resource.Resource}
-use Rattle.decide_preconditions.specs.declared.resource.{Resource.TheVariants.Current, Validators.Validators}
-use Rattle.decide_preconditions.proofs.{PartLemmas.coalesced_once, PreconditionLemmas.one_answer}
-use Rattle.decide_preconditions.proofs.SelectionLemmas.{same_set}
+use Rattle.decide_preconditions.{specs.declared.resource.Validators.Validators, proofs.PartLemmas.coalesced_once}
+use Rattle.decide_preconditions.proofs.{PreconditionLemmas.one_answer, SelectionLemmas.same_set}
 use Rattle.decide_preconditions.specs.declared.precondition.Precondition.TheVariants as precondition
 use Rattle.decide_preconditions.specs.declared.selection.Selection.TheVariants as selection
 
 -- what the preconditions of a plan come to
 abbrev answer_of : Plan → Precondition
-answer_of Full = precondition.Perform
-answer_of (Single part) = precondition.Perform
-answer_of (Multiple parts) = precondition.Perform
-answer_of NotModified = precondition.NotModified
-answer_of Failed = precondition.Failed
-answer_of Unsatisfiable = precondition.Perform
+answer_of Plan.NotModified = precondition.NotModified
+answer_of Plan.Failed = precondition.Failed
+answer_of other = precondition.Perform
 
 -- the parts that Range asks for, if it applies
 abbrev asked_of : Plan → Option (List Part)
-asked_of Full = None
-asked_of (Single part) = Some (part ∷ [])
-asked_of (Multiple parts) = Some parts.items
-asked_of NotModified = None
-asked_of Failed = None
-asked_of Unsatisfiable = Some []
+asked_of (Plan.Single part) = Some (part ∷ [])
+asked_of (Plan.Multiple parts) = Some parts.items
+asked_of Plan.Unsatisfiable = Some []
+asked_of other = None
 
 -- a plan by these two
 abbrev status_by : Precondition → Option (List Part) → ℕ
@@ -46,16 +40,10 @@ parts_by None = []
 parts_by (Some parts) = parts
 
 status_of_some : (parts : List Part) → 1 < length parts → 206 ≡ status_by precondition.Perform (Some parts)
-status_of_some [] more = absurd (omega (arith, more))
-status_of_some (part ∷ parts) more = refl
+status_of_some parts more = grind arith
 
 parts-by : (plan : Plan) → parts_sent plan ≡ parts_by (asked_of plan)
-parts-by Full = refl
-parts-by (Single part) = refl
-parts-by (Multiple parts) = refl
-parts-by NotModified = refl
-parts-by Failed = refl
-parts-by Unsatisfiable = refl
+parts-by plan = grind arith
 
 no_part : (len gap : ℕ) → AreCoalesced len gap []
 no_part len gap = record { within = All-nil (IsPartOf len); apart = λ i j d l m. absurd (omega (arith, m)) }
@@ -75,37 +63,20 @@ module _ (present : ℕ) (method : List ℕ) (request : LineMap) (resource : Res
   Covers current (Some parts) = SomeParts current parts
 
   abbrev IsReadOf : Plan → Type 0
-  IsReadOf plan = (current : Validators) × (resource ≡ Current current) × Covers current (asked_of plan)
+  IsReadOf plan = (current : Validators) × (resource ≡ Resource.Current current) × Covers current (asked_of plan)
 
   abbrev IsOwnPlan : Plan → Type 0
   IsOwnPlan plan = IsPlan present method request resource len limits plan
 
   status-by : (plan : Plan) → IsOwnPlan plan → status_of plan ≡ status_by (answer_of plan) (asked_of plan)
-  status-by Full h = refl
-  status-by (Single part) h = refl
-  status-by (Multiple parts) h = status_of_some parts.items h.3
-  status-by NotModified h = refl
-  status-by Failed h = refl
-  status-by Unsatisfiable h = refl
+  status-by plan h = grind (arith, status_of_some)
 
   answers : (plan : Plan) → IsOwnPlan plan → Answers present request resource method (answer_of plan)
-  answers Full h = h.1.performs
-  answers (Single part) h = h.1.performs
-  answers (Multiple parts) h = h.1.performs
-  answers NotModified h = h
-  answers Failed h = h
-  answers Unsatisfiable h = h.1.performs
+  answers plan h = grind arith
 
   sent : (current : Validators) (parts : List Part)
       → SendsParts present method request resource len limits current parts → SomeParts current parts
-  sent current parts h =
-      record {
-        set = h.set;
-        applies = h.asks.applies;
-        coalesced = h.asks.asked.coalesced;
-        covers = h.asks.asked.covers;
-        few = h.few;
-      }
+  sent current parts h = grind (arith)
 
   -- a plan is one of a read, or its preconditions end it
   reads : (plan : Plan) → IsOwnPlan plan → (answer_of plan ≡ precondition.Perform) → IsReadOf plan
@@ -131,8 +102,7 @@ module _ (present : ℕ) (method : List ℕ) (request : LineMap) (resource : Res
 
   same_set_of : (current : Validators) (xs ys : List Part) (h : SomeParts current xs) (k : SomeParts current ys)
       → h.set ≡ k.set
-  same_set_of current xs ys h k =
-      same_set present method request current len limits h.set k.set h.applies k.applies
+  same_set_of current xs ys h k = grind (arith, same_set)
 
   same_parts_of : (current : Validators) (xs ys : List Part) → SomeParts current xs → SomeParts current ys → xs ≡ ys
   same_parts_of current xs ys h k =
@@ -162,20 +132,10 @@ module _ (present : ℕ) (method : List ℕ) (request : LineMap) (resource : Res
       ap (λ (l : List Part). Some l) (same_parts_of current xs ys h k)
 
   same_read : (p q : Plan) → IsReadOf p → IsReadOf q → asked_of p ≡ asked_of q
-  same_read p q h k =
-      let a = h.1 in
-      let b = k.1 in
-      let both : Current h.0 ≡ Current k.0 = sym a ∙ b in
-      let current : h.0 ≡ k.0 = cc both in
-      same_covers k.0 (asked_of p) (asked_of q) (subst (λ (v : Validators). Covers v (asked_of p)) current h.2) k.2
+  same_read p q h k = grind (arith, same_covers)
 
   none_asked : (plan : Plan) → answer_of plan ≢ precondition.Perform → asked_of plan ≡ None
-  none_asked Full h = absurd (h refl)
-  none_asked (Single part) h = absurd (h refl)
-  none_asked (Multiple parts) h = absurd (h refl)
-  none_asked NotModified h = refl
-  none_asked Failed h = refl
-  none_asked Unsatisfiable h = absurd (h refl)
+  none_asked plan h = grind arith
 
   same_asked : (p q : Plan) (answer : Precondition) → answer_of p ≡ answer → answer_of q ≡ answer
       → IsOwnPlan p → IsOwnPlan q → asked_of p ≡ asked_of q

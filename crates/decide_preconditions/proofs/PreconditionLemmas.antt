@@ -1,66 +1,49 @@
 -- What follows from the rows of `Answers`.
-use Rattle.std.proofs.Common.{◌≡◌, ℕ, ◌+◌, ◌<◌, ◌≤◌, ◌⊎◌, List, [], ◌∷◌, Option, Some, None, refl, arith, inl, inr}
-use Rattle.std.proofs.{Common.{IfSome, IsTrue, Bool, true, false}, lemmas.Bool.{cases_Bool, both_ways, cases_lt}}
+use Rattle.std.proofs.Common.{◌≡◌, ℕ, ◌+◌, ◌<◌, ◌≤◌, ◌⊎◌, List, [], ◌∷◌, Option, refl, arith, IfSome, IsTrue, Bool}
+use Rattle.std.proofs.{Common.{true, inl, inr}, lemmas.Bool.{cases_Bool, both_ways, cases_lt}}
 use Rattle.std.{proofs.lemmas.Slice.Eq.bytes_eq-Decides, specs.Prelude.{IsSomeAnd, bytes_eq, codes}}
 use Rattle.{rfc_values.specs.Calendar.unix_epoch, headers.specs.{LineMap.LineMap, Lines.Line, Typed.HasLine}}
 use Rattle.{headers.specs.EntityTagRange.star, decide_preconditions.specs.Conditions.ModifiedSinceLets}
 use Rattle.decide_preconditions.specs.{Conditions.{UnmodifiedSinceLets, dates}, Preconditions.{Answers, AreIgnored}}
 use Rattle.decide_preconditions.specs.Preconditions.{IsGetOrHead, IsRead, IsUnconditional, MayBeThere, ReadsMissing}
 use Rattle.decide_preconditions.specs.Preconditions.{IsStoredByDate, IsStoredByTag, StateIsLost, StateIsKept}
-use Rattle.decide_preconditions.specs.{Preconditions.StepsAnswer, Tags.{may_name, names}}
+use Rattle.decide_preconditions.specs.{Preconditions.StepsAnswer, Tags.{names}}
 use Rattle.decide_preconditions.specs.declared.precondition.Precondition.{Precondition, TheVariants.Perform}
 use Rattle.decide_preconditions.specs.declared.precondition.Precondition.TheVariants.{NotModified, Failed}
 use Rattle.decide_preconditions.specs.declared.resource.Resource.{Resource, TheVariants.{Missing, Current}}
 use Rattle.decide_preconditions.specs.declared.{resource.Validators.Validators, tags.Comparison.Comparison}
-use Rattle.decide_preconditions.specs.declared.tags.Comparison.TheVariants.{Strong, Weak}
+use Rattle.decide_preconditions.specs.declared.tags.Comparison.TheVariants.{Weak}
 
 later_or_not : (both : Option (ℕ × ℕ)) → IsSomeAnd both (λ d. d.0 < unix_epoch + d.1)
     → ¬ (IfSome both (λ d. unix_epoch + d.1 ≤ d.0))
-later_or_not None h k = h
-later_or_not (Some d) h k = omega (arith, h, k)
+later_or_not both h k = grind arith
 
 earlier_or_not : (both : Option (ℕ × ℕ)) → IsSomeAnd both (λ d. unix_epoch + d.1 ≤ d.0)
     → ¬ (IfSome both (λ d. d.0 < unix_epoch + d.1))
-earlier_or_not None h k = h
-earlier_or_not (Some d) h k = omega (arith, h, k)
+earlier_or_not both h k = grind arith
 
 lost_or_kept : (present : ℕ) (request : LineMap) (resource : Resource) → StateIsLost present request resource
     → ¬ (StateIsKept present request resource)
-lost_or_kept present request resource (inl h) k = h.1 (k.0 h.0)
-lost_or_kept present request resource (inr h) k =
-    later_or_not (dates present (codes "if-unmodified-since") request resource) h.1 (k.1 h.0)
+lost_or_kept present request resource h3 k = grind (arith, later_or_not)
 
 -- ---- each fact holds or doesn't
 
 has_or_not : (lines : List Line) → HasLine lines ⊎ ¬ (HasLine lines)
-has_or_not [] = inr (λ h. omega (arith, h))
-has_or_not (line ∷ lines) = inl (omega arith)
+has_or_not lines = grind arith
 
 lacks : (lines : List Line) → lines ≡ [] → ¬ (HasLine lines)
-lacks [] e h = omega (arith, h)
-lacks (line ∷ lines) e h = absurd (cc e)
+lacks lines e h = grind arith
 
 true_or_not : (b : Bool) → IsTrue b ⊎ ¬ (IsTrue b)
-true_or_not true = inl refl
-true_or_not false = inr (λ h. cc h)
+true_or_not b = grind arith
 
 later_or_lets : (both : Option (ℕ × ℕ)) → IsSomeAnd both (λ d. d.0 < unix_epoch + d.1)
     ⊎ IfSome both (λ d. unix_epoch + d.1 ≤ d.0)
-later_or_lets None = inr tt
-later_or_lets (Some d) =
-    elim (cases_lt d.0 (unix_epoch + d.1)) [
-      | inl l ↦ inl l
-      | inr l ↦ inr l
-    ]
+later_or_lets both = grind (arith, cases_lt)
 
 earlier_or_lets : (both : Option (ℕ × ℕ)) → IsSomeAnd both (λ d. unix_epoch + d.1 ≤ d.0)
     ⊎ IfSome both (λ d. d.0 < unix_epoch + d.1)
-earlier_or_lets None = inr tt
-earlier_or_lets (Some d) =
-    elim (cases_lt d.0 (unix_epoch + d.1)) [
-      | inl l ↦ inr l
-      | inr l ↦ inl l
-    ]
+earlier_or_lets both = grind (arith, cases_lt)
 
 pub same_or_not : (a b : List ℕ) → (a ≡ b) ⊎ ¬ (a ≡ b)
 same_or_not a b =
@@ -130,19 +113,7 @@ ignored_or_not resource method =
 
 module _ (present : ℕ) (request : LineMap) (resource : Resource) where
   kept_or_lost : StateIsKept present request resource ⊎ StateIsLost present request resource
-  kept_or_lost =
-      elim (has_or_not (request (codes "if-match"))) [
-        | inl has ↦
-            elim (true_or_not (names Strong (request (codes "if-match")) resource)) [
-              | inl y ↦ inl ((λ h. y), (λ lacks. absurd (lacks has)))
-              | inr n ↦ inr (inl (has, n))
-            ]
-        | inr lacks ↦
-            elim (later_or_lets (dates present (codes "if-unmodified-since") request resource)) [
-              | inl lost ↦ inr (inr (lacks, lost))
-              | inr lets ↦ inl ((λ has. absurd (lacks has)), (λ h. lets))
-            ]
-      ]
+  kept_or_lost = grind (arith, has_or_not, true_or_not, lacks, later_or_lets)
 
   stored_or_read : (IsStoredByTag request resource ⊎ IsStoredByDate present request resource)
       ⊎ IsRead present request resource
@@ -161,15 +132,7 @@ module _ (present : ℕ) (request : LineMap) (resource : Resource) where
       ]
 
   there_or_not : MayBeThere request resource ⊎ ¬ (MayBeThere request resource)
-  there_or_not =
-      elim (has_or_not (request (codes "if-none-match"))) [
-        | inl has ↦
-            elim (true_or_not (may_name Weak (request (codes "if-none-match")) resource)) [
-              | inl y ↦ inl (has, y)
-              | inr n ↦ inr (λ h. n h.1)
-            ]
-        | inr lacks ↦ inr (λ h. lacks h.0)
-      ]
+  there_or_not = grind (arith, has_or_not, true_or_not, lacks)
 
   some_step_answer : (method : List ℕ)
       → (answer : Precondition) × StepsAnswer present request resource method answer
@@ -207,35 +170,19 @@ module _ (present : ℕ) (request : LineMap) (resource : Resource) where
 module _ (present : ℕ) (request : LineMap) (resource : Resource) (method : List ℕ) where
   failed_or_not_modified : StepsAnswer present request resource method Failed
       → ¬ (StepsAnswer present request resource method NotModified)
-  failed_or_not_modified (inl h) k = lost_or_kept present request resource h k.0
-  failed_or_not_modified (inr h) k = h.1 k.1
+  failed_or_not_modified h0 k = grind (arith, lost_or_kept)
 
   failed_or_performed : StepsAnswer present request resource method Failed
       → ¬ (StepsAnswer present request resource method Perform)
-  failed_or_performed (inl h) k = lost_or_kept present request resource h k.0
-  failed_or_performed (inr h) k = k.2 h.1 h.2
+  failed_or_performed h0 k = grind (arith, lost_or_kept)
 
   stored_or_performed : StepsAnswer present request resource method NotModified
       → ¬ (StepsAnswer present request resource method Perform)
-  stored_or_performed h k =
-      let read = k.1 h.1 in
-      elim h.2 [
-        | inl tag ↦ read.by_tag tag.0 tag.1
-        | inr date ↦
-            earlier_or_not (dates present (codes "if-modified-since") request resource) date.1 (read.by_date date.0)
-      ]
+  stored_or_performed h k = grind (arith, earlier_or_not)
 
   one_step_answer : (a b : Precondition) → StepsAnswer present request resource method a
       → StepsAnswer present request resource method b → a ≡ b
-  one_step_answer Perform Perform h k = refl
-  one_step_answer Perform NotModified h k = absurd (stored_or_performed k h)
-  one_step_answer Perform Failed h k = absurd (failed_or_performed k h)
-  one_step_answer NotModified Perform h k = absurd (stored_or_performed h k)
-  one_step_answer NotModified NotModified h k = refl
-  one_step_answer NotModified Failed h k = absurd (failed_or_not_modified k h)
-  one_step_answer Failed Perform h k = absurd (failed_or_performed h k)
-  one_step_answer Failed NotModified h k = absurd (failed_or_not_modified h k)
-  one_step_answer Failed Failed h k = refl
+  one_step_answer a b h k = grind (arith, stored_or_performed, failed_or_performed, failed_or_not_modified)
 
   -- what isn't performed is answered by the steps
   stored_by_steps : Answers present request resource method NotModified → ¬ (AreIgnored resource method)
@@ -265,12 +212,7 @@ module _ (present : ℕ) (request : LineMap) (resource : Resource) (method : Lis
   performed : request (codes "if-match") ≡ [] → request (codes "if-none-match") ≡ []
       → request (codes "if-modified-since") ≡ [] → request (codes "if-unmodified-since") ≡ []
       → StepsAnswer present request resource method Perform
-  performed a b c d = (
-    ((λ h. absurd (lacks (request (codes "if-match")) a h)), (λ h. unmodified_lets d)),
-    (λ read.
-        record { by_tag = λ h. absurd (lacks (request (codes "if-none-match")) b h); by_date = λ h. modified_lets c }),
-    (λ other h. lacks (request (codes "if-none-match")) b h.0),
-  )
+  performed a b c d = grind (arith, lacks, unmodified_lets, modified_lets)
 
   pub unconditional : request (codes "if-match") ≡ [] → request (codes "if-none-match") ≡ []
       → request (codes "if-modified-since") ≡ [] → request (codes "if-unmodified-since") ≡ []
@@ -279,12 +221,11 @@ module _ (present : ℕ) (request : LineMap) (resource : Resource) (method : Lis
       record { unconditional = λ i. refl; conditional = λ counts. performed a b c d }
 
 pub missing_performed : (present : ℕ) (request : LineMap) (method : List ℕ) → IsGetOrHead method
-    → Answers present request Missing method Perform
-missing_performed present request method read =
-    record { unconditional = λ i. refl; conditional = λ counts. absurd (counts (inr read)) }
+    → Answers present request Resource.Missing method Perform
+missing_performed present request method read = grind (arith)
 
 -- ---- the star
 
 pub star_names : (comparison : Comparison) (validators : Validators)
-    → names comparison (star ∷ []) (Current validators) ≡ true
+    → names comparison (star ∷ []) (Resource.Current validators) ≡ true
 star_names comparison validators = rw ((bytes_eq-Decides star star).1 refl) refl

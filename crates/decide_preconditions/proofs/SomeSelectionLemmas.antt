@@ -1,17 +1,17 @@
 -- Every request has a selection.
-use Rattle.std.proofs.Common.{◌≡◌, ◌↔◌, ◌⊎◌, ⊎_elim, ℕ, ◌≤◌, nat_le, List, [], ◌∷◌, Option, Some, None, All, length}
-use Rattle.std.proofs.{Common.{arith, inl, inr, filter_map, refl}, lemmas.Bool.{both_ways, cases_Bool, cases_lt}}
-use Rattle.std.proofs.lemmas.{Bool.{leb-true, leb-false}, List.Elements.{All-cons, All-head, All-tail}}
-use Rattle.{std.specs.Prelude.{codes, if◌then◌else◌}, headers.proofs.RangeLemmas.{any_cases, any_here, any_later}}
-use Rattle.{headers.specs.LineMap.LineMap, decide_preconditions.specs.{Limits.are_too_many, Merged.merged}}
-use Rattle.decide_preconditions.specs.{Parts.{AreCoalesced, Holds, IsJoined, IsPartOf}, RangeSets.{elements, part_in}}
-use Rattle.decide_preconditions.specs.Selection.{Applies, AsksFor, HasSelection, IsAsked, IsIgnored, if_range_lets}
-use Rattle.decide_preconditions.specs.{Selection.set_asked, declared.{limits.RangeLimits.RangeLimits, part.Part.Part}}
-use Rattle.decide_preconditions.{specs.declared.resource.Validators.Validators, proofs.PartLemmas.HeldBy}
-use Rattle.decide_preconditions.proofs.PartLemmas.{IsJoined-same, Rises, held_joins, joined_held, joined_weaker}
-use Rattle.decide_preconditions.proofs.PartLemmas.{merged_apart, merged_holds, merged_within, none_apart}
-use Rattle.decide_preconditions.proofs.{PreconditionLemmas.same_or_not, RangeSetLemmas.{parts_cover, parts_within}}
-use Rattle.decide_preconditions.proofs.SelectionLemmas.{none_asked}
+use Rattle.std.proofs.Common.{◌≡◌, ◌↔◌, ◌⊎◌, ℕ, ◌≤◌, nat_le, List, [], ◌∷◌, Option, All, arith, filter_map, ⊎_elim}
+use Rattle.std.proofs.{Common.{Some, None, length, inl, inr, refl}, lemmas.Bool.{both_ways, cases_Bool, cases_lt}}
+use Rattle.std.proofs.lemmas.{Bool.{leb-true, leb-false}, List.Elements.{All-cons, All-tail, All-head}}
+use Rattle.{std.specs.Prelude.{if◌then◌else◌, codes}, headers.proofs.RangeLemmas.{any_cases, any_here, any_later}}
+use Rattle.{headers.specs.LineMap.LineMap, decide_preconditions.specs.{Merged.merged, Parts.{AreCoalesced, IsJoined}}}
+use Rattle.decide_preconditions.specs.{Parts.{IsPartOf, Holds}, Selection.{Applies, HasSelection, IsIgnored, set_asked}}
+use Rattle.decide_preconditions.specs.Selection.{AsksFor, IsAsked, if_range_lets}
+use Rattle.decide_preconditions.specs.declared.{limits.RangeLimits.RangeLimits, part.Part.Part}
+use Rattle.decide_preconditions.specs.{declared.resource.Validators.Validators, Limits.are_too_many, RangeSets.elements}
+use Rattle.decide_preconditions.{specs.RangeSets.part_in, proofs.PartLemmas.{HeldBy, Rises, held_joins, joined_held}}
+use Rattle.decide_preconditions.proofs.PartLemmas.{joined_weaker, merged_apart, merged_holds, merged_within, none_apart}
+use Rattle.decide_preconditions.proofs.{PartLemmas.IsJoined-same, PreconditionLemmas.same_or_not}
+use Rattle.decide_preconditions.proofs.{RangeSetLemmas.{parts_cover, parts_within}, SelectionLemmas.none_asked}
 
 -- ---- parts in order
 

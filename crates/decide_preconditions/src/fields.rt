@@ -1,7 +1,6 @@
 //! The fields of a response.
 ghost use Rattle.std.specs.Prelude.{◌≡◌, ◌++◌, [], IfOk, OnOk, codes, decimal, option_copied};
-ghost use Rattle.http_header.specs.FieldValue.{FieldValue};
-ghost use Rattle.headers.specs.{ContentBytes.content_text, Date.fixdate};
+ghost use Rattle.{http_header.specs.FieldValue.FieldValue, headers.specs.{ContentBytes.content_text, Date.fixdate}};
 ghost use Rattle.headers.specs.{LineMap.{field_of, fields_of}, Lines.Line};
 ghost use Rattle.decide_preconditions.specs.{Conditions.modified_of, Fields.{etag_of, etag_sent, modified_sent}};
 ghost use Rattle.decide_preconditions.specs.Fields.{units_sent, range_sent, length_sent, type_sent, lines_sent};

@@ -2,8 +2,7 @@
 ghost use Rattle.std.specs.Prelude.{◌≡◌, ◌+◌, ◌*◌, ◌<◌, ◌≤◌, ◌↔◌, ℕ, Bool, List, Option, [], ◌∷◌, IsTrue, codes, false};
 ghost use Rattle.std.specs.Prelude.{length, sum_by, true};
 ghost use Rattle.headers.specs.{EntityTag.{AreTags, StronglyEqual, WeaklyEqual}, EntityTagRange.star, LineMap.LineMap};
-ghost use Rattle.headers.specs.{LineMap.{remove, set_all}, Lines.Line};
-ghost use Rattle.http_header.specs.FieldValue.{FieldValue};
+ghost use Rattle.{headers.specs.{LineMap.{remove, set_all}, Lines.Line}, http_header.specs.FieldValue.FieldValue};
 ghost use Rattle.decide_preconditions.specs.{Fields.{IsModifiedBy, SendsFields, fields_sent}, Parts.AreCoalesced};
 ghost use Rattle.decide_preconditions.specs.{Parts.part_size, Plans.{HasPlan, IsPlanned, IsSamePlan}};
 ghost use Rattle.decide_preconditions.specs.{Preconditions.{Answers, IsGetOrHead}, Selection.{AsksFor, HasSelection}};

@@ -1,8 +1,7 @@
 //! The part of a representation that a request selects.
 ghost use Rattle.std.specs.Prelude.{◌≡◌, ◌↔◌, ◌+◌, ◌*◌, ℕ, List, Any, IfOk, MatchOption, OnErr, bytes_eq, codes, map};
 ghost use Rattle.std.specs.{Prelude.{nat_eq, nat_lt, option_map}, Char.to_ascii_lowercase};
-ghost use Rattle.rfc_values.specs.Calendar.{unix_epoch};
-ghost use Rattle.headers.specs.LineMap.{lines_at};
+ghost use Rattle.{rfc_values.specs.Calendar.unix_epoch, headers.specs.LineMap.lines_at};
 ghost use Rattle.decide_preconditions.specs.{Limits.are_too_many, Parts.{AreCoalesced, Holds, IsJoined}};
 ghost use Rattle.decide_preconditions.specs.Selection.{has_bytes_unit, if_range_lets, is_exactly, is_modified_at};
 ghost use Rattle.decide_preconditions.specs.Selection.{range_set_of, set_asked, Applies, AsksForSome, IsAsked, Selects};

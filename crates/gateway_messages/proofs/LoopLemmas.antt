@@ -1,6 +1,6 @@
 -- The field line that a gateway adds to Via names it.
-use Rattle.std.proofs.Common.{◌≡◌, ℕ, true, false, ◌||◌, List, [], ◌∷◌, ◌++◌, refl, ◌∙◌, ap, codes, IsTrue, arith}
-use Rattle.std.proofs.{Common.subst, Math.Bool.or-true, lemmas.List.{Elements.All-weaker, Folds.list_any-append}}
+use Rattle.std.proofs.Common.{◌≡◌, ℕ, true, false, List, [], ◌∷◌, ◌++◌, refl, ap, codes, IsTrue, arith}
+use Rattle.std.proofs.{Math.Bool.or-true, lemmas.List.{Elements.All-weaker, Folds.list_any-append}}
 use Rattle.std.proofs.lemmas.{List.Splits.slice_split_none, Bool.{ne_eqb, Decides.nat_tests}, Slice.Eq.bytes_eq-Decides}
 use Rattle.{std.specs.{Prelude.◌==◌, List.slice_split}, http_header.specs.Token.{IsToken, is_token_byte, lowercase}}
 use Rattle.{http_header.proofs.TokenLemmas.token_byte_range, headers.specs.{LineMap.LineMap, Lines.Line}}

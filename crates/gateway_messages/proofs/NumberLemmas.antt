@@ -1,8 +1,8 @@
 -- A number that is written in decimal is parsed to itself.
-use Rattle.std.proofs.Common.{◌≡◌, ℕ, ◌<◌, ◌≤◌, ◌-◌, ◌^◌, true, List, [], ◌∷◌, length, Some, ap, arith, rules, inl, inr}
+use Rattle.std.proofs.Common.{◌≡◌, ℕ, ◌<◌, ◌≤◌, ◌-◌, ◌^◌, true, List, [], ◌∷◌, length, Some, arith, rules}
 use Rattle.std.proofs.lemmas.{Bool.cases_Bool, Fmt.{decimal_nonempty, digits_decimal, digits_value-decimal}}
 use Rattle.std.proofs.lemmas.Str.Parse.{IsNumeralModel, numerals_by_weight, tells_all_ascii_digits}
-use Rattle.{std.specs.{Prelude.{decimal, min}, Str.all_ascii_digits}, headers_syntax.specs.Number.decimal_value}
+use Rattle.{std.specs.{Prelude.{decimal}, Str.all_ascii_digits}, headers_syntax.specs.Number.decimal_value}
 use Rattle.rfc_fields.specs.Numbers.{is_number, number_within}
 
 pub numerals : IsNumeralModel (λ ds. all_ascii_digits ds ≡ true) decimal_value

@@ -1,5 +1,5 @@
 -- To all recipients that know the plain forms, what is forwarded states the same.
-use Rattle.std.proofs.Common.{◌≡◌, ◌≢◌, ℕ, ◌<◌, ◌^◌, ◌&&◌, not, Bool, true, false, List, [], ◌∷◌, ◌++◌, Option, Some}
+use Rattle.std.proofs.Common.{◌≡◌, ◌≢◌, ℕ, ◌&&◌, not, Bool, true, false, List, [], ◌∷◌, ◌++◌, Option, Some}
 use Rattle.std.proofs.{Common.{None, refl, ◌∙◌, ap, codes, inl, inr, arith}, lemmas.{Bool.cases_Bool, List.append-nil}}
 use Rattle.std.{proofs.lemmas.Slice.Eq.bytes_eq-Decides, specs.Prelude.{bytes_eq, decimal, if◌then◌else◌, nat_lt}}
 use Rattle.{std.specs.{Prelude.{option_map, option_to_list}, List.list_any}, headers.specs.LineMap.LineMap}

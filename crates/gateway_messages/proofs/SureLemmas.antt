@@ -1,5 +1,5 @@
 -- What is forwarded is certain at each name, and the next gateway delimits it as this one did.
-use Rattle.std.proofs.Common.{◌≡◌, ◌≢◌, ℕ, ◌+◌, ◌-◌, true, false, List, Option, Some, None, refl, sym, ◌∙◌, ap, subst}
+use Rattle.std.proofs.Common.{◌≡◌, ◌≢◌, ℕ, ◌+◌, true, false, List, Option, Some, None, refl, sym, ◌∙◌, ap, subst}
 use Rattle.std.proofs.{Common.{inl, inr, codes, arith}, lemmas.{Bool.cases_Bool, Slice.Eq.bytes_eq-Decides}}
 use Rattle.{std.specs.Prelude.{All, bytes_eq, option_map}, headers.specs.LineMap.LineMap}
 use Rattle.gateway_messages.specs.{FieldLines.{fields_of, lines_under}, HopByHop.{connection_options, is_hop_by_hop}}

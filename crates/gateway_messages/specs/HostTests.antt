@@ -1,5 +1,5 @@
 -- Whether a text is a value of Host, as a test. A law ties it to the grammar of `Hosts`.
-use Rattle.std.specs.Prelude.{ℕ, ◌+◌, ◌==◌, Bool, true, false, ◌||◌, ◌&&◌, not, List, [], ◌∷◌, length, take, drop}
+use Rattle.std.specs.Prelude.{ℕ, ◌+◌, ◌==◌, Bool, true, false, ◌||◌, ◌&&◌, not, [], ◌∷◌, length, take, drop}
 use Rattle.std.specs.{Prelude.{nat_lt, is_some, if◌then◌else◌}, Char.{is_ascii_digit, is_ascii_hexdigit}, List.list_all}
 use Rattle.std.specs.{List.prefix_len, Net.Reader.{read_ipv6, whole_value}}
 use Rattle.{headers.specs.Lines.Line, gateway_messages.specs.Hosts.{is_address_byte, is_encoded, is_name_byte}}

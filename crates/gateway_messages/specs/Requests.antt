@@ -1,5 +1,5 @@
 -- What a gateway does with a request (RFC 9110, section 7.6; RFC 9112, sections 3.2 and 6).
-use Rattle.std.specs.Prelude.{◌≡◌, ◌⊎◌, ℕ, ◌+◌, Bool, true, false, List, [], ◌∷◌, Option, Some, None, codes, option_map}
+use Rattle.std.specs.Prelude.{◌≡◌, ℕ, ◌+◌, Bool, true, false, List, [], ◌∷◌, Option, Some, None, codes, option_map}
 use Rattle.headers.specs.{LineMap.{LineMap, lines_at}, Lines.Line}
 use Rattle.gateway_messages.specs.{Expectations.has_known_expectation, FieldLines.{fields_of, lines_under}}
 use Rattle.gateway_messages.specs.{Forwarding.{Forwards, Message}, Framing.{RejectsFraming, States}}

@@ -1,9 +1,7 @@
 //! How the content of a message is delimited.
 ghost use Rattle.std.specs.{Prelude.{◌≡◌, [], IfOk, IfErr, OnErr, codes, true}, Bool.MatchBool, List.list_all};
-ghost use Rattle.headers.specs.{LineMap.lines_at, Lines.lines_of, Typed.HasLine};
-ghost use Rattle.rfc_fields.specs.Members.{field_left};
-ghost use Rattle.rfc_fields.specs.Members.{field_members, member_of};
-ghost use Rattle.gateway_messages.specs.Framing.{HasInvalidLength};
+ghost use Rattle.{headers.specs.{LineMap.lines_at, Lines.lines_of, Typed.HasLine}, rfc_fields.specs.Members.field_left};
+ghost use Rattle.{rfc_fields.specs.Members.{field_members, member_of}, gateway_messages.specs.Framing.HasInvalidLength};
 ghost use Rattle.gateway_messages.specs.Framing.{HasLength, IsCoded, RejectsFraming, States, ends_chunked};
 ghost use Rattle.gateway_messages.specs.Framing.{member_number, says_chunked, writes_length};
 

@@ -1,7 +1,6 @@
 //! The fields of a message that are meant for one connection.
 ghost use Rattle.std.specs.{Prelude.{◌≡◌, bytes_eq, true}, List.list_any};
-ghost use Rattle.headers.specs.Lines.{lines_of};
-ghost use Rattle.rfc_fields.specs.Members.{field_members};
+ghost use Rattle.{headers.specs.Lines.lines_of, rfc_fields.specs.Members.field_members};
 ghost use Rattle.gateway_messages.specs.HopByHop.{is_hop_by_hop, is_known, is_named, names_protected, proxy_fields};
 ghost use Rattle.gateway_messages.specs.HopByHop.{protected_fields};
 

@@ -1,7 +1,6 @@
 //! The field Host.
 ghost use Rattle.std.specs.{Prelude.{◌≡◌, ◌≤◌, codes, length}, Char.is_ascii_digit, List.list_all};
-ghost use Rattle.headers.specs.LineMap.{lines_at};
-ghost use Rattle.gateway_messages.specs.Hosts.{is_address_byte, is_mark};
+ghost use Rattle.{headers.specs.LineMap.lines_at, gateway_messages.specs.Hosts.{is_address_byte, is_mark}};
 ghost use Rattle.gateway_messages.specs.{Hosts.{is_name_byte, is_sub_delim}, HostTests.{begins_encoded, begins_part}};
 ghost use Rattle.gateway_messages.specs.HostTests.{is_address, is_dotted_address, is_future_address, is_host, is_ipv6};
 ghost use Rattle.gateway_messages.specs.HostTests.{is_literal_host, is_named_host, is_port, is_reg_name, is_versioned};

@@ -1,8 +1,7 @@
 //! Theorems about the definitions alone. To cite one in a proof, call it.
 ghost use Rattle.std.specs.Prelude.{◌≡◌, ◌≢◌, ◌≤◌, ◌++◌, ◌∷◌, [], ℕ, List, All, Option, Some, false, true, IsTrue};
 ghost use Rattle.std.specs.Prelude.{codes, ◌↔◌, decimal, length};
-ghost use Rattle.http_header.specs.Token.{IsToken};
-ghost use Rattle.headers.specs.{LineMap.LineMap, Lines.Line};
+ghost use Rattle.{http_header.specs.Token.IsToken, headers.specs.{LineMap.LineMap, Lines.Line}};
 ghost use Rattle.gateway_messages.specs.{Chain.{IsChain, IsOneGateway, IsReceivedAs}, FieldLines.{Field, fields_of}};
 ghost use Rattle.gateway_messages.specs.{FieldLines.lines_under, Forwarding.{IsEndToEnd, IsHopByHop, own_names}};
 ghost use Rattle.gateway_messages.specs.{Framing.States, Hosts.HasHost, Spellings.is_misspelt, Via.is_loop};

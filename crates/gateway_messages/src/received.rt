@@ -1,9 +1,7 @@
 //! The received fields that are forwarded as they came.
 ghost use Rattle.std.specs.{Prelude.{◌≡◌, IfOk, bytes_eq, filter, map, true}, List.list_any};
-ghost use Rattle.http_header.specs.HeaderMap.{pairs};
-ghost use Rattle.headers.specs.Lines.{lines_of};
-ghost use Rattle.rfc_fields.specs.Members.{field_members};
-ghost use Rattle.gateway_messages.specs.FieldLines.{field_of, fields_of};
+ghost use Rattle.{http_header.specs.HeaderMap.pairs, headers.specs.Lines.lines_of};
+ghost use Rattle.{rfc_fields.specs.Members.field_members, gateway_messages.specs.FieldLines.{field_of, fields_of}};
 ghost use Rattle.gateway_messages.specs.{Forwarding.{framing_names, is_rewritten}, Messages.{goes_on_in, message_of}};
 
 use crate::field_line::FieldLine;
