@@ -247,16 +247,6 @@ module _ (present : ℕ) (site : Resource) (v : Vec Representation) (file : File
           fields = h.fields ∙ rw (alone, append-nil, vary, append-nil) by.1.fields;
         }
 
-    decided_full : (asked : Asked) → IsGetOrHead asked.method → (divider : List ℕ) (files : List File)
-        (answer : Answer) → Decides present divider files here asked answer
-        → status_for 404 answer.reason answer.status ≡ 200
-        → IsFull present file asked.fields site.boundary answer.sends (encoded_fields answer.fields.items)
-    decided_full asked reads divider files answer x is =
-        elim x [
-          | inl h ↦ answer_full asked reads answer h.1 is
-          | inr h ↦ answer_full (as_head asked) (inr refl) answer h.3 is
-        ]
-
 shown_whole : (present : ℕ) (file : File) (fields : LineMap) (boundary : FieldValue)
     → headers_of (own_fields present file fields boundary) ≡ whole_fields present file
 shown_whole present file fields boundary = refl
@@ -275,15 +265,8 @@ file_found : (store : Memory) (negotiates : Bool) (uri : Uri) (named : List ℕ)
     → (file : File) × HasOne store named (Readable file)
     × HasFile file found.state found.status found.files.items
 file_found store negotiates uri named Missing found off same has finds = absurd (has same)
-file_found store negotiates uri named (Readable file) found off same has finds = (
-  file,
-  has,
-  record {
-    state = finds.0;
-    status = finds.1;
-    files = subst (λ (b : Bool). AreContents b (HasOne store) named file found.files.items) off finds.2;
-  },
-)
+file_found store negotiates uri named (Readable file) found off same has finds =
+    (file, has, record { state = finds.0; status = finds.1; files = rw off at finds.2 })
 file_found store negotiates uri named other found off same has finds = absurd has
 
 index_named : IsStorePath (codes "/") (codes "index.html")
@@ -366,20 +349,11 @@ module _ (now : Option ℕ) (left : ℕ) (settings : Settings) (site : Site) (st
     looked : IsAnswerAt now left site Look request response source
     looked =
         answered_as x
-        (inl (
-          codes "index.html",
-          names,
-          (
-            Readable file,
-            refl,
-            (
-              given.2.state,
-              given.2.status,
-              subst (λ (b : Bool). AreContents b Look (codes "index.html") file x.found.files.items) (sym negotiates)
-                  given.2.files,
-            ),
-          ),
-        )) x.asked x.asks x.decides
+        (inl (codes "index.html", names, (Readable file, refl, (given.2.state, given.2.status, contents))))
+        x.asked x.asks x.decides
+      where
+        contents : AreContents resource.negotiation.coding Look (codes "index.html") file x.found.files.items
+        contents = simp negotiates given.2.files
 
     fields_at : (name : List ℕ) (lines : List Line) → lines_at host_map name ≡ lines → x.asked.fields name ≡ lines
     fields_at name lines is =
@@ -410,9 +384,13 @@ module _ (now : Option ℕ) (left : ℕ) (settings : Settings) (site : Site) (st
 
     full : IsFull present file x.asked.fields resource.boundary x.answer.sends (encoded_fields x.answer.fields.items)
     full =
-        decided_full present resource x.described.representations file one cors of.is_site.media_type
-        of.is_site.language negotiates x.asked (inl (x.asks.2.method ∙ asks.method)) (string_bytes site.divider)
-        x.found.files.items x.answer (rw described at x.decides) code
+        let by =
+        answer_full present resource x.described.representations file one cors of.is_site.media_type
+        of.is_site.language negotiates in
+        elim (rw described at x.decides) [
+          | inl h ↦ by x.asked (inl (x.asks.2.method ∙ asks.method)) x.answer h.1 code
+          | inr h ↦ by (as_head x.asked) (inr refl) x.answer h.3 code
+        ]
 
     abbrev last_code : ℕ
     last_code = status_for x.found.status x.answer.reason x.answer.status

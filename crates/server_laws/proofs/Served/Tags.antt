@@ -284,12 +284,8 @@ unmodified_lets present fields target none = rw none tt
 pub kept_again : (now later : ℕ) (f g : LineMap) (label : Label) → f (codes "if-match") ≡ g (codes "if-match")
     → g (codes "if-unmodified-since") ≡ [] → StateIsKept now f (current_by now label)
     → StateIsKept later g (current_by later label)
-kept_again now later f g label same none h = (
-  λ has.
-      subst (λ (ls : List Line). IfMatchIsTrue (λ (name : List ℕ). ls) (current_by later label)) same
-      (h.0 (subst HasLine (sym same) has)),
-  λ lacks. unmodified_lets later g (current_by later label) none,
-)
+kept_again now later f g label same none h =
+    (λ has. rw (← same) (h.0 (rw same has)), λ lacks. unmodified_lets later g (current_by later label) none)
 
 -- ==== What a request finds in two stores that have something similar where it looks.
 
@@ -811,16 +807,6 @@ IsReadBy present resource protocol authority fields answer =
     (method : List ℕ) × IsGetOrHead method
     × IsAnswer present resource (reading protocol authority method fields) answer
 
-decided_read : (present : ℕ) (divider : List ℕ) (files : List File) (resource : Resource) (protocol : Protocol)
-    (authority : Option Line) (fields : LineMap) (method : List ℕ) → IsGetOrHead method → (answer : Answer)
-    → Decides present divider files resource (reading protocol authority method fields) answer
-    → IsReadBy present resource protocol authority fields answer
-decided_read present divider files resource protocol authority fields method read answer x =
-    elim x [
-      | inl h ↦ (method, read, h.1)
-      | inr h ↦ (codes "HEAD", inr refl, h.3)
-    ]
-
 module _ (now : Option ℕ) (left : ℕ) (site : Site) (look : List ℕ → Entry) (request : Request (List ℕ))
     (response : Response) (source : Option Source)
     (x : IsAnswerAt now left site (has_at look) request response source)
@@ -846,10 +832,10 @@ module _ (now : Option ℕ) (left : ℕ) (site : Site) (look : List ℕ → Entr
       (described_as site.resource x.found.state x.described.representations) x.asked.protocol x.asked.authority
       lines x.answer
   read_answer =
-      decided_read present (string_bytes site.divider) x.found.files.items
-      (described_as site.resource x.found.state x.described.representations) x.asked.protocol x.asked.authority
-      lines (head_of request).method read x.answer
-      (rw (asked_is, x.described.is) at x.decides)
+      elim (rw (asked_is, x.described.is) at x.decides) [
+        | inl h ↦ ((head_of request).method, read, h.1)
+        | inr h ↦ (codes "HEAD", inr refl, h.3)
+      ]
 
   -- the field lines of ETag are those of the answer's fields
   etag_lines : lines_in (fields_of response) etag
@@ -909,9 +895,6 @@ kept_tag now left site look request response kept tag read x told =
     )
 
 -- ---- a request and the one before it
-
-pub differ : (a b : List ℕ) → bytes_eq a b ≡ false → a ≢ b
-differ a b f e = let t = (bytes_eq-Decides a b).1 e in absurd (cc (t, f))
 
 -- the fields by which a read is decided before its conditions
 abbrev deciding : List (List ℕ)
@@ -1035,10 +1018,11 @@ module _ (now later : Option ℕ) (left more : ℕ) (site : Site) (look other : 
   was_kept = rw then_seen at tagged.kept
 
   has_line : (lines : List Line) → lines ≡ tag ∷ [] → HasLine lines
-  has_line lines are = subst HasLine (sym are) (omega arith)
+  has_line lines are = rw are (omega arith)
 
   kept_field : (other : List ℕ) → bytes_eq other name ≡ false → f other ≡ g other
-  kept_field other free = sym (again.others other (differ other name free))
+  kept_field other free =
+      sym (again.others other (λ e. let t = (bytes_eq-Decides other name).1 e in absurd (cc (t, free))))
 
   module _ (free : list_any (λ (own : List ℕ). bytes_eq own name) deciding ≡ false) where
     same : AskAlike f g
@@ -1070,15 +1054,11 @@ module _ (now later : Option ℕ) (left more : ℕ) (site : Site) (look other : 
 
     module _ (decided : Decide (clock later gs) after asked_again (current_by (clock later gs) label)
         precondition.NotModified) where
-      unmodified : IsUnmodified (clock later gs) after asked_again y.answer second_read.2.own tagged.place
-      unmodified =
-          not_modified (clock later gs) after asked_again second_read.1 y.answer second_read.2 first_there tagged.place
-          selected_there
-          (rw now_seen decided)
-
       told_unmodified : (s.status ≡ 304) × (lines_in (fields_of s) (codes "etag") ≡ tag ∷ []) × (s.pieces.items ≡ [])
       told_unmodified =
-          let u = unmodified in (
+          let u =
+          not_modified (clock later gs) after asked_again second_read.1 y.answer second_read.2 first_there tagged.place
+          selected_there (rw now_seen decided) in (
             y.carries.status ∙ rw (u.reason, u.status),
             etag_lines later more site other second s b y again.read_again
                 ∙ tag_given (clock later gs) after asked_again y.answer second_read.2 (is_some site.resource.cors)
@@ -1111,17 +1091,18 @@ module _ (now later : Option ℕ) (left more : ℕ) (site : Site) (look other : 
 
     -- ---- the two conditions
 
-    pub by_none_match : ParsesOneWay → f (codes "if-match") ≡ g (codes "if-match")
-        → g (codes "if-unmodified-since") ≡ []
+    pub by_none_match : ParsesOneWay → bytes_eq (codes "if-match") name ≡ false
+        → bytes_eq (codes "if-unmodified-since") name ≡ false → f (codes "if-unmodified-since") ≡ []
         → g (codes "if-none-match") ≡ tag ∷ [] → IsSomeTag tag
         → (s.status ≡ 304) × (lines_in (fields_of s) (codes "etag") ≡ tag ∷ []) × (s.pieces.items ≡ [])
-    by_none_match parse matching undated asks some =
+    by_none_match parse matching dating undated asks some =
         told_unmodified
         (record {
           unconditional =
               λ is. absurd (never_ignored (validators_by (clock later gs) label) second_read.0 second_read.1 is);
           conditional = λ counts. (
-            kept_again (clock now fs) (clock later gs) f g label matching undated was_kept,
+            kept_again (clock now fs) (clock later gs) f g label (kept_field (codes "if-match") matching)
+                (sym (kept_field (codes "if-unmodified-since") dating) ∙ undated) was_kept,
             second_read.1,
             inl (
               has_line (g (codes "if-none-match")) asks,
@@ -1317,31 +1298,24 @@ module _ (name : List ℕ) where
 
 -- ---- what a browser reads of a response to a preflight
 
--- both have the same field lines under the names that it reads
-record IsReadAlike (m n : LineMap) : Type 0 where
-  origin : m (codes "access-control-allow-origin") ≡ n (codes "access-control-allow-origin")
-  credentials : m (codes "access-control-allow-credentials") ≡ n (codes "access-control-allow-credentials")
-  methods : m (codes "access-control-allow-methods") ≡ n (codes "access-control-allow-methods")
-  names : m (codes "access-control-allow-headers") ≡ n (codes "access-control-allow-headers")
+-- both have the same field lines under the names whose values stay as they are
+abbrev IsReadAlike : LineMap → LineMap → Type 0
+IsReadAlike m n = (name : List ℕ) → is_kept name ≡ true → m name ≡ n name
 
 check_alike : (m n : LineMap) (sent : Sent) → IsReadAlike m n → CorsCheck m sent → CorsCheck n sent
-check_alike m n sent same h = rw (← same.origin, ← same.credentials) h
+check_alike m n sent same h =
+    rw (
+      ← (same (codes "access-control-allow-origin") refl),
+      ← (same (codes "access-control-allow-credentials") refl),
+    ) h
 
 passes_alike : (status : ℕ) (m n : LineMap) (sent : Sent) → IsReadAlike m n → PreflightPasses status m sent
     → PreflightPasses status n sent
 passes_alike status m n sent same h = record {
   check = check_alike m n sent same h.check;
   ok = h.ok;
-  method = rw (← same.methods) h.method;
-  names = rw (← same.names) h.names;
-}
-
-alike_back : (m n : LineMap) → IsReadAlike m n → IsReadAlike n m
-alike_back m n same = record {
-  origin = sym same.origin;
-  credentials = sym same.credentials;
-  methods = sym same.methods;
-  names = sym same.names;
+  method = rw (← (same (codes "access-control-allow-methods") refl)) h.method;
+  names = rw (← (same (codes "access-control-allow-headers") refl)) h.names;
 }
 
 -- ---- the reason
@@ -1408,20 +1382,15 @@ module _ (now : Option ℕ) (left : ℕ) (site : Site) (look : List ℕ → Entr
   abbrev given : List Field
   given = encoded_fields x.answer.fields.items
 
-  read_as_set : (name : List ℕ) → is_kept name ≡ true → lines_in (fields_of response) name ≡ set_all nothing given name
+  read_as_set : IsReadAlike (lines_in (fields_of response)) (set_all nothing given)
   read_as_set name kept =
       lines_in-carried name kept now left site x.found.files.items
       (status_for x.found.status x.answer.reason x.answer.status) x.answer.sends given response x.carries
       ∙ ap (λ (cors : Option Policy). lines_in (headers_sent (is_some cors) given) name) has
       ∙ sent_as_set name given
 
-  read_alike : IsReadAlike (lines_in (fields_of response)) (set_all nothing given)
-  read_alike = record {
-    origin = read_as_set (codes "access-control-allow-origin") refl;
-    credentials = read_as_set (codes "access-control-allow-credentials") refl;
-    methods = read_as_set (codes "access-control-allow-methods") refl;
-    names = read_as_set (codes "access-control-allow-headers") refl;
-  }
+  set_as_read : IsReadAlike (set_all nothing given) (lines_in (fields_of response))
+  set_as_read name kept = sym (read_as_set name kept)
 
   pub preflight_answered : PreflightIsAnswered → (rules : CorsRules) (sent : Sent) (asked : Asked)
       → Asks request asked → has_host asked.protocol (asked.fields (codes "host")) ≡ true
@@ -1458,10 +1427,8 @@ module _ (now : Option ℕ) (left : ℕ) (site : Site) (look : List ℕ → Entr
         status,
         x.carries.pieces ∙ rw (code, stopped.sends),
         (
-          λ passes. answered.1.0 (rw status at (passes_alike response.status mine theirs sent read_alike passes)),
-          λ allows.
-              passes_alike response.status theirs mine sent (alike_back mine theirs read_alike)
-              (rw status (answered.1.1 allows)),
+          λ passes. answered.1.0 (rw status at (passes_alike response.status mine theirs sent read_as_set passes)),
+          λ allows. passes_alike response.status theirs mine sent set_as_read (rw status (answered.1.1 allows)),
         ),
       )
     where
@@ -1488,8 +1455,8 @@ module _ (now : Option ℕ) (left : ℕ) (site : Site) (look : List ℕ → Entr
             law asked_at x.resource (as_head x.asked) x.answer rules policy nothing sent own h.3 lawful made
             asked_origin
       ] in (
-        λ passes. checks.0 (check_alike mine theirs sent read_alike passes),
-        λ allows. check_alike theirs mine sent (alike_back mine theirs read_alike) (checks.1 allows),
+        λ passes. checks.0 (check_alike mine theirs sent read_as_set passes),
+        λ allows. check_alike theirs mine sent set_as_read (checks.1 allows),
       )
 
 -- ==== Two parts that join are the content.

@@ -193,36 +193,28 @@ not_given (field ∷ fields) t =
       | inr other ↦ let later = not_given fields both.1 in λ i. other i || later i
     ]
 
+sent-cons : (b : Bool) (field : Field) (fields : List Field)
+    → headers_sent b (field ∷ fields) ≡ lines_unless (b && is_named field.0 fields) field ++ headers_sent b fields
+sent-cons true field fields = refl
+sent-cons false field fields = refl
+
+sent-nil : (b : Bool) → headers_sent b [] ≡ []
+sent-nil true = refl
+sent-nil false = refl
+
 module _ (has_policy : Bool) where
-  sent-cons : (field : Field) (fields : List Field)
-      → headers_sent has_policy (field ∷ fields)
-      ≡ lines_unless (has_policy && is_named field.0 fields) field ++ headers_sent has_policy fields
-  sent-cons field fields = by has_policy
-    where
-      by : (b : Bool) → headers_sent b (field ∷ fields)
-          ≡ lines_unless (b && is_named field.0 fields) field ++ headers_sent b fields
-      by true = refl
-      by false = refl
-
-  sent-nil : headers_sent has_policy [] ≡ []
-  sent-nil = by has_policy
-    where
-      by : (b : Bool) → headers_sent b [] ≡ []
-      by true = refl
-      by false = refl
-
   plain_sent : (fields : List Field) → list_all is_plain fields ≡ true
       → list_all is_plain_line (headers_sent has_policy fields) ≡ true
-  plain_sent [] t = ap (list_all is_plain_line) sent-nil
+  plain_sent [] t = ap (list_all is_plain_line) (sent-nil has_policy)
   plain_sent (field ∷ fields) t =
       let both = and_parts (is_plain field) (list_all is_plain fields) t in
-      rw (sent-cons field fields)
+      rw (sent-cons has_policy field fields)
       (all_append is_plain_line _ _ (plain_unless _ field both.0) (plain_sent fields both.1))
 
   -- the one field of its name, which nothing replaces
   sent-one : (field : Field) (after : List Field) → is_named field.0 after ≡ false
       → headers_sent has_policy (field ∷ after) ≡ lines_under field ++ headers_sent has_policy after
-  sent-one field after e = rw (sent-cons field after) (simp (e, and-false))
+  sent-one field after e = rw (sent-cons has_policy field after) (simp (e, and-false))
 
   module _ (n : ℕ) (stated : Bool) (short : n < 2 ^ 64) where
     tells_in : (lines : List Line) → lines_under (length_name, lines) ≡ stated_line n stated
@@ -234,7 +226,7 @@ module _ (has_policy : Bool) where
         (tells_own n stated short) (tells_plain n _ (plain_sent after last)) (append-nil _))
     tells_in lines own (field ∷ before) after first last =
         let both = and_parts (is_plain field) (list_all is_plain before) first in
-        rw (sent-cons field (before ++ ((length_name, lines) ∷ after)))
+        rw (sent-cons has_policy field (before ++ ((length_name, lines) ∷ after)))
         (tells_both n false stated stated _ _ (tells_plain n _ (plain_unless _ field both.0))
         (tells_in lines own before after both.1 last) refl)
 
@@ -378,9 +370,7 @@ lines_in-carried name kept now left site files code sent given response h =
     ap (λ (hs : List Header). lines_in hs name) h.headers
     ∙ lines_in-trimmed name kept ((front ++ own) ++ explained_fields code sent)
     ∙ lines_in-append name (front ++ own) (explained_fields code sent)
-    ∙ ap (λ (ls : List Line). lines_in (front ++ own) name ++ ls)
-    (lines_in-side name kept _ (explained_side code sent))
-    ∙ append-nil (lines_in (front ++ own) name)
+    ∙ (simp (lines_in-side name kept (explained_fields code sent) (explained_side code sent), append-nil))
     ∙ lines_in-other name front own (lines_in-side name kept front (front_side now left sent site.cache_control))
 
 -- ---- the fields of an answer
@@ -801,6 +791,12 @@ module _ (present : ℕ) (resource : Resource) (own_rule : MethodRule) (alone : 
         text = text;
       }
 
+      -- the statuses of plans
+      plan_code : (plan : Plan) → (200 ≤ status_of plan) × (status_of plan ≤ 999) × (status_of plan ≢ 205)
+          × (status_of plan ≢ 204) × (is_field_value (reason_of (status_of plan)) ≡ true)
+      plan_code the_plan.Full = (omega arith, omega arith, λ is. omega (arith, is), λ is. omega (arith, is), refl)
+      plan_code plan = (omega arith, omega arith, λ is. omega (arith, is), λ is. omega (arith, is), refl)
+
       planned : (file : Option File) (plan : Plan) (target : Target) (boundary : FieldValue)
           → IsSized divider present file plan → is_bare_tag (etag_of target) ≡ true
           → IsAccepted method (status_of plan) (len_for divider present file plan)
@@ -809,13 +805,20 @@ module _ (present : ℕ) (resource : Resource) (own_rule : MethodRule) (alone : 
           boundary))
       planned file plan target boundary x bare =
           let content = content_of (shown divider present file) in
+          let code = plan_code plan in
           record {
             stated = x.stated;
             states = Some (own_lines present plan target content boundary);
             lines = ap (λ (ls : List Line). map (λ (line : Line). (length_name, line)) ls) x.lines ∙ own x.stated;
             fields = with_between present plan target content boundary request.fields (shown divider present file) bare;
-            final = final plan (len_for divider present file plan) x.stated x.bodiless;
-            text = text plan;
+            final = record {
+              least = code.0;
+              greatest = code.1;
+              other = code.2;
+              bodiless = λ is. elim is [ inl a ↦ absurd (code.3 a) | inr b ↦ x.bodiless b ];
+              connect = successful (status_of plan);
+            };
+            text = code.4;
           }
         where
           own : (stated : Bool)
@@ -824,27 +827,6 @@ module _ (present : ℕ) (resource : Resource) (own_rule : MethodRule) (alone : 
               ≡ stated_line (len_for divider present file plan) stated
           own true = refl
           own false = refl
-
-          final : (plan : Plan) (n : ℕ) (stated : Bool) → (status_of plan ≡ 304 → (n ≡ 0) × (stated ≡ false))
-              → IsFinal method (status_of plan) n stated
-          final the_plan.Full n stated none = record {
-            least = omega arith;
-            greatest = omega arith;
-            other = λ is. omega (arith, is);
-            bodiless = λ is. absurd (elim is [ inl a ↦ omega (arith, a) | inr b ↦ omega (arith, b) ]);
-            connect = successful 200;
-          }
-          final plan n stated none = record {
-            least = omega arith;
-            greatest = omega arith;
-            other = λ is. omega (arith, is);
-            bodiless = λ is. elim is [ inl a ↦ absurd (omega (arith, a)) | inr b ↦ none b ];
-            connect = successful (status_of plan);
-          }
-
-          text : (plan : Plan) → is_field_value (reason_of (status_of plan)) ≡ true
-          text the_plan.Full = refl
-          text plan = refl
 
       going : (place : Option ℕ) (status : Option ℕ) (sent : Sends) (own : List Field) (response : Option Planning)
           → IsAnswered present request.method request.fields

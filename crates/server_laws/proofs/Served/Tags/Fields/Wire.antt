@@ -348,21 +348,12 @@ module _ (tag : List ℕ) (len : ℕ) (media_type : List ℕ) (short : len < 2 ^
   ok_states None valid = record { valid = valid; codings = refl; lengths = refl }
   ok_states (Some seconds) valid = record { valid = valid; codings = refl; lengths = refl }
 
-  goes_on : (now : Option ℕ) (r : Serving) → r.keep_alive ≡ true → r.expects_continue ≡ false
-      → stays_open r (known_fields (fields now ++ [])) (Sized len) ≡ true
-  unfolding known_fields eq_ignore_case
-  goes_on None r keeps waits = λ i. keeps i && (not (waits i) && true)
-  goes_on (Some seconds) r keeps waits = λ i. keeps i && (not (waits i) && true)
-
   quiet : (r : Serving) (now : Option ℕ) → r.minor ≡ 1 → r.keep_alive ≡ true → r.expects_continue ≡ false
       → connection_headers r (known_fields (fields now ++ []))
       (stays_open r (known_fields (fields now ++ [])) (Sized len)) ≡ []
-  quiet r now minor keeps waits =
-      ap (connection_headers r (known_fields (fields now ++ []))) (goes_on now r keeps waits)
-      ∙ silent (known_fields (fields now ++ [])).keep_alive
-    where
-      silent : (asked : Bool) → cond (eqb r.minor 0 && not asked) (connection_header (codes "keep-alive") ∷ []) [] ≡ []
-      silent asked = ap (λ (m : ℕ). cond (eqb m 0 && not asked) (connection_header (codes "keep-alive") ∷ []) []) minor
+  unfolding known_fields eq_ignore_case
+  quiet r None minor keeps waits = simp (minor, keeps, waits)
+  quiet r (Some seconds) minor keeps waits = simp (minor, keeps, waits)
 
   abbrev with_last : Option ℕ → List ℕ → List ℕ
   with_last now last =
@@ -459,28 +450,17 @@ module _ (limits : Limits) (h : RequestHead) (framing : Framing) (plan : Respons
       ∙ ap (λ (f : Framing). Writes.Body (encoder_for f))
       (p.3 ∙ ap (λ (m : MethodKind). cond (has_no_body m 200) NoBody (Sized n)) stays.method)
 
-  no_prefix : prefix_of false s plan ≡ []
-  no_prefix = ap (λ (w : Writing). data_prefix w n) sized_body
-
-  no_suffix : suffix_of false s plan ≡ []
-  no_suffix = ap (λ (w : Writing). data_suffix w n) sized_body
-
-  no_finish : finish_text (writing (after_content false s plan)) [] ≡ []
-  no_finish = ap (λ (w : Writing). finish_text (after_data w n) []) sized_body
-
   -- the head before the content, and nothing after it
   pub framed_literally : (after ≡ before ++ ok_text now tag n media_type) × (rest ≡ tail)
   framed_literally = (
     frames.head
-        ∙ ap (λ (l : List ℕ). (before ++ head_text s plan) ++ l) no_prefix
-        ∙ append-nil (before ++ head_text s plan)
-        ∙ ap (λ (l : List ℕ). before ++ l)
-        (head_written limits h framing plan now tag media_type ok.status frames.short ok.fields stays.minor stays.keeps
-        other frames.valid),
-    frames.tail
-        ∙ ap (λ (l : List ℕ). (tail ++ l) ++ finish_text (writing (after_content false s plan)) []) no_suffix
-        ∙ ap (λ (l : List ℕ). (tail ++ []) ++ l) no_finish
-        ∙ append-nil (tail ++ []) ∙ append-nil tail,
+        ∙ simp (
+          head_written limits h framing plan now tag media_type ok.status frames.short ok.fields stays.minor stays.keeps
+              other frames.valid,
+          sized_body,
+          append-nil,
+        ),
+    frames.tail ∙ simp (sized_body, append-nil),
   )
 
 -- while such a response is sent, its head and a front of its content are out, and nothing is to follow the content
