@@ -86,9 +86,8 @@ head_unframed framing is =
 empty_body : (limits : Limits) (framing : Framing) (body : Body) (rest : List ℕ) → framing ≡ NoBody
     → ReadsBody limits framing [] body rest → (body.bytes ≡ []) × (rest ≡ [])
 empty_body limits framing body rest none h =
-    let sized = subst (λ (f : Framing). ReadsBody limits f [] body rest) none h in
-    let empty : body.bytes ≡ [] = nil_from_length body.bytes sized.0 in
-    (empty, sym (ap (λ (l : List ℕ). l ++ rest) empty) ∙ sym sized.1)
+    let sized = rw none at h in
+    let empty : body.bytes ≡ [] = nil_from_length body.bytes sized.0 in (empty, sym (rw empty at sized.1))
 
 one_message : (method : List ℕ) (text : List ℕ) (reads : ReadsRequest text (root_head method) [])
     → HasNoFraming method → (limits : Limits) (m : Message.Request) (rest : List ℕ)
@@ -283,9 +282,6 @@ unfolding is_reg_name
 host_valid Http10 = refl
 host_valid Http11 = refl
 
-none_expected : has_known_expectation [] ≡ true
-none_expected = refl
-
 asks_for_all : (negotiates : Bool) (m : Entries FieldValue) → m ≡ host_map → AsksForAll negotiates (lines_at m)
 asks_for_all negotiates m is =
     let at : (name : List ℕ) → lines_at host_map name ≡ [] → lines_at m name ≡ [] =
@@ -324,11 +320,8 @@ module _ (now : Option ℕ) (left : ℕ) (settings : Settings) (site : Site) (st
     names : Names (uri_path (head_of request).uri) (Some (codes "index.html"))
     names = subst (λ (path : List ℕ). IsStorePath path (codes "index.html")) (sym asks.path) index_named
 
-    abbrev Given : Type 0
-    Given = (file : File) × HasOne store (codes "index.html") (Readable file)
+    given : (file : File) × HasOne store (codes "index.html") (Readable file)
         × HasFile file x.found.state x.found.status x.found.files.items
-
-    given : Given
     given =
         elim x.leads [
           | inl h ↦
@@ -366,7 +359,7 @@ module _ (now : Option ℕ) (left : ℕ) (settings : Settings) (site : Site) (st
         (ap (has_host x.asked.protocol) (fields_at (codes "host") (codes "a.example" ∷ []) refl)
         ∙ host_valid x.asked.protocol)
         (rw hosts)
-        (ap has_known_expectation (fields_at (codes "expect") [] refl) ∙ none_expected) asks.method names refl
+        (ap has_known_expectation (fields_at (codes "expect") [] refl)) asks.method names refl
         (asks_for_all resource.negotiation.coding (head_of request).headers asks.headers) looked
 
     ok : response.status ≡ 200
@@ -575,9 +568,6 @@ module _ {H : Type 0} (plans : Plans H) (gives : H → Gives) (config : Config) 
           goes = good c.0 answer.0 last asks answer.1;
         }
 
-    fields_same : (c : Call) (p : IsPlannedCall c) → sent_fields c.1 ≡ plan_fields p.plan
-    fields_same c p = p.has_head.headers
-
     size_same : (c : Call) (p : IsPlannedCall c) → size_of c.1 ≡ plan_size p.plan
     size_same c p =
         let len : content_len p.plan ≡ length c.1.body.items + 0 = Advances-length (gives last) p.content in
@@ -593,7 +583,7 @@ module _ {H : Type 0} (plans : Plans H) (gives : H → Gives) (config : Config) 
         let late : c.1.status ≢ 101 = λ is. p.goes.late (sym p.has_head.status ∙ is) in
         cond-false _ _ _ (ne_eqb c.1.status 101 late)
         ∙ (λ i. response_refusal server (p.has_head.status i) (reason_of (p.has_head.status i)) (size_same c p i)
-        (fields_same c p i))
+        (p.has_head.headers i))
 
     -- ---- how it ended
 
@@ -731,15 +721,8 @@ memory_fields (Some seconds) present kept media_type = refl
 -- the fields are those of a 200, whose media type has no white space at its ends
 trimmed_ok : (now : Option ℕ) (tag : List ℕ) (len : ℕ) (media_type : List ℕ) → len < 2 ^ 64
     → trimmed_lines (ok_fields now tag len media_type) ≡ ok_fields now tag len (trim media_type)
-trimmed_ok None tag len media_type short = λ i.
-    (codes "x-content-type-options", codes "nosniff") ∷ (codes "etag", tag)
-    ∷ (codes "accept-ranges", codes "bytes") ∷ (codes "content-length", decimal_trimmed len short i)
-    ∷ (codes "content-type", trim media_type) ∷ []
-trimmed_ok (Some seconds) tag len media_type short = λ i.
-    (codes "date", fixdate_trimmed seconds i)
-    ∷ (codes "x-content-type-options", codes "nosniff") ∷ (codes "etag", tag)
-    ∷ (codes "accept-ranges", codes "bytes") ∷ (codes "content-length", decimal_trimmed len short i)
-    ∷ (codes "content-type", trim media_type) ∷ []
+trimmed_ok None tag len media_type short = simp (decimal_trimmed len short)
+trimmed_ok (Some seconds) tag len media_type short = simp (decimal_trimmed len short, fixdate_trimmed seconds)
 
 -- ---- the answer
 
@@ -764,11 +747,8 @@ module _ (config : Config) (settings : Settings) (first : FileService Memory) (r
     abbrev time : Option ℕ
     time = date_of x.0.0
 
-    abbrev Root : Type 0
-    Root = (the_file : File) × HasOne store (codes "index.html") (Readable the_file)
+    root : (the_file : File) × HasOne store (codes "index.html") (Readable the_file)
         × IsWhole time first.left first.site the_file plan after.source × SendsContent the_file plan after.source
-
-    root : Root
     root = get_root time first.left settings first.site store request plan after.source of bare index asks x.0.1
 
     abbrev the_file : File

@@ -22,10 +22,7 @@ missing_as_get : (s : State) (rules : List MethodRule)
     ≡ is_missing s rules (rule_for rules (codes "GET")) (codes "GET")
 unfolding rule_for
 missing_as_get state.Absent rules = refl
-missing_as_get state.Server rules = refl
-missing_as_get state.Current rules = refl
-missing_as_get state.Gone rules = refl
-missing_as_get (state.Moved redirect location) rules = refl
+missing_as_get s rules = refl
 
 module _ (resource : Resource) (protocol : Protocol) (authority : Option Line) (fields : LineMap) where
   abbrev applies_to : List ℕ → Reason → Bool
@@ -67,20 +64,16 @@ module _ {A B : Type 0} (f : A → ℕ) (g : B → ℕ) where
       sym (score_at xs ys e k x y here) ∙ h k x here
   picks_across xs ys e len (Some place) h =
       let x : A = element xs place h.within in
+      let at = score_at xs ys e in
       record {
         within = omega (arith, h.within, len);
-        positive = λ y. omega (arith, score_at xs ys e place x y h.within, h.positive x);
+        positive = λ y. omega (arith, at place x y h.within, h.positive x);
         greatest = λ k y low.
             let here : k < length xs = omega (arith, low, len) in
-            omega (
-              arith,
-              score_at xs ys e k x y here,
-              score_at xs ys e place x y h.within,
-              h.greatest k x here,
-            );
+            omega (arith, at k x y here, at place x y h.within, h.greatest k x here);
         first = λ k y low.
             let here : k < length xs = omega (arith, low, h.within) in
-            omega (arith, score_at xs ys e k x y here, score_at xs ys e place x y h.within, h.first k x low);
+            omega (arith, at k x y here, at place x y h.within, h.first k x low);
       }
 
 -- a choice is at the same place in lists of one length
@@ -115,19 +108,15 @@ abbrev pub current_by : ℕ → Label → Target
 current_by present label = Current (validators_by present label)
 
 module _ (n : Negotiation) (fields : LineMap) (present : ℕ) where
+  abbrev by_label : Label → ℕ
+  by_label =
+      label_score n (fields (codes "accept")) (fields (codes "accept-language")) (fields (codes "accept-encoding"))
+
   scores_are : (fs : List File)
-      → map (score n fields) (map (representation_of present) fs)
-      ≡ map
-      (label_score n (fields (codes "accept")) (fields (codes "accept-language")) (fields (codes "accept-encoding")))
-      (map label_of fs)
+      → map (score n fields) (map (representation_of present) fs) ≡ map by_label (map label_of fs)
   unfolding score
   scores_are [] = refl
-  scores_are (x ∷ fs) =
-      ap
-      (λ (l : List ℕ).
-      label_score n (fields (codes "accept")) (fields (codes "accept-language")) (fields (codes "accept-encoding"))
-      (label_of x) ∷ l)
-      (scores_are fs)
+  scores_are (x ∷ fs) = λ i. by_label (label_of x) ∷ scores_are fs i
 
 -- ---- two requests
 
@@ -138,10 +127,6 @@ pub record AskAlike (f g : LineMap) : Type 0 where
   pub accept : f (codes "accept") ≡ g (codes "accept")
   pub accept_language : f (codes "accept-language") ≡ g (codes "accept-language")
   pub accept_encoding : f (codes "accept-encoding") ≡ g (codes "accept-encoding")
-
-no_options : (b : Bool) → (b && false) ≡ false
-no_options true = refl
-no_options false = refl
 
 module _ (site : Resource) (st : State) (v w : Vec Representation) (now later : ℕ) (fs gs : List File)
     (mine : v.items ≡ map (representation_of now) fs) (theirs : w.items ≡ map (representation_of later) gs)
@@ -180,37 +165,27 @@ module _ (site : Resource) (st : State) (v w : Vec Representation) (now later : 
   -- what doesn't keep the first from being performed doesn't keep the second from it
   still : (reason : Reason) → applies first (reading protocol authority get f) reason ≡ false
       → applies second (reading protocol authority get g) reason ≡ false
-  still InvalidHost e = sym (ap (λ (ls : List Line). not (has_host protocol ls)) same.host) ∙ e
-  still Misdirected e =
-      sym
-      (ap
-      (λ (ls : List Line). option_map_or
-      (λ (hosts : Vec FieldValue). not (is_own hosts.items (host_named authority ls))) site.hosts false)
-      same.host)
-      ∙ e
-  still UnmetExpectation e = sym (ap (λ (ls : List Line). not (has_known_expectation ls)) same.expect) ∙ e
+  still InvalidHost e = rw (← same.host) e
+  still Misdirected e = rw (← same.host) e
+  still UnmetExpectation e = rw (← same.expect) e
   still NotAcceptable e = sym unacceptable_same ∙ e
   still PartialContent e = refl
   still UnsupportedMediaType e = refl
   still UnsupportedCoding e = refl
   still PreconditionRequired e = refl
-  still Preflight e = no_options (is_some site.cors)
+  still Preflight e = and-false (is_some site.cors)
   still Denied e = refl
   still reason e = e
 
   pub first_again : (method again : List ℕ) → IsGetOrHead method → IsGetOrHead again
       → IsFirst (applies first (reading protocol authority method f)) Admitted
       → IsFirst (applies second (reading protocol authority again g)) Admitted
-  first_again method again read read_again h =
-      let mine_get =
-      first_alike (applies first (reading protocol authority method f))
-      (applies first (reading protocol authority get f)) (read_as_get first protocol authority f method read)
-      Admitted h in
-      let theirs_get : IsFirst (applies second (reading protocol authority get g)) Admitted =
-      record { is = refl; none_before = λ other before. still other (mine_get.none_before other before) } in
-      first_alike (applies second (reading protocol authority get g))
-      (applies second (reading protocol authority again g))
-      (λ reason. sym (read_as_get second protocol authority g again read_again reason)) Admitted theirs_get
+  first_again method again read read_again h = record {
+    is = refl;
+    none_before = λ other before.
+        read_as_get second protocol authority g again read_again other
+        ∙ still other (sym (read_as_get first protocol authority f method read other) ∙ h.none_before other before);
+  }
 
   pub selected_again : (place : Option ℕ) → IsSelected first f place → IsSelected second g place
   selected_again place h = record {
@@ -247,32 +222,26 @@ target_of_label s files place file e present =
 pub file_of_tag : (s : State) (files : List File) (place : Option ℕ) (present : ℕ) (tag : Line)
     → tag_lines (target_at s (map (representation_of present) files) place) ≡ tag ∷ []
     → (file : File) × (file_at files place ≡ Some file)
-file_of_tag s files place present tag e =
-    by (file_at files place) refl (rw (at_file present files place) at e)
+file_of_tag s files place present tag e = by (file_at files place) (rw (at_file present files place) at e)
   where
-    by : (found : Option File) → file_at files place ≡ found
-        → tag_lines (target_of s (option_map (representation_of present) (file_at files place))) ≡ tag ∷ []
-        → (file : File) × (file_at files place ≡ Some file)
-    by (Some file) is e = (file, is)
-    by None is e =
-        let clash : [] ≡ tag ∷ [] = sym (bare_untagged s) ∙ (rw is at e) in absurd (cc clash)
+    by : (found : Option File) → tag_lines (target_of s (option_map (representation_of present) found)) ≡ tag ∷ []
+        → (file : File) × (found ≡ Some file)
+    by (Some file) e = (file, refl)
+    by None e = let clash : [] ≡ tag ∷ [] = sym (bare_untagged s) ∙ e in absurd (cc clash)
 
 -- files with the same labels have the same label at a place
 pub labelled_alike : (fs gs : List File) (place : Option ℕ) (file : File) → map label_of fs ≡ map label_of gs
     → file_at fs place ≡ Some file → (other : File) × (file_at gs place ≡ Some other) × (label_of other ≡ label_of file)
 labelled_alike fs gs None file labels e = absurd (cc e)
 labelled_alike fs gs (Some place) file labels e =
-    by (slice_get gs place) refl
+    by (slice_get gs place)
     (sym (slice_get-map label_of gs place) ∙ ap (λ (ls : List Label). slice_get ls place) (sym labels)
     ∙ slice_get-map label_of fs place ∙ ap (option_map label_of) e)
   where
-    by : (found : Option File) → slice_get gs place ≡ found
-        → option_map label_of (slice_get gs place) ≡ Some (label_of file)
-        → (other : File) × (slice_get gs place ≡ Some other) × (label_of other ≡ label_of file)
-    by None is h = let clash : None ≡ Some (label_of file) = rw is at h in absurd (cc clash)
-    by (Some other) is h =
-        let same : Some (label_of other) ≡ Some (label_of file) = rw is at h in
-        let label : label_of other ≡ label_of file = cc same in (other, is, label)
+    by : (found : Option File) → option_map label_of found ≡ Some (label_of file)
+        → (other : File) × (found ≡ Some other) × (label_of other ≡ label_of file)
+    by None h = absurd (cc h)
+    by (Some other) h = (other, refl, cc h)
 
 -- ---- the conditions on the state
 
@@ -423,10 +392,9 @@ octet_valid b e = grind (arith, nat_tests)
 
 octets_valid : (bytes : List ℕ) → list_all is_tag_byte bytes ≡ true
     → list_all (is_octet false) (map Plain bytes) ≡ true
-octets_valid [] all = refl
-octets_valid (b ∷ bytes) all =
-    let both = and_parts (is_tag_byte b) (list_all is_tag_byte bytes) all in
-    and_from _ _ (octet_valid b both.0) (octets_valid bytes both.1)
+octets_valid bytes all =
+    list_all-map (is_octet false) Plain bytes
+    ∙ all_imp is_tag_byte (λ (b : ℕ). is_octet false (Plain b)) octet_valid bytes all
 
 abbrev element_of : Bool → List ℕ → Element
 element_of true opaque = Byte 87 ∷ Byte 47 ∷ Quoted (map Plain opaque) ∷ []

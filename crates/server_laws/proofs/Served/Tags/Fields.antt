@@ -4,7 +4,7 @@ unfoldable pub use Wire.*
 
 -- ---- lists with something in their midst
 
-all_imp : {X : Type 0} (p q : X → Bool) → ((x : X) → p x ≡ true → q x ≡ true) → (xs : List X) → list_all p xs ≡ true
+pub all_imp : {X : Type 0} (p q : X → Bool) → ((x : X) → p x ≡ true → q x ≡ true) → (xs : List X) → list_all p xs ≡ true
     → list_all q xs ≡ true
 all_imp p q h [] e = refl
 all_imp p q h (x ∷ xs) e =
@@ -81,8 +81,7 @@ not_side name other side kept =
     elim (cases_Bool (bytes_eq other name)) [
       | inl same ↦
           let no = not-true _ (and_parts (not (is_framing_field (other, []))) _ side).1 in
-          let yes : is_kept other ≡ true = ap is_kept ((bytes_eq-Decides other name).0 same) ∙ kept in
-          absurd (cc (no, yes))
+          absurd (cc (no, kept, ap is_kept ((bytes_eq-Decides other name).0 same)))
       | inr free ↦ free
     ]
 
@@ -138,22 +137,13 @@ module _ (n : ℕ) where
   tells_line : (h : Header) → is_plain_line h ≡ true → Tells false (h ∷ [])
   tells_line h plain valid =
       let both = and_parts (not (is_framing_field (h.0, []))) _ plain in
-      let line = (and_parts (is_line (trimmed_line h)) true valid).0 in
-      let other : is_framing_field (h.0, []) ≡ false = not-true (is_framing_field (h.0, [])) both.0 in
-      elim (cases_Bool (is_kept h.0)) [
-        | inl kept ↦
-            let same : trimmed_line h ≡ h = cond-true (is_kept h.0) h (h.0, trim h.1) kept in
-            let bare : (is_bare h.1 && true) ≡ true =
-            sym (ap (λ (b : Bool). not b || (is_bare h.1 && true)) kept) ∙ both.1 in
-            rw same
-            (states_other n h
-            (header_by h (sym (ap is_line same) ∙ line) (and_parts (is_bare h.1) true bare).0) other)
-        | inr free ↦
-            let same : trimmed_line h ≡ (h.0, trim h.1) = cond-false (is_kept h.0) h (h.0, trim h.1) free in
-            rw same
-            (states_other n (h.0, trim h.1)
-            (header_by (h.0, trim h.1) (sym (ap is_line same) ∙ line) (trim_bare h.1)) other)
-      ]
+      by (is_kept h.0) (not-true (is_framing_field (h.0, [])) both.0) both.1
+      (and_parts (is_line (trimmed_line h)) true valid).0
+    where
+      by : (kept : Bool) → is_framing_field (h.0, []) ≡ false → (not kept || (is_bare h.1 && true)) ≡ true
+          → is_line (cond kept h (h.0, trim h.1)) ≡ true → StatesLength n false (cond kept h (h.0, trim h.1) ∷ [])
+      by true other bare line = states_other n h (header_by h line (and_parts (is_bare h.1) true bare).0) other
+      by false other bare line = states_other n (h.0, trim h.1) (header_by (h.0, trim h.1) line (trim_bare h.1)) other
 
   tells_plain : (hs : List Header) → list_all is_plain_line hs ≡ true → Tells false hs
   tells_plain [] plain valid = states_none n
@@ -187,9 +177,8 @@ not_given (field ∷ fields) t =
     let both = and_parts (is_plain field) (list_all is_plain fields) t in
     elim (cases_Bool (bytes_eq field.0 length_name)) [
       | inl same ↦
-          let is : field.0 ≡ length_name = (bytes_eq-Decides field.0 length_name).0 same in
-          let framing : is_plain field ≡ false = ap (λ (name : List ℕ). is_plain (name, field.1)) is in
-          absurd (cc (both.0, framing))
+          let is = (bytes_eq-Decides field.0 length_name).0 same in
+          absurd (cc (both.0, ap (λ (name : List ℕ). is_plain (name, field.1)) is))
       | inr other ↦ let later = not_given fields both.1 in λ i. other i || later i
     ]
 
@@ -735,12 +724,11 @@ module _ (present : ℕ) (resource : Resource) (own_rule : MethodRule) (alone : 
             absurd (cc (allowed, refused))
         | inr other ↦ other
       ]
-  free_of request Options first is =
-      let named = (bytes_eq-Decides request.method (codes "OPTIONS")).0 first.is in rw named
+  free_of request Options first is = rw ((bytes_eq-Decides request.method (codes "OPTIONS")).0 first.is)
   free_of request Preflight first is =
       let leave = and_parts (is_some resource.cors) _ first.is in
       let options = and_parts (bytes_eq request.method (codes "OPTIONS")) _ leave.1 in
-      let named = (bytes_eq-Decides request.method (codes "OPTIONS")).0 options.0 in rw named
+      rw ((bytes_eq-Decides request.method (codes "OPTIONS")).0 options.0)
   free_of request reason first is = absurd (cc is)
 
   stopped_several : (reason : Reason) → sends_several (sent_for reason) ≡ false
