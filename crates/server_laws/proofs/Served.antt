@@ -246,10 +246,6 @@ module _ (present : ℕ) (site : Resource) (v : Vec Representation) (file : File
           fields = h.fields ∙ rw (alone, append-nil, vary, append-nil) by.1.fields;
         }
 
-shown_whole : (present : ℕ) (file : File) (fields : LineMap) (boundary : FieldValue)
-    → headers_of (own_fields present file fields boundary) ≡ whole_fields present file
-shown_whole present file fields boundary = refl
-
 -- ---- the file
 
 -- what was found is that file
@@ -284,16 +280,15 @@ host_valid Http11 = refl
 
 asks_for_all : (negotiates : Bool) (m : Entries FieldValue) → m ≡ host_map → AsksForAll negotiates (lines_at m)
 asks_for_all negotiates m is =
-    let at : (name : List ℕ) → lines_at host_map name ≡ [] → lines_at m name ≡ [] =
-    λ name none. ap (λ (x : Entries FieldValue). lines_at x name) is ∙ none in
-    record {
-      if_match = at (codes "if-match") refl;
-      if_none_match = at (codes "if-none-match") refl;
-      if_modified_since = at (codes "if-modified-since") refl;
-      if_unmodified_since = at (codes "if-unmodified-since") refl;
-      range = at (codes "range") refl;
-      accept_encoding = λ on. at (codes "accept-encoding") refl;
-    }
+    rw is
+    (record {
+      if_match = refl;
+      if_none_match = refl;
+      if_modified_since = refl;
+      if_unmodified_since = refl;
+      range = refl;
+      accept_encoding = λ on. refl;
+    })
 
 -- ---- the response
 
@@ -392,7 +387,6 @@ module _ (now : Option ℕ) (left : ℕ) (settings : Settings) (site : Site) (st
         ≡ whole_fields (clock now (file ∷ [])) file
     shown =
         (λ i. headers_sent (is_some (cors i)) (full.fields i))
-        ∙ shown_whole present file x.asked.fields resource.boundary
         ∙ ap (λ (l : List File). whole_fields (clock now l) file) given.2.files
 
     whole : IsWhole now left site file response source
@@ -471,10 +465,6 @@ any_at P h (suc k) x low is p = absurd (omega (arith, low))
 any_one : {X : Type 0} (P : X → Type 0) (h : X) → Any P (h ∷ []) → P h
 any_one P h why = any_at P h why.0 why.1 why.2 why.3 why.4
 
-take_none : (n : ℕ) → take {A = Header} n [] ≡ []
-take_none zero = refl
-take_none (suc n) = refl
-
 no_room : (name : List ℕ) (m : Entries FieldValue) → length m ≤ 1 → value_count m ≤ 1 → ¬ (RefusesAppend m name)
 no_room name m few small why =
     elim why [
@@ -485,8 +475,7 @@ no_room name m few small why =
 no_room_at : (count : ℕ) (name : List ℕ) → ¬ (RefusesAppend (map_of (take count headers)) name)
 no_room_at zero name = no_room name [] (omega arith) (omega arith)
 no_room_at (suc n) name =
-    subst (λ (l : List Header). ¬ (RefusesAppend (map_of ((codes "Host", codes "a.example") ∷ l)) name))
-    (sym (take_none n)) (no_room name (map_of headers) (omega arith) (omega arith))
+    rw (take_all {A = Header} n [] (omega arith)) (no_room name (map_of headers) (omega arith) (omega arith))
 
 no_part_error : (e : Error) → ¬ (IsPartError e (codes "GET") headers)
 unfolding is_name_byte
@@ -588,9 +577,6 @@ module _ {H : Type 0} (plans : Plans H) (gives : H → Gives) (config : Config) 
     -- ---- how it ended
 
     module _ (h : History) (chain : Chain (PlanAnswers plans gives) first h.calls last) where
-      chained : (calls : List Call) → h.calls ≡ calls → Chain (PlanAnswers plans gives) first calls last
-      chained calls is = subst (λ (l : List Call). Chain (PlanAnswers plans gives) first l last) is chain
-
       place : (answered : List Call) (rest : List ℕ) → Progress answered rest → (rest ≡ stream) ⊎ (rest ≡ [])
       place answered rest at = elim at [ inl is ↦ inl is.1 | inr is ↦ inr is.2 ]
 
@@ -626,7 +612,7 @@ module _ {H : Type 0} (plans : Plans H) (gives : H → Gives) (config : Config) 
                 rw is.1 at x.1.request in
                 let asks = (get_asked config m c.0 x.0 read).0 in
                 let calls : h.calls ≡ c ∷ [] = x.1.calls ∙ ap (λ (l : List Call). l ++ c ∷ []) is.0 in
-                let p = called c asks (chained (c ∷ []) calls) in
+                let p = called c asks (rw calls at chain) in
                 let head = (one_get config.limits m x.0 read.reads).head in
                 let framing = x.1.request.reads.framing in
                 let server = answering config.limits (root_head (codes "GET")) framing in
@@ -656,18 +642,18 @@ module _ {H : Type 0} (plans : Plans H) (gives : H → Gives) (config : Config) 
           (not_on_empty next.5.stays d next.1 next.2
           (rw (ends x.5.stays c x.1 x.2 x.5.exchange) at next.5.exchange))
 
-      sent_all : (literal sent later : List ℕ) → later ≡ [] → sent ≡ literal ++ later
-          → Result literal → Result sent
-      sent_all literal sent later none out x =
-          rw (out, none, append-nil) x
+      sent_by : (state : Stage) (sent : List ℕ) (l : IsLiteral plans gives config first last state stream h.calls sent)
+          → l.later ≡ [] → 0 < length h.calls → Result sent
+      sent_by state sent literal none some =
+          rw (literal.out, none, append-nil)
+          (one_sent h.calls literal.text literal.rest some literal.sends)
 
       by_state : (state : Stage) (answered : List Call) (text interim rest sent : List ℕ) → IsClosing state
           → Progress answered rest → IsLiteral plans gives config first last state stream h.calls sent
           → Stands state config h answered text interim rest → Result sent
       by_state (Closing ended.Asked) answered text interim rest sent closing at literal x =
           let some : length h.calls ≡ length answered + 1 = ap length x.4 ∙ length-append answered (x.0 ∷ []) in
-          sent_all literal.text sent literal.later literal.is_later literal.out
-          (one_sent h.calls literal.text literal.rest (omega (arith, some)) literal.sends)
+          sent_by (Closing ended.Asked) sent literal literal.is_later (omega (arith, some))
       by_state (Closing ended.EndOfInput) answered text interim rest sent closing at literal x =
           elim at [
             | inl is ↦
@@ -676,8 +662,7 @@ module _ {H : Type 0} (plans : Plans H) (gives : H → Gives) (config : Config) 
                 absurd (omega (arith, len))
             | inr one ↦
                 let some : length h.calls ≡ 1 = ap length (x.0 ∙ one.1) in
-                sent_all literal.text sent literal.later literal.is_later literal.out
-                (one_sent h.calls literal.text literal.rest (omega (arith, some)) literal.sends)
+                sent_by (Closing ended.EndOfInput) sent literal literal.is_later (omega (arith, some))
           ]
       by_state (Closing (ended.Refused why)) answered text interim rest sent closing at literal x =
           absurd (refuses why answered rest at x.0)

@@ -323,19 +323,14 @@ module _ (look other : List ℕ → Entry) where
       let gzip =
       offered_similar a.media_type b.media_type Gzip h.gzip k.gzip media
       (stands_similar (path ++ coding_suffix Gzip) h.gzip k.gzip (beside Gzip refl) h.has_gzip k.has_gzip) in
-      ap (map label_of) h.are
-      ∙ map-append label_of (represented a.media_type Identity a ∷ offered a.media_type Brotli h.brotli)
-      (offered a.media_type Gzip h.gzip)
-      ∙ (λ i. (record {
+      rw (h.are, k.are)
+      (simp map-append
+      (λ i. record {
         tag = (same i).tag;
         media_type = (same i).media_type;
         modified = (same i).modified;
         coding = Identity;
-      } ∷ brotli i) ++ gzip i)
-      ∙ sym
-      (map-append label_of (represented b.media_type Identity b ∷ offered b.media_type Brotli k.brotli)
-      (offered b.media_type Gzip k.gzip))
-      ∙ sym (ap (map label_of) k.are)
+      } ∷ (brotli i ++ gzip i)))
 
   module _ (negotiates : Bool) (uri : Uri) (similar : HaveSimilar negotiates (uri_path uri) look other) where
     files_similar : (named : List ℕ) → Names (uri_path uri) (Some named) → (a b : File) → label_of a ≡ label_of b
@@ -858,8 +853,7 @@ kept_tag now left site look request response kept tag read x told =
     ∙ seen in
     let same : digest_tag kept ≡ tag = cc own in (
       sym same,
-      subst (λ (t : Line). IsTag t (record { is_weak = false; opaque = content_digest kept.content })) same
-          (digest_tag_is_strong kept.content),
+      rw (← same) (digest_tag_is_strong kept.content),
     )
 
 -- ---- a request and the one before it
@@ -1374,11 +1368,7 @@ module _ (now : Option ℕ) (left : ℕ) (site : Site) (look : List ℕ → Entr
       } in
       let decides : Decides asked_at (string_bytes site.divider) x.found.files.items resource asked x.answer =
       rw (x.described.is, same) at x.decides in
-      let asked_so : IsPreflightFor sent asked.method asked.fields = record {
-        options = asks.2.method ∙ preflight.options;
-        origin = ap (λ (m : LineMap). m (codes "origin")) asks.2.fields ∙ preflight.origin;
-        asked = ap (λ (m : LineMap). m (codes "access-control-request-method")) asks.2.fields ∙ preflight.asked;
-      } in
+      let asked_so : IsPreflightFor sent asked.method asked.fields = rw (asks.2.method, asks.2.fields) preflight in
       let a : IsAnswer asked_at resource asked x.answer =
       decided resource asked policy has sent asked_so host own asked_at (string_bytes site.divider) x.found.files.items
       x.answer decides in

@@ -177,8 +177,7 @@ not_given (field ∷ fields) t =
     let both = and_parts (is_plain field) (list_all is_plain fields) t in
     elim (cases_Bool (bytes_eq field.0 length_name)) [
       | inl same ↦
-          let is = (bytes_eq-Decides field.0 length_name).0 same in
-          absurd (cc (both.0, ap (λ (name : List ℕ). is_plain (name, field.1)) is))
+          let is = (bytes_eq-Decides field.0 length_name).0 same in absurd (cc (both.0, is))
       | inr other ↦ let later = not_given fields both.1 in λ i. other i || later i
     ]
 
@@ -282,13 +281,14 @@ module _ (name : List ℕ) where
   pub HasField-sent : (has_policy : Bool) (lines : List Line) (fields : List Field) → HasField lines fields
       → lines_in (headers_sent has_policy fields) name ≡ lines
   HasField-sent has_policy lines fields h =
-      ap (λ (fs : List Field). lines_in (headers_sent has_policy fs) name) h.are
-      ∙ sent-skip has_policy h.before ((name, lines) ∷ h.after) h.first
-      ∙ ap (λ (hs : List Header). lines_in hs name) (sent-one has_policy (name, lines) h.after h.last)
-      ∙ lines_in-append (lines_under (name, lines)) (headers_sent has_policy h.after)
-      ∙ (λ i. lines_of_same name lines ((bytes_eq-Decides name name).1 refl) i
-      ++ sent-other has_policy h.after h.last i)
-      ∙ append-nil lines
+      rw (
+        h.are,
+        sent-skip has_policy h.before ((name, lines) ∷ h.after) h.first,
+        sent-one has_policy (name, lines) h.after h.last,
+        lines_in-append,
+        lines_of_same name lines ((bytes_eq-Decides name name).1 refl),
+        sent-other has_policy h.after h.last,
+      ) (append-nil lines)
 
   -- ---- white space at the ends of values
 

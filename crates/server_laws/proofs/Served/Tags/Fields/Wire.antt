@@ -417,11 +417,9 @@ pub head_written : (limits : Limits) (h : RequestHead) (framing : Framing) (plan
     (plan_fields plan) ≡ None
     → head_text (answering limits h framing) plan ≡ ok_text now tag (content_len plan) media_type
 head_written limits h framing plan now tag media_type status short fields minor keeps other none =
-    let server = answering limits h framing in
-    let n = content_len plan in
-    (λ i. planned_response server (status i) (reason_of (status i)) (size_for n) (fields i))
-    ∙ ok_written tag n media_type short limits h framing minor keeps other now
-    ((λ i. response_refusal server (sym status i) (reason_of (sym status i)) (size_for n) (sym fields i)) ∙ none)
+    rw (status, fields)
+    (ok_written tag (content_len plan) media_type short limits h framing minor keeps other now
+    (rw (status, fields) at none))
 
 module _ (limits : Limits) (h : RequestHead) (framing : Framing) (plan : Response) (now : Option ℕ)
     (tag media_type : List ℕ) (ok : IsOk now tag media_type plan) (stays : StaysOpen h) (server : Server)
@@ -437,9 +435,7 @@ module _ (limits : Limits) (h : RequestHead) (framing : Framing) (plan : Respons
   other = ap is_connect stays.method
 
   ok_accepted : response_refusal s 200 (reason_of 200) (size_for n) (ok_fields now tag n media_type) ≡ None
-  ok_accepted =
-      (λ i. response_refusal s (sym ok.status i) (reason_of (sym ok.status i)) (size_for n) (sym ok.fields i))
-      ∙ frames.valid
+  ok_accepted = rw (ok.status, ok.fields) at frames.valid
 
   -- the content is written as it is
   sized_body : writing (after_head s plan) ≡ Writes.Body (Encodes.Length n)
