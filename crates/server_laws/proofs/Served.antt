@@ -577,55 +577,36 @@ module _ {H : Type 0} (plans : Plans H) (gives : H → Gives) (config : Config) 
     -- ---- how it ended
 
     module _ (h : History) (chain : Chain (PlanAnswers plans gives) first h.calls last) where
-      place : (answered : List Call) (rest : List ℕ) → Progress answered rest → (rest ≡ stream) ⊎ (rest ≡ [])
-      place answered rest at = elim at [ inl is ↦ inl is.1 | inr is ↦ inr is.2 ]
-
       -- the connection refused nothing
-      refuses : (why : Refusing) (answered : List Call) (rest : List ℕ) → Progress answered rest
-          → Justifies why config h answered rest → ⊥
-      refuses refusal.Truncated answered rest at x =
-          elim at [
-            | inl is ↦
-                x.3 message []
-                (rw is.1 (get_reads config.limits room))
-            | inr is ↦ x.2 is.2
-          ]
-      refuses (refusal.Unreadable e) answered rest at x =
-          few_fields (next_is config.limits rest HasTooManyFields room (place answered rest at) x.1)
-      refuses refusal.BodyTooLarge answered rest at x =
-          let large =
-          next_is config.limits rest (λ m. config.max_body_len < length m.body.bytes) room (place answered rest at)
-          x.1 in
-          omega (arith, large)
-      refuses (refusal.InvalidPart e) answered rest at x =
-          parts_are_valid e (next_is config.limits rest (HasInvalidPart e) room (place answered rest at) x.1)
-      refuses refusal.InvalidHost answered rest at x =
-          host_is_valid (next_is config.limits rest HasInvalidHost room (place answered rest at) x.1)
-      refuses refusal.UnknownCoding answered rest at x =
-          coding_is_known (next_is config.limits rest HasUnknownCoding room (place answered rest at) x.1)
-      refuses (refusal.InvalidResponse e) answered rest at x =
-          elim at [
-            | inl is ↦
-                let c = x.1.call in
-                let m = x.1.message in
-                let read : ReadsCall config stream m c.0 x.0 =
-                rw is.1 at x.1.request in
-                let asks = (get_asked config m c.0 x.0 read).0 in
-                let calls : h.calls ≡ c ∷ [] = x.1.calls ∙ ap (λ (l : List Call). l ++ c ∷ []) is.0 in
-                let p = called c asks (rw calls at chain) in
-                let head = (one_get config.limits m x.0 read.reads).head in
-                let framing = x.1.request.reads.framing in
-                let server = answering config.limits (root_head (codes "GET")) framing in
-                let none = p.goes.accepted framing in
-                let refusal : response_refusal server p.plan.status (reason_of p.plan.status) (plan_size p.plan)
-                (plan_fields p.plan) ≡ Some e =
-                sym (refusal_same c p framing)
-                ∙ ap (λ (r : RequestHead). refusal_of (answering config.limits r framing) c.1) (sym head)
-                ∙ x.2 in
-                cc (none, refusal)
-            | inr is ↦
-                empty_reads config.limits x.1.message x.0 (rw is.2 at x.1.request.reads)
-          ]
+      module _ (answered : List Call) (rest : List ℕ) (at : Progress answered rest) where
+        next : (P : Message.Request → Type 0) → NextIs config.limits rest P → P message
+        next P n = next_is config.limits rest P room (elim at [ inl is ↦ inl is.1 | inr is ↦ inr is.2 ]) n
+
+        refuses : (why : Refusing) → Justifies why config h answered rest → ⊥
+        refuses refusal.Truncated x =
+            elim at [ inl is ↦ x.3 message [] (rw is.1 (get_reads config.limits room)) | inr is ↦ x.2 is.2 ]
+        refuses (refusal.Unreadable e) x = few_fields (next HasTooManyFields x.1)
+        refuses refusal.BodyTooLarge x =
+            let large = next (λ m. config.max_body_len < length m.body.bytes) x.1 in omega (arith, large)
+        refuses (refusal.InvalidPart e) x = parts_are_valid e (next (HasInvalidPart e) x.1)
+        refuses refusal.InvalidHost x = host_is_valid (next HasInvalidHost x.1)
+        refuses refusal.UnknownCoding x = coding_is_known (next HasUnknownCoding x.1)
+        refuses (refusal.InvalidResponse e) x =
+            elim at [
+              | inl is ↦
+                  let c = x.1.call in
+                  let m = x.1.message in
+                  let read : ReadsCall config stream m c.0 x.0 = rw is.1 at x.1.request in
+                  let asks = (get_asked config m c.0 x.0 read).0 in
+                  let calls : h.calls ≡ c ∷ [] = x.1.calls ∙ ap (λ (l : List Call). l ++ c ∷ []) is.0 in
+                  let p = called c asks (rw calls at chain) in
+                  let head = (one_get config.limits m x.0 read.reads).head in
+                  let framing = x.1.request.reads.framing in
+                  let same = refusal_same c p framing in
+                  let refusal = rw head at x.2 in
+                  cc (p.goes.accepted framing, same, refusal)
+              | inr is ↦ empty_reads config.limits x.1.message x.0 (rw is.2 at x.1.request.reads)
+            ]
 
       -- what was sent is the response of one call
       abbrev Result : List ℕ → Type 0
@@ -665,7 +646,7 @@ module _ {H : Type 0} (plans : Plans H) (gives : H → Gives) (config : Config) 
                 sent_by (Closing ended.EndOfInput) sent literal literal.is_later (omega (arith, some))
           ]
       by_state (Closing (ended.Refused why)) answered text interim rest sent closing at literal x =
-          absurd (refuses why answered rest at x.0)
+          absurd (refuses answered rest at why x.0)
       by_state state answered text interim rest sent closing at literal x = absurd closing
 
   -- a whole connection that got this request sent its response

@@ -810,9 +810,6 @@ module _ (now : Option ℕ) (left : ℕ) (site : Site) (look : List ℕ → Entr
 
 -- ---- bytes in memory
 
-abbrev digest_tag : Kept → Line
-digest_tag kept = strong_tag (content_digest kept.content)
-
 pub digest_tag_is_strong : (content : List ℕ)
     → IsTag (strong_tag (content_digest content)) (record { is_weak = false; opaque = content_digest content })
 digest_tag_is_strong content =
@@ -847,11 +844,11 @@ kept_tag now left site look request response kept tag read x told =
     let opens : Some (InMemory kept) ≡ Some found.0.source =
     x.opens ∙ ap (source_sent files) tagged.sends ∙ ap source_of found.1 in
     let memory : InMemory kept ≡ found.0.source = cc opens in
-    let own : digest_tag kept ∷ [] ≡ tag ∷ [] =
+    let own : strong_tag (content_digest kept.content) ∷ [] ≡ tag ∷ [] =
     ap (λ (s : Source). lines_sent (λ (t : FieldValue). t.bytes) (tag_of s)) memory
     ∙ sym (ap tag_lines (target_of_label st files tagged.place found.0 found.1 (clock now files)))
     ∙ seen in
-    let same : digest_tag kept ≡ tag = cc own in (
+    let same : strong_tag (content_digest kept.content) ≡ tag = cc own in (
       sym same,
       rw (← same) (digest_tag_is_strong kept.content),
     )
@@ -1298,20 +1295,18 @@ module _ (resource : Resource) (asked : Asked) (policy : Policy) (has : resource
   preflight_first Preflight h = refl
   preflight_first reason h = no_other _ reason asks_leave (h.none_before Preflight (omega arith))
 
-  module _ (asked_at : ℕ) (answer : Answer) (a : IsAnswer asked_at resource asked answer) where
-    preflight_is : answer.reason ≡ Preflight
-    preflight_is = preflight_first answer.reason a.first
-
-    stops : Stops resource asked Preflight answer.status answer.sends a.own
-    stops =
-        rw preflight_is at a.gives
+  stops : (asked_at : ℕ) (answer : Answer) (a : IsAnswer asked_at resource asked answer)
+      → Stops resource asked Preflight answer.status answer.sends a.own
+  stops asked_at answer a = rw (preflight_first answer.reason a.first) at a.gives
 
   -- no answer is that to a HEAD
   decided : (asked_at : ℕ) (divider : List ℕ) (files : List File) (answer : Answer)
-      → Decides asked_at divider files resource asked answer → IsAnswer asked_at resource asked answer
+      → Decides asked_at divider files resource asked answer
+      → (a : IsAnswer asked_at resource asked answer) × (answer.reason ≡ Preflight)
+      × Stops resource asked Preflight answer.status answer.sends a.own
   decided asked_at divider files answer x =
       elim x [
-        | inl h ↦ h.1
+        | inl h ↦ (h.1, preflight_first answer.reason h.1.first, stops asked_at answer h.1)
         | inr h ↦
             let one : sends_several h.0.sends ≡ false = ap sends_several (stops asked_at h.0 h.2).sends in
             absurd (h.1 (λ several. absurd (cc (one, several))))
@@ -1366,24 +1361,18 @@ module _ (now : Option ℕ) (left : ℕ) (site : Site) (look : List ℕ → Entr
         state = x.found.state;
         representations = x.described.representations;
       } in
-      let decides : Decides asked_at (string_bytes site.divider) x.found.files.items resource asked x.answer =
-      rw (x.described.is, same) at x.decides in
       let asked_so : IsPreflightFor sent asked.method asked.fields = rw (asks.2.method, asks.2.fields) preflight in
-      let a : IsAnswer asked_at resource asked x.answer =
+      let d =
       decided resource asked policy has sent asked_so host own asked_at (string_bytes site.divider) x.found.files.items
-      x.answer decides in
-      let reason : x.answer.reason ≡ Preflight =
-      preflight_is resource asked policy has sent asked_so host own asked_at x.answer a in
-      let stopped = stops resource asked policy has sent asked_so host own asked_at x.answer a in
+      x.answer (rw (x.described.is, same) at x.decides) in
       let answered =
-      passed reason (law asked_at resource asked x.answer rules policy nothing sent has a lawful made asked_so) in
-      let code : status_for x.found.status x.answer.reason x.answer.status ≡ 204 =
-      rw (reason, answered.0) in
+      passed d.1 (law asked_at resource asked x.answer rules policy nothing sent has d.0 lawful made asked_so) in
+      let code : status_for x.found.status x.answer.reason x.answer.status ≡ 204 = rw (d.1, answered.0) in
       let status : response.status ≡ 204 = x.carries.status ∙ code in
       let mine : LineMap = lines_in (fields_of response) in
       let theirs : LineMap = set_all nothing given in (
         status,
-        x.carries.pieces ∙ rw (code, stopped.sends),
+        x.carries.pieces ∙ rw (code, d.2.sends),
         (
           λ passes. answered.1.0 (rw status at (passes_alike response.status mine theirs sent read_as_set passes)),
           λ allows. passes_alike response.status theirs mine sent set_as_read (rw status (answered.1.1 allows)),

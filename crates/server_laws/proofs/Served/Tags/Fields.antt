@@ -320,33 +320,30 @@ unfolding eq_ignore_case
 dates_side None = refl
 dates_side (Some seconds) = refl
 
-closing_side : (b : Bool) → are_side_lines (cond b [] ((codes "connection", codes "close") ∷ [])) ≡ true
+cache_side : (value : Option FieldValue) → are_side_lines (cache_fields value) ≡ true
 unfolding eq_ignore_case
-closing_side true = refl
-closing_side false = refl
+cache_side None = refl
+cache_side (Some value) = refl
 
-cache_side : (b : Bool) (value : Option FieldValue) → are_side_lines (cond b (cache_fields value) []) ≡ true
-unfolding eq_ignore_case
-cache_side true None = refl
-cache_side true (Some value) = refl
-cache_side false value = refl
-
-page_side : (b : Bool) → are_side_lines (cond b [] (html_field ∷ [])) ≡ true
-unfolding eq_ignore_case
-page_side true = refl
-page_side false = refl
+either_side : (b : Bool) (xs ys : List Header) → are_side_lines xs ≡ true → are_side_lines ys ≡ true
+    → are_side_lines (cond b xs ys) ≡ true
+either_side true xs ys e f = e
+either_side false xs ys e f = f
 
 explained_side : (code : ℕ) (sent : Sends) → are_side_lines (explained_fields code sent) ≡ true
-explained_side code sends.Nothing = page_side _
-explained_side code sends.Alternatives = page_side _
+unfolding eq_ignore_case
+explained_side code sends.Nothing = either_side _ [] (html_field ∷ []) refl refl
+explained_side code sends.Alternatives = either_side _ [] (html_field ∷ []) refl refl
 explained_side code sent = refl
 
 front_side : (now : Option ℕ) (left : ℕ) (sent : Sends) (cache_control : Option FieldValue)
     → are_side_lines (first_fields now left ++ cache_sent sent cache_control) ≡ true
+unfolding eq_ignore_case
 front_side now left sent cache_control =
     all_append _ (first_fields now left) (cache_sent sent cache_control)
     (all_append _ (date_fields now ++ sniff_field ∷ []) (closing_fields left) (dates_side now)
-    (closing_side (nat_lt 1 left))) (cache_side (is_stored sent) cache_control)
+    (either_side (nat_lt 1 left) [] ((codes "connection", codes "close") ∷ []) refl refl))
+    (either_side (is_stored sent) (cache_fields cache_control) [] (cache_side cache_control) refl)
 
 -- under a name whose values stay as they are, a response has the field lines of the answer
 pub lines_in-carried : (name : List ℕ) → is_kept name ≡ true → (now : Option ℕ) (left : ℕ) (site : Site)
@@ -557,6 +554,18 @@ record IsAccepted (method : MethodKind) (code n : ℕ) (own : List Field) : Type
   final : IsFinal method code n stated
   text : is_field_value (reason_of code) ≡ true
 
+-- no length is stated
+unstated : (method : MethodKind) (code n : ℕ) (own : List Field) → IsFinal method code n false
+    → is_field_value (reason_of code) ≡ true → list_all is_plain own ≡ true → IsAccepted method code n own
+unstated method code n own final text plain = record {
+  stated = false;
+  states = None;
+  lines = refl;
+  fields = none_between is_plain own plain;
+  final = final;
+  text = text;
+}
+
 -- a status that a page may explain
 abbrev is_explained : ℕ → Bool
 is_explained code =
@@ -571,20 +580,14 @@ explained method code n own x plain =
     let least : 300 ≤ code = leb-true 300 code low.0 in
     let no : (code == 304) ≡ false = not-true (code == 304) other.0 in
     let not_304 : code ≢ 304 = λ is. (let yes = eq-eqb code 304 is in cc (no, yes)) in
-    record {
-      stated = false;
-      states = None;
-      lines = refl;
-      fields = none_between is_plain own plain;
-      final = record {
-        least = omega (arith, least);
-        greatest = leb-true code 999 high.0;
-        other = λ is. omega (arith, least, is);
-        bodiless = λ is. absurd (elim is [ inl a ↦ omega (arith, least, a) | inr b ↦ not_304 b ]);
-        connect = ap (λ (b : Bool). is_connect method && b) (above code least) ∙ and-false (is_connect method);
-      };
-      text = other.1;
-    }
+    unstated method code n own
+    (record {
+      least = omega (arith, least);
+      greatest = leb-true code 999 high.0;
+      other = λ is. omega (arith, least, is);
+      bodiless = λ is. absurd (elim is [ inl a ↦ omega (arith, least, a) | inr b ↦ not_304 b ]);
+      connect = ap (λ (b : Bool). is_connect method && b) (above code least) ∙ and-false (is_connect method);
+    }) other.1 plain
   where
     above : (code : ℕ) → 300 ≤ code → nat_lt code 300 ≡ false
     above code least = grind (arith, nat_tests)
@@ -764,20 +767,15 @@ module _ (present : ℕ) (resource : Resource) (own_rule : MethodRule) (alone : 
       -- without content and without a length
       empty : (code : ℕ) (own : List Field) → 200 ≤ code → code ≤ 999 → code ≢ 205
           → is_field_value (reason_of code) ≡ true → list_all is_plain own ≡ true → IsAccepted method code 0 own
-      empty code own least greatest other text plain = record {
-        stated = false;
-        states = None;
-        lines = refl;
-        fields = none_between is_plain own plain;
-        final = record {
-          least = least;
-          greatest = greatest;
-          other = other;
-          bodiless = λ is. (refl, refl);
-          connect = successful code;
-        };
-        text = text;
-      }
+      empty code own least greatest other text plain =
+          unstated method code 0 own
+          (record {
+            least = least;
+            greatest = greatest;
+            other = other;
+            bodiless = λ is. (refl, refl);
+            connect = successful code;
+          }) text plain
 
       -- the statuses of plans
       plan_code : (plan : Plan) → (200 ≤ status_of plan) × (status_of plan ≤ 999) × (status_of plan ≢ 205)
