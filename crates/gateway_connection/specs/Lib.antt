@@ -1,0 +1,4 @@
+pub mod Exchanges
+pub mod History
+pub mod Responses
+pub mod Steps

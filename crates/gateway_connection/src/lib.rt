@@ -1,0 +1,11 @@
+//! The connections of a gateway, as values without input and output: bytes are received by any cuts,
+//! and events and bytes to send come out (RFC 9112).
+#![tactic(auto)]
+
+mod event;
+mod head;
+mod origin;
+
+pub use crate::event::{Event, Fault, Response};
+pub use crate::head::MAX_FIELDS;
+pub use crate::origin::Origin;
