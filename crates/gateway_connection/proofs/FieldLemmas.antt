@@ -59,9 +59,8 @@ module _ (n : ℕ) (text : List ℕ) (spans : List HeaderSpan) (within : All (Is
   first_map : (count : ℕ) → map_at (take n text) (take count spans)
       ≡ map_of (take count (map (header_bytes text) spans))
   first_map count =
-      fold_at (take n text) (take count spans) []
-      ∙ ap map_of (header_bytes-take n text (take count spans) (All-take (IsHeaderWithin n) count spans within)
-      ∙ sym (take-map (header_bytes text) count spans))
+      map_at-take n text spans count (All-take (IsHeaderWithin n) count spans within)
+      ∙ ap map_of (sym (take-map (header_bytes text) count spans))
 
   -- why the fields under the spans have no map
   pub map_fails : (e : Error) → MapError (take n text) spans e

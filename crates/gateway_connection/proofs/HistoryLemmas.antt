@@ -10,9 +10,8 @@ use Rattle.httparse.proofs.GrammarLemmas.{ReadsResponse-append}
 use Rattle.http_header.{specs.FieldValue.FieldValue, specs.HeaderMap.Entries}
 use Rattle.http1.specs.{Body.{body_of, ReadsBody}, Decoder.{AwaitsTrailers, Completes, Continues}}
 use Rattle.http1.specs.{Decoder.{decoder_for, with_front}, Fields.Header}
-use Rattle.http1.specs.Client.{after_head, closed_client, is_interim, is_written, new_client}
-use Rattle.http1.specs.Client.{plan_fields, planned_request, reading_body, request_plan, requesting}
-use Rattle.http1.specs.Client.{switches, upgraded_client}
+use Rattle.http1.specs.Client.{after_head, closed_client, is_interim, is_written, new_client, plan_fields}
+use Rattle.http1.specs.Client.{planned_request, reading_body, request_plan, requesting, switches, upgraded_client}
 use Rattle.http1.specs.Conn.{Plan, after_data, awaits_head, data_refusal, data_text, finish_refusal, finish_text}
 use Rattle.http1.specs.Conn.{is_until_close, keeps_alive, plan_refusal, planned_headers}
 use Rattle.http1.specs.{Encoder.{after_piece, end_text, piece_text}, Framing.{has_no_body, method_kind}}
@@ -33,9 +32,8 @@ use Rattle.gateway_connection.specs.History.{Fresh, Asked, Hears, Over, Opened, 
 use Rattle.gateway_connection.specs.History.{Refused, Written, Said}
 use Rattle.gateway_connection.specs.{Responses.{map_of, response_of}, declared.event.Event.Event}
 use Rattle.gateway_connection.specs.{declared.event.Fault.Fault, declared.event.Response.Response}
-use Rattle.gateway_connection.specs.Steps.{Begins, EndsContent, Fails, Finds, IsDue}
-use Rattle.gateway_connection.specs.Steps.{IsOver, PutsText, SaysAt, TakesEnd}
-use Rattle.gateway_connection.specs.Steps.{TakesResponse, Waits, WaitsAt}
+use Rattle.gateway_connection.specs.Steps.{Begins, EndsContent, Fails, Finds, IsDue, IsOver, PutsText, SaysAt}
+use Rattle.gateway_connection.specs.Steps.{TakesEnd, TakesResponse, Waits, WaitsAt}
 use Rattle.gateway_connection.specs.declared.origin.Origin.{Origin}
 use Rattle.gateway_connection.proofs.FindLemmas.{final_high}
 use Rattle.http1.specs.Message as Message
@@ -324,27 +322,13 @@ IsAt limits ended start c (Over e) unread x = (Idles c × IsKept e.request x.fin
 
 -- ---- what can't be
 
-abbrev IsBody : Writing → Type 0
-IsBody (Writes.Body e) = Unit {0}
-IsBody w = ⊥
+-- the start and the end of a connection take no more of a request
+abbrev Takes : (Writing → Option WriteError) → Type 0
+Takes refusal = (refusal Writes.Head ≢ None) × (refusal Writes.Upgraded ≢ None) × (refusal Writes.Closed ≢ None)
 
-writes_data : (w : Writing) (len : ℕ) → data_refusal w len ≡ None → IsBody w
-writes_data Writes.Head len ok = absurd (cc)
-writes_data (Writes.Body e) len ok = tt
-writes_data Writes.Done len ok = absurd (cc)
-writes_data Writes.Upgraded len ok = absurd (cc)
-writes_data Writes.Closed len ok = absurd (cc)
-
-writes_end : (w : Writing) (trailers : List Header) → finish_refusal w trailers ≡ None → IsBody w
-writes_end Writes.Head trailers ok = absurd (cc)
-writes_end (Writes.Body e) trailers ok = tt
-writes_end Writes.Done trailers ok = absurd (cc)
-writes_end Writes.Upgraded trailers ok = absurd (cc)
-writes_end Writes.Closed trailers ok = absurd (cc)
-
-shut_body : (w : Writing) → IsShut w → ¬ (IsBody w)
-shut_body w (inl is) body = subst IsBody is body
-shut_body w (inr is) body = subst IsBody is body
+shut_takes : (refusal : Writing → Option WriteError) (w : Writing) → Takes refusal → IsShut w → refusal w ≢ None
+shut_takes refusal w t (inl is) none = t.1 (subst (λ (x : Writing). refusal x ≡ None) is none)
+shut_takes refusal w t (inr is) none = t.2 (subst (λ (x : Writing). refusal x ≡ None) is none)
 
 shut_idle : (w : Writing) → IsShut w → ¬ (w ≡ Writes.Head)
 shut_idle w (inl is) idle = absurd (cc)
@@ -398,13 +382,14 @@ module _ (limits : Limits) (ended : Bool) (start : List ℕ) (c : Client) (input
       abbrev more : Request → Request
       more r = record r { pieces = pieces r; trailers = trailers r }
 
-      put_now : IsBody c.writing
+      put_now : (refusal : Writing → Option WriteError) → Takes refusal → refusal c.writing ≡ None
           → ((r : Request) → Sends c r → Sends (record c { writing = writing }) (more r)
           × (request_bytes (more r) ≡ request_bytes r ++ text))
           → (now : Now) (x : IsTold limits ended start now input) → IsAt limits ended start c now input x
           → Moved limits ended start (record c { writing = writing }) input text now (change more now)
-      put_now body puts Fresh x at = absurd (subst IsBody at.writing body)
-      put_now body puts (Asked r interim) x at =
+      put_now refusal t none puts Fresh x at =
+          absurd (t.0 (subst (λ (w : Writing). refusal w ≡ None) at.writing none))
+      put_now refusal t none puts (Asked r interim) x at =
           let q = puts r at.sends in
           record {
             limited = bounded;
@@ -412,7 +397,7 @@ module _ (limits : Limits) (ended : Bool) (start : List ℕ) (c : Client) (input
             at = record { reading = at.reading; sends = q.0; keeps = at.keeps };
             bytes = q.1;
           }
-      put_now body puts (Hears r interim response content) x at =
+      put_now refusal t none puts (Hears r interim response content) x at =
           let q = puts r at.sends in
           record {
             limited = bounded;
@@ -420,37 +405,35 @@ module _ (limits : Limits) (ended : Bool) (start : List ℕ) (c : Client) (input
             at = record { reading = at.reading; sends = q.0; keeps = at.keeps };
             bytes = q.1;
           }
-      put_now body puts (Over e) x (inl at) = absurd (subst IsBody at.0.writing body)
-      put_now body puts (Over e) x (inr at) = absurd (shut_body c.writing at.writing body)
+      put_now refusal t none puts (Over e) x (inl at) =
+          absurd (t.0 (subst (λ (w : Writing). refusal w ≡ None) at.0.writing none))
+      put_now refusal t none puts (Over e) x (inr at) = absurd (shut_takes refusal c.writing t at.writing none)
 
     -- the next request begins where the last exchange is over
-    begins_before : (received : List ℕ) (before : List Exchange) (now : Now)
-        (x : IsTold limits ended start now input) → IsAt limits ended start c now input x → c.writing ≡ Writes.Head
-        → ((more : List ℕ) → MayFollow ended more → ReadsKept limits (received ++ more) before (start ++ more))
-        → (more : List ℕ) → MayFollow ended more
-        → ReadsKept limits (received ++ more) (before ++ is_over now) (input ++ more)
-    begins_before received before Fresh x at idle f more may =
-        subst (λ (es : List Exchange). ReadsKept limits (received ++ more) es (input ++ more)) (sym (append-nil before))
-        (subst (λ (s : List ℕ). ReadsKept limits (received ++ more) before (s ++ more)) x (f more may))
-    begins_before received before (Asked r interim) x at idle f more may =
-        absurd (asked_idle r.trailers (encoder_of r) c.writing at.sends.writing idle)
-    begins_before received before (Hears r interim response content) x at idle f more may =
-        absurd (asked_idle r.trailers (encoder_of r) c.writing at.sends.writing idle)
-    begins_before received before (Over e) x (inl at) idle f more may =
-        kept-append limits (received ++ more) before (start ++ more) (input ++ more) e x.final (f more may)
-        (x.reads more may) x.told at.1
-    begins_before received before (Over e) x (inr at) idle f more may =
-        absurd (shut_idle c.writing at.writing idle)
-
-    begins_text : (before : List Exchange) (now : Now) (x : IsTold limits ended start now input)
+    begins : (received : List ℕ) (before : List Exchange) (now : Now) (x : IsTold limits ended start now input)
         → IsAt limits ended start c now input x → c.writing ≡ Writes.Head
-        → texts (before ++ is_over now) ≡ texts before ++ now_text now
-    begins_text before Fresh x at idle = ap texts (append-nil before) ∙ sym (append-nil (texts before))
-    begins_text before (Asked r interim) x at idle =
+        → ((more : List ℕ) → MayFollow ended more → ReadsKept limits (received ++ more) before (start ++ more))
+        → ((more : List ℕ) → MayFollow ended more
+        → ReadsKept limits (received ++ more) (before ++ is_over now) (input ++ more))
+        × (texts (before ++ is_over now) ≡ texts before ++ now_text now) × (c.reading ≡ Reads.Head)
+    begins received before Fresh x at idle f = (
+      λ more may. subst (λ (es : List Exchange). ReadsKept limits (received ++ more) es (input ++ more))
+          (sym (append-nil before))
+          (subst (λ (s : List ℕ). ReadsKept limits (received ++ more) before (s ++ more)) x (f more may)),
+      ap texts (append-nil before) ∙ sym (append-nil (texts before)),
+      at.reading,
+    )
+    begins received before (Asked r interim) x at idle f =
         absurd (asked_idle r.trailers (encoder_of r) c.writing at.sends.writing idle)
-    begins_text before (Hears r interim response content) x at idle =
+    begins received before (Hears r interim response content) x at idle f =
         absurd (asked_idle r.trailers (encoder_of r) c.writing at.sends.writing idle)
-    begins_text before (Over e) x at idle = texts-append before e
+    begins received before (Over e) x (inl at) idle f = (
+      λ more may. kept-append limits (received ++ more) before (start ++ more) (input ++ more) e x.final (f more may)
+          (x.reads more may) x.told at.1,
+      texts-append before e,
+      at.0.reading,
+    )
+    begins received before (Over e) x (inr at) idle f = absurd (shut_idle c.writing at.writing idle)
 
 -- the client that begins a request
 record Requests (c next : Client) (method : List ℕ) (plan : Result Plan WriteError) : Type 0 where
@@ -472,14 +455,6 @@ idle_plan c method size headers idle = cond-true _ _ _ (ap awaits_head idle)
 
 -- ---- what is read
 
-wait_same : (limits : Limits) (ended : Bool) (start : List ℕ) (c next : Client) (input rest : List ℕ) (now : Now)
-    (x : IsTold limits ended start now input) → IsAt limits ended start c now input x → c.limits ≡ limits → next ≡ c
-    → rest ≡ input → Moved limits ended start next rest [] now now
-wait_same limits ended start c next input rest now x at bounded same_client same_input =
-    subst (λ (i : List ℕ). Moved limits ended start next i [] now now) (sym same_input)
-    (subst (λ (k : Client). Moved limits ended start k input [] now now) (sym same_client)
-    (record { limited = bounded; told = x; at = at; bytes = sym (append-nil (now_text now)) }))
-
 waits_over : (r : Reading) (c next : Client) (input rest : List ℕ) → IsOver r → ¬ (WaitsAt r c input next rest)
 waits_over Reads.Head c next input rest over found = over
 waits_over (Reads.Body d) c next input rest over found = over
@@ -498,7 +473,9 @@ module _ (limits : Limits) (ended : Bool) (start : List ℕ) (c next : Client) (
   wait_head now x at is found =
       let w : WaitsAt Reads.Head c input next rest =
       subst (λ (r : Reading). WaitsAt r c input next rest) is found in
-      wait_same limits ended start c next input rest now x at bounded w.0 w.1
+      subst (λ (i : List ℕ). Moved limits ended start next i [] now now) (sym w.1)
+      (subst (λ (k : Client). Moved limits ended start k input [] now now) (sym w.0)
+      (record { limited = bounded; told = x; at = at; bytes = sym (append-nil (now_text now)) }))
 
   -- content goes on
   module _ (r : Request) (interim : List Response) (response : Response) (content : List ℕ) where
@@ -806,9 +783,7 @@ record Run (limits : Limits) (ended : Bool) (c : Client) (input output : List �
   before : (more : List ℕ) → MayFollow ended more → ReadsKept limits (p.received ++ more) p.before (start ++ more)
   unread : List ℕ
   now : IsTold limits ended start p.now unread
-  left : fault ≡ None → unread ≡ input
-  limited : fault ≡ None → c.limits ≡ limits
-  at : fault ≡ None → IsAt limits ended start c p.now unread now
+  left : fault ≡ None → (unread ≡ input) × (c.limits ≡ limits) × IsAt limits ended start c p.now unread now
 
 abbrev GoesAt : Limits → Origin → Past → Type 0
 GoesAt limits m p = Goes limits m.ended m.client m.input.items m.output.items p
@@ -816,19 +791,14 @@ GoesAt limits m p = Goes limits m.ended m.client m.input.items m.output.items p
 abbrev RunAt : Limits → Origin → Past → Type 0
 RunAt limits m p = Run limits m.ended m.client m.input.items m.output.items m.fault p
 
-run_as : (limits : Limits) (ended next_ended : Bool) (c next_c : Client) (i next_i o next_o : List ℕ)
-    (f next_f : Option Fault) (p : Past) → next_ended ≡ ended → next_c ≡ c → next_i ≡ i → next_o ≡ o → next_f ≡ f
-    → Run limits ended c i o f p → Run limits next_ended next_c next_i next_o next_f p
-run_as limits ended next_ended c next_c i next_i o next_o f next_f p a b d e g x = rw (a, b, d, e, g) x
-
 goes_of : (limits : Limits) (ended : Bool) (c : Client) (i o : List ℕ) (f : Option Fault) (p : Past)
     → Run limits ended c i o f p → f ≡ None → Goes limits ended c i o p
 goes_of limits ended c i o f p r none =
     let both : (x : IsTold limits ended r.start p.now i) × IsAt limits ended r.start c p.now i x =
     subst (λ (u : List ℕ). (x : IsTold limits ended r.start p.now u) × IsAt limits ended r.start c p.now u x)
-    (r.left none) (r.now, r.at none) in
+    (r.left none).0 (r.now, (r.left none).2) in
     record {
-      limited = r.limited none;
+      limited = (r.left none).1;
       written = r.written;
       start = r.start;
       before = r.before;
@@ -844,9 +814,7 @@ run_of limits ended c i o f p g = record {
   before = g.before;
   unread = i;
   now = g.now;
-  left = λ none. refl;
-  limited = λ none. g.limited;
-  at = λ none. g.at;
+  left = λ none. (refl, g.limited, g.at);
 }
 
 -- a connection that fails
@@ -859,8 +827,6 @@ broken limits ended c next i rest o f fault p r = record {
   unread = r.unread;
   now = r.now;
   left = λ none. absurd (cc);
-  limited = λ none. absurd (cc);
-  at = λ none. absurd (cc);
 }
 
 -- the input goes on, or ends
@@ -892,10 +858,12 @@ module _ (limits : Limits) (old new : Bool) (bytes : List ℕ)
         unread = r.unread ++ bytes;
         now = told_grows limits old new bytes follows r.start r.unread (r.start ++ bytes) (r.unread ++ bytes)
             (grown r.start) (grown r.unread) p.now r.now;
-        left = λ none. ap (λ (u : List ℕ). u ++ bytes) (r.left none);
-        limited = r.limited;
-        at = λ none. at_grows r.start r.unread (r.start ++ bytes) (r.unread ++ bytes) (grown r.start) (grown r.unread)
-            c p.now r.now (r.at none);
+        left = λ none. (
+          ap (λ (u : List ℕ). u ++ bytes) (r.left none).0,
+          (r.left none).1,
+          at_grows r.start r.unread (r.start ++ bytes) (r.unread ++ bytes) (grown r.start) (grown r.unread) c p.now
+              r.now (r.left none).2,
+        );
       }
 
 -- one step of an exchange
@@ -1054,15 +1022,14 @@ said limits old new p event None is (inl found) r =
     (find_goes limits old new p event found
     (goes_of limits old.ended old.client old.input.items old.output.items old.fault p r is))
 said limits old new p event None is (inr failed) r =
-    let same = fails_same old failed.1 failed.0 failed.2 in
-    let fault_of = ap (λ (m : Origin). m.fault) failed.4 in
+    let b = failed.1 in
+    let same = fails_same old b failed.0 failed.2 in
     subst (λ (e : Event). RunAt limits new (record p { now = tell e p.now })) (sym failed.3)
-    (run_as limits old.ended new.ended new.client new.client new.input.items new.input.items
-    old.output.items new.output.items (Some failed.0) new.fault p
-    (ap (λ (m : Origin). m.ended) failed.4 ∙ same.0) refl refl
-    (ap (λ (m : Origin). m.output.items) failed.4 ∙ same.1) fault_of
-    (broken limits old.ended old.client new.client old.input.items new.input.items old.output.items old.fault
-    failed.0 p r))
+    (subst (λ (m : Origin). RunAt limits m p) (sym failed.4)
+    (subst (λ (e : Bool). Run limits e b.client b.input.items b.output.items (Some failed.0) p) (sym same.0)
+    (subst (λ (o : List ℕ). Run limits old.ended b.client b.input.items o (Some failed.0) p) (sym same.1)
+    (broken limits old.ended old.client b.client old.input.items b.input.items old.output.items old.fault
+    failed.0 p r))))
 
 begun : (limits : Limits) (old new : Origin) (p : Past) (method target : List ℕ) (headers : List Header)
     (size : BodySize) → Begins old method target headers size new → RunAt limits old p
@@ -1082,48 +1049,29 @@ begun limits old new p method target headers size b r =
     b.client ∙ ap (λ (k : Result Plan WriteError). requesting c method headers k) plan in
     let head : planned_request c method target size headers ≡ head_text request =
     ap (λ (k : Result Plan WriteError). request_text method target 1 (planned_headers k headers)) plan in
-    let text = begins_text limits old.ended g.start c old.input.items g.limited p.before p.now g.now g.at idle in
+    let next = begins limits old.ended g.start c old.input.items g.limited p.received p.before p.now g.now g.at idle
+    g.before in
     let whole : request_bytes request ≡ head_text request =
     open_bytes request refl ∙ append-nil (head_text request) in
-    run_of limits new.ended new.client new.input.items new.output.items new.fault q
-    (subst (λ (e : Bool). Goes limits e new.client new.input.items new.output.items q)
-    (sym (ap (λ (m : Origin). m.ended) b.rest))
-    (subst (λ (i : List ℕ). Goes limits old.ended new.client i new.output.items q)
-    (sym (ap (λ (m : Origin). m.input.items) b.rest)) (record {
+    subst (λ (m : Origin). RunAt limits m q) (sym b.rest)
+    (run_of limits old.ended new.client old.input.items new.output.items old.fault q (record {
       limited = ap (λ (k : Client). k.limits) client ∙ s.limited ∙ g.limited;
       written = ap (λ (t : List ℕ). p.sent ++ t) (b.output ∙ ap (λ (t : List ℕ). old.output.items ++ t) head)
           ∙ sym (append_assoc p.sent old.output.items (head_text request))
-          ∙ ap (λ (t : List ℕ). t ++ head_text request) (g.written ∙ sym text)
+          ∙ ap (λ (t : List ℕ). t ++ head_text request) (g.written ∙ sym next.1)
           ∙ ap (λ (t : List ℕ). texts (p.before ++ is_over p.now) ++ t) (sym whole);
       start = old.input.items;
-      before = begins_before limits old.ended g.start c old.input.items g.limited p.received p.before p.now g.now
-          g.at idle g.before;
+      before = next.0;
       now = λ more may. refl;
       at = record {
-        reading = ap (λ (k : Client). k.reading) client ∙ s.reading ∙ idle_reading limits old p g idle;
+        reading = ap (λ (k : Client). k.reading) client ∙ s.reading ∙ next.2;
         sends = record {
           writing = ap (λ (k : Client). k.writing) client ∙ s.writing;
           method = ap (λ (k : Client). k.method) client ∙ s.kind;
         };
         keeps = ap (λ (k : Client). k.keep_alive) client ∙ s.keeps;
       };
-    })))
-  where
-    reading_at : (limits : Limits) (ended : Bool) (start : List ℕ) (c : Client) (now : Now) (input : List ℕ)
-        (x : IsTold limits ended start now input) → IsAt limits ended start c now input x → c.writing ≡ Writes.Head
-        → c.reading ≡ Reads.Head
-    reading_at limits ended start c Fresh input x at idle = at.reading
-    reading_at limits ended start c (Asked r interim) input x at idle = at.reading
-    reading_at limits ended start c (Hears r interim response content) input x at idle =
-        absurd (asked_idle r.trailers (encoder_of r) c.writing at.sends.writing idle)
-    reading_at limits ended start c (Over e) input x (inl at) idle = at.0.reading
-    reading_at limits ended start c (Over e) input x (inr at) idle = absurd (shut_idle c.writing at.writing idle)
-
-    idle_reading : (limits : Limits) (old : Origin) (p : Past)
-        → Goes limits old.ended old.client old.input.items old.output.items p
-        → old.client.writing ≡ Writes.Head → old.client.reading ≡ Reads.Head
-    idle_reading limits old p g idle =
-        reading_at limits old.ended g.start old.client p.now old.input.items g.now g.at idle
+    }))
 
 -- something is put of a request
 put_run : (limits : Limits) (old new : Origin) (p : Past) (text : List ℕ) (client : Client) (after : Now)
@@ -1133,37 +1081,36 @@ put_run : (limits : Limits) (old new : Origin) (p : Past) (text : List ℕ) (cli
     → Moved limits old.ended start client old.input.items text p.now after)
     → RunAt limits new (record p { now = after })
 put_run limits old new p text client after none puts r moves =
+    let q = record p { now = after } in
     let g = goes_of limits old.ended old.client old.input.items old.output.items old.fault p r none in
-    run_as limits old.ended new.ended client new.client old.input.items new.input.items new.output.items
-    new.output.items new.fault new.fault (record p { now = after })
-    (ap (λ (m : Origin). m.ended) puts.rest) puts.client (ap (λ (m : Origin). m.input.items) puts.rest) refl refl
-    (run_of limits old.ended client old.input.items new.output.items new.fault (record p { now = after })
+    subst (λ (m : Origin). RunAt limits m q) (sym puts.rest)
+    (subst (λ (k : Client). Run limits old.ended k old.input.items new.output.items old.fault q) (sym puts.client)
+    (run_of limits old.ended client old.input.items new.output.items old.fault q
     (moved_goes limits old.ended old.client client old.input.items old.input.items old.output.items text
-    new.output.items p after g (moves g.start g.now g.at g.limited) puts.output))
+    new.output.items p after g (moves g.start g.now g.at g.limited) puts.output)))
 
-new_run : (limits : Limits) → Run limits false (new_client limits) [] [] None no_past
-new_run limits = record {
-  written = refl;
-  start = [];
-  before = λ more may. refl;
-  unread = [];
-  now = refl;
-  left = λ none. refl;
-  limited = λ none. refl;
-  at = λ none. record { reading = refl; writing = refl };
-}
+new_run : (limits : Limits) (ended : Bool) (c : Client) (i o : List ℕ) (f : Option Fault) → ended ≡ false
+    → c ≡ new_client limits → i ≡ [] → o ≡ [] → f ≡ None → Run limits ended c i o f no_past
+new_run limits ended c i o f is_going is_new no_input no_output is_whole =
+    let new : Run limits false (new_client limits) [] [] None no_past = record {
+      written = refl;
+      start = [];
+      before = λ more may. refl;
+      unread = [];
+      now = refl;
+      left = λ none. (refl, refl, record { reading = refl; writing = refl });
+    } in rw (is_going, is_new, no_input, no_output, is_whole) new
 
 runs : {limits : Limits} {m : Origin} {p : Past} → IsReached limits m p → RunAt limits m p
 runs {limits} (Opened m new) =
-    run_as limits false m.ended (new_client limits) m.client [] m.input.items [] m.output.items None m.fault no_past
-    new.ended new.client new.input new.output new.fault (new_run limits)
+    new_run limits m.ended m.client m.input.items m.output.items m.fault new.ended new.client new.input new.output
+    new.fault
 runs {limits} (Received old new p bytes before going r) =
-    run_as limits old.ended new.ended old.client new.client (old.input.items ++ bytes) new.input.items
-    old.output.items new.output.items old.fault new.fault (record p { received = p.received ++ bytes })
-    (ap (λ (m : Origin). m.ended) r.rest) (ap (λ (m : Origin). m.client) r.rest) r.input
-    (ap (λ (m : Origin). m.output.items) r.rest) (ap (λ (m : Origin). m.fault) r.rest)
+    let q = record p { received = p.received ++ bytes } in
+    subst (λ (m : Origin). RunAt limits m q) (sym r.rest)
+    (subst (λ (i : List ℕ). Run limits old.ended old.client i old.output.items old.fault q) (sym r.input)
     (run_grows limits old.ended old.ended bytes (λ more may ended. let no = sym going ∙ ended in absurd (cc))
-    old.client old.input.items old.output.items old.fault p (runs before))
+    old.client old.input.items old.output.items old.fault p (runs before)))
 runs {limits} (Finished old new p before is) =
     subst (λ (m : Origin). RunAt limits m p) (sym is)
     (subst (λ (s : List ℕ). Run limits true old.client old.input.items old.output.items old.fault
@@ -1177,25 +1124,25 @@ runs {limits} (Begun old new p method target headers size before b) =
 runs {limits} (Put old new p piece before puts) =
     put_run limits old new p _ _ (change (with_piece piece) p.now) puts.0 puts.2 (runs before)
     (λ start x at bounded. put_now limits old.ended start old.client old.input.items bounded
-    (λ r. r.pieces ++ piece ∷ []) (λ r. r.trailers) _ _ (writes_data old.client.writing (length piece) puts.1)
+    (λ r. r.pieces ++ piece ∷ []) (λ r. r.trailers) _ _
+    (λ w. data_refusal w (length piece)) (λ no. absurd (cc), λ no. absurd (cc), λ no. absurd (cc)) puts.1
     (put_request old.client piece puts.1) p.now x at)
 runs {limits} (Closed old new p trailers before ends) =
     put_run limits old new p _ _ (change (with_trailers trailers) p.now) ends.0 ends.2 (runs before)
     (λ start x at bounded. put_now limits old.ended start old.client old.input.items bounded
-    (λ r. r.pieces) (λ r. Some trailers) _ _ (writes_end old.client.writing trailers ends.1)
+    (λ r. r.pieces) (λ r. Some trailers) _ _
+    (λ w. finish_refusal w trailers) (λ no. absurd (cc), λ no. absurd (cc), λ no. absurd (cc)) ends.1
     (end_request old.client trailers ends.1) p.now x at)
 runs {limits} (Refused old new p before kept) =
-    run_as limits old.ended new.ended old.client new.client old.input.items new.input.items
-    old.output.items new.output.items old.fault new.fault p
-    (ap (λ (m : Origin). m.ended) kept.rest) (ap (λ (m : Origin). m.client) kept.rest)
-    (ap (λ (m : Origin). m.input.items) kept.rest) kept.output (ap (λ (m : Origin). m.fault) kept.rest) (runs before)
+    subst (λ (m : Origin). RunAt limits m p) (sym kept.rest)
+    (subst (λ (o : List ℕ). Run limits old.ended old.client old.input.items o old.fault p) (sym kept.output)
+    (runs before))
 runs {limits} (Written old new p count before within out) =
     let r = runs before in
     let o = old.output.items in
-    run_as limits old.ended new.ended old.client new.client old.input.items new.input.items
-    (drop count o) new.output.items old.fault new.fault (record p { sent = p.sent ++ take count o })
-    (ap (λ (m : Origin). m.ended) out.rest) (ap (λ (m : Origin). m.client) out.rest)
-    (ap (λ (m : Origin). m.input.items) out.rest) out.output (ap (λ (m : Origin). m.fault) out.rest) (record {
+    let q = record p { sent = p.sent ++ take count o } in
+    subst (λ (m : Origin). RunAt limits m q) (sym out.rest)
+    (subst (λ (o : List ℕ). Run limits old.ended old.client old.input.items o old.fault q) (sym out.output) (record {
       written = append_assoc p.sent (take count o) (drop count o)
           ∙ ap (λ (t : List ℕ). p.sent ++ t) (take-append-drop count o) ∙ r.written;
       start = r.start;
@@ -1203,9 +1150,7 @@ runs {limits} (Written old new p count before within out) =
       unread = r.unread;
       now = r.now;
       left = r.left;
-      limited = r.limited;
-      at = r.at;
-    })
+    }))
 runs {limits} (Said old new p event before says) =
     said limits old new p event old.fault refl says (runs before)
 
@@ -1218,5 +1163,5 @@ exchanged reached =
       before = r.before;
       unread = r.unread;
       now = r.now;
-      left = r.left;
+      left = λ none. (r.left none).0;
     }
