@@ -6,6 +6,7 @@
 import re
 import sys
 from datetime import datetime, timedelta, timezone
+from functools import partial
 
 import typed_headers as headers
 
@@ -597,6 +598,195 @@ def option(words, wanted):
     return given == (wanted == ["true"] and words[0] != "()")
 
 
+# Passes through a cache.
+
+
+class History:
+    """A cache, which guesses lifetimes of up to a minute, and the passes through it."""
+
+    statuses = {"whole": 200, "part": 206, "not_modified": 304, "unsatisfiable": 416}
+
+    def __init__(self, words):
+        kind, *limits = words
+        variants, responses, content = map(int, limits)
+        self.cache = headers.Cache(shared=kind == "shared", variants=variants, responses=responses, content=content,
+                                   guess=60)
+        self.passes, self.methods, self.targets = {}, {}, {}
+
+    def begin(self, name, now, request):
+        self.passes[name] = self.cache.begin(self.methods[name], self.targets[name], request, now=int(now))
+        return self.passes[name].step
+
+    def validates(self, words, wanted):
+        """Whether the request of a validation has these fields, and is done with so: `FIELDS (/) STEP`."""
+        name, now = words
+        place = wanted.index("(/)")
+        ended, text = headers._library.calls.pass_validation(self.passes[name]._handle)
+        told = sorted(headers.Headers(text).pairs())
+        return not ended and told == shown_fields(wanted[:place]) and self.is_told(
+            self.begin(name, now, text), name, wanted[place + 1:])
+
+    def step(self, call, words):
+        """What a step gives, and the method of its request."""
+        name, now, *left = words
+        if call == "begin":
+            self.methods[name], self.targets[name] = left[1], left[0]
+            return self.begin(name, now, section(left[2:])[0])
+        if call == "came":
+            return self.passes[name].came(int(left[0]), section(left[1:])[0], now=int(now))
+        if call == "failed":
+            return self.passes[name].failed(now=int(now))
+        self.passes[name].received(decode(left[0]))
+        return self.passes[name].ended(complete=left[1] == "complete", now=int(now))
+
+    def is_reply(self, given, method, words):
+        """Whether a reply is of a stored response: `WAY CONTENT (age) AGE`."""
+        way, *words = words
+        whole = decode(words[1] if way == "part" else words[0])
+        content, length = whole, str(len(whole))
+        told = dict(given.fields)
+        if way == "part":
+            first, last = words[0].split("-")
+            content = whole[int(first) : int(last) + 1]
+            if told["content-range"] != f"bytes {first}-{last}/{length}":
+                return False
+        if way == "unsatisfiable":
+            return (given.status, given.content, told["content-range"]) == (416, b"", f"bytes */{length}")
+        content = None if way == "not_modified" or method == "HEAD" else content
+        return (given.status, given.content, told["age"]) == (self.statuses[way], content, words[-1])
+
+    def is_once(self, given, words):
+        """Whether a reply is this response, which isn't stored: `whole METHOD STATUS CONTENT TIME TIME FIELDS`."""
+        told = sorted(it for it in given.fields if it[0] != "age")
+        return (given.status, given.content, told) == (int(words[2]), decode(words[3]), shown_fields(words[6:]))
+
+    def is_kept(self, target, words):
+        """Whether a request gets the response that alone is stored: `1 (/) METHOD STATUS CONTENT TIME TIME FIELDS`."""
+        given = self.cache.begin("GET", target, b"", now=int(words[6])).step
+        return words[:3] == ["1", "(/)", "GET"] and self.is_once(given, words[1:]) and ("age", "0") in given.fields
+
+    def check(self, call, words, wanted):
+        if call == "kept":
+            return self.is_kept(words[0], wanted)
+        if call == "validation":
+            return self.validates(words, wanted)
+        try:
+            given = self.step(call, words)
+        except headers.OutOfOrder:
+            return wanted == ["out_of_order"]
+        return self.is_told(given, words[0], wanted)
+
+    def is_told(self, given, name, wanted):
+        word, *left = wanted
+        if isinstance(given, headers.Reply):
+            if word == "unavailable":
+                return given.status == 504
+            if word == "once":
+                return self.is_once(given, left)
+            named = "reply_and_validate" if given.validates else "reply"
+            return word == named and self.is_reply(given, self.methods[name], left)
+        if isinstance(given, headers.Ask) and given.fields is not None:
+            return word == "validate" and list(given.fields) == shown_fields(left)
+        shown = {headers.Ask(): "ask", headers.PassOn(True): "keep", headers.PassOn(False): "pass_on", None: "(none)",
+                 True: "stored", False: "unstored"}
+        return [shown[given]] == wanted
+
+
+def cache_under(words, guess=0):
+    """A cache with the policy of two words: for whom it stores; and `immutable`, `plain` or names of targeted fields."""
+    names = words[1].split(",")
+    targets = [it for it in names if it not in ("plain", "immutable")]
+    return headers.Cache(shared=words[0] == "shared", guess=guess, immutable="immutable" in names, targets=targets)
+
+
+def is_stored(cache, method, sent, times, status, response):
+    """Whether the response to a request is to be stored, which it then is."""
+    asking = cache.begin(method, "/", sent, now=times[0])
+    step = isinstance(asking.step, headers.Ask) and asking.came(status, response, now=times[1])
+    if step != headers.PassOn(True):
+        return False
+    asking.received(b"x")
+    return asking.ended(now=times[1])
+
+
+def may_store_under(words, wanted):
+    sent, left = section(words[4:])
+    stored = is_stored(cache_under(words), words[2], sent, (0, 0), int(words[3]), section(left)[0])
+    return stored == (wanted == ["true"])
+
+
+def decide_under(words, wanted):
+    requested, received, now = map(int, words[2:5])
+    sent, left = section(words[5:])
+    cache = cache_under(words)
+    if not is_stored(cache, "GET", b"", (requested, received), 200, section(left)[0]):
+        return False
+    asking, plain = (cache.begin("GET", "/", it, now=now) for it in (sent, b""))
+    if isinstance(asking.step, headers.Reply):
+        is_fresh = isinstance(plain.step, headers.Reply)
+        name = "ServeAndRevalidate" if asking.step.validates else "Serve" if is_fresh else "ServeStale"
+        return wanted == ["Unavailable" if asking.step.status == 504 else name]
+    is_served = isinstance(asking.failed(now=now), headers.Reply)
+    return wanted == ["RevalidateOrServe" if is_served else "Revalidate"]
+
+
+def lifetimes_under(words, wanted):
+    """The lifetime, and the one that is guessed if there is none: for so long, and no longer, a response is served."""
+    received, response = int(words[3]), section(words[4:])[0]
+
+    def is_fresh(guess, now):
+        cache = cache_under(words, guess)
+        stored = is_stored(cache, "GET", b"", (received, received), int(words[2]), response)
+        return stored and isinstance(cache.begin("GET", "/", b"", now=now).step, headers.Reply)
+
+    stated, guessed = (0 if it == "(none)" else int(it) for it in wanted)
+    seconds = [(0, stated), (10**9, guessed if wanted[0] == "(none)" else stated)]
+    return all((it == 0 or is_fresh(guess, received + it - 1)) and not is_fresh(guess, received + it)
+               for guess, it in seconds)
+
+
+# Dates, which are seen by what is decided with them.
+
+LAST_SECOND = 253402300799
+
+
+def is_before(text, second, now=0):
+    """Whether a date is before a second, as If-Unmodified-Since sees it. What is no date isn't."""
+    target = headers.Target(last_modified=second)
+    given = headers.evaluate("GET", b"if-unmodified-since: " + text + b"\n", target, now)
+    return given is headers.Precondition.FAILED
+
+
+def seconds_between(later, earlier, now=0):
+    """How many seconds the one date is after the other, as Expires and Date see it."""
+    return headers.lifetime(b"expires: " + later + b"\ndate: " + earlier + b"\n", now, shared=False)
+
+
+def read_date(words, wanted):
+    text, now, epoch = decode(words[0]), int(words[1]), b"Thu, 01 Jan 1970 00:00:00 GMT"
+    if wanted[0] == "(none)":
+        return not is_before(text, 0, now) and not is_before(text, LAST_SECOND, now)
+    second = int(wanted[0])
+    if second < 0:
+        return is_before(text, 0, now) and seconds_between(epoch, text, now) == -second
+    is_after = second >= LAST_SECOND or is_before(text, second + 1, now)
+    return not is_before(text, min(second, LAST_SECOND), now) and is_after and seconds_between(text, epoch, now) == second
+
+
+def compare_date(words, wanted):
+    text, second = decode(words[0]), int(words[1])
+    age = headers.current_age(b"date: " + text + b"\n", headers.Times(second, second, second))
+    rest = headers.lifetime(b"expires: " + text + b"\n", second, shared=False)
+    is_past = age > 0
+    if second <= LAST_SECOND and is_before(text, second) != is_past:
+        return False
+    return [str(is_past).lower(), str(rest > 0).lower(), str(age), str(rest)] == wanted
+
+
+def seconds_after(words, wanted):
+    return seconds_between(*map(decode, words)) == int(wanted[0])
+
+
 CREDENTIALS = ("Authorization", "ProxyAuthorization")
 GATEWAY = {"request": gateway_request, "response": gateway_response, "forwarding": forwarding}
 
@@ -625,6 +815,12 @@ CALLS = {
     "heuristic_lifetime": heuristic_lifetime,
     "current_age": current_age,
     "decide": decide,
+    "read_date": read_date,
+    "compare": compare_date,
+    "seconds_after": seconds_after,
+    "may_store_under": may_store_under,
+    "decide_under": decide_under,
+    "lifetimes_under": lifetimes_under,
     "validation_steps": validators,
     **{f"{dimension}.{action}": offers(dimension, action)
        for dimension in ("accept", "encoding", "language") for action in ("choose", "quality", "look_up")},
@@ -674,14 +870,19 @@ def expand(line):
 
 def main(names):
     rows = wrong = 0
+    history = None
     for name in names:
         with open(name, encoding="utf-8") as file:
             for place, line in enumerate(file, 1):
                 call, _, wanted = expand(line.rstrip("\n")).partition(" = ")
-                words = call.split(" ")
+                words = call.strip().split(" ")
+                if words[0] == "cache":
+                    history = History(words[1:])
+                    continue
                 if " ! " in wanted:
                     wanted = wanted.partition(" ! ")[2].partition(" ")[2]
-                for call in calls_of(words[0], name):
+                is_step = line.startswith("  ") and wanted
+                for call in [partial(history.check, words[0])] if is_step else calls_of(words[0], name):
                     rows += 1
                     if not call(words[1:], wanted.split(" ")):
                         wrong += 1

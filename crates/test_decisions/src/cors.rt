@@ -91,15 +91,12 @@ fn kind_word(kind: CorsKind) -> &'static str {
     }
 }
 
-// `CorsPolicy.new RULES`: `made`, or why the rules are no policy, and the place of an origin that no browser sends.
+// `CorsPolicy.new RULES`: `made`, or why the rules are no policy.
 fn make_new(arguments: &mut Arguments<'_>, answer: &mut Answer) -> Result<(), Failure> {
     let rules = read_rules(arguments)?;
     match CorsPolicy::new(arguments.alloc(), rules) {
         Ok(_) => Ok(answer.word("made")?),
         Err(RulesError::Memory) => Err(Failure::Memory),
-        Err(RulesError::UnsentOrigin(place)) => {
-            Ok(answer.word(format_args!("UnsentOrigin {place}"))?)
-        }
         Err(error) => Ok(answer.word(format_args!("{error:?}"))?),
     }
 }

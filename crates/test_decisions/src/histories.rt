@@ -1,6 +1,5 @@
 //! Histories: calls of one cache, in order, with the answers that are wanted.
 use crate::cors::Cors;
-use crate::dates::Dates;
 use crate::fields::Fields;
 use crate::gateway::Gateways;
 use crate::handshake::Handshake;
@@ -73,7 +72,7 @@ fn read_rows<'a>(
 // The single calls.
 type Decisions = (
     (Policies, (WithinLimits, Routing)),
-    ((Cors, Handshake), (Gateways, (Dates, Fields))),
+    ((Cors, Handshake), (Gateways, Fields)),
 );
 
 // What a call is answered.

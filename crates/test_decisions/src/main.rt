@@ -4,19 +4,17 @@
 //! (`histories.rt`).
 //!
 //! A history begins with `cache KIND VARIANTS RESPONSES BYTES`, which makes the stores: `shared` or `private`, and the
-//! limits of each. Each line after it that begins with two spaces is a call and its answer. `store.rt`, `parts.rt` and
-//! `passes.rt` say what each call has and answers.
+//! limits of each. Each line after it that begins with two spaces is a call and its answer. `store.rt` and `parts.rt`
+//! say what each call has and answers.
 #![tactic(auto)]
 
 mod cors;
-mod dates;
 mod fields;
 mod gateway;
 mod handshake;
 mod histories;
 mod limits;
 mod parts;
-mod passes;
 mod policies;
 mod resources;
 mod routes;

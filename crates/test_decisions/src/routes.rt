@@ -108,29 +108,20 @@ fn answer_route(
     add_outcome(made, set, answer)
 }
 
+macro_rules! reason_named {
+    ($word:expr, $($reason:ident)+) => {
+        match $word {
+            $(stringify!($reason) => Ok(Reason::$reason),)+
+            _ => Err(Failure::NoCall),
+        }
+    };
+}
+
 fn read_reason(arguments: &mut Arguments<'_>) -> Result<Reason, Failure> {
-    Ok(match arguments.word()? {
-        "InvalidHost" => Reason::InvalidHost,
-        "Misdirected" => Reason::Misdirected,
-        "Preflight" => Reason::Preflight,
-        "Denied" => Reason::Denied,
-        "UnknownMethod" => Reason::UnknownMethod,
-        "MethodNotAllowed" => Reason::MethodNotAllowed,
-        "Options" => Reason::Options,
-        "UnmetExpectation" => Reason::UnmetExpectation,
-        "PartialContent" => Reason::PartialContent,
-        "Moved" => Reason::Moved,
-        "Gone" => Reason::Gone,
-        "NotFound" => Reason::NotFound,
-        "LengthRequired" => Reason::LengthRequired,
-        "ContentTooLarge" => Reason::ContentTooLarge,
-        "UnsupportedMediaType" => Reason::UnsupportedMediaType,
-        "UnsupportedCoding" => Reason::UnsupportedCoding,
-        "NotAcceptable" => Reason::NotAcceptable,
-        "PreconditionRequired" => Reason::PreconditionRequired,
-        "Admitted" => Reason::Admitted,
-        _ => return Err(Failure::NoCall),
-    })
+    reason_named!(arguments.word()?,
+        InvalidHost Misdirected Preflight Denied UnknownMethod MethodNotAllowed Options UnmetExpectation
+        PartialContent Moved Gone NotFound LengthRequired ContentTooLarge UnsupportedMediaType
+        UnsupportedCoding NotAcceptable PreconditionRequired Admitted)
 }
 
 impl Calls for Routing {

@@ -1,6 +1,5 @@
 //! The calls of a store.
 use crate::parts::{make_part_call, new_parts};
-use crate::passes::{Passes, make_step};
 use cache_policy::{Kind, RequestHead};
 use cache_rules::{Exchange, Reception, StoredAnswer, StoredResponse};
 use cache_store::parts::PartStore;
@@ -11,15 +10,13 @@ use std::alloc::{AllocError, Global};
 use std::hash::RandomState;
 use test_rows::{Answer, Arguments, Failure};
 
-/// The stores of a cache: of complete responses, and of parts. A cache for passes has its own.
+/// The stores of a cache: of complete responses, and of parts.
 #[derive(Drop)]
 pub struct Caches {
     /// The complete responses.
     pub responses: Store,
     /// The parts.
     pub parts: PartStore,
-    /// The passes.
-    pub passes: Passes,
 }
 
 /// KIND VARIANTS RESPONSES BYTES, and maybe `immutable` or `plain` with the names of targeted fields: a
@@ -28,7 +25,6 @@ pub fn new_caches(alloc: Global, keys: RandomState, limits: &str) -> Result<Cach
     Ok(Caches {
         responses: new_store(alloc, keys, limits)?,
         parts: new_parts(alloc, keys, limits)?,
-        passes: Passes::new(alloc, new_store(alloc, keys, limits)?)?,
     })
 }
 
@@ -144,8 +140,8 @@ impl Update {
     }
 }
 
-/// The content of the response with a number, or `(none)`.
-pub fn add_content(
+// The content of the response with a number, or `(none)`.
+fn add_content(
     store: &Store,
     target: &str,
     number: u64,
@@ -345,8 +341,8 @@ fn number_at(responses: &[StoredResponse], place: usize) -> Option<u64> {
     Some(responses.get(place)?.number)
 }
 
-/// How a stored response answers conditions and ranges.
-pub fn add_stored_answer(found: StoredAnswer, answer: &mut Answer) -> Result<(), AllocError> {
+// How a stored response answers conditions and ranges.
+fn add_stored_answer(found: StoredAnswer, answer: &mut Answer) -> Result<(), AllocError> {
     match found {
         StoredAnswer::Whole => answer.word("whole"),
         StoredAnswer::Part(part) => answer.word(format_args!("part {}-{}", part.first, part.last)),
@@ -395,8 +391,8 @@ pub fn add_stored(response: &StoredResponse, answer: &mut Answer) -> Result<(), 
     answer.map(&response.response)
 }
 
-/// How many responses are stored under the target, and each of them.
-pub fn call_responses(store: &Store, target: &str, answer: &mut Answer) -> Result<(), Failure> {
+// How many responses are stored under the target, and each of them.
+fn call_responses(store: &Store, target: &str, answer: &mut Answer) -> Result<(), Failure> {
     let responses = store.responses(target);
     answer.word(responses.len())?;
     for response in responses {
@@ -406,7 +402,7 @@ pub fn call_responses(store: &Store, target: &str, answer: &mut Answer) -> Resul
     Ok(())
 }
 
-/// Makes a call of a cache, and adds its answer. The first word is the target, or the name of a pass.
+/// Makes a call of a cache, and adds its answer. The first word is the target.
 pub fn make(
     caches: &mut Caches,
     name: &str,
@@ -429,9 +425,6 @@ pub fn make(
         "invalidate" => call_invalidate(store, target, arguments, answer),
         "named_targets" => call_named_targets(target, arguments, answer),
         "responses" => call_responses(store, target, answer),
-        "begin" | "validation" | "came" | "failed" | "ended" | "kept" => {
-            make_step(&mut caches.passes, name, target, arguments, answer)
-        }
         _ => make_part_call(&mut caches.parts, store, name, target, arguments, answer),
     }
 }

@@ -1,11 +1,11 @@
-"""The library and `test_decisions` beside the model of RFC 9111 on random inputs."""
+"""The library beside the model of RFC 9111 on random inputs."""
 import json
 from collections.abc import Callable
 from dataclasses import asdict
 from typing import Any
 
 from caching import generate, model
-from common import products, rows
+from common import products
 from common.comparison import Comparison
 from common.fields import Fields, section
 
@@ -71,21 +71,25 @@ def by_library(cases: list[generate.Case], comparison: Comparison) -> None:
             shown(case, "response", "received"))
 
 
-def by_program(cases: list[generate.Case], comparison: Comparison) -> None:
-    """The call that the library for C lacks."""
-    calls, wanted = [], []
+def without_control(fields: Fields) -> Fields:
+    return [it for it in trimmed(fields) if it[0].lower() not in ("cache-control", "pragma")]
+
+
+def by_vary(cases: list[generate.Case], comparison: Comparison) -> None:
+    """Whether a fresh response suits the request, by Vary alone."""
+    headers = products.library()
     for case in cases:
-        stored, request, response = map(trimmed, (case.stored, case.request, case.response))
-        maps = (" ".join(rows.map_words(fields)) for fields in (stored, request, response))
-        calls.append(f"matches {' (/) '.join(it or '' for it in maps)}")
-        wanted.append(permitted(lambda: model.vary_matches(stored, request, response)))
-    for call, expected, answer in zip(calls, wanted, rows.answers(products.program(), calls)):
-        comparison.add("matches", expected, answer == "true", lambda: call)
+        stored, request = map(without_control, (case.stored, case.request))
+        response = [it for it in trimmed(case.response) if it[0].lower() == "vary"]
+        found = headers.decide("GET", section(stored), "GET", section(request),
+                               section([*response, ("cache-control", "max-age=60")]), headers.Times(0, 0, 0), shared=False)
+        comparison.add("matches", permitted(lambda: model.vary_matches(stored, request, response)),
+                       found is headers.Decision.SERVE, shown(case, "stored", "request", "response"))
 
 
 def compare(seed: int, count: int) -> Comparison:
     comparison = Comparison()
     cases = list(generate.cases(seed, count))
     by_library(cases, comparison)
-    by_program(cases, comparison)
+    by_vary(cases, comparison)
     return comparison

@@ -14,8 +14,8 @@ from histories.generate import Player
 from histories.writing import Call
 
 BATCH = 1000
-# The calls of a store, and the steps of passes, by the program and by the package.
-PLAYERS = {"calls": generate.history, "passes": passes.history, "passes of the package": passes.history_for_package}
+# The calls of a store, by the program, and the steps of passes, by the package.
+PLAYERS = {"calls": generate.history, "passes of the package": passes.history}
 OTHERWISE = re.compile(r"(\S+):(\d+): .*: wanted (.*), given (.*)")
 Answers = Iterable[tuple[Call, str]]
 

@@ -11,8 +11,7 @@ are small, so responses are evicted. Each answer is compared, and at the end all
 first answer that is otherwise.
 """
 PASSES = """
-{total:,} more histories are of passes, half of them by `cache_pass` and half by the package for Python, whose replies are
-judged as messages: status, fields and content. Up to eight requests are open at a time, and their steps interleave:
+{total:,} more histories are of passes, by the package for Python, whose replies are judged as messages: status, fields and content. Up to eight requests are open at a time, and their steps interleave:
 responses come late, in another order than they were asked for, cut short, or never; a PUT comes between.
 """
 OPTIONS = """

@@ -44,14 +44,12 @@ class Pass:
 
 
 class PassPlayer(Player):
-    """A cache, the passes through it, and the history of their steps. `for_package` are the steps that only the package
-    for Python has: what is served stale is validated for nobody, a target is removed, and a pass is closed."""
+    """A cache, the passes through it, and the history of their steps."""
 
-    def __init__(self, draw: random.Random, option: str, for_package: bool) -> None:
+    def __init__(self, draw: random.Random, option: str) -> None:
         super().__init__(draw, option)
         self.passes: dict[str, Pass] = {}
         self.removals: dict[str, int] = {}
-        self.for_package = for_package
         # How eagerly clients come; and in half of the histories a few clients ask for one page again and again.
         self.eagerness = draw.choice([0.3, 0.4, 0.4, 0.6])
         few = [self.request() for _ in range(draw.choice([1, 2, 3]))]
@@ -185,7 +183,7 @@ class PassPlayer(Player):
         self.passes[name] = it
         told = self.begun(it)
         self.step("begin", name, (it.key, it.request), told, [it.key, *writing.request_words(it.request)])
-        if told[0].word == "reply_and_validate" and self.for_package and self.is_likely(0.8):
+        if told[0].word == "reply_and_validate" and self.is_likely(0.8):
             self.now += self.draw.choice([0, 0, 0, 1, 600])
             other, again = Pass(it.key, it.request), f"p{len(self.passes)}"
             told = self.validation(other)
@@ -219,7 +217,7 @@ class PassPlayer(Player):
         """A step of a pass that is, or is taken to be, so far."""
         it = self.passes[name]
         is_right, out_of_order = it.phase == phase, [Told("out_of_order")]
-        if self.for_package and self.is_likely(0.02):
+        if self.is_likely(0.02):
             if it.phase == "asking":
                 # Choice: the package makes a failure of it, which uses what is stored, and so counts for what goes first.
                 self.cache.lookup(it.key, it.request, 0, GUESS)
@@ -248,7 +246,7 @@ class PassPlayer(Player):
             elif going and (len(going) == OPEN or not self.is_likely(self.eagerness)):
                 name = self.draw.choice(going)
                 self.go_on(name, self.passes[name].phase)
-            elif self.for_package and self.is_likely(0.02):
+            elif self.is_likely(0.02):
                 key = HOST + self.draw.choice(TARGETS)
                 self.removed(key)
                 self.step("remove", key, (), [Told("(none)")], [])
@@ -260,9 +258,6 @@ class PassPlayer(Player):
 
     def look_through(self, key: str) -> None:
         """What is stored under a target at the end. The package shows it to requests that ask for nothing else."""
-        if not self.for_package:
-            self.add(["kept", key], writing.responses_words(self.cache.at(key)))
-            return
         asked = {writing.words(writing.request_words(it.request)): it.request for it in self.cache.at(key)}
         for request in asked.values():
             fields = [it for it in request.fields if it[0].lower() in VARIED]
@@ -274,12 +269,6 @@ class PassPlayer(Player):
 
 def history(seed: int, option: str, index: int) -> PassPlayer:
     """A history that was played. Each has its own random numbers."""
-    player = PassPlayer(random.Random(f"{seed}/passes/{option}/{index}"), option, False)
-    player.play()
-    return player
-
-
-def history_for_package(seed: int, option: str, index: int) -> PassPlayer:
-    player = PassPlayer(random.Random(f"{seed}/package/{option}/{index}"), option, True)
+    player = PassPlayer(random.Random(f"{seed}/package/{option}/{index}"), option)
     player.play()
     return player
