@@ -1,5 +1,5 @@
 //! What each call writes of a header, and what it leaves if it is refused memory.
-use crate::replay::Getters;
+use crate::replay::{Getters, copy_of};
 use crate::writing::{lines_behind, value_before, written};
 use headers::{
     Encoded, Header, HeaderMap, HeaderMapExt, HeaderName, HeaderValue, canonical, encoding,
@@ -173,7 +173,7 @@ pub fn everywhere<H: Header + Getters<P>, P>(
 ) -> Result<(), Failure> {
     let alloc = arguments.alloc();
     let header: H = arguments.header_of_rest()?;
-    let copy = header.copy(alloc)?;
+    let copy = copy_of(alloc, &header)?;
     let (Some(lines), Some(of_copy)) = (encoded(alloc, &header)?, encoded(alloc, &copy)?) else {
         return Ok(answer.word("(left)")?);
     };

@@ -6,9 +6,11 @@ use http::Method;
 use std::alloc::Global;
 use test_rows::{Answer, Arguments, Failure};
 
-/// What an iterator says of how much is left, whatever is.
+/// What an iterator says of how much is left.
 #[derive(Clone, Copy, Drop)]
 pub enum Hint {
+    /// What is.
+    Right,
     /// Nothing.
     Unknown,
     /// 2^64 - 1 elements at most.
@@ -36,12 +38,21 @@ impl<T: Drop> Iterator for Hinted<T> {
     }
 
     fn size_hint(&self) -> (usize, Option<usize>) {
-        let (_, upper) = self.elements.size_hint();
+        let (lower, upper) = self.elements.size_hint();
         match self.hint {
+            Hint::Right => (lower, upper),
             Hint::Unknown => (0, None),
             Hint::TooMuch => (0, upper.map(|_| usize::MAX)),
         }
     }
+}
+
+// The next word, as a hint; the right one for a call `from_iter`, which has no such word.
+fn hint_of(call: &str, arguments: &mut Arguments<'_>) -> Result<Hint, Failure> {
+    if call.ends_with("from_iter") {
+        return Ok(Hint::Right);
+    }
+    read_hint(arguments)
 }
 
 // The next word, as a hint.
@@ -53,23 +64,29 @@ fn read_hint(arguments: &mut Arguments<'_>) -> Result<Hint, Failure> {
     }
 }
 
-/// The next word as a hint, and all words that are left as names.
-pub fn hinted_names(arguments: &mut Arguments<'_>) -> Result<Hinted<HeaderName>, Failure> {
-    let hint = read_hint(arguments)?;
+/// The names of a call `from_iter NAME..` or `from_hinted_iter HINT NAME..`.
+pub fn hinted_names(
+    call: &str,
+    arguments: &mut Arguments<'_>,
+) -> Result<Hinted<HeaderName>, Failure> {
+    let hint = hint_of(call, arguments)?;
     let elements = arguments.names()?;
     Ok(Hinted { elements, hint })
 }
 
-/// The next word as a hint, and all words that are left as methods.
-pub fn hinted_methods(arguments: &mut Arguments<'_>) -> Result<Hinted<Method>, Failure> {
-    let hint = read_hint(arguments)?;
+/// The methods of such a call.
+pub fn hinted_methods(
+    call: &str,
+    arguments: &mut Arguments<'_>,
+) -> Result<Hinted<Method>, Failure> {
+    let hint = hint_of(call, arguments)?;
     let elements = arguments.methods()?;
     Ok(Hinted { elements, hint })
 }
 
 /// Adds the least and the greatest number of elements that such an iterator hints at.
 pub fn size_hint(arguments: &mut Arguments<'_>, answer: &mut Answer) -> Result<(), Failure> {
-    let (least, greatest) = hinted_names(arguments)?.size_hint();
+    let (least, greatest) = hinted_names("size_hint", arguments)?.size_hint();
     answer.word(least)?;
     Ok(answer.option(greatest)?)
 }

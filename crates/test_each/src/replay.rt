@@ -4,63 +4,51 @@ ghost use Rattle.std.specs.Iterator.{IsFinite};
 use crate::everywhere::everywhere;
 use crate::hinted::{decode_hinted, harmless, lengths};
 use crate::writing::{add_with_copy, add_written, secret, writes, written};
-use headers::{
-    Header, HeaderMap, HeaderMapExt, HeaderName, HeaderValue, Methods, Refused, decode_values,
-};
+use headers::{Header, HeaderMap, HeaderMapExt, HeaderName, HeaderValue, Refused, decode_values};
 use std::alloc::{AllocError, Global};
 use std::cmp::Ordering;
 use std::fmt::{Debug, Display};
+use std::hash::{DefaultHasher, Hash, Hasher};
 use test_rows::{Answer, Arguments, Failure, append_lines};
 
-/// A header with the words of its getters, and its copy. `P` is a type of the crate that has the impl, which
-/// so may stand apart from the header and from this trait.
-pub trait Getters<P> {
-    /// Adds what its getters give.
-    fn getters(&self, _answer: &mut Answer) -> Result<(), Failure> {
-        Ok(())
-    }
-
-    /// Whether its getters answer that its line is marked sensitive.
-    fn answers_mark() -> bool {
-        false
-    }
-
-    /// Its copy.
-    fn copy(&self, alloc: Global) -> Result<Self, AllocError>;
+/// A header with the words of its getters. `P` is a type of the crate that has the impl, which so may stand apart from
+/// the header and from this trait.
+pub trait Getters<P>: Drop {
+    /// Adds what its getters give, and returns its copy.
+    fn getters(&self, answer: &mut Answer) -> Result<Self, Failure>;
 }
 
-/// A header with the calls that it has beside those of every header. These show headers of its type, so
-/// its getters are another trait's.
-pub trait Replay<P> {
-    /// Adds the answer of a call of its own.
-    fn call(
-        _call: &str,
-        _arguments: &mut Arguments<'_>,
-        _answer: &mut Answer,
-    ) -> Result<(), Failure> {
-        Err(Failure::NoCall)
-    }
+/// A copy of a header.
+pub fn copy_of<H: Getters<P>, P>(alloc: Global, header: &H) -> Result<H, Failure> {
+    header.getters(&mut Answer::new(alloc))
 }
 
-// The lines that a header writes, and what its getters give. `(sensitive)` if a line is marked so, and no
-// getter says it.
-fn shown<H: Header + Getters<P>, P>(alloc: Global, header: &H) -> Result<Answer, Failure> {
+// Whether the answer says of the field with this name whether it is marked sensitive, also if it isn't.
+fn answers_mark(name: &HeaderName) -> bool {
+    let name = name.as_str();
+    name.ends_with("authorization") || name == "sec-websocket-key"
+}
+
+// The lines that a header writes, what its getters give, and whether a line is marked sensitive; and its copy.
+fn shown<H: Header + Getters<P>, P>(alloc: Global, header: &H) -> Result<(Answer, H), Failure> {
     let mut answer = Answer::new(alloc);
     let lines = written(alloc, header)?;
     answer.list(lines.as_slice())?;
-    header.getters(&mut answer)?;
-    if !H::answers_mark() && lines.iter().any(|line| line.is_sensitive()) {
+    let copy = header.getters(&mut answer)?;
+    let is_marked = lines.iter().any(|line| line.is_sensitive());
+    if answers_mark(&H::name()) {
+        answer.word(is_marked)?;
+    } else if is_marked {
         answer.word("(sensitive)")?;
     }
-    Ok(answer)
+    Ok((answer, copy))
 }
 
 /// Adds the lines that a header writes, and what its getters give. If those of its copy are others, they
 /// follow.
 pub fn show<H: Header + Getters<P>, P>(header: &H, answer: &mut Answer) -> Result<(), Failure> {
-    let alloc = answer.alloc();
-    let of_header = shown(alloc, header)?;
-    let of_copy = shown(alloc, &header.copy(alloc)?)?;
+    let (of_header, copy) = shown(answer.alloc(), header)?;
+    let (of_copy, _again) = shown(answer.alloc(), &copy)?;
     Ok(add_with_copy(&of_header, &of_copy, answer)?)
 }
 
@@ -133,19 +121,6 @@ pub fn show_names<I: Iterator<Item = Result<HeaderName, AllocError>> + Drop>(
     Ok(answer.list(names.as_slice())?)
 }
 
-/// Adds the methods of a walk.
-pub fn show_methods(walk: Methods<'_>, answer: &mut Answer) -> Result<(), Failure> {
-    let mut methods = Vec::new(answer.alloc());
-    for method in walk {
-        methods.push(method?)?;
-    }
-    answer.word(methods.len())?;
-    for method in methods.iter() {
-        answer.bytes(method.as_str().as_bytes())?;
-    }
-    Ok(())
-}
-
 /// Whether the headers of two lines are equal; and `(copy)` if the copy of the first answers otherwise.
 pub fn eq<H: Header + Getters<P> + PartialEq, P>(
     arguments: &mut Arguments<'_>,
@@ -155,7 +130,7 @@ pub fn eq<H: Header + Getters<P> + PartialEq, P>(
     let second: H = arguments.header()?;
     let is_equal = first == second;
     answer.word(is_equal)?;
-    if (first.copy(arguments.alloc())? == second) != is_equal {
+    if (copy_of(arguments.alloc(), &first)? == second) != is_equal {
         answer.word("(copy)")?;
     }
     Ok(())
@@ -175,6 +150,23 @@ pub fn cmp<H: Header + PartialOrd>(
         None => "(none)",
     };
     Ok(answer.word(order)?)
+}
+
+// The hash of a value.
+fn hash_of<T: Hash>(value: &T) -> u64 {
+    let mut state = DefaultHasher::new();
+    value.hash(&mut state);
+    state.finish()
+}
+
+/// Whether the headers of two lines have the same hash.
+pub fn hash<H: Header + Eq + Hash>(
+    arguments: &mut Arguments<'_>,
+    answer: &mut Answer,
+) -> Result<(), Failure> {
+    let first: H = arguments.header()?;
+    let second: H = arguments.header()?;
+    Ok(answer.word(hash_of(&first) == hash_of(&second))?)
 }
 
 /// The text of the header of a line, as it is printed to the right of 20 columns.
@@ -272,7 +264,7 @@ fn typed_insert<H: Header>(
 
 /// Adds the answer of a call of a header. No hint of an iterator is read, so that of a wrong one is
 /// that of none.
-pub fn call<H: Header + Getters<P> + Replay<P>, P>(
+pub fn call<H: Header + Getters<P>, P>(
     call: &str,
     arguments: &mut Arguments<'_>,
     answer: &mut Answer,
@@ -289,6 +281,6 @@ pub fn call<H: Header + Getters<P> + Replay<P>, P>(
         "typed_try_get" => typed_try_get::<H, P>(arguments, answer),
         "typed_get" => typed_get::<H, P>(arguments, answer),
         "typed_insert" => typed_insert::<H>(arguments, answer),
-        _ => H::call(call, arguments, answer),
+        _ => Err(Failure::NoCall),
     }
 }

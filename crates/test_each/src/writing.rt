@@ -1,5 +1,5 @@
 //! The encoding of a header.
-use crate::replay::Getters;
+use crate::replay::{Getters, copy_of};
 use headers::{Header, HeaderValue, decode_values};
 use std::alloc::{AllocError, Global};
 use test_rows::{Answer, Arguments, Failure};
@@ -16,15 +16,6 @@ pub fn writes<H: Header>(alloc: Global, header: &H, text: &str) -> Result<bool, 
     let lines = written(alloc, header)?;
     Ok(match lines.as_slice() {
         [line] => line.as_bytes() == text.as_bytes(),
-        _ => false,
-    })
-}
-
-/// Whether a header writes one line, which is sensitive.
-pub fn is_sensitive<H: Header>(alloc: Global, header: &H) -> Result<bool, AllocError> {
-    let lines = written(alloc, header)?;
-    Ok(match lines.as_slice() {
-        [line] => line.is_sensitive(),
         _ => false,
     })
 }
@@ -107,6 +98,6 @@ pub fn secret<H: Header + Getters<P>, P>(
     let mut of_header = Answer::new(alloc);
     add_written(&header, &mut of_header)?;
     let mut of_copy = Answer::new(alloc);
-    add_written(&header.copy(alloc)?, &mut of_copy)?;
+    add_written(&copy_of(alloc, &header)?, &mut of_copy)?;
     Ok(add_with_copy(&of_header, &of_copy, answer)?)
 }

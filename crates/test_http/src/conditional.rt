@@ -1,9 +1,36 @@
 //! Calls of the headers of conditional requests.
 use crate::Http;
 use headers::{ETag, Header, IfMatch, IfNoneMatch, IfRange, LastModified};
+use headers_conditional::{into_tag, tag_of};
 use std::alloc::{AllocError, Global};
-use test_each::{Getters, Replay, eq, say, show, show_back_result, show_made};
+use test_each::{Getters, say, show, show_back_result, show_made};
 use test_rows::{Answer, Arguments, Failure};
+
+impl Getters<Http> for ETag {
+    fn getters(&self, answer: &mut Answer) -> Result<ETag, Failure> {
+        answer.word(self.is_weak())?;
+        Ok(self.clone(answer.alloc())?)
+    }
+}
+
+impl Getters<Http> for IfMatch {
+    fn getters(&self, answer: &mut Answer) -> Result<IfMatch, Failure> {
+        answer.word(self.is_any())?;
+        Ok(self.clone(answer.alloc())?)
+    }
+}
+
+impl Getters<Http> for IfNoneMatch {
+    fn getters(&self, answer: &mut Answer) -> Result<IfNoneMatch, Failure> {
+        Ok(self.clone(answer.alloc())?)
+    }
+}
+
+impl Getters<Http> for IfRange {
+    fn getters(&self, answer: &mut Answer) -> Result<IfRange, Failure> {
+        Ok(self.clone(answer.alloc())?)
+    }
+}
 
 // A condition on the tags of a target.
 trait Condition: Header + From<ETag> + PartialEq {
@@ -60,69 +87,31 @@ fn call_passes<C: Condition>(
     say(header.passes(&tag), answer)
 }
 
-// The calls of such a condition.
-fn call_condition<C: Condition + Getters<Http>>(
-    call: &str,
+/// Adds the answer of a call of its own of a condition on tags.
+pub fn call_condition(
+    kind: &str,
+    word: &str,
     arguments: &mut Arguments<'_>,
     answer: &mut Answer,
 ) -> Result<(), Failure> {
-    match call {
-        "eq" => eq::<C, _>(arguments, answer),
+    match kind {
+        "IfMatch" => call_any_condition::<IfMatch>(word, arguments, answer),
+        "IfNoneMatch" => call_any_condition::<IfNoneMatch>(word, arguments, answer),
+        _ => Err(Failure::NoCall),
+    }
+}
+
+fn call_any_condition<C: Condition + Getters<Http>>(
+    word: &str,
+    arguments: &mut Arguments<'_>,
+    answer: &mut Answer,
+) -> Result<(), Failure> {
+    match word {
         "any" => show_made(C::any(), answer),
         "from_etag" => show_made(C::from(arguments.tag()?), answer),
         "any_passes" => say(C::any().passes(&arguments.tag()?), answer),
         "precondition_passes" => call_passes::<C>(arguments, answer),
         _ => Err(Failure::NoCall),
-    }
-}
-
-impl Getters<Http> for ETag {
-    fn getters(&self, answer: &mut Answer) -> Result<(), Failure> {
-        say(self.is_weak(), answer)
-    }
-
-    fn copy(&self, alloc: Global) -> Result<ETag, AllocError> {
-        self.clone(alloc)
-    }
-}
-
-impl Replay<Http> for ETag {
-    fn call(call: &str, arguments: &mut Arguments<'_>, answer: &mut Answer) -> Result<(), Failure> {
-        let alloc = arguments.alloc();
-        match call {
-            "eq" => eq::<ETag, _>(arguments, answer),
-            "from_str" => show_back_result(ETag::from_str(alloc, &arguments.text()?), answer),
-            "compare" => compare(arguments, answer),
-            _ => Err(Failure::NoCall),
-        }
-    }
-}
-
-impl Getters<Http> for IfMatch {
-    fn getters(&self, answer: &mut Answer) -> Result<(), Failure> {
-        say(self.is_any(), answer)
-    }
-
-    fn copy(&self, alloc: Global) -> Result<IfMatch, AllocError> {
-        self.clone(alloc)
-    }
-}
-
-impl Replay<Http> for IfMatch {
-    fn call(call: &str, arguments: &mut Arguments<'_>, answer: &mut Answer) -> Result<(), Failure> {
-        call_condition::<IfMatch>(call, arguments, answer)
-    }
-}
-
-impl Getters<Http> for IfNoneMatch {
-    fn copy(&self, alloc: Global) -> Result<IfNoneMatch, AllocError> {
-        self.clone(alloc)
-    }
-}
-
-impl Replay<Http> for IfNoneMatch {
-    fn call(call: &str, arguments: &mut Arguments<'_>, answer: &mut Answer) -> Result<(), Failure> {
-        call_condition::<IfNoneMatch>(call, arguments, answer)
     }
 }
 
@@ -144,21 +133,27 @@ fn is_modified(arguments: &mut Arguments<'_>, answer: &mut Answer) -> Result<(),
     say(header.is_modified(tag.as_ref(), date.as_ref()), answer)
 }
 
-impl Getters<Http> for IfRange {
-    fn copy(&self, alloc: Global) -> Result<IfRange, AllocError> {
-        self.clone(alloc)
-    }
+// The opaque part of a tag, and its line.
+fn show_parts(tag: ETag, answer: &mut Answer) -> Result<(), Failure> {
+    answer.bytes(tag_of(&tag).view().tag())?;
+    Ok(answer.bytes(into_tag(tag).into_value().as_bytes())?)
 }
 
-impl Replay<Http> for IfRange {
-    fn call(call: &str, arguments: &mut Arguments<'_>, answer: &mut Answer) -> Result<(), Failure> {
-        match call {
-            "eq" => eq::<IfRange, _>(arguments, answer),
-            "etag" => show_made(IfRange::etag(arguments.tag()?), answer),
-            "date" => show_made(IfRange::date(arguments.date()?), answer),
-            "named" => show_named(&arguments.header()?, answer),
-            "is_modified" => is_modified(arguments, answer),
-            _ => Err(Failure::NoCall),
-        }
+/// Adds the answer of another call of these headers.
+pub fn call_conditional(
+    name: &str,
+    arguments: &mut Arguments<'_>,
+    answer: &mut Answer,
+) -> Result<(), Failure> {
+    let alloc = arguments.alloc();
+    match name {
+        "ETag.from_str" => show_back_result(ETag::from_str(alloc, &arguments.text()?), answer),
+        "ETag.compare" => compare(arguments, answer),
+        "ETag.parts" => show_parts(arguments.tag()?, answer),
+        "IfRange.etag" => show_made(IfRange::etag(arguments.tag()?), answer),
+        "IfRange.date" => show_made(IfRange::date(arguments.date()?), answer),
+        "IfRange.named" => show_named(&arguments.header()?, answer),
+        "IfRange.is_modified" => is_modified(arguments, answer),
+        _ => Err(Failure::NoCall),
     }
 }

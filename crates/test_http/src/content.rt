@@ -1,107 +1,17 @@
-//! Calls of the content headers, and of media types.
+//! Calls of `Content-Type` and of media types.
 use crate::Http;
-use headers::{ContentDisposition, ContentEncoding, ContentLength, ContentType, Mime};
-use headers_core::{NamedField, ValueHeader};
-use std::alloc::{AllocError, Global};
-use test_each::{Getters, Replay, eq, padded, say, show_made, show_result, writes};
+use headers::{ContentType, Mime};
+use test_each::{Getters, say, show_made, show_result, writes};
 use test_rows::{Answer, Arguments, Failure};
 
-impl Getters<Http> for ContentDisposition {
-    fn getters(&self, answer: &mut Answer) -> Result<(), Failure> {
-        answer.word(self.is_inline())?;
-        answer.word(self.is_attachment())?;
-        say(self.is_form_data(), answer)
-    }
-
-    fn copy(&self, alloc: Global) -> Result<ContentDisposition, AllocError> {
-        self.clone(alloc)
-    }
-}
-
-impl Replay<Http> for ContentDisposition {
-    fn call(
-        call: &str,
-        _arguments: &mut Arguments<'_>,
-        answer: &mut Answer,
-    ) -> Result<(), Failure> {
-        match call {
-            "inline" => show_made(ContentDisposition::inline(), answer),
-            _ => Err(Failure::NoCall),
-        }
-    }
-}
-
-impl Getters<Http> for ContentEncoding {
-    fn copy(&self, alloc: Global) -> Result<ContentEncoding, AllocError> {
-        self.clone(alloc)
-    }
-}
-
-fn contains(arguments: &mut Arguments<'_>, answer: &mut Answer) -> Result<(), Failure> {
-    let coding = arguments.text()?;
-    let header: ContentEncoding = arguments.header_of_rest()?;
-    say(header.contains(coding.as_str()), answer)
-}
-
-impl Replay<Http> for ContentEncoding {
-    fn call(call: &str, arguments: &mut Arguments<'_>, answer: &mut Answer) -> Result<(), Failure> {
-        match call {
-            "gzip" => show_made(ContentEncoding::gzip(), answer),
-            "brotli" => show_made(ContentEncoding::brotli(), answer),
-            "zstd" => show_made(ContentEncoding::zstd(), answer),
-            "contains" => contains(arguments, answer),
-            _ => Err(Failure::NoCall),
-        }
-    }
-}
-
-impl Getters<Http> for ContentLength {
-    fn getters(&self, answer: &mut Answer) -> Result<(), Failure> {
-        say(self.0, answer)
-    }
-
-    fn copy(&self, _alloc: Global) -> Result<ContentLength, AllocError> {
-        self.clone()
-    }
-}
-
-impl Replay<Http> for ContentLength {
-    fn call(call: &str, arguments: &mut Arguments<'_>, answer: &mut Answer) -> Result<(), Failure> {
-        match call {
-            "eq" => eq::<ContentLength, _>(arguments, answer),
-            "new" => show_made(ContentLength(arguments.number()?), answer),
-            _ => Err(Failure::NoCall),
-        }
-    }
-}
-
-// `Location` and `ContentLocation`.
-impl<N: NamedField> Getters<Http> for ValueHeader<N> {
-    fn copy(&self, alloc: Global) -> Result<ValueHeader<N>, AllocError> {
-        self.clone(alloc)
-    }
-}
-
-impl<N: NamedField + PartialEq> Replay<Http> for ValueHeader<N> {
-    fn call(call: &str, arguments: &mut Arguments<'_>, answer: &mut Answer) -> Result<(), Failure> {
-        match call {
-            "eq" => eq::<ValueHeader<N>, _>(arguments, answer),
-            _ => Err(Failure::NoCall),
-        }
-    }
-}
-
 impl Getters<Http> for ContentType {
-    fn getters(&self, answer: &mut Answer) -> Result<(), Failure> {
+    fn getters(&self, answer: &mut Answer) -> Result<ContentType, Failure> {
         let alloc = answer.alloc();
         let mime = Mime::from(self.clone(alloc)?);
         answer.bytes(mime.as_str().as_bytes())?;
         let is_displayed = writes(alloc, self, self.to_string(alloc)?.as_str())?;
-        Ok(answer.word(is_displayed && mime.to_string(alloc)?.as_str() == mime.as_str())?)
-    }
-
-    fn copy(&self, alloc: Global) -> Result<ContentType, AllocError> {
-        self.clone(alloc)
+        answer.word(is_displayed && mime.to_string(alloc)?.as_str() == mime.as_str())?;
+        Ok(self.clone(alloc)?)
     }
 }
 
@@ -126,16 +36,17 @@ fn named_type(name: &str) -> Option<ContentType> {
     })
 }
 
-impl Replay<Http> for ContentType {
-    fn call(call: &str, arguments: &mut Arguments<'_>, answer: &mut Answer) -> Result<(), Failure> {
-        let alloc = arguments.alloc();
-        match call {
-            "eq" => eq::<ContentType, _>(arguments, answer),
-            "from_str" => show_result(ContentType::from_str(alloc, &arguments.text()?), answer),
-            "from_mime" => show_made(ContentType::from(read_mime(arguments)?), answer),
-            "padded" => padded::<ContentType>(arguments, answer),
-            _ => show_result(named_type(call).ok_or(Failure::NoCall), answer),
-        }
+/// Adds the answer of a call of `Content-Type` of its own.
+pub fn call_content(
+    word: &str,
+    arguments: &mut Arguments<'_>,
+    answer: &mut Answer,
+) -> Result<(), Failure> {
+    let alloc = arguments.alloc();
+    match word {
+        "from_str" => show_result(ContentType::from_str(alloc, &arguments.text()?), answer),
+        "from_mime" => show_made(ContentType::from(read_mime(arguments)?), answer),
+        _ => show_result(named_type(word).ok_or(Failure::NoCall), answer),
     }
 }
 
@@ -169,15 +80,28 @@ fn named(name: &str) -> Option<Mime> {
     })
 }
 
+// Whether a media type equals a constant, as its copy does.
+fn equals(mime: &Mime, other: &Mime, answer: &mut Answer) -> Result<(), Failure> {
+    let is_equal = mime == other;
+    if (mime.clone(answer.alloc())? == *other) != is_equal {
+        answer.word("(copy)")?;
+    }
+    say(is_equal, answer)
+}
+
 /// Adds the answer of a call of a media type.
 pub fn call_mime(
-    call: &str,
+    word: &str,
     arguments: &mut Arguments<'_>,
     answer: &mut Answer,
 ) -> Result<(), Failure> {
-    match call {
+    match word {
+        "equals" => {
+            let other = named(arguments.word()?).ok_or(Failure::NoCall)?;
+            equals(&read_mime(arguments)?, &other, answer)
+        }
         "formats" => format_mime(arguments, answer),
         "parse" => show_mime(&read_mime(arguments)?, answer),
-        _ => show_mime(&named(call).ok_or(Failure::NoCall)?, answer),
+        _ => show_mime(&named(word).ok_or(Failure::NoCall)?, answer),
     }
 }

@@ -15,10 +15,9 @@ use crate::errors::{display, formats};
 use crate::items::{call_comma, call_list};
 use crate::map::call_map;
 use crate::texts::{call_tag, call_tag_range, call_text};
-use crate::user::call_user;
+use crate::user::{call_user, insert_none};
 use headers_items::SemiColon;
-use headers_user::MaxForwards;
-use test_each::{call, size_hint};
+use test_each::size_hint;
 use test_rows::{Answer, Arguments, Calls, Failure};
 
 /// The calls on what stands below the headers and above them.
@@ -37,7 +36,6 @@ fn call_part(
         "EntityTag" => call_tag(word, arguments, answer),
         "EntityTagRange" => call_tag_range(word, arguments, answer),
         "map" => call_map(word, arguments, answer),
-        "MaxForwards" => call::<MaxForwards, _>(word, arguments, answer),
         "text" => call_text(word, arguments, answer),
         "user" => call_user(word, arguments, answer),
         _ => Err(Failure::NoCall),
@@ -51,6 +49,7 @@ impl Calls for Parts {
             "display" => return display(arguments, answer),
             "formats" => return formats(arguments, answer),
             "size_hint" => return size_hint(arguments, answer),
+            "MaxForwards.insert_none" => return insert_none(arguments, answer),
             _ => {}
         }
         match name.split_once('.') {

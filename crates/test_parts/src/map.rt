@@ -245,6 +245,9 @@ fn show_errors(arguments: &mut Arguments<'_>, answer: &mut Answer) -> Result<(),
     };
     answer.bytes(format!(in alloc; "{cause}")?.as_bytes())?;
     let error = ApplyError { done, cause };
+    if error != (ApplyError { done, cause }) || error == (ApplyError { done: !done, cause }) {
+        answer.word("(equal)")?;
+    }
     Ok(answer.bytes(format!(in alloc; "{error}")?.as_bytes())?)
 }
 

@@ -1,37 +1,12 @@
 //! Calls of a user's own header and credentials. Fields are written as those of a map.
-use crate::Parts;
 use crate::map::same_lines;
 use headers::authorization::Authorization;
 use headers::{HeaderMapExt, InsertError, encoding};
 use headers_user::{ForwardError, Forwarded, MaxForwards, forward, key_of};
-use std::alloc::{AllocError, Global};
-use test_each::{Getters, Replay, eq, show};
 use test_rows::{Answer, Arguments, Failure};
 
-impl Getters<Parts> for MaxForwards {
-    fn getters(&self, answer: &mut Answer) -> Result<(), Failure> {
-        Ok(answer.option(self.hops())?)
-    }
-
-    fn copy(&self, _alloc: Global) -> Result<MaxForwards, AllocError> {
-        Ok(*self)
-    }
-}
-
-impl Replay<Parts> for MaxForwards {
-    fn call(call: &str, arguments: &mut Arguments<'_>, answer: &mut Answer) -> Result<(), Failure> {
-        match call {
-            "eq" => eq::<MaxForwards, _>(arguments, answer),
-            "new" => show(&MaxForwards::new(arguments.number()?), answer),
-            "none" => show(&MaxForwards::none(), answer),
-            "insert_none" => insert_none(arguments, answer),
-            _ => Err(Failure::NoCall),
-        }
-    }
-}
-
-// The map that a typed insert of no limit leaves.
-fn insert_none(arguments: &mut Arguments<'_>, answer: &mut Answer) -> Result<(), Failure> {
+/// Adds the map that a typed insert of no limit leaves.
+pub fn insert_none(arguments: &mut Arguments<'_>, answer: &mut Answer) -> Result<(), Failure> {
     let alloc = arguments.alloc();
     let text = arguments.rest();
     let mut map = Arguments::new(alloc, text).map()?;

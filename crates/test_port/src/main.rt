@@ -6,10 +6,9 @@ use std::process::ExitCode;
 use test_http::Http;
 use test_parts::Parts;
 use test_rows::replay_files;
-use test_web::Web;
 
 /// The calls of the port.
-type Port = (Http, (Web, Parts));
+type Port = (Http, Parts);
 
 fn main(rt: HostRuntime) -> anyhow::Result<ExitCode> {
     replay_files::<Port, _>(&rt)

@@ -33,9 +33,8 @@ macro_rules! each {
     };
 }
 
-// The types that are copied, or ordered.
-#[test]
-fn ordered() {
+/// The types that are copied, or ordered.
+pub fn ordered() {
     each!(
         is_copy: Age, ContentLength, Date, Expires, LastModified, IfModifiedSince,
         IfUnmodifiedSince, SecWebsocketVersion
@@ -47,17 +46,15 @@ fn ordered() {
     each!(is_partly_ordered: Host);
 }
 
-// The types that have a hash, or whose equality is total.
-#[test]
-fn hashed() {
+/// The types that have a hash, or whose equality is total.
+pub fn hashed() {
     each!(is_hashed: SecWebsocketKey, SecWebsocketAccept, SecWebsocketVersion, ReferrerPolicy);
     each!(is_hashed: Origin, Host, AccessControlAllowOrigin, AccessControlRequestMethod);
     each!(is_equated: RetryAfter, ETag, AccessControlAllowCredentials);
 }
 
-// The types that are compared.
-#[test]
-fn compared() {
+/// The types that are compared.
+pub fn compared() {
     each!(is_compared: ContentLength, IfRange, Location, ContentLocation, Pragma, Upgrade, Referer);
     each!(is_compared: Expect, Range, ContentRange, AcceptRanges, Te, Vary, Allow, IfMatch, IfNoneMatch);
     each!(is_compared: AccessControlAllowHeaders, AccessControlAllowMethods, CacheControl);
@@ -66,9 +63,8 @@ fn compared() {
     each!(is_compared: ProxyAuthorization<Basic>, ProxyAuthorization<Bearer>);
 }
 
-// The types that have none of these, but `Debug`, as all have.
-#[test]
-fn shown() {
+/// The types that have none of these, but `Debug`, as all have.
+pub fn shown() {
     each!(is_shown: Age, AccessControlMaxAge, ContentLength, RetryAfter, Date, Expires, LastModified);
     each!(is_shown: IfModifiedSince, IfUnmodifiedSince, ETag, IfRange, Location, ContentLocation);
     each!(is_shown: Pragma, Upgrade, ContentDisposition, SecWebsocketKey, SecWebsocketAccept);
