@@ -205,7 +205,7 @@ impl Pass<'_> {
     /// The fields of the request by which what was sent stale is validated for nobody (RFC 5861, section 3): a new pass
     /// begins with them, of the same method and target, and they are forwarded.
     pub fn validation(&mut self) -> Result<Section, Error> {
-        let pass = self.handle.alone();
+        let pass: *mut sys::Pass = self.handle.alone();
         // SAFETY: as above.
         let found = written(512, |room: *mut u8, length, count| unsafe {
             sys::typed_headers_pass_validation(pass, room, length, count)
