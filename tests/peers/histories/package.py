@@ -70,7 +70,8 @@ class Package:
         if isinstance(found, headers.Ask):
             if found.fields is None:
                 return "ask"
-            own = tuple(it for it in found.fields if it[0] not in found.alone)
+            # (the request of a validation has no conditions but these)
+            own = tuple(it for it in found.fields if it[0].startswith("if-") or it[0] not in found.alone)
             wanted = [it for it in call.told if tuple(field for field in it.conditions if field[1] is not None) == own
                       and it.word == "validate"]
             return wanted[0].row() if wanted else "ask" if found.alone and not own else f"validate {found.fields}"
