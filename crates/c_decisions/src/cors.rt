@@ -7,7 +7,7 @@ use crate::flag::flag_of;
 use crate::method::read_method;
 use crate::rules::{Rules, read_policy};
 use c_parts::{Failure, HashKeys, read_map};
-use decide_cors::{CorsAnswer, CorsKind, CorsPolicy};
+use decide_cors::{CorsAnswer, CorsKind, CorsPolicy, RequestHead};
 use std::alloc::{AllocError, Global};
 
 /// The answer of a policy to a request, as numbers.
@@ -57,7 +57,11 @@ fn answer_by(
     let method = read_method(alloc, method)?;
     let request = read_map(alloc, request, keys)?;
     let response = read_map(alloc, response, keys)?;
-    let answer = policy.answer(alloc, &method, &request, &response)?;
+    let request = RequestHead {
+        method: &method,
+        fields: &request,
+    };
+    let answer = policy.answer(alloc, &request, &response)?;
     Ok(show_shared(alloc, &answer)?)
 }
 

@@ -6,7 +6,7 @@ use crate::handle::Handle;
 use crate::held::Held;
 use c_decisions::{Shared, read_method, show_shared};
 use c_parts::{Failure, HashKeys, read_map};
-use decide_cors::CorsPolicy;
+use decide_cors::{CorsPolicy, RequestHead};
 use headers::HeaderMap;
 use std::alloc::Global;
 
@@ -22,7 +22,11 @@ fn answer_of(
 {
     let method = read_method(alloc, method)?;
     let response = read_map(alloc, response, keys)?;
-    let answer = policy.answer(alloc, &method, fields, &response)?;
+    let request = RequestHead {
+        method: &method,
+        fields,
+    };
+    let answer = policy.answer(alloc, &request, &response)?;
     Ok(show_shared(alloc, &answer)?)
 }
 

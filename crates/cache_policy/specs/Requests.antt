@@ -2,7 +2,8 @@
 use Rattle.std.specs.Prelude.{◌≡◌, ◌⊎◌, ℕ, List, IsTrue, codes}
 use Rattle.http.specs.Method.{is_among, safe_methods}
 use Rattle.headers.specs.LineMap.{LineMap, lines_at}
-use Rattle.decide_preconditions.{specs.Preconditions.IsGetOrHead, specs.declared.request.RequestHead.RequestHead}
+use Rattle.rfc_fields.specs.declared.request.RequestHead.{RequestHead}
+use Rattle.decide_preconditions.specs.Preconditions.{IsGetOrHead}
 
 -- the method and the fields of a request
 pub record Request : Type 0 where

@@ -20,3 +20,4 @@ pub use crate::kind::CorsKind;
 pub use crate::policy::{CorsAnswer, CorsPolicy};
 pub use crate::rules::{Allowed, AllowedNames, CorsRules};
 pub use crate::sent::{UnsentOrigin, check_origins};
+pub use rfc_fields::RequestHead;

@@ -15,11 +15,11 @@ use crate::sent::{UnsentOrigin, check_origins};
 use crate::vary::push_vary;
 use crate::written::{line_of_age, line_of_exposed, line_of_methods, line_of_names, texts_of};
 use headers::{Encoded, HeaderMap, HeaderValue, Refused};
-use http::Method;
 use http_header::{
     ACCESS_CONTROL_ALLOW_CREDENTIALS, ACCESS_CONTROL_ALLOW_HEADERS, ACCESS_CONTROL_ALLOW_METHODS,
     ACCESS_CONTROL_ALLOW_ORIGIN, ACCESS_CONTROL_EXPOSE_HEADERS, ACCESS_CONTROL_MAX_AGE,
 };
+use rfc_fields::RequestHead;
 use std::alloc::{AllocError, Global};
 use std::marker::Model;
 
@@ -78,14 +78,14 @@ impl CorsPolicy {
     pub fn answer(
         &self,
         alloc: Global,
-        method: &Method,
-        request: &HeaderMap,
+        request: &RequestHead<'_>,
         response: &HeaderMap,
     ) -> Result<CorsAnswer, AllocError>
-        ensures { IfOk result (IsAnswer self.now method.now (lines_at request.now) (lines_at response.now)) }
+        ensures { IfOk result (IsAnswer self.now request.now.method.now (lines_at request.now.fields.now)
+            (lines_at response.now)) }
     {
-        let kind = kind_of(method, request);
-        let granted = self.granted(request)?;
+        let kind = kind_of(request.method, request.fields);
+        let granted = self.granted(request.fields)?;
         let is_allowed = is_allowed(kind, &granted);
         let mut fields = self.grant_fields(alloc, kind.is_preflight(), granted)?;
         self.push_vary(alloc, &mut fields, response)?;

@@ -6,10 +6,10 @@ ghost use Rattle.decide_preconditions.specs.{Plans.{IsPlanned, IsSentAs, ReadsSo
 use crate::limits::RangeFacts;
 use crate::part::Part;
 use crate::precondition::{Precondition, evaluate, is_get_or_head};
-use crate::request::RequestHead;
 use crate::resource::Resource;
 use crate::selection::{Selection, select};
 use http::StatusCode;
+use rfc_fields::RequestHead;
 use std::alloc::{AllocError, Global};
 
 /// What the response to a request for a representation has: its status, and which parts are sent.

@@ -7,13 +7,12 @@ ghost use Rattle.decide_preconditions.specs.Preconditions.{Answers, AreIgnored, 
 ghost use Rattle.decide_preconditions.specs.Preconditions.{IsStoredByTag, IsUnconditional, MayBeThere, ReadsMissing};
 ghost use Rattle.decide_preconditions.specs.Preconditions.{StateIsKept, StateIsLost, StepsAnswer};
 
-use crate::request::RequestHead;
 use crate::resource::Resource;
 use crate::tags::{Comparison, may_name, names, only_text};
 use headers::{HeaderMap, HeaderValue};
 use http::Method;
 use http_header::{GetAll, IF_MATCH, IF_MODIFIED_SINCE, IF_NONE_MATCH, IF_UNMODIFIED_SINCE};
-use rfc_fields::has_line;
+use rfc_fields::{RequestHead, has_line};
 use rfc_values::{Timestamp, read_date};
 
 /// The result of the preconditions of a request.

@@ -6,12 +6,11 @@ ghost use Rattle.decide_preconditions.specs.{Fields.is_known_by, Responses.{IsAn
 use crate::content::Sending;
 use crate::limits::RangeFacts;
 use crate::plan::{Plan, plan_answer};
-use crate::request::RequestHead;
 use crate::resource::Resource;
 use headers::{Encoded, HeaderMap};
 use http::StatusCode;
 use http_header::IF_RANGE;
-use rfc_fields::has_line;
+use rfc_fields::{RequestHead, has_line};
 use std::alloc::{AllocError, Global};
 
 /// The response to a request for a representation: its plan, its status and its fields.

@@ -9,13 +9,12 @@ ghost use Rattle.decide_preconditions.specs.Selection.{range_set_of, set_asked, 
 use crate::limits::{RangeFacts, RangeLimits};
 use crate::part::{Part, coalesce};
 use crate::range_set::{is_range_set, is_unsatisfiable, parts_in};
-use crate::request::RequestHead;
 use crate::resource::Validators;
 use crate::tags::{Comparison, is_tag, is_tag_of, only_text};
 use headers::HeaderMap;
 use http::Method;
 use http_header::{IF_RANGE, RANGE};
-use rfc_fields::has_line;
+use rfc_fields::{RequestHead, has_line};
 use rfc_values::{Timestamp, read_date};
 use std::alloc::{AllocError, Global};
 

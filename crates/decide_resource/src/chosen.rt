@@ -103,7 +103,7 @@ pub(crate) fn responded(
         (content_of (option_copied representation.entry)) resource.now.boundary) }
 {
     let boundary = &resource.boundary;
-    let head = decide_preconditions::RequestHead {
+    let head = rfc_fields::RequestHead {
         method: request.method,
         fields: request.fields,
     };

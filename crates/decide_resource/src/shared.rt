@@ -102,7 +102,11 @@ fn policy_fields(
         (fields_of fields.items)) }
 {
     let response = varying(alloc, lines)?;
-    let answer = policy.answer(alloc, request.method, request.fields, &response)?;
+    let asked = rfc_fields::RequestHead {
+        method: request.method,
+        fields: request.fields,
+    };
+    let answer = policy.answer(alloc, &asked, &response)?;
     Ok(answer.fields)
 }
 

@@ -1,5 +1,5 @@
 //! The grammar of field values: lists, quoted-strings, comments, parameters, directives and numbers
-//! (RFC 9110, section 5.6).
+//! (RFC 9110, section 5.6), and the head of a request.
 //!
 //! A member of a list is a slice of its field line, and no call allocates. A text that doesn't
 //! parse is malformed: no meaning is guessed, and a caller treats it in the strictest way.
@@ -14,6 +14,7 @@ pub mod laws;
 mod members;
 mod numbers;
 mod parameters;
+mod request;
 mod scan;
 mod values;
 mod weights;
@@ -28,5 +29,6 @@ pub use crate::field::{
 pub use crate::members::{FieldMembers, Members, is_well_formed};
 pub use crate::numbers::{delta_seconds, number};
 pub use crate::parameters::Parameterized;
+pub use crate::request::RequestHead;
 pub use crate::values::{Octets, Value, is_token, read_value};
 pub use crate::weights::weight;

@@ -3,7 +3,9 @@
 //! Rules are fields: `(origins)`, `(methods)`, `(names)` and `(exposed)` list values, `(any)` names those of the four
 //! that are any, or `names-and-authorization`, and `(credentials)` is `true` or left out. `(max-age)` is a number.
 use crate::store::method;
-use decide_cors::{Allowed, AllowedNames, CorsAnswer, CorsKind, CorsPolicy, CorsRules, RulesError};
+use decide_cors::{
+    Allowed, AllowedNames, CorsAnswer, CorsKind, CorsPolicy, CorsRules, RequestHead, RulesError,
+};
 use decide_negotiation::{Accept, AcceptEncoding, AcceptLanguage, varies_by};
 use headers::{HeaderMap, HeaderName, HeaderValue, Origin, decode_values, set_all};
 use http::Method;
@@ -116,12 +118,16 @@ fn make_answer(arguments: &mut Arguments<'_>, answer: &mut Answer) -> Result<(),
     let policy = read_policy(arguments)?;
     let method = method(arguments)?;
     let request = arguments.map()?;
+    let request = RequestHead {
+        method: &method,
+        fields: &request,
+    };
     let mut response = arguments.map()?;
     let CorsAnswer {
         kind,
         is_allowed,
         fields,
-    } = policy.answer(answer.alloc(), &method, &request, &response)?;
+    } = policy.answer(answer.alloc(), &request, &response)?;
     set_all(&mut response, fields).map_err(|_| Failure::Memory)?;
     answer.word(format_args!("{} {is_allowed}", kind_word(kind)))?;
     answer.map(&response)

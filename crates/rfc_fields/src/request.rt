@@ -1,7 +1,7 @@
 //! Requests.
 
-use headers::HeaderMap;
 use http::Method;
+use http_header::HeaderMap;
 
 /// The head of a request: its method and its fields.
 #[derive(Clone, Copy)]
