@@ -8,8 +8,8 @@ use crate::giving::give;
 use c_decisions::{fields_text, read_method, read_status};
 use c_parts::{DONE, Failure, HashKeys, copy_into, read_map};
 use cache_policy::{
-    Decision, Kind, RequestHead, Times, current_age, decide, heuristic_lifetime, lifetime,
-    may_store, validation_fields,
+    Decision, Kind, RequestHead, StoredHeads, Times, current_age, decide, heuristic_lifetime,
+    lifetime, may_store, validation_fields,
 };
 use std::alloc::Global;
 
@@ -254,21 +254,18 @@ fn decides(
     let stored = read_map(alloc, stored, keys)?;
     let request = read_map(alloc, request, keys)?;
     let response = read_map(alloc, response, keys)?;
-    let stored = RequestHead {
-        method: &stored_method,
-        fields: &stored,
+    let stored = StoredHeads {
+        request: RequestHead {
+            method: &stored_method,
+            fields: &stored,
+        },
+        response: &response,
     };
     let request = RequestHead {
         method: &method,
         fields: &request,
     };
-    let decision = decide(
-        &stored,
-        &request,
-        &response,
-        times_of(moments),
-        kind_of(is_shared),
-    );
+    let decision = decide(&stored, &request, times_of(moments), kind_of(is_shared));
     Ok(decision_number(decision))
 }
 

@@ -31,7 +31,7 @@ fn made_at(response: &StoredResponse) -> Timestamp
 fn is_newer(stored: &StoredResponse, came: &StoredResponse) -> bool
     ensures { MatchBool result (IsNewer came.now stored.now) (¬ (IsNewer came.now stored.now)) }
 {
-    if !matches(&stored.head(), &came.head(), &stored.response) {
+    if !matches(&stored.heads(), &came.head()) {
         return false;
     }
     let (made, other) = (made_at(stored), made_at(came));

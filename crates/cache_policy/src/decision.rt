@@ -10,10 +10,11 @@ ghost use Rattle.cache_fields.specs.Directives.{directed};
 
 use crate::policy::Policy;
 use crate::request::is_safe;
+use crate::stored::StoredHeads;
 use crate::vary::matches;
 use cache_fields::{Directives, Kind, Times, current_age, lifetime_by, read_directives};
-use decide_preconditions::RequestHead;
 use headers::HeaderMap;
+use rfc_fields::RequestHead;
 
 /// What a cache does with a request that a stored response may answer.
 #[derive(Clone, Copy, Debug, PartialEq, Eq)]
@@ -47,45 +48,44 @@ pub struct Freshness {
 }
 
 /// Decides what a cache does with a request, by a response stored under the same URI (RFC 9111,
-/// section 4). It uses the lifetime that the origin states. `stored` is the request that the
-/// response answered: if its method or Vary keeps the response from answering the new request, the
-/// result is that of `decide_unstored`.
+/// section 4). It uses the lifetime that the origin states. If the stored method or Vary keeps the
+/// response from answering the new request, the result is that of `decide_unstored`.
 ///
 /// Without a stated lifetime the response isn't fresh: to guess one, see `heuristic_lifetime` and
 /// `decide_by`.
 pub fn decide(
-    stored: &RequestHead<'_>,
+    stored: &StoredHeads<'_>,
     request: &RequestHead<'_>,
-    response: &HeaderMap,
     times: Times,
     kind: Kind,
 ) -> Decision
-    ensures { Decides kind (request_of stored.now) (request_of request.now) (lines_at response.now) times result }
+    ensures { Decides kind (request_of stored.now.request) (request_of request.now)
+        (lines_at stored.now.response.now) times result }
 {
     let policy = Policy {
         kind,
         immutable: false,
         targets: &[],
     };
-    policy.decide(stored, request, response, times)
+    policy.decide(stored, request, times)
 }
 
 /// Decides what a cache does with a request, as `decide` does, by a given lifetime and age.
 pub fn decide_by(
-    stored: &RequestHead<'_>,
+    stored: &StoredHeads<'_>,
     request: &RequestHead<'_>,
-    response: &HeaderMap,
     freshness: Freshness,
     kind: Kind,
 ) -> Decision
-    ensures { DecidesBy kind (request_of stored.now) (request_of request.now) (lines_at response.now) freshness result }
+    ensures { DecidesBy kind (request_of stored.now.request) (request_of request.now)
+        (lines_at stored.now.response.now) freshness result }
 {
     let policy = Policy {
         kind,
         immutable: false,
         targets: &[],
     };
-    policy.decide_by(stored, request, response, freshness)
+    policy.decide_by(stored, request, freshness)
 }
 
 impl Policy<'_> {
@@ -93,16 +93,15 @@ impl Policy<'_> {
     /// policy.
     pub fn decide(
         &self,
-        stored: &RequestHead<'_>,
+        stored: &StoredHeads<'_>,
         request: &RequestHead<'_>,
-        response: &HeaderMap,
         times: Times,
     ) -> Decision
-        ensures { DecidesUnder (policy_of self.now) (request_of stored.now) (request_of request.now)
-            (lines_at response.now) times result }
+        ensures { DecidesUnder (policy_of self.now) (request_of stored.now.request) (request_of request.now)
+            (lines_at stored.now.response.now) times result }
     {
-        if matches(stored, request, response) {
-            self.decide_matched(request.fields, response, times)
+        if matches(stored, request) {
+            self.decide_matched(request.fields, stored.response, times)
         } else {
             decide_unstored(request)
         }
@@ -111,16 +110,15 @@ impl Policy<'_> {
     /// Decides what a cache does with a request by this policy, and by a given lifetime and age.
     pub fn decide_by(
         &self,
-        stored: &RequestHead<'_>,
+        stored: &StoredHeads<'_>,
         request: &RequestHead<'_>,
-        response: &HeaderMap,
         freshness: Freshness,
     ) -> Decision
-        ensures { DecidesByUnder (policy_of self.now) (request_of stored.now) (request_of request.now)
-            (lines_at response.now) freshness result }
+        ensures { DecidesByUnder (policy_of self.now) (request_of stored.now.request) (request_of request.now)
+            (lines_at stored.now.response.now) freshness result }
     {
-        if matches(stored, request, response) {
-            let tells = self.read_governing(response).directives;
+        if matches(stored, request) {
+            let tells = self.read_governing(stored.response).directives;
             self.decide_by_directives(request.fields, &tells, freshness)
         } else {
             decide_unstored(request)

@@ -14,6 +14,7 @@ mod freshness;
 pub mod laws;
 mod policy;
 mod request;
+mod stored;
 mod storing;
 mod updating;
 mod validating;
@@ -24,6 +25,7 @@ pub use crate::decision::{Decision, Freshness, decide, decide_by, decide_unstore
 pub use crate::freshening::freshening_fields;
 pub use crate::freshness::{heuristic_lifetime, lifetime};
 pub use crate::policy::Policy;
+pub use crate::stored::StoredHeads;
 pub use crate::storing::may_store;
 pub use crate::updating::{has_strong_tag, has_validator, is_updated};
 pub use crate::validating::validation_fields;
@@ -32,4 +34,4 @@ pub use cache_fields::{
     Directives, Governing, Kind, Times, current_age, date, heuristic_by, lifetime_by,
     read_directives,
 };
-pub use decide_preconditions::RequestHead;
+pub use rfc_fields::RequestHead;

@@ -8,24 +8,25 @@ ghost use Rattle.cache_policy.specs.Varying.{IsSame, SayTheSame, Suits, has_pair
 
 use crate::fields::have_same_lines;
 use crate::request::allows_method;
-use decide_preconditions::RequestHead;
+use crate::stored::StoredHeads;
 use headers::{HeaderMap, HeaderValue};
 use http_header::{GetAll, VARY, is_token};
-use rfc_fields::{FieldMembers, Malformed, has_line};
+use rfc_fields::{FieldMembers, Malformed, RequestHead, has_line};
 
 /// Returns whether a stored response may answer a new request, by its method and Vary (RFC 9111,
-/// sections 4 and 4.1). `stored` is the request that the response answered.
+/// sections 4 and 4.1).
 ///
 /// A response to GET answers GET and HEAD, one to HEAD answers HEAD. Each field that Vary names
 /// must be the same in both requests, or be in neither. It is the same if it has the same field
 /// lines, or if it is one of the list fields of a request, is in both, and has the same members in
 /// the same order. A Vary with `*`, or with a member that is no field name, matches no request.
-pub fn matches(stored: &RequestHead<'_>, request: &RequestHead<'_>, response: &HeaderMap) -> bool
-    ensures { MatchBool result (Suits (request_of stored.now) (request_of request.now) (lines_at response.now))
-        (¬ (Suits (request_of stored.now) (request_of request.now) (lines_at response.now))) }
+pub fn matches(stored: &StoredHeads<'_>, request: &RequestHead<'_>) -> bool
+    ensures { MatchBool result
+        (Suits (request_of stored.now.request) (request_of request.now) (lines_at stored.now.response.now))
+        (¬ (Suits (request_of stored.now.request) (request_of request.now) (lines_at stored.now.response.now))) }
 {
-    allows_method(stored.method, request.method)
-        && are_alike(stored.fields, request.fields, response)
+    allows_method(stored.request.method, request.method)
+        && are_alike(stored.request.fields, request.fields, stored.response)
 }
 
 // Whether both requests agree in all that Vary names.

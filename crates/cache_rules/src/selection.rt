@@ -51,7 +51,7 @@ pub(crate) fn is_sought(
         (IsSought (request_of request.now) (option_map (λ u. lines_at u.now) update.entry) stored.now)
         (¬ (IsSought (request_of request.now) (option_map (λ u. lines_at u.now) update.entry) stored.now)) }
 {
-    if !matches(&stored.head(), request, &stored.response) {
+    if !matches(&stored.heads(), request) {
         return false;
     }
     match update {

@@ -3,7 +3,7 @@ ghost use Rattle.std.specs.Prelude.{◌≡◌};
 ghost use Rattle.cache_policy.specs.Requests.{request_of};
 ghost use Rattle.cache_rules.specs.Stored.{made_at, request_of_stored, times_of};
 
-use cache_policy::{RequestHead, Times, date};
+use cache_policy::{RequestHead, StoredHeads, Times, date};
 use headers::HeaderMap;
 use http::{Method, StatusCode};
 use http_header::DATE;
@@ -39,6 +39,17 @@ impl StoredResponse {
         RequestHead {
             method: &self.method,
             fields: &self.request,
+        }
+    }
+
+    /// Returns the request that the response answered, with the fields of the response.
+    pub fn heads(&self) -> StoredHeads<'_>
+        ensures request { request_of result.request ≡ request_of_stored self.now }
+        ensures response { result.response.now ≡ self.now.response }
+    {
+        StoredHeads {
+            request: self.head(),
+            response: &self.response,
         }
     }
 

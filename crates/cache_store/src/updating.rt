@@ -28,7 +28,7 @@ fn is_updated_too(stored: &StoredResponse, request: &RequestHead<'_>, update: &H
         (¬ (IsUpdatedToo (request_of request.now) (lines_at update.now) stored.now)) }
 {
     has_strong_tag(update)
-        && matches(&stored.head(), request, &stored.response)
+        && matches(&stored.heads(), request)
         && is_updated(&stored.response, update)
 }
 
@@ -37,7 +37,7 @@ fn is_get_for(stored: &StoredResponse, request: &RequestHead<'_>) -> bool
     ensures { MatchBool result (IsGetFor (request_of request.now) stored.now)
         (¬ (IsGetFor (request_of request.now) stored.now)) }
 {
-    stored.method == Method::GET && matches(&stored.head(), request, &stored.response)
+    stored.method == Method::GET && matches(&stored.heads(), request)
 }
 
 // The response with another number.

@@ -1,6 +1,6 @@
 //! Single decisions of the cache policy, and dates.
 use crate::store::kind;
-use cache_policy::{Freshness, RequestHead, decide_by, freshening_fields};
+use cache_policy::{Freshness, RequestHead, StoredHeads, decide_by, freshening_fields};
 use headers::set_all;
 use http::Method;
 use rfc_values::{Timestamp, Value, read_date, read_entry};
@@ -30,7 +30,11 @@ fn call_decide_by(arguments: &mut Arguments<'_>, answer: &mut Answer) -> Result<
         method: &Method::GET,
         fields: &request,
     };
-    let decision = decide_by(&request, &request, &response, freshness, kind);
+    let stored = StoredHeads {
+        request,
+        response: &response,
+    };
+    let decision = decide_by(&stored, &request, freshness, kind);
     Ok(answer.word(format_args!("{decision:?}"))?)
 }
 
