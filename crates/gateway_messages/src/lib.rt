@@ -37,5 +37,5 @@ pub use crate::response::{
     Content, ForwardedResponse, ResponseHead, ResponseOutcome, forward_response, response_content,
 };
 pub use crate::target::{authority_len, scheme_len};
-pub use crate::trailers::forward_trailers;
+pub use crate::trailers::{MessageHead, forward_trailers};
 pub use crate::via::{InvalidPseudonym, Pseudonym};

@@ -40,25 +40,32 @@ pub(crate) fn may_trail(gateway: &Gateway, name: &str) -> bool
     is_trailer(name) && !is_protected(gateway, name)
 }
 
-/// Returns the trailer fields that a gateway forwards of a message with these fields (RFC 9110,
-/// section 6.5.1). `framing` is that of the message as it is forwarded: only chunked content has
-/// trailer fields (RFC 9112, section 7.1.2). A field is dropped unless its definition permits it in
-/// a trailer section, and so is one that the gateway protects.
+/// A message as a gateway forwards it, as far as that decides which of its trailer fields go on.
+#[derive(Clone, Copy)]
+pub struct MessageHead<'a> {
+    /// The fields, as received.
+    pub fields: &'a HeaderMap,
+    /// How the content is delimited, as forwarded.
+    pub framing: Framing,
+}
+
+/// Returns the trailer fields that a gateway forwards of a message (RFC 9110, section 6.5.1). Only
+/// chunked content has trailer fields (RFC 9112, section 7.1.2). A field is dropped unless its
+/// definition permits it in a trailer section, and so is one that the gateway protects.
 pub fn forward_trailers(
     alloc: Global,
     gateway: &Gateway,
-    fields: &HeaderMap,
-    framing: Framing,
+    message: &MessageHead<'_>,
     trailers: &HeaderMap,
 ) -> Result<Vec<FieldLine>, AllocError>
-    ensures forwarded { IfOk result (λ sent. ForwardsTrailers gateway.now framing (lines_at fields.now)
-        (lines_at trailers.now) (lines_under (fields_of sent.items))) }
-    ensures err { OnErr result (framing ≡ Chunked) }
+    ensures forwarded { IfOk result (λ sent. ForwardsTrailers gateway.now message.now.framing
+        (lines_at message.now.fields.now) (lines_at trailers.now) (lines_under (fields_of sent.items))) }
+    ensures err { OnErr result (message.now.framing ≡ Chunked) }
 {
-    if framing != Framing::Chunked {
+    if message.framing != Framing::Chunked {
         return Ok(Vec::new(alloc));
     }
     let _names = trailers.keys_len();
-    let connection = fields.get_all(CONNECTION);
+    let connection = message.fields.get_all(CONNECTION);
     received_fields(alloc, gateway, Section::Trailer, &connection, trailers)
 }

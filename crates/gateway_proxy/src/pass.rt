@@ -18,7 +18,9 @@ use crate::decision::Outgoing;
 use crate::own::close_field;
 use crate::proxy::Proxy;
 use bytes::BytesMut;
-use gateway_messages::{Content, FieldLine, ForwardedResponse, Framing, Gateway, forward_trailers};
+use gateway_messages::{
+    Content, FieldLine, ForwardedResponse, Framing, Gateway, MessageHead, forward_trailers,
+};
 use gateway_relay::{
     ContentSink, ContentSource, Failure, Request, Response, end_content, relay_content,
     send_request_head, send_response_head,
@@ -96,7 +98,7 @@ pub(crate) fn pass_content<S: ContentSource, R: Read, T: ContentSink, W: Write>(
     ensures ended { OnOk result ((last : T) × (T.kept last ≡ T.kept sink.old) × (sink.new ≡ T.after_end last)) }
 {
     let trailers = relay_content(alloc, keys, source, input, reader, sink, writer)?;
-    let sent = forward_trailers(alloc, gateway, fields, framing, &trailers)?;
+    let sent = forward_trailers(alloc, gateway, &MessageHead { fields, framing }, &trailers)?;
     let list = header_list(alloc, &sent)?;
     end_content(alloc, sink, &list, writer)
 }

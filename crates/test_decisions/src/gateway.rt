@@ -3,7 +3,7 @@ use gateway_hops::{
     Arrival, Forwarding, NextConnection, Node, NodeName, NodePort, Obfuscated, Received, Scheme,
     forwarding_fields,
 };
-use gateway_messages::{FieldLine, Framing, Gateway, Pseudonym, forward_trailers};
+use gateway_messages::{FieldLine, Framing, Gateway, MessageHead, Pseudonym, forward_trailers};
 use headers::{Encoded, HeaderMap, HeaderName, HeaderValue};
 use http_header::CONNECTION;
 use std::alloc::AllocError;
@@ -80,7 +80,11 @@ fn call_trailers(arguments: &mut Arguments<'_>, answer: &mut Answer) -> Result<(
         fields.append(CONNECTION, connection)?;
     }
     let trailers = arguments.map()?;
-    let sent = forward_trailers(answer.alloc(), &gateway, &fields, framing, &trailers)?;
+    let message = MessageHead {
+        fields: &fields,
+        framing,
+    };
+    let sent = forward_trailers(answer.alloc(), &gateway, &message, &trailers)?;
     Ok(add_fields(sent.as_slice(), answer)?)
 }
 
