@@ -10,7 +10,8 @@ use Rattle.decide_preconditions.specs.Fields.{range_sent, sent_names, type_sent,
 use Rattle.decide_preconditions.specs.declared.{content.Content.Content, plan.Plan.Plan, resource.Resource.Resource}
 
 -- another name keeps its field lines
-pub set-other : (before : LineMap) (field : Field) (name : List ℕ) → field.0 ≢ name → set before field name ≡ before name
+pub set-other : (before : LineMap) (field : Field) (name : List ℕ) → field.0 ≢ name
+    → set before field name ≡ before name
 set-other before field name other = grind (arith, cases_Bool, bytes_eq, bytes_eq-Decides)
 
 module _ (present : ℕ) (plan : Plan) (is_known : Bool) (resource : Resource) (content : Content)

@@ -250,8 +250,9 @@ module _ (present : ℕ) (resource : Resource) (request : Request) (before : Lin
   lines_at_place place = lines (target_of resource.state (at_place resource.representations.items place))
 
   told_by : (b : Bool) (reason : Reason) (status : Option ℕ) (sent : Sends) (own : List Field) (place : Option ℕ)
-      (plan : Plan) → Tells present (own_name which) lines plan → GivesIf b present resource request reason status sent own
-      → sent ≡ sends.Planned place plan → set_all before own (own_name which) ≡ lines_at_place place
+      (plan : Plan) → Tells present (own_name which) lines plan
+      → GivesIf b present resource request reason status sent own → sent ≡ sends.Planned place plan
+      → set_all before own (own_name which) ≡ lines_at_place place
   told_by true reason status sent own place plan tells h e =
       by h.goes.response h.goes.answered h.goes.has_fields (sym h.goes.sends ∙ e)
     where

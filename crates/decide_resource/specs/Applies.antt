@@ -103,8 +103,8 @@ is_current other = false
 abbrev pub creates : Option MethodRule → Bool
 creates rule = option_map_or (λ r. r.creates) rule false
 
--- There is no representation, and the method, where this is the rule for it, makes none. OPTIONS asks about all methods,
--- so it does if one does. The server in general represents nothing, and answers OPTIONS (section 9.3.7).
+-- There is no representation, and the method, where this is the rule for it, makes none. OPTIONS asks about all
+-- methods, so it does if one does. The server in general represents nothing, and answers OPTIONS (section 9.3.7).
 abbrev pub is_missing : State → List MethodRule → Option MethodRule → List ℕ → Bool
 is_missing state.Absent rules rule method =
     not (if bytes_eq method (codes "OPTIONS") then list_any (λ r. r.creates) rules else creates rule)

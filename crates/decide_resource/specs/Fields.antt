@@ -130,14 +130,14 @@ abbrev pub lines_of_value : Option FieldValue → List Line
 lines_of_value None = []
 lines_of_value (Some value) = value.bytes ∷ []
 
--- the answer has the header fields of the representation: a 200, and a 206 unless the client knows them (section 15.3.7)
+-- the answer has the representation's header fields: a 200, and a 206 unless the client knows them (section 15.3.7)
 abbrev pub describes : Plan → Bool → Bool
 describes Plan.Full is_known = true
 describes (Plan.Single part) is_known = not is_known
 describes (Plan.Multiple parts) is_known = not is_known
 describes other is_known = false
 
--- Both, where the answer has the header fields of the representation. The fields that the preconditions give follow, and
+-- Both, where the answer has the representation's header fields. The fields that the preconditions give follow, and
 -- remove Content-Encoding where it isn't the coding of the content.
 abbrev pub metadata_fields : Bool → Representation → List Field
 metadata_fields true representation =

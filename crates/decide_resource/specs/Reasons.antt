@@ -11,7 +11,8 @@ use Rattle.decide_resource.specs.declared.reason.Reason.TheVariants.{NotAcceptab
 --
 -- 0, 1: a request without a valid Host is answered by 400 whatever else it says (RFC 9112, section 3.2), and one that
 -- was sent to another server is no request for the resource (RFC 9110, section 7.4).
--- 2: a preflight has no credentials (Fetch standard, "CORS-preflight fetch"), so it is answered before they are asked for.
+-- 2: a preflight has no credentials (Fetch standard, "CORS-preflight fetch"), so it is answered before they are asked
+-- for.
 -- 3: a request that is denied learns nothing of the resource: neither which methods it has nor whether it exists (RFC
 -- 9110, sections 15.5.4 and 15.5.5).
 -- 4, 5: a method that the server implements is compared with those of the resource (section 9.1).

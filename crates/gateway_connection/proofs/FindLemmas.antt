@@ -152,7 +152,7 @@ final_high c Method.Head status is stays = grind (arith, nat_tests)
 final_high c Method.Connect status is stays = grind (arith, nat_tests)
 final_high c Method.Other status is stays = grind (arith, nat_tests)
 
--- what is read after a final head shows whether it switches
+-- the input after a final head shows whether it switches
 module _ (c new : Client) (h : ResponseHead) (framing : Framing) (goes : new ≡ after_head c h framing)
     (final : is_interim (status_code h) ≡ false) where
   size_at : (b : Bool) → switches c (status_code h) ≡ b

@@ -453,7 +453,7 @@ idle_plan : (c : Client) (method : List ℕ) (size : BodySize) (headers : List H
     → request_plan c method size headers ≡ plan_fields (method_kind method) size headers
 idle_plan c method size headers idle = cond-true _ _ _ (ap awaits_head idle)
 
--- ---- what is read
+-- ---- input
 
 waits_over : (r : Reading) (c next : Client) (input rest : List ℕ) → IsOver r → ¬ (WaitsAt r c input next rest)
 waits_over Reads.Head c next input rest over found = over
@@ -907,7 +907,7 @@ module _ (limits : Limits) (old new : Origin) (p : Past) where
       subst (λ (e : Bool). Goes limits e m.client m.input.items m.output.items q) (sym ended)
       (subst (λ (o : List ℕ). Goes limits old.ended m.client m.input.items o q) (sym output) g)
 
-  -- what is read puts nothing
+  -- a call that reads puts nothing
   read_goes : (m : Origin) (after : Now) → m.ended ≡ old.ended → m.output.items ≡ old.output.items
       → (g : GoesAt limits old p) → Moved limits old.ended g.start m.client m.input.items [] p.now after
       → GoesAt limits m (record p { now = after })

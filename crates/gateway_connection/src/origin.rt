@@ -19,7 +19,7 @@ use std::alloc::{AllocError, Global};
 use std::hash::RandomState;
 
 /// One HTTP/1.1 connection to an origin server, without input and output. Requests are put in, and
-/// `output` is to be written. What is read is received by any cuts, and `next` says what is in it.
+/// `output` is to be written. Input is received in any cuts, and `next` says what is in it.
 #[derive(Drop)]
 pub struct Origin {
     pub(crate) alloc: Global,

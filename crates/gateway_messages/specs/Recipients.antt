@@ -34,9 +34,9 @@ Fits Unstated = ⊤
 Fits (Length len) = len < 2 ^ 63
 Fits Chunked = ⊤
 
--- It knows the two names, in which it may take an underscore or another mark for the dash, and the plain forms: a length
--- in decimal, `chunked`, or neither. It takes each for what it states, or rejects it, say for a length past its limit.
--- Nothing is said about what it makes of any other field lines.
+-- It knows the two names, in which it may take an underscore or another mark for the dash, and the plain forms: a
+-- length in decimal, `chunked`, or neither. It takes each for what it states, or rejects it, say for a length past its
+-- limit. Nothing is said about what it makes of any other field lines.
 pub record KnowsPlain (recipient : Recipient) : Type 0 where
   pub length_name : recipient.is_length (codes "content-length") ≡ true
   pub length_names : (name : List ℕ) → recipient.is_length name ≡ true

@@ -1,5 +1,6 @@
--- Field names that some servers can't tell from others. CGI and WSGI pass each field on as a variable (RFC 3875, section
--- 4.1.18), in whose name an underscore stands for a dash, and in some for each byte that is neither a letter nor a digit.
+-- Field names that some servers can't tell from others. CGI and WSGI pass each field on as a variable (RFC 3875,
+-- section 4.1.18), in whose name an underscore is written for a dash, and in some for each byte that is neither a
+-- letter nor a digit.
 use Rattle.std.specs.Prelude.{ℕ, Bool, ◌==◌, ◌&&◌, ◌||◌, not, List, [], ◌∷◌, map, bytes_eq, codes, if◌then◌else◌}
 use Rattle.std.specs.{Char.is_ascii_alphanumeric, List.list_any}
 use Rattle.gateway_messages.specs.declared.gateway.Gateway.{Gateway}

@@ -5,8 +5,8 @@ use Rattle.{headers.specs.LineMap.LineMap, rfc_fields.specs.Scan.Member}
 use Rattle.gateway_messages.specs.{Forwarding.{IsEndToEnd, IsHopByHop}, HopByHop.is_hop_by_hop}
 use Rattle.gateway_messages.specs.declared.{framing.Framing.{Framing, TheVariants.Chunked}, gateway.Gateway.Gateway}
 
--- The fields whose definitions permit them in a trailer section (RFC 9110, section 6.5.1): sections 8.8.3, 11.6.3, 11.7.3
--- and 14.3 of RFC 9110, RFC 9421, RFC 9530, and Server Timing.
+-- The fields whose definitions permit them in a trailer section (RFC 9110, section 6.5.1): sections 8.8.3, 11.6.3,
+-- 11.7.3 and 14.3 of RFC 9110, RFC 9421, RFC 9530, and Server Timing.
 abbrev pub trailer_names : List (List ℕ)
 trailer_names =
     codes "accept-ranges" ∷ codes "authentication-info" ∷ codes "content-digest" ∷ codes "etag"

@@ -1,4 +1,4 @@
--- Answers that are written out, and what is read of them.
+-- Answers that are written out, and what their bytes parse as.
 use Rattle.std.specs.Prelude.{◌≡◌, ℕ, false, List, [], ◌∷◌, ◌++◌, Option, Some, None, codes, decimal, ◌+◌, bytes_eq}
 use Rattle.std.specs.Prelude.{flat_map, if◌then◌else◌}
 use Rattle.http1.specs.Fields.{Header}

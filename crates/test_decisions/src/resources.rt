@@ -1,4 +1,4 @@
-//! The resources of routes: `note` at `/note`, `page` at `/pages/{name}`, and `report` at all that is below `/reports/`.
+//! The resources of routes: `note` at `/note`, `page` at `/pages/{name}`, and `report` at all paths below `/reports/`.
 //!
 //! `note` is a JSON document of `a.example`, which scripts of `https://app.example` may use. `page` is HTML in English,
 //! in German, and in English with gzip; a client that accepts none of them gets the first. `report` is a PDF document.

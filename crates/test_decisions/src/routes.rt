@@ -61,8 +61,8 @@ fn asked_by<'a>(
     }
 }
 
-// `route PATH METHOD FIELDS`: the reason, the status or `(none)`, what is sent, and the fields, for a request of HTTP/1.1
-// without content by its path, among the routes of `resources.rt`.
+// `route PATH METHOD FIELDS`: the reason, the status or `(none)`, what is sent, and the fields, for a request of
+// HTTP/1.1 without content by its path, among the routes of `resources.rt`.
 fn call_route(arguments: &mut Arguments<'_>, answer: &mut Answer) -> Result<(), Failure> {
     let set = HeaderMap::new(arguments.alloc());
     answer_route(arguments, answer, None, set)

@@ -51,7 +51,7 @@ pub fn hash_of_date(date: &Date) -> u64
     state.finish()
 }
 
-/// Equality of a location goes by its bytes alone.
+/// Equality of a location compares its bytes alone.
 pub fn same_location(one: &Location, other: &Location) -> bool
     ensures { IsTrue result ↔ (one.now.bytes ≡ other.now.bytes) }
 {
