@@ -1,5 +1,5 @@
 -- What is stored of a response that passed on (RFC 9111, sections 3, 4.3.5 and 4.4).
-use Rattle.std.specs.Prelude.{◌≡◌, ◌≢◌, ◌⊎◌, ◌<◌, ⊤, ℕ, List, [], ◌∷◌, Option, Some, None, codes}
+use Rattle.std.specs.Prelude.{◌≡◌, ◌⊎◌, ◌<◌, ⊤, ℕ, List, [], ◌∷◌, Option, Some, None, codes}
 use Rattle.headers.{specs.LineMap.LineMap, specs.Typed.HasLine}
 use Rattle.cache_policy.{specs.Policies.Policy, specs.Requests.Request, specs.declared.Kind.TheVariants.Shared}
 use Rattle.cache_rules.{specs.Selection.{IsAt, IsCandidate, IsSomewhere}, specs.Storing.IsStored}
@@ -11,12 +11,9 @@ use Rattle.cache_store.specs.History.{History}
 use Rattle.cache_store.{specs.History.Call.{Arrived, Described}, specs.Parts.Combining.exchange_of}
 use Rattle.cache_pass.{specs.Effects.{DoAll, Does, Kept, Settings}, specs.Removals.IsOutdated}
 
--- A response is to be stored once all of it has come: section 3 allows it; it doesn't answer the conditions (RFC 9110,
--- section 15.5.13) or the range (section 15.5.17) of one request alone; and in a shared cache it sets no cookie.
+-- a response is to be stored once all of it has come, and in a shared cache sets no cookie
 pub record IsWanted (policy : Policy) (request : Request) (status : ℕ) (response : LineMap) : Type 0 where
   pub stored : IsStored policy request status response Complete
-  pub no_condition : status ≢ 412
-  pub no_range : status ≢ 416
   pub cookie : policy.kind ≡ Shared → ¬ (HasLine (response (codes "set-cookie")))
 
 -- The stored response could answer the same request, and is more recent: by Date, and if both are of one second, by the
@@ -26,8 +23,8 @@ pub record IsNewer (came stored : StoredResponse) : Type 0 where
   pub later : (made_at came < made_at stored)
       ⊎ ((made_at came ≡ made_at stored) × (came.requested < stored.requested))
 
--- A newer one is stored. A cache uses the most recent of those that match (sections 4 and 4.1), so this one would
--- answer nothing that its request is answered by.
+-- A newer one is stored that its request matches. It isn't stored then, since a cache uses the most recent of those that
+-- match (section 4).
 abbrev pub IsLate : List StoredResponse → StoredResponse → Type 0
 IsLate responses came = IsSomewhere (IsAt (IsNewer came) responses)
 

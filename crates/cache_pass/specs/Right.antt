@@ -82,8 +82,7 @@ pub record IsLatest (pass : Pass) (before after : Cache) (content : List ℕ) (n
   pub named : numbered number (stored_at (key_of pass) after) ≡ Some stored
   pub latest : ¬ (IsLate (stored_at (key_of pass) before) came)
 
--- What a step answers is right for the pass. Where it names no response, the client gets what the origin answers to
--- this pass, or that there is no answer.
+-- What a step answers is right for the pass. Nothing is said of an answer that names no stored response.
 abbrev pub IsRight : Settings → World → World → Pass → Deed → Type 0
 IsRight settings before world pass (Begins now (first.Reply reply)) = IsRightReply settings world pass now reply
 IsRight settings before world pass (Begins now (first.ReplyAndValidate reply)) =

@@ -51,8 +51,8 @@ fn is_late(stored: &[StoredResponse], came: &StoredResponse) -> bool
 }
 
 impl Cache {
-    // Whether a response is to be stored once all of it has come. An answer to the conditions or the range of
-    // one request isn't, nor in a shared cache one that sets a cookie for its client.
+    // Whether a response is to be stored once all of it has come. In a shared cache one that sets a cookie for its
+    // client isn't.
     pub(crate) fn is_wanted(
         &self,
         request: &RequestHead<'_>,
@@ -64,10 +64,6 @@ impl Cache {
             (¬ (IsWanted (settings_of self.now).policy (request_of request.now) status (lines_at response.now))) }
     {
         let policy = self.store.policy();
-        let code = status.as_u16();
-        if code == 412 || code == 416 {
-            return false;
-        }
         if policy.kind == Kind::Shared && has_line(&response.get_all(SET_COOKIE)) {
             return false;
         }

@@ -14,8 +14,8 @@ ghost use Rattle.cache_pass.{specs.Unstored.AreAlike, specs.Worlds.{Acts, AreCur
 /// what a step answers is right for its pass. A stored response that it names is stored under the target of this
 /// pass, by calls that justify that; it may be stored, and matches this request by method and Vary. It is fresh at
 /// that time, or allowed stale; or the origin failed at that time, and it is allowed stale then; or a 304 to this
-/// very request has just updated it. Where a step names none, the client gets what the origin answers to this pass. What a step
-/// stores is that answer, unless one is stored that matches this request and is newer: by Date, or of the same
+/// very request has just updated it. Nothing is said of a step that names none. What a step stores is what the origin
+/// answered to this pass, unless one is stored that matches this request and is newer: by Date, or of the same
 /// second and asked for later.
 pub fn answers_are_right()
     ensures { (settings : Settings) (deeds : List (ℕ × Deed)) (before : World) → Reaches settings deeds before

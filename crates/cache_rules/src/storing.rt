@@ -27,9 +27,9 @@ pub enum Reception {
 }
 
 /// Returns whether a cache stores the response to a request (RFC 9111, sections 3, 3.1 and 3.3).
-/// `may_store` of its policy must allow it, and all of it must have come. It isn't stored if its
-/// Connection is malformed, or names a field on which reuse depends, such as Cache-Control, Vary or
-/// a targeted field.
+/// `may_store` of its policy must allow it, and all of it must have come. A 412 or a 416 isn't stored,
+/// since it answers the conditions or the range of one request. Nor is a response whose Connection is
+/// malformed, or names a field on which reuse depends, such as Cache-Control, Vary or a targeted field.
 pub fn is_stored(
     request: &RequestHead<'_>,
     status: StatusCode,
@@ -41,7 +41,10 @@ pub fn is_stored(
         (IsStored (policy_of policy.now) (request_of request.now) status (lines_at response.now) reception)
         (¬ (IsStored (policy_of policy.now) (request_of request.now) status (lines_at response.now) reception)) }
 {
-    reception == Reception::Complete
+    let code = status.as_u16();
+    code != 412
+        && code != 416
+        && reception == Reception::Complete
         && has_fair_options(response, policy.targets)
         && policy.may_store(request, status, response)
 }
