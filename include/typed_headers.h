@@ -265,7 +265,8 @@ struct typed_headers_cache_request {
 
 /*
  * A pass: one client's request through a cache, closed or open. Zero bytes are a closed one, as
- * TYPED_HEADERS_CLOSED_PASS. It is the library's as a cache is. A step of a pass is a call on its cache, too.
+ * TYPED_HEADERS_CLOSED_PASS. It is the library's as a cache is. A step of a pass is a call on its cache, too. A call
+ * that takes the pass alone may overlap with any on the cache and on other passes.
  */
 struct typed_headers_pass {
     void *place;
@@ -1716,20 +1717,20 @@ uint8_t typed_headers_pass_validation(struct typed_headers_pass *pass, uint8_t *
                                       size_t *written);
 
 /*
- * The content of the stored response that the last step of a pass named, from a position on: as much of it as fits.
- * Each piece is of that response. Absent: the step named none, it isn't stored any more, or the cache or the pass is
- * closed. It is stored as long as no other call on the cache is made.
+ * The content of the stored response that the last step of a pass named, from a position on: as much of it as fits. The
+ * pass shares it with the cache until its next step, so no call on the cache changes it, and this call may overlap with
+ * all of those, and with calls on other passes. Absent: the step named none, or the pass is closed.
  */
-uint8_t typed_headers_pass_content(struct typed_headers_cache *cache, struct typed_headers_pass *pass, size_t from,
-                                   uint8_t *room, size_t room_length, size_t *written);
+uint8_t typed_headers_pass_content(struct typed_headers_pass *pass, size_t from, uint8_t *room, size_t room_length,
+                                   size_t *written);
 
 /*
  * Keeps the next piece of the content that passes on, to be stored. If the pieces are more than the cache may have, the
- * pass keeps none, and the response isn't stored. Absent: the cache or the pass is closed, or no response passes on
- * that is to be stored; nothing changes then. Memory: the piece isn't empty. Then the pass keeps none, too.
+ * pass keeps none, and the response isn't stored. This call, too, may overlap with those on the cache and on other
+ * passes. Absent: the pass is closed, or no response passes on that is to be stored; nothing changes then. Memory: the
+ * piece isn't empty. Then the pass keeps none, too.
  */
-uint8_t typed_headers_pass_received(struct typed_headers_cache *cache, struct typed_headers_pass *pass,
-                                    const uint8_t *piece, size_t piece_length);
+uint8_t typed_headers_pass_received(struct typed_headers_pass *pass, const uint8_t *piece, size_t piece_length);
 
 /*
  * Stores the response that passed on, with the pieces of its content, if all of them came and it may be stored (RFC

@@ -358,10 +358,10 @@ CALL(pass_failed, MAY(ABSENT) | MAY(NO_MEMORY), (at[0].handle.at, at[1].handle.a
 CALL(pass_fields, MAY(ABSENT), (at[0].handle.at, ROOM(at[1])), OF_HANDLE(OPENED, pass), PLAIN(ROOM_OF_BYTES))
 CALL(pass_validation, MAY(ABSENT) | MAY(TOO_LARGE) | MAY(NO_MEMORY), (at[0].handle.at, ROOM(at[1])),
      OF_HANDLE(OPENED, pass), PLAIN(ROOM_OF_BYTES))
-CALL(pass_content, MAY(ABSENT), (at[0].handle.at, at[1].handle.at, at[2].size, ROOM(at[3])),
-     OF_HANDLE(OPENED, cache), OF_HANDLE(OPENED, pass), OF_KIND(NUMBER, SIZE), PLAIN(PIECE))
-CALL(pass_received, MAY(ABSENT) | MAY(NO_MEMORY), (at[0].handle.at, at[1].handle.at, TEXT_OF(at[2])),
-     OF_HANDLE(OPENED, cache), OF_HANDLE(OPENED, pass), PLAIN(GIVEN_TEXT))
+CALL(pass_content, MAY(ABSENT), (at[0].handle.at, at[1].size, ROOM(at[2])), OF_HANDLE(OPENED, pass),
+     OF_KIND(NUMBER, SIZE), PLAIN(PIECE))
+CALL(pass_received, MAY(ABSENT) | MAY(NO_MEMORY), (at[0].handle.at, TEXT_OF(at[1])), OF_HANDLE(OPENED, pass),
+     PLAIN(GIVEN_TEXT))
 CALL(pass_ended, MAY(ABSENT), (at[0].handle.at, at[1].handle.at, at[2].flag, at[3].u64, &at[4].u64),
      OF_HANDLE(OPENED, cache), OF_HANDLE(OPENED, pass), OF_KIND(NUMBER, BOOL), OF_KIND(NUMBER, U64),
      OF_KIND(OUT_NUMBER, U64))

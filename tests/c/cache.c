@@ -167,7 +167,7 @@ static bool has_content(const char *wanted) {
             uint8_t *at = areas[7] - room;
             size_t written = ROOM;
             memset(at, FILL, room);
-            CALL(typed_headers_pass_content(&cache, pass, from, room ? at : NULL, room, &written));
+            CALL(typed_headers_pass_content(pass, from, room ? at : NULL, room, &written));
             const size_t left = from < length ? length - from : 0, copied = left < room ? left : room;
             holds &= status_of_call == TYPED_HEADERS_DONE && written == copied;
             holds &= memcmp(at, wanted + (from < length ? from : length), copied) == 0;
@@ -180,7 +180,7 @@ static bool has_content(const char *wanted) {
 static bool has_no_content(void) {
     uint8_t room[1] = {FILL};
     size_t written = ROOM;
-    CALL(typed_headers_pass_content(&cache, pass, 0, room, sizeof room, &written));
+    CALL(typed_headers_pass_content(pass, 0, room, sizeof room, &written));
     return status_of_call == TYPED_HEADERS_ABSENT && written == ROOM && room[0] == FILL;
 }
 
@@ -214,7 +214,7 @@ static bool comes(uint16_t code, const char *response, uint64_t now, uint8_t act
 /* A piece of the content comes. */
 static uint8_t receives(const char *bytes) {
     const struct typed_headers_text piece = text(bytes);
-    return CALL(typed_headers_pass_received(&cache, pass, piece.bytes, piece.length));
+    return CALL(typed_headers_pass_received(pass, piece.bytes, piece.length));
 }
 
 /* The content comes in two pieces, and one without a byte. */
@@ -334,10 +334,12 @@ static void play(void) {
     AGAIN(begins("/a", "GET", "if-none-match: \"1\"\n", 1010, TYPED_HEADERS_REPLY)
           && sends(304, 0, 0, FRESH "content-md5: x\nage: 10\n", "hello"), "304");
     AGAIN(begins("/a", "GET", "if-match: \"1\"\n", 1010, TYPED_HEADERS_ASK), "a condition for the origin");
-    /* The response that a step named is removed: its content is gone, and is never that of another. */
+    /* The response that a step named is removed, and another stored: a pass shows the content of its own. */
     AGAIN(begins("/a", "GET", "", 1010, TYPED_HEADERS_REPLY), "reply");
     CALL(typed_headers_cache_remove(&cache, (const uint8_t *)"/a", 2));
-    want(status_of_call == TYPED_HEADERS_DONE && has_no_content(), "remove");
+    want(status_of_call == TYPED_HEADERS_DONE && has_content("hello") && on(1), "remove");
+    AGAIN(stores("/a", "", 1000, FRESH, "other") && on(0) && has_content("hello"), "content that is stored no longer");
+    want(on(0), "the first pass");
     /* A 304 that updates, one that is about another response, and one after which nothing is stored. */
     AGAIN(stores("/b", "", 1000, FRESH, "hello"), "store");
     MAYBE(begins("/b", "GET", "", 1100, TYPED_HEADERS_VALIDATE) && has_fields("if-none-match: \"1\"\n")

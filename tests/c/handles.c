@@ -1,6 +1,6 @@
 /*
  * Tests what the rows don't show of handles: closed ones, those of another struct, ones that are open already, ones
- * that are closed twice, and threads.
+ * that are closed twice, and threads, which read the content of passes while others make steps.
  */
 #include "typed_headers.h"
 #include <pthread.h>
@@ -94,18 +94,59 @@ static void *ask(void *wrong_answers) {
     return NULL;
 }
 
-static void check_threads(void) {
+static struct typed_headers_cache cache = TYPED_HEADERS_CLOSED_CACHE;
+
+/* Makes a step of a pass, for which the cache is held. */
+#define STEP(call) (pthread_mutex_lock(&lock), status = (call), pthread_mutex_unlock(&lock), status)
+
+/* Is answered by the cache, or stores content of one letter: neither is held while content is read or received. */
+static void *browse(void *wrong_content) {
+    size_t *count = wrong_content;
+    struct typed_headers_pass pass = TYPED_HEADERS_CLOSED_PASS;
+    for (int i = 0; i < ROUNDS; i++) {
+        const struct typed_headers_cache_request fresh = {TEXT("/"), TEXT("GET"), {NULL, 0}},
+                                                 anew = {TEXT("/"), TEXT("GET"), TEXT("cache-control: no-cache\n")};
+        struct typed_headers_pass_facts facts = {0};
+        uint8_t content[ROOM], status;
+        uint64_t number;
+        size_t written;
+        *count += STEP(typed_headers_pass_begin(&cache, &pass, i % 2 ? &anew : &fresh, 1000, &facts));
+        if (facts.action == TYPED_HEADERS_REPLY) {
+            *count += typed_headers_pass_content(&pass, 0, content, ROOM, &written) || written != ROOM
+                      || memcmp(content, content + 1, ROOM - 1);
+        } else {
+            memset(content, 'a' + i % 26, ROOM);
+            *count += STEP(typed_headers_pass_came(&cache, &pass, 200, BYTES("cache-control: max-age=9\n"), 1000,
+                                                   &facts))
+                      || typed_headers_pass_received(&pass, content, ROOM)
+                      || STEP(typed_headers_pass_ended(&cache, &pass, true, 1000, &number));
+        }
+        *count += typed_headers_pass_free(&pass);
+    }
+    return NULL;
+}
+
+/* Two threads do so, and none finds anything else. */
+static void run_threads(void *(*run)(void *), const char *what) {
     pthread_t threads[2];
     size_t counts[2] = {0, 0};
-    want(typed_headers_cors_policy_new(&common, &RULES) == TYPED_HEADERS_DONE, "a policy isn't made");
     for (int i = 0; i < 2; i++) {
-        want(!pthread_create(&threads[i], NULL, ask, &counts[i]), "no thread");
+        want(!pthread_create(&threads[i], NULL, run, &counts[i]), "no thread");
     }
     for (int i = 0; i < 2; i++) {
         pthread_join(threads[i], NULL);
-        want(!counts[i], "another answer in a thread");
+        want(!counts[i], what);
     }
+}
+
+static void check_threads(void) {
+    const struct typed_headers_cache_options options = {4, 4, 1 << 16, 0, true};
+    want(typed_headers_cors_policy_new(&common, &RULES) == TYPED_HEADERS_DONE, "a policy isn't made");
+    run_threads(ask, "another answer in a thread");
     typed_headers_cors_policy_free(&common);
+    want(typed_headers_cache_new(&cache, &options, &KEYS) == TYPED_HEADERS_DONE, "a cache isn't made");
+    run_threads(browse, "other content in a thread");
+    typed_headers_cache_free(&cache);
 }
 
 int main(void) {

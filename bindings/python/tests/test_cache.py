@@ -4,9 +4,10 @@ import pickle
 import threading
 import unittest
 from datetime import datetime, timezone
-from typing import Dict, List, Optional, Tuple
+from typing import Any, Dict, List, Optional, Tuple
+from unittest import mock
 
-from typed_headers import Ask, Cache, HeaderError, InvalidSection, OutOfOrder, Pass, PassOn, Reply, Wait
+from typed_headers import Ask, Cache, HeaderError, InvalidSection, OutOfOrder, Pass, PassOn, Reply, Wait, _library
 
 FRESH = {"Cache-Control": "max-age=60", "ETag": '"a"'}
 A = "http://a.example/a"
@@ -286,6 +287,26 @@ class CacheTest(unittest.TestCase):
         for thread in threads:
             thread.join()
         self.assertEqual(wrong, [])
+
+    def test_holds_no_other_while_content_is_read(self) -> None:
+        cache, read, others = filled(), _library.calls.pass_content, []
+
+        def change() -> None:
+            others.append(cache.begin("GET", B, {}, now=1000).step)
+            cache.remove(A)
+            others.append(store(cache, b"other"))
+
+        def read_late(*arguments: Any) -> Any:
+            # All that another thread does is done before a byte is read.
+            other = threading.Thread(target=change, daemon=True)
+            other.start()
+            other.join(60)
+            return read(*arguments)
+
+        with mock.patch.object(_library.calls, "pass_content", read_late):
+            self.assertEqual(got(cache), b"hello")
+        self.assertEqual(others, [Ask(), True])
+        self.assertEqual(got(cache), b"other")
 
 
 if __name__ == "__main__":

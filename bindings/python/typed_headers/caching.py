@@ -280,8 +280,8 @@ class Pass:
     """One client's request through a cache, from its arrival to its last byte. `Cache.begin` makes it.
 
     Each step says what is done next. Steps of several passes through one cache may interleave in any way, also in
-    several threads: each holds the cache for itself, and nothing is held between two steps. What a step gives is right
-    for the request of this pass, at the time of that step.
+    several threads: each holds the cache for itself, but not while content is read or received, and nothing is held
+    between two steps. What a step gives is right for the request of this pass, at the time of that step.
 
     >>> cache = Cache(shared=True)
     >>> first = cache.begin("GET", "http://a.example/", {}, now=1000)
@@ -304,11 +304,10 @@ class Pass:
     ) -> None:
         self._cache, self._method, self._target, self._request, self._alone = cache, method, target, request, alone
         verb, asked = _library.to_bytes(method, "method"), request.section
-        with cache._lock:
-            given = (target.encode(), verb, asked)
-            status, self._handle, facts = cache._call(_library.calls.pass_begin, given, _present(now))
-            _library.check(status, lambda: _refused(asked))
-            step = self._told(facts)
+        given = (target.encode(), verb, asked)
+        status, self._handle, facts = cache._call(_library.calls.pass_begin, given, _present(now))
+        _library.check(status, lambda: _refused(asked))
+        step = self._told(facts)
         assert isinstance(step, (Ask, Reply, Wait))
         self.step = step
 
@@ -316,10 +315,7 @@ class Pass:
         self, *, now: Optional[Time] = None, wake: Optional[Callable[[], None]] = None
     ) -> Union[Ask, Reply, Wait]:
         """What is done after `Wait`. If that is to wait on, `wake` is called once some pass through the cache has ended."""
-        with self._cache._lock:
-            step = self._step("resume", _library.calls.pass_resume, _present(now))
-            if wake is not None and isinstance(step, Wait):
-                self._cache._waking.add(wake)
+        step = self._step("resume", _library.calls.pass_resume, _present(now), wake=wake)
         assert isinstance(step, (Ask, Reply, Wait))
         return step
 
@@ -341,7 +337,7 @@ class Pass:
 
         If the pieces are more than the cache may have, or on `MemoryError`, the pass keeps none: nothing is stored.
         """
-        _check_passing("received", self._call(_library.calls.pass_received, bytes(piece)))
+        _check_passing("received", _library.calls.pass_received(self._handle, bytes(piece)))
 
     def ended(self, *, complete: bool = True, now: Optional[Time] = None) -> bool:
         """Stores the response that passed on, if it may be stored, and returns whether it is. The pass has ended.
@@ -358,18 +354,17 @@ class Pass:
 
         `None` if what the request would get now needs no validation any more.
         """
-        with self._cache._lock:
-            served = Pass(self._cache, self._method, self._target, self._request, now)
-            if not isinstance(served.step, Reply) or not served.step.validates:
-                served.close()
-                return None
-            ended, text = _library.calls.pass_validation(self._handle)
-            _check(ended)
-            request, own = Headers(text), self._request
-            names = {name for name, _ in (*own.pairs(), *request.pairs())}
-            changed = tuple(sorted(name for name in names if own.lines(name) != request.lines(name)))
-            lines = tuple((name, line) for name in changed for line in request.lines(name))
-            return Pass(self._cache, self._method, self._target, request, now, Ask(lines, changed))
+        served = Pass(self._cache, self._method, self._target, self._request, now)
+        if not isinstance(served.step, Reply) or not served.step.validates:
+            served.close()
+            return None
+        ended, text = _library.calls.pass_validation(self._handle)
+        _check(ended)
+        request, own = Headers(text), self._request
+        names = {name for name, _ in (*own.pairs(), *request.pairs())}
+        changed = tuple(sorted(name for name in names if own.lines(name) != request.lines(name)))
+        lines = tuple((name, line) for name in changed for line in request.lines(name))
+        return Pass(self._cache, self._method, self._target, request, now, Ask(lines, changed))
 
     def close(self) -> None:
         """Ends the pass. Nothing more is stored of it, and no other waits for it."""
@@ -384,7 +379,12 @@ class Pass:
         return self._cache._call(call, self._handle, *arguments)
 
     def _step(
-        self, name: str, call: Callable[..., Tuple[int, Any]], *arguments: Any, sections: Sequence[bytes] = ()
+        self,
+        name: str,
+        call: Callable[..., Tuple[int, Any]],
+        *arguments: Any,
+        sections: Sequence[bytes] = (),
+        wake: Optional[Callable[[], None]] = None,
     ) -> Union[None, Ask, Reply, PassOn, Wait]:
         try:
             with self._cache._lock:
@@ -392,14 +392,16 @@ class Pass:
                 if ended == _library.ABSENT:
                     raise OutOfOrder(name, "it doesn't wait" if name == "resume" else "the origin isn't asked")
                 _check(ended, *sections)
-                return self._told(facts)
+                if wake is not None and facts[3] == _Action.WAIT:
+                    self._cache._waking.add(wake)
+            return self._told(facts)
         finally:
             # (nobody waits for a pass that waits)
             if name != "resume":
                 self._cache._wake()
 
     def _told(self, facts: Tuple[int, int, int, int]) -> Union[None, Ask, Reply, PassOn, Wait]:
-        """What a step says. The cache is held since then, so the response that it names is still stored."""
+        """What a step says. The pass has the content of the response that it names, whatever becomes of the cache."""
         first, count, status, number = facts
         action = _Action(number)
         if action is _Action.ASK:
@@ -416,7 +418,7 @@ class Pass:
             return Wait()
         content: Optional[bytes] = None
         if count:
-            ended, content = self._call(_library.calls.pass_content, first, count)
+            ended, content = _library.calls.pass_content(self._handle, first, count)
             _check(ended)
         elif self._method != "HEAD" and status not in (204, 304):
             content = b""

@@ -2,7 +2,7 @@
 use Rattle.std.specs.Prelude.{◌≡◌, ℕ, List, Option, Some, None, Result, Ok, Err}
 use Rattle.std.specs.Global.{Vec}
 use Rattle.c_parts.{specs.declared.status.Failure.Failure, specs.declared.status.Failure.TheVariants.{Refused, Absent}}
-use Rattle.c_pass.{specs.Steps.{Copies, FailsBegin, IsBegun, response_of}, specs.declared.held.Shared.Shared}
+use Rattle.c_pass.{specs.Steps.{Copies, FailsBegin, IsBegun}, specs.declared.held.Shared.Shared}
 use Rattle.c_pass.{specs.declared.held.Stepped.Stepped, specs.declared.reading.CacheRequest.CacheRequest}
 use Rattle.c_pass.{specs.Validating.ShowsValidation, specs.declared.telling.PassFacts.PassFacts}
 use Rattle.c_handles.specs.declared.held.Held.{Held}
@@ -21,6 +21,13 @@ abbrev pub OnCache : {V : Type 0} → (Shared → Shared → Result V Failure �
 OnCache P (Some (held.Cache shared)) (Some (held.Cache kept)) answer = P shared kept answer
 OnCache P (Some (held.Cache shared)) other answer = ⊥
 OnCache P old new answer = (answer ≡ Err Absent) × (new ≡ old)
+
+-- the same of a pass
+abbrev pub OnPass : {V : Type 0} → (Stepped → Stepped → Result V Failure → Type 0) → (old new : Option Held)
+    → Result V Failure → Type 0
+OnPass P (Some (held.Pass stepped)) (Some (held.Pass passed)) answer = P stepped passed answer
+OnPass P (Some (held.Pass stepped)) other answer = ⊥
+OnPass P old new answer = (answer ≡ Err Absent) × (new ≡ old)
 
 -- the two handles stay open
 abbrev pub IsDone : {V : Type 0} → (Shared → Stepped → Result V Failure → Type 0) → (new after : Option Held)
@@ -52,12 +59,11 @@ module _ (request : CacheRequest) (now : ℕ) where
   BeginsThrough (Some (held.Cache shared)) other None after answer = ⊥
   BeginsThrough old new None after answer = (answer ≡ Err Absent) × (new ≡ old) × (after ≡ None)
 
--- the content of the response that the pass names is copied; `Absent` also without a cache or a pass
-abbrev pub CopiesContent : (from : ℕ) (old new : List ℕ) (written : ℕ) → Option Shared → Option Stepped
-    → Result (Unit {0}) Failure → Type 0
-CopiesContent from old new written (Some shared) (Some stepped) answer =
-    Copies from old new written (response_of shared stepped) answer
-CopiesContent from old new written cache pass answer = answer ≡ Err Absent
+-- the content that the pass shows is copied; `Absent` also without a pass
+abbrev pub CopiesContent : (from : ℕ) (old new : List ℕ) (written : ℕ) → Option Stepped → Result (Unit {0}) Failure
+    → Type 0
+CopiesContent from old new written None answer = answer ≡ Err Absent
+CopiesContent from old new written (Some stepped) answer = Copies from old new written stepped.shown answer
 
 -- the field lines that the last step of a pass takes
 abbrev pub ShowsFields : Option Stepped → Result (List ℕ) Failure → Type 0

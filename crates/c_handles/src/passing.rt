@@ -3,8 +3,8 @@ ghost use Rattle.std.specs.Prelude.{◌≡◌, IsErr, Some};
 ghost use Rattle.c_parts.specs.Endings.{Writes, done};
 ghost use Rattle.c_pass.{specs.Caches.Removes, specs.Steps.{Begins, Comes, Ends, Fails, Receives}};
 ghost use Rattle.c_pass.specs.Steps.{Resumes};
-ghost use Rattle.c_handles.{specs.Handles.{cache_in, pass_in}, specs.Passes.{BeginsThrough, CopiesContent, OnBoth}};
-ghost use Rattle.c_handles.specs.Passes.{OnCache, ShowsFields, ShowsItsValidation};
+ghost use Rattle.c_handles.{specs.Handles.pass_in, specs.Passes.{BeginsThrough, CopiesContent, OnBoth, OnCache}};
+ghost use Rattle.c_handles.specs.Passes.{OnPass, ShowsFields, ShowsItsValidation};
 
 use crate::handle::Handle;
 use crate::held::Held;
@@ -75,13 +75,11 @@ fn failed_in(
     }
 }
 
-fn received_in(cache: &mut Held, pass: &mut Held, piece: &[u8]) -> Result<(), Failure>
-    ensures { OnBoth (λ old before new after answer. (new ≡ old) × Receives old.most piece.now before after answer)
-        (Some cache.old) (Some cache.new)
-        (Some pass.old) (Some pass.new) result }
+fn received_in(pass: &mut Held, piece: &[u8]) -> Result<(), Failure>
+    ensures { OnPass (Receives piece.now) (Some pass.old) (Some pass.new) result }
 {
-    match (cache, pass) {
-        (Held::Cache(shared), Held::Pass(stepped)) => c_pass::received(shared, stepped, piece),
+    match pass {
+        Held::Pass(stepped) => c_pass::received(stepped, piece),
         _ => Err(Failure::Absent),
     }
 }
@@ -205,25 +203,13 @@ pub fn pass_failed(
 }
 
 /// Keeps a piece of the content of the response that passes on, for the store.
-pub fn pass_received(
-    alloc: Global,
-    cache: &mut Handle,
-    pass: &mut Handle,
-    piece: &[u8],
-) -> Result<(), Failure>
-    ensures { OnBoth (λ old before new after answer. (new ≡ old) × Receives old.most piece.now before after answer)
-        cache.old.held cache.new.held
-        pass.old.held pass.new.held result }
+pub fn pass_received(alloc: Global, pass: &mut Handle, piece: &[u8]) -> Result<(), Failure>
+    ensures { OnPass (Receives piece.now) pass.old.held pass.new.held result }
 {
-    let Some(mut shared) = cache.take(alloc) else {
-        return Err(Failure::Absent);
-    };
     let Some(mut stepped) = pass.take(alloc) else {
-        cache.put(shared);
         return Err(Failure::Absent);
     };
-    let received = received_in(&mut shared, &mut stepped, piece);
-    cache.put(shared);
+    let received = received_in(&mut stepped, piece);
     pass.put(stepped);
     received
 }
@@ -253,21 +239,12 @@ pub fn pass_ended(
     number
 }
 
-fn copy_in(
-    cache: &Held,
-    pass: &Held,
-    from: usize,
-    room: &mut [u8],
-    written: &mut usize,
-) -> Result<(), Failure>
-    ensures copies { CopiesContent from room.old room.new written.new
-        (cache_in (Some cache.now)) (pass_in (Some pass.now)) result }
+fn copy_in(pass: &Held, from: usize, room: &mut [u8], written: &mut usize) -> Result<(), Failure>
+    ensures copies { CopiesContent from room.old room.new written.new (pass_in (Some pass.now)) result }
     ensures failed { IsErr result → (room.new ≡ room.old) × (written.new ≡ written.old) }
 {
-    match (cache, pass) {
-        (Held::Cache(shared), Held::Pass(stepped)) => {
-            copy_content(shared, stepped, from, room, written)
-        }
+    match pass {
+        Held::Pass(stepped) => copy_content(stepped, from, room, written),
         _ => Err(Failure::Absent),
     }
 }
@@ -276,27 +253,19 @@ fn copy_in(
 /// position on, and as much as fits.
 pub fn copy_pass_content(
     alloc: Global,
-    cache: &mut Handle,
     pass: &mut Handle,
     from: usize,
     room: &mut [u8],
     written: &mut usize,
 ) -> Result<(), Failure>
-    ensures copies { CopiesContent from room.old room.new written.new
-        (cache_in cache.old.held) (pass_in pass.old.held) result }
-    ensures cache { cache.new.held ≡ cache.old.held }
+    ensures copies { CopiesContent from room.old room.new written.new (pass_in pass.old.held) result }
     ensures pass { pass.new.held ≡ pass.old.held }
     ensures failed { IsErr result → (room.new ≡ room.old) × (written.new ≡ written.old) }
 {
-    let Some(shared) = cache.take(alloc) else {
-        return Err(Failure::Absent);
-    };
     let Some(stepped) = pass.take(alloc) else {
-        cache.put(shared);
         return Err(Failure::Absent);
     };
-    let copied = copy_in(&shared, &stepped, from, room, written);
-    cache.put(shared);
+    let copied = copy_in(&stepped, from, room, written);
     pass.put(stepped);
     copied
 }

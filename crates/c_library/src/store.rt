@@ -3,8 +3,8 @@ ghost use Rattle.std.specs.Prelude.{◌≡◌, ◌≢◌, None};
 ghost use Rattle.c_parts.specs.Endings.{Gives, Writes, done};
 ghost use Rattle.c_pass.{specs.Caches.{IsExtended, IsPlain, Removes}, specs.Steps.{Comes, Ends as EndsPass, Fails}};
 ghost use Rattle.c_pass.specs.Steps.{Receives, Resumes};
-ghost use Rattle.c_handles.{specs.Handles.{Opens, cache_in, pass_in}, specs.Passes.{BeginsThrough, CopiesContent}};
-ghost use Rattle.c_handles.specs.Passes.{IsCacheHeld, OnBoth, OnCache, ShowsFields, ShowsItsValidation};
+ghost use Rattle.c_handles.{specs.Handles.{Opens, pass_in}, specs.Passes.{BeginsThrough, CopiesContent}};
+ghost use Rattle.c_handles.specs.Passes.{IsCacheHeld, OnBoth, OnCache, OnPass, ShowsFields, ShowsItsValidation};
 ghost use Rattle.c_library.specs.CacheStore.{Ends, TellsNumber, ended};
 
 use crate::giving::give;
@@ -188,35 +188,24 @@ pub extern "C" fn typed_headers_pass_validation(
 #[unsafe(no_mangle)]
 pub extern "C" fn typed_headers_pass_content(
     alloc: Global,
-    cache: &mut Handle,
     pass: &mut Handle,
     from: usize,
     room: &mut [u8],
     written: &mut usize,
 ) -> u8
-    ensures copies { Ends (CopiesContent from room.old room.new written.new
-        (cache_in cache.old.held) (pass_in pass.old.held)) result }
-    ensures cache { cache.new.held ≡ cache.old.held }
+    ensures copies { Ends (CopiesContent from room.old room.new written.new (pass_in pass.old.held)) result }
     ensures pass { pass.new.held ≡ pass.old.held }
     ensures failed { result ≢ done → (room.new ≡ room.old) × (written.new ≡ written.old) }
 {
-    ended(copy_pass_content(alloc, cache, pass, from, room, written))
+    ended(copy_pass_content(alloc, pass, from, room, written))
 }
 
 /// Keeps a piece of the content of the response that passes on, for the store.
 #[unsafe(no_mangle)]
-pub extern "C" fn typed_headers_pass_received(
-    alloc: Global,
-    cache: &mut Handle,
-    pass: &mut Handle,
-    piece: &[u8],
-) -> u8
-    ensures { Ends (OnBoth
-        (λ old before new after answer. (new ≡ old) × Receives old.most piece.now before after answer)
-        cache.old.held cache.new.held
-        pass.old.held pass.new.held) result }
+pub extern "C" fn typed_headers_pass_received(alloc: Global, pass: &mut Handle, piece: &[u8]) -> u8
+    ensures { Ends (OnPass (Receives piece.now) pass.old.held pass.new.held) result }
 {
-    ended(pass_received(alloc, cache, pass, piece))
+    ended(pass_received(alloc, pass, piece))
 }
 
 /// Stores the response that passed on, with the content that came, if it may be stored: its number, or 0 if it isn't

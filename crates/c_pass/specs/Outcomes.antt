@@ -5,8 +5,7 @@ use Rattle.cache_pass.specs.declared.replying.First.TheVariants as first
 use Rattle.cache_pass.specs.declared.revalidating.Next.{Next}
 use Rattle.cache_pass.specs.declared.revalidating.Next.TheVariants as next
 use Rattle.c_pass.{specs.declared.outcome.By.By, specs.declared.outcome.By.TheVariants.{Nothing, Fields, Stored, Once}}
-use Rattle.c_pass.{specs.declared.outcome.Named.Named, specs.declared.outcome.Outcome.Outcome}
-use Rattle.c_pass.specs.declared.outcome.Named.TheVariants as named
+use Rattle.c_pass.specs.declared.outcome.Outcome.{Outcome}
 
 -- a stored response is sent, as the reply says
 abbrev pub by_reply : Reply → By
@@ -32,10 +31,3 @@ next_outcome (next.PassOn false) = record { action = 6; by = Nothing }
 abbrev pub failed_outcome : Option Reply → Outcome
 failed_outcome (Some reply) = record { action = 0; by = by_reply reply }
 failed_outcome None = record { action = 7; by = Nothing }
-
--- the stored response that is named
-abbrev pub named_by : By → Named
-named_by Nothing = named.Nothing
-named_by (Fields fields) = named.Nothing
-named_by (Stored number answer) = named.Stored number
-named_by (Once stored answer) = named.Once stored

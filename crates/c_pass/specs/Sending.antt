@@ -57,11 +57,11 @@ module _ (stored : StoredResponse) where
   abbrev pub fields_added : StoredAnswer → ℕ → List Field
   fields_added answers.Whole now = age_of_stored stored now ∷ []
   fields_added (answers.Part part) now =
-      age_of_stored stored now ∷ range_field (range_of part (length stored.content.items))
+      age_of_stored stored now ∷ range_field (range_of part (length stored.content))
       ∷ length_field (size_of part) ∷ []
   fields_added answers.NotModified now = age_of_stored stored now ∷ []
   fields_added answers.Unsatisfiable now =
-      range_field (no_range (length stored.content.items)) ∷ length_field 0 ∷ []
+      range_field (no_range (length stored.content)) ∷ length_field 0 ∷ []
   fields_added answers.Forward now = age_of_stored stored now ∷ []
 
   -- the field lines that are sent, at a present
@@ -78,9 +78,9 @@ module _ (stored : StoredResponse) where
 
   -- the first position of the content that is sent, and how many bytes are sent: none to HEAD
   abbrev pub part_sent : StoredAnswer → Bool → ℕ × ℕ
-  part_sent answers.Whole false = (0, length stored.content.items)
+  part_sent answers.Whole false = (0, length stored.content)
   part_sent (answers.Part part) false = (part.first, size_of part)
   part_sent answers.NotModified false = (0, 0)
   part_sent answers.Unsatisfiable false = (0, 0)
-  part_sent answers.Forward false = (0, length stored.content.items)
+  part_sent answers.Forward false = (0, length stored.content)
   part_sent answer true = (0, 0)

@@ -7,8 +7,7 @@ use Rattle.http_header.{specs.FieldValue.FieldValue, specs.HeaderMap.Entries}
 use Rattle.headers_section.specs.Section.{Holds}
 use Rattle.cache_rules.specs.declared.storing.Reception.{Reception}
 use Rattle.cache_rules.specs.declared.storing.Reception.TheVariants.{Complete, Incomplete}
-use Rattle.cache_rules.specs.declared.stored.StoredResponse.{StoredResponse}
-use Rattle.cache_store.{specs.History.Call.Looked, specs.Numbers.numbered}
+use Rattle.cache_store.specs.History.Call.{Looked}
 use Rattle.cache_pass.{specs.Effects.{Does, kept_of, settings_of, stored_at}, specs.declared.pass.Pass.Pass}
 use Rattle.cache_pass.specs.Passes.{IsNotPassing, IsSameRequest, asked_of, key_of, request_of_pass}
 use Rattle.cache_pass.{specs.Queue.{Enters, is_open}, specs.declared.pass.Phase.TheVariants.Began}
@@ -17,28 +16,27 @@ use Rattle.cache_pass.{specs.declared.replying.Reply.Reply, specs.declared.reval
 use Rattle.c_decisions.specs.StatusCodes.{IsStatusOf}
 use Rattle.c_parts.{specs.Endings.{IsWritten, done}, specs.SectionMap.IsMapOf, specs.declared.status.Failure.Failure}
 use Rattle.c_parts.specs.declared.status.Failure.TheVariants.{Memory, Absent}
-use Rattle.c_pass.specs.Outcomes.{failed_outcome, first_outcome, named_by, next_outcome}
+use Rattle.c_pass.specs.Outcomes.{failed_outcome, first_outcome, next_outcome}
 use Rattle.c_pass.{specs.Caches.IsSameBeside, specs.Waiting.{IsAhead, IsPlaced, IsSettled}}
 use Rattle.c_pass.specs.declared.held.Place.TheVariants.{Apart, Waiting}
 use Rattle.c_pass.{specs.Reading.{FailsRequest, IsRequest, asked_by}, specs.Telling.{is_head, outcome_told, waiting}}
 use Rattle.c_pass.{specs.declared.held.Shared.Shared, specs.declared.held.Stepped.Stepped}
-use Rattle.c_pass.{specs.declared.outcome.Named.Named, specs.declared.outcome.Outcome.Outcome}
-use Rattle.c_pass.specs.declared.outcome.Named.TheVariants as named
+use Rattle.c_pass.specs.declared.outcome.Outcome.{Outcome}
 use Rattle.c_pass.{specs.declared.reading.CacheRequest.CacheRequest, specs.declared.telling.PassFacts.PassFacts}
 
--- the outcome is told, and the pass names the stored response that it sends
-pub record Tells (now : ℕ) (shared : Shared) (stepped : Stepped) (outcome : Outcome) (facts : PassFacts) : Type 0 where
-  pub named : stepped.named ≡ named_by outcome.by
-  pub told : (facts, stepped.text.items)
-      ≡ outcome_told (stored_at (key_of stepped.pass) shared.cache) (is_head stepped.pass) now outcome
+-- the outcome is told, and the pass shows the content of the stored response that it names in the cache
+abbrev pub Tells : (now : ℕ) → Shared → Stepped → Outcome → PassFacts → Type 0
+Tells now shared stepped outcome facts =
+    (facts, stepped.text.items, stepped.shown)
+    ≡ outcome_told (stored_at (key_of stepped.pass) shared.cache) (is_head stepped.pass) now outcome
 
 -- what a pass has kept of the content that came, if it may still be stored
 abbrev pub content_of : Stepped → Option (List ℕ)
 content_of stepped = option_map (λ content. content.items) stepped.content
 
--- the pass names nothing, and takes no field lines
+-- the pass shows no content, and takes no field lines
 pub record IsSilent (stepped : Stepped) : Type 0 where
-  pub named : stepped.named ≡ named.Nothing
+  pub shown : stepped.shown ≡ None
   pub text : stepped.text.items ≡ []
 
 -- the first step of a pass
@@ -106,6 +104,11 @@ abbrev pub reception_of : Bool → Reception
 reception_of true = Complete
 reception_of false = Incomplete
 
+-- what is stored of the content that was kept, if it is the whole: all of it, or nothing if memory ran out
+abbrev pub IsContentStored : Option (List ℕ) → (whole : Bool) → List ℕ → Reception → Type 0
+IsContentStored kept whole content reception =
+    ((content ≡ unwrap_or kept []) × (reception ≡ reception_of whole)) ⊎ (reception ≡ Incomplete)
+
 -- a failed call has changed nothing
 abbrev pub IsUnchanged : Shared → Stepped → Shared → Stepped → Type 0
 IsUnchanged old before new after = (new ≡ old) × (after ≡ before)
@@ -155,6 +158,7 @@ module _ (now : ℕ) (old : Shared) (before : Stepped) (new : Shared) (after : S
       pub holds : Holds section response
       pub come : HasCome before.pass old.cache status response now after.pass new.cache next
       pub content : content_of after ≡ Some []
+      pub most : after.most ≡ old.most
       pub place : IsSettled after.pass.phase before.place old.queue new.queue after.place
       pub beside : IsSameBeside old new
 
@@ -190,7 +194,7 @@ module _ (now : ℕ) (old : Shared) (before : Stepped) (new : Shared) (after : S
           (reception_of (is_complete && is_some before.content)) now after.pass new.cache number
       pub content : after.content ≡ None
       pub place : IsSettled after.pass.phase before.place old.queue new.queue after.place
-      pub named : after.named ≡ before.named
+      pub shown : after.shown ≡ before.shown
       pub text : after.text ≡ before.text
       pub beside : IsSameBeside old new
 
@@ -207,42 +211,34 @@ content_with most piece None = None
 content_with most piece (Some content) =
     if nat_le (length content + length piece) most then Some (content ++ piece) else None
 
-module _ (most : ℕ) (piece : List ℕ) (before after : Stepped) where
+module _ (piece : List ℕ) (before after : Stepped) where
   -- of a pass by which a response passes on that is to be stored, this content is kept
   pub record IsKept (content : Option (List ℕ)) : Type 0 where
     pub passing : ¬ (IsNotPassing before.pass.phase)
     pub content_is : content_of after ≡ content
     pub pass : after.pass ≡ before.pass
-    pub named : after.named ≡ before.named
+    pub most : after.most ≡ before.most
+    pub shown : after.shown ≡ before.shown
     pub text : after.text ≡ before.text
     pub place : after.place ≡ before.place
 
   -- The piece is kept with those before it. `Absent` if no response passes on that is to be stored. If memory runs out,
   -- nothing is kept from now on.
   abbrev pub Receives : Result (Unit {0}) Failure → Type 0
-  Receives (Ok one) = IsKept (content_with most piece (content_of before))
+  Receives (Ok one) = IsKept (content_with before.most piece (content_of before))
   Receives (Err failure) =
       ((failure ≡ Absent) × IsNotPassing before.pass.phase × (after ≡ before))
       ⊎ ((failure ≡ Memory) × (0 < length piece) × IsKept None)
 
 -- what is sent
 
--- the response that the pass names, if it is still stored or was never
-abbrev pub response_of : Shared → Stepped → Option StoredResponse
-response_of shared stepped = response_named stepped.named
-  where
-    response_named : Named → Option StoredResponse
-    response_named named.Nothing = None
-    response_named (named.Stored number) = numbered number (stored_at (key_of stepped.pass) shared.cache)
-    response_named (named.Once stored) = Some stored
-
 -- the bytes from a position on, at most so many
 abbrev pub part_from : List ℕ → (from most : ℕ) → List ℕ
 part_from bytes from most = take most (drop from bytes)
 
--- its content is at the front of the room, or there is none
-abbrev pub Copies : (from : ℕ) (old new : List ℕ) (written : ℕ) → Option StoredResponse
-    → Result (Unit {0}) Failure → Type 0
-Copies from old new written found (Ok one) =
-    IsSomeAnd found (λ stored. IsWritten (part_from stored.content.items from (length old)) done old new written done)
-Copies from old new written found (Err failure) = (failure ≡ Absent) × (found ≡ None)
+-- the content that is shown is at the front of the room, or there is none
+abbrev pub Copies : (from : ℕ) (old new : List ℕ) (written : ℕ) → Option (List ℕ) → Result (Unit {0}) Failure
+    → Type 0
+Copies from old new written shown (Ok one) =
+    IsSomeAnd shown (λ content. IsWritten (part_from content from (length old)) done old new written done)
+Copies from old new written shown (Err failure) = (failure ≡ Absent) × (shown ≡ None)

@@ -1,5 +1,6 @@
 -- What is told of a step.
-use Rattle.std.{specs.Prelude.{◌≡◌, ⊤, ℕ, Bool, List, [], bytes_eq, codes}, specs.Option.option_map_or}
+use Rattle.std.{specs.Prelude.{◌≡◌, ⊤, ℕ, Bool, List, [], Option, Some, None, bytes_eq, codes}}
+use Rattle.std.specs.Option.{option_map_or}
 use Rattle.headers.specs.LineMap.{fields_of}
 use Rattle.cache_rules.specs.declared.conditions.StoredAnswer.{StoredAnswer}
 use Rattle.cache_rules.specs.declared.stored.StoredResponse.{StoredResponse}
@@ -22,22 +23,28 @@ facts_of action status part = record { first = part.0; count = part.1; status = 
 abbrev pub waiting : PassFacts
 waiting = facts_of 8 0 (0, 0)
 
--- these facts, and this text
-abbrev pub IsTold : Told → PassFacts × List ℕ → Type 0
-IsTold told is = (told.facts ≡ is.0) × (told.text.items ≡ is.1)
+-- what is told of a step: facts, field lines, and the content of the stored response that it names
+abbrev pub Telling : Type 0
+Telling = PassFacts × List ℕ × Option (List ℕ)
+
+abbrev pub IsTold : Told → Telling → Type 0
+IsTold told is = (told.facts ≡ is.0) × (told.text.items ≡ is.1) × (told.shown ≡ is.2)
 
 -- what is told of a stored response that is sent
-abbrev pub told_of : ℕ → StoredResponse → StoredAnswer → Bool → ℕ → PassFacts × List ℕ
-told_of action stored answer head now =
-    (facts_of action (status_sent stored answer) (part_sent stored answer head), text_sent stored answer now)
+abbrev pub told_of : ℕ → StoredResponse → StoredAnswer → Bool → ℕ → Telling
+told_of action stored answer head now = (
+  facts_of action (status_sent stored answer) (part_sent stored answer head),
+  text_sent stored answer now,
+  Some stored.content,
+)
 
 -- what is told of an outcome if no stored response is sent
-abbrev pub told_alone : ℕ → List ℕ → PassFacts × List ℕ
-told_alone action text = (facts_of action 0 (0, 0), text)
+abbrev pub told_alone : ℕ → List ℕ → Telling
+told_alone action text = (facts_of action 0 (0, 0), text, None)
 
 module _ (responses : List StoredResponse) (head : Bool) (now action : ℕ) where
   -- by what something is done; a response that a step names is stored
-  abbrev pub by_told : By → PassFacts × List ℕ
+  abbrev pub by_told : By → Telling
   by_told Nothing = told_alone action []
   by_told (Fields fields) = told_alone action (fields_text (fields_of fields.items))
   by_told (Stored number answer) =
@@ -45,7 +52,7 @@ module _ (responses : List StoredResponse) (head : Bool) (now action : ℕ) wher
   by_told (Once stored answer) = told_of action stored answer head now
 
 -- what is told of an outcome, by what is stored under the target of the pass
-abbrev pub outcome_told : List StoredResponse → Bool → ℕ → Outcome → PassFacts × List ℕ
+abbrev pub outcome_told : List StoredResponse → Bool → ℕ → Outcome → Telling
 outcome_told responses head now outcome = by_told responses head now outcome.action outcome.by
 
 -- fields are told, or those of a stored response

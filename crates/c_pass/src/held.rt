@@ -1,6 +1,6 @@
 //! What a cache and a pass are behind handles.
 
-use crate::outcome::Named;
+use bytes::Bytes;
 use c_parts::HashKeys;
 use cache_pass::{Cache, Pass, Queue};
 
@@ -13,7 +13,7 @@ pub struct Shared {
     pub queue: Queue,
     /// The keys of the maps of sections.
     pub keys: HashKeys,
-    /// How many bytes the store may have in all: a pass keeps no more of what comes.
+    /// How many bytes the store may have in all.
     pub most: usize,
 }
 
@@ -33,12 +33,14 @@ pub enum Place {
 pub struct Stepped {
     /// The pass.
     pub pass: Pass,
-    /// The stored response that its last step names.
-    pub named: Named,
+    /// The content of the stored response that its last step names, which is shared with the store.
+    pub shown: Option<Bytes>,
     /// The field lines that its last step takes.
     pub text: Vec<u8>,
     /// What came so far of the content of the response that passes on, if it may still be stored.
     pub content: Option<Vec<u8>>,
+    /// How many bytes of it the store may have: a pass keeps no more.
+    pub most: usize,
     /// Where it is in the queue.
     pub place: Place,
 }

@@ -1,6 +1,6 @@
 //! What a step of a pass comes to.
 ghost use Rattle.std.specs.Prelude.{◌≡◌};
-ghost use Rattle.c_pass.specs.Outcomes.{failed_outcome, first_outcome, named_by, next_outcome};
+ghost use Rattle.c_pass.specs.Outcomes.{failed_outcome, first_outcome, next_outcome};
 
 use cache_pass::{First, Next, Reply};
 use cache_rules::{StoredAnswer, StoredResponse};
@@ -28,17 +28,6 @@ pub enum By {
     Stored(u64, StoredAnswer),
     /// By this response, which is stored no longer, as it answers so.
     Once(StoredResponse, StoredAnswer),
-}
-
-/// A stored response that a step names.
-#[derive(Drop)]
-pub enum Named {
-    /// None.
-    Nothing,
-    /// The one with this number.
-    Stored(u64),
-    /// One that is stored no longer.
-    Once(StoredResponse),
 }
 
 pub(crate) fn first_outcome(first: First) -> Outcome
@@ -79,16 +68,5 @@ pub(crate) fn failed_outcome(found: Option<Reply>) -> Outcome
             action: 7,
             by: By::Nothing,
         },
-    }
-}
-
-/// The stored response that an outcome names.
-pub(crate) fn named_by(by: By) -> Named
-    ensures { result ≡ named_by by }
-{
-    match by {
-        By::Nothing | By::Fields(_) => Named::Nothing,
-        By::Stored(number, _) => Named::Stored(number),
-        By::Once(stored, _) => Named::Once(stored),
     }
 }

@@ -1,18 +1,19 @@
 //! The steps of a pass.
-ghost use Rattle.std.specs.Prelude.{◌≡◌, ◌<◌, length, IfErr, IfOk, IsErr, Some, None, option_map};
+ghost use Rattle.std.specs.Prelude.{◌≡◌, ◌<◌, ◌&&◌, length, IfErr, IfOk, IsErr, Some, None, is_some, option_map};
 ghost use Rattle.std.specs.Bool.{MatchBool};
 ghost use Rattle.cache_pass.specs.Passes.{IsNotPassing};
 ghost use Rattle.c_parts.specs.declared.status.Failure.TheVariants.{Memory};
-ghost use Rattle.c_pass.{specs.Outcomes.named_by, specs.Steps.{Begins, Comes, Ends, Fails, IsSilent, Tells}};
+ghost use Rattle.c_pass.specs.Steps.{Begins, Comes, Ends, Fails, IsContentStored, IsSilent, Tells};
 ghost use Rattle.c_pass.{specs.Caches.IsSameBeside, specs.Steps.{Receives, Resumes, content_with, reception_of}};
 ghost use Rattle.c_pass.{specs.Outcomes.first_outcome, specs.Waiting.IsPlaced};
 ghost use Rattle.c_pass.specs.declared.held.Place.TheVariants.{Apart};
 
 use crate::held::{Place, Shared, Stepped};
-use crate::outcome::{Named, Outcome, failed_outcome, first_outcome, named_by, next_outcome};
+use crate::outcome::{Outcome, failed_outcome, first_outcome, next_outcome};
 use crate::reading::{CacheRequest, read_target};
 use crate::telling::{PassFacts, tell, waiting};
 use crate::waiting::{ahead, enter, settle};
+use bytes::Bytes;
 use c_decisions::{read_method, read_status};
 use c_parts::{Failure, read_map};
 use cache_pass::{First, Pass, Phase};
@@ -20,7 +21,7 @@ use cache_rules::Reception;
 use std::alloc::{AllocError, Global};
 use std::mem::replace;
 
-// Tells an outcome, and names the stored response that is sent.
+// Tells an outcome, and shows the content of the stored response that is sent.
 fn tell_step(
     alloc: Global,
     shared: &Shared,
@@ -30,14 +31,15 @@ fn tell_step(
 ) -> Result<PassFacts, Failure>
     ensures pass { stepped.new.pass ≡ stepped.old.pass }
     ensures content { stepped.new.content ≡ stepped.old.content }
+    ensures most { stepped.new.most ≡ stepped.old.most }
     ensures place { stepped.new.place ≡ stepped.old.place }
     ensures ok { IfOk result (Tells now shared.now stepped.new outcome) }
     ensures err { IfErr result (λ failure. (failure ≡ Memory) × IsSilent stepped.new) }
 {
-    stepped.named = Named::Nothing;
+    stepped.shown = None;
     stepped.text = Vec::new(alloc);
     let told = tell(alloc, &shared.cache, &stepped.pass, &outcome, now)?;
-    stepped.named = named_by(outcome.by);
+    stepped.shown = told.shown;
     stepped.text = told.text;
     Ok(told.facts)
 }
@@ -49,12 +51,12 @@ fn stepped_at(alloc: Global, pass: Pass, place: Place) -> Stepped
     ensures content { result.content ≡ None }
     ensures silent { IsSilent result }
 {
-    let content = None;
     Stepped {
         pass,
-        named: Named::Nothing,
+        shown: None,
         text: Vec::new(alloc),
-        content,
+        content: None,
+        most: 0,
         place,
     }
 }
@@ -153,6 +155,7 @@ pub fn came(
     {
         Ok(next) => {
             stepped.content = Some(Vec::new(alloc));
+            stepped.most = shared.most;
             stepped.place = settle(&mut shared.queue, stepped.pass.phase(), stepped.place);
             tell_step(alloc, shared, stepped, next_outcome(next), now)
         }
@@ -218,16 +221,31 @@ fn content_with(
 }
 
 /// Keeps a piece of the content of the response that passes on, for the store.
-pub fn received(shared: &Shared, stepped: &mut Stepped, piece: &[u8]) -> Result<(), Failure>
-    ensures { Receives shared.now.most piece.now stepped.old stepped.new result }
+pub fn received(stepped: &mut Stepped, piece: &[u8]) -> Result<(), Failure>
+    ensures { Receives piece.now stepped.old stepped.new result }
 {
     if !is_passing(&stepped.pass) {
         return Err(Failure::Absent);
     }
     if let Some(content) = replace(&mut stepped.content, None) {
-        stepped.content = content_with(content, piece, shared.most)?;
+        stepped.content = content_with(content, piece, stepped.most)?;
     }
     Ok(())
+}
+
+// What is stored of the content that was kept: as if not all of it came if none was, or memory ran out.
+fn content_stored(content: Option<Vec<u8>>, is_complete: bool) -> (Bytes, Reception)
+    ensures { IsContentStored (option_map (λ bytes. bytes.items) content) (is_complete && is_some content)
+        result.0 result.1 }
+{
+    let Some(mut content) = content else {
+        return (Bytes::new(), Reception::Incomplete);
+    };
+    content.shrink_to_fit();
+    match Bytes::from_vec(content) {
+        Ok(shared) => (shared, reception_of(is_complete)),
+        Err(_) => (Bytes::new(), Reception::Incomplete),
+    }
 }
 
 /// Makes the last step of a pass, with the content that came of the response that passed on.
@@ -243,13 +261,7 @@ pub fn ended(
     if !is_passing(&stepped.pass) {
         return Err(Failure::Absent);
     }
-    let (content, reception) = match replace(&mut stepped.content, None) {
-        Some(mut content) => {
-            content.shrink_to_fit();
-            (content, reception_of(is_complete))
-        }
-        None => (Vec::new(alloc), Reception::Incomplete),
-    };
+    let (content, reception) = content_stored(replace(&mut stepped.content, None), is_complete);
     match stepped
         .pass
         .ended(&mut shared.cache, alloc, content, reception, now)

@@ -5,6 +5,7 @@ ghost use Rattle.c_pass.specs.Telling.{IsTold, TakesMemory, facts_of, is_head, o
 
 use crate::outcome::{By, Outcome};
 use crate::sending::{part_sent, status_sent, text_sent};
+use bytes::Bytes;
 use c_decisions::fields_text;
 use cache_pass::{Cache, Pass};
 use cache_rules::{StoredAnswer, StoredResponse};
@@ -25,11 +26,12 @@ pub struct PassFacts {
     pub action: u8,
 }
 
-/// What is told of a step, and the field lines that it takes.
+/// What is told of a step, the field lines that it takes, and the content that it shows.
 #[derive(Drop)]
 pub struct Told {
     pub facts: PassFacts,
     pub text: Vec<u8>,
+    pub shown: Option<Bytes>,
 }
 
 fn is_head(pass: &Pass) -> bool
@@ -73,6 +75,7 @@ fn tell_stored(
             part_sent(stored, answer, is_head),
         ),
         text: text_sent(alloc, stored, answer, now)?,
+        shown: Some(stored.content.clone()?),
     })
 }
 
@@ -105,5 +108,6 @@ pub(crate) fn tell(
     Ok(Told {
         facts: facts_of(action, 0, (0, 0)),
         text,
+        shown: None,
     })
 }

@@ -68,6 +68,6 @@ pub record IsReceived (pass : Pass) (requested status : ℕ) (response : Entries
   pub request : came.request ≡ pass.request
   pub status_came : came.status ≡ status
   pub response_came : came.response ≡ response
-  pub content_came : came.content.items ≡ content
+  pub content_came : came.content ≡ content
   pub requested_at : came.requested ≡ requested
   pub received_at : came.received ≡ now

@@ -8,7 +8,7 @@ ghost use Rattle.cache_pass.specs.Replies.{IsShownOnError, number_on_error};
 use crate::cache::Cache;
 use crate::replying::Reply;
 use cache_policy::RequestHead;
-use cache_store::Lookup;
+use cache_store::{Lookup, LookupTimes};
 use std::alloc::{AllocError, Global};
 
 // The number of the response that a lookup serves, or lets serve on an error.
@@ -40,9 +40,11 @@ impl Cache {
         ensures does { Does (settings_of self.old) (Looked key.now) (kept_of self.old) (kept_of self.new) }
         ensures settings { settings_of self.new ≡ settings_of self.old }
     {
-        let lookup = self
-            .store
-            .lookup_guessing(alloc, key, request, now, self.guess)?;
+        let times = LookupTimes {
+            now,
+            longest_guess: self.guess,
+        };
+        let lookup = self.store.lookup_guessing(alloc, key, request, times)?;
         match number_on_error(&lookup) {
             Some(number) => self.reply(alloc, key, request, number, now),
             None => Ok(None),

@@ -9,7 +9,7 @@ ghost use Rattle.cache_pass.specs.Replies.{IsReplyTo};
 use crate::cache::Cache;
 use cache_policy::{Decision, RequestHead, decide_unstored};
 use cache_rules::{StoredAnswer, StoredResponse, age_field, answer_conditions, is_for_cache};
-use cache_store::Lookup;
+use cache_store::{Lookup, LookupTimes};
 use headers::Encoded;
 use std::alloc::{AllocError, Global};
 
@@ -104,10 +104,11 @@ impl Cache {
         ensures does { Does (settings_of self.old) (Looked key.now) (kept_of self.old) (kept_of self.new) }
         ensures settings { settings_of self.new ≡ settings_of self.old }
     {
-        match self
-            .store
-            .lookup_guessing(alloc, key, request, now, self.guess)
-        {
+        let times = LookupTimes {
+            now,
+            longest_guess: self.guess,
+        };
+        match self.store.lookup_guessing(alloc, key, request, times) {
             Ok(Lookup::Serve(number, _)) => match self.reply(alloc, key, request, number, now) {
                 Ok(Some(reply)) => First::Reply(reply),
                 _ => unstored(request),

@@ -8,6 +8,7 @@ use crate::cache::Cache;
 use crate::pass::{Asked, Pass, Phase};
 use crate::replying::{First, Reply};
 use crate::revalidating::Next;
+use bytes::Bytes;
 use cache_rules::{Reception, StoredResponse};
 use headers::HeaderMap;
 use http::StatusCode;
@@ -95,10 +96,10 @@ impl Pass {
         requested: u64,
         status: StatusCode,
         response: HeaderMap,
-        content: Vec<u8>,
+        content: Bytes,
         now: u64,
     ) -> Result<StoredResponse, AllocError>
-        ensures { IfOk result (IsReceived self.now requested status response content.items now) }
+        ensures { IfOk result (IsReceived self.now requested status response content now) }
     {
         Ok(StoredResponse {
             method: self.method.clone()?,
@@ -186,11 +187,11 @@ impl Pass {
         &mut self,
         cache: &mut Cache,
         alloc: Global,
-        content: Vec<u8>,
+        content: Bytes,
         reception: Reception,
         now: u64,
     ) -> Result<Option<u64>, OutOfOrder>
-        ensures ok { IfOk result (HasEnded self.old cache.old content.items reception now self.new cache.new) }
+        ensures ok { IfOk result (HasEnded self.old cache.old content reception now self.new cache.new) }
         ensures err { IfErr result (λ error. (error ≡ OutOfOrder.Ended) × IsNotPassing self.old.phase
             × IsUnchanged self.old cache.old self.new cache.new) }
     {

@@ -45,7 +45,7 @@ one_part = record { gap = 80; head = 512; parts = 1 }
 
 -- of how many bytes ranges are sent, if they are
 abbrev pub divisible : Bool → StoredResponse → ℕ
-divisible true stored = length stored.content.items
+divisible true stored = length stored.content
 divisible false stored = 0
 
 module _ (now : ℕ) (request : Request) (stored : StoredResponse) (ranges : Bool) where

@@ -43,8 +43,8 @@ abbrev pub IsVarying : StoredResponse → Type 0
 IsVarying stored = HasLine (fields_of_stored stored (codes "vary"))
 
 module _ (request : Request) (all : List StoredResponse) where
-  -- The response may answer the request. It has a field Vary, or none of these responses that may answer the request has
-  -- one: a default response that omits it gives way to one that doesn't (section 4.1).
+  -- The response may answer the request. It has a field Vary, or none of these responses that may answer the request
+  -- has one: a default response that omits it gives way to one that doesn't (section 4.1).
   abbrev pub IsPreferred : StoredResponse → Type 0
   IsPreferred stored =
       IsCandidate request stored

@@ -3,6 +3,7 @@ ghost use Rattle.std.specs.Prelude.{◌≡◌};
 ghost use Rattle.cache_policy.specs.Requests.{request_of};
 ghost use Rattle.cache_rules.specs.Stored.{made_at, request_of_stored, times_of};
 
+use bytes::Bytes;
 use cache_policy::{RequestHead, StoredHeads, Times, date};
 use headers::HeaderMap;
 use http::{Method, StatusCode};
@@ -21,8 +22,8 @@ pub struct StoredResponse {
     pub status: StatusCode,
     /// The fields of the response, as they are stored.
     pub response: HeaderMap,
-    /// The whole content. Rules depend only on its length.
-    pub content: Vec<u8>,
+    /// The whole content, whose clones share the bytes. Rules depend only on its length.
+    pub content: Bytes,
     /// When the request was made that the response answered, or that validated it last.
     pub requested: u64,
     /// When the response came, or the one that validated it last.

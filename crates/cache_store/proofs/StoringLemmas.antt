@@ -18,8 +18,8 @@ module _ (limits : Limits) (target : List ℕ) (size : ℕ) where
   pub record IsTrimming (old new : List StoredResponse) : Type 0 where
     pub count : ℕ
     pub left : new ≡ drop count old
-    pub fewest : 0 < count → ¬ (FitsAlone limits (length (drop (count - 1) old) + 1) (bytes_at target (drop (count - 1) old)
-        + size))
+    pub fewest : 0 < count → ¬ (FitsAlone limits (length (drop (count - 1) old) + 1)
+        (bytes_at target (drop (count - 1) old) + size))
 
   pub trim-none : (old : List StoredResponse) → IsTrimming old old
   trim-none old = record { count = 0; left = refl; fewest = λ some. absurd (omega (arith, some)) }
@@ -46,8 +46,8 @@ module _ (limits : Limits) (target : List ℕ) (size : ℕ) where
             (ap (λ n. drop n old) (omega arith) ∙ sym trimming.left) fits);
       }
 
-  pub trim-done : (old new : List StoredResponse) → IsTrimming old new → FitsAlone limits (length new + 1) (bytes_at target
-      new + size)
+  pub trim-done : (old new : List StoredResponse) → IsTrimming old new
+      → FitsAlone limits (length new + 1) (bytes_at target new + size)
       → IsTrimmed limits target size old new
   trim-done old new trimming fits =
       record { count = trimming.count; left = trimming.left; fits = fits; fewest = trimming.fewest }
@@ -82,7 +82,8 @@ pub inserted : (limits own : Limits) (target : List ℕ) (new : StoredResponse) 
     → own ≡ limits → other ≡ without target old → taken ≡ responses_at target old
     → request ≡ request_of_stored new → IsRest request taken others
     → size ≡ size_at target new → IsTrimmed own target size others kept
-    → count ≡ length kept + 1 → bytes ≡ bytes_at target kept + size_at target new → IsLongestWithRoom own count bytes other rest
+    → count ≡ length kept + 1 → bytes ≡ bytes_at target kept + size_at target new
+    → IsLongestWithRoom own count bytes other rest
     → contents ≡ (target, kept ++ new ∷ []) ∷ rest → IsInserted limits target new old contents
 inserted limits own target new old other rest contents taken others kept request size count bytes
     is_own is_other is_taken is_request beside is_size trimmed is_count is_bytes room put =

@@ -76,7 +76,8 @@ pub record IsInserted (limits : Limits) (target : List ℕ) (new : StoredRespons
     pub rest : Contents
     pub beside : IsRest (request_of_stored new) (responses_at target old) others
     pub trimmed : IsTrimmed limits target (size_at target new) others kept
-    pub room : IsLongestWithRoom limits (length kept + 1) (bytes_at target kept + size_at target new) (without target old) rest
+    pub room : IsLongestWithRoom limits (length kept + 1) (bytes_at target kept + size_at target new)
+        (without target old) rest
     pub put : contents ≡ (target, kept ++ new ∷ []) ∷ rest
 
 -- ---- a response that validates stored ones

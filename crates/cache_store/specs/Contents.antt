@@ -1,6 +1,6 @@
 -- What a store has.
-use Rattle.std.specs.Prelude.{◌≡◌, ℕ, ◌+◌, ◌-◌, ◌^◌, min, Bool, false, not, List, [], ◌∷◌, ◌++◌, map, length, filter, sum_by}
-use Rattle.std.{specs.Prelude.{bytes_eq, if◌then◌else◌, string_bytes, String, Vec}, specs.List.AllByRecursion}
+use Rattle.std.specs.Prelude.{◌≡◌, ℕ, ◌+◌, ◌-◌, ◌^◌, min, Bool, false, not, List, [], ◌∷◌, ◌++◌, map, length, filter}
+use Rattle.std.{specs.Prelude.{sum_by, bytes_eq, if◌then◌else◌, string_bytes, String, Vec}, specs.List.AllByRecursion}
 use Rattle.http_header.specs.{FieldValue.FieldValue, HeaderMap.pairs}
 use Rattle.cache_rules.specs.declared.stored.StoredResponse.{StoredResponse}
 
@@ -47,7 +47,7 @@ line_size line = length line.0 + length line.1.bytes + 256
 -- fields of the request and of the response, and 1,024 for what is stored with them. At most 2^64 - 1.
 unfoldable pub size_at : List ℕ → StoredResponse → ℕ
 size_at target stored =
-    min (length target + length stored.content.items + sum_by line_size (pairs stored.request)
+    min (length target + length stored.content + sum_by line_size (pairs stored.request)
     + sum_by line_size (pairs stored.response) + 1024) (2 ^ 64 - 1)
 
 abbrev pub bytes_at : List ℕ → List StoredResponse → ℕ

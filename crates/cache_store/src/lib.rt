@@ -19,7 +19,7 @@ mod updating;
 
 pub use crate::freshening::Refreshed;
 pub use crate::limits::Limits;
-pub use crate::lookup::Lookup;
+pub use crate::lookup::{Lookup, LookupTimes};
 pub use crate::making::Options;
 pub use crate::named::named_targets;
 pub use crate::store::Store;

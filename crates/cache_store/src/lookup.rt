@@ -40,6 +40,16 @@ pub enum Lookup {
     Forward,
 }
 
+/// When a lookup is made, and how long it guesses that a response is fresh.
+#[derive(Clone, Copy, Debug, PartialEq, Eq)]
+pub struct LookupTimes {
+    /// The present, in seconds since 1970.
+    pub now: u64,
+    /// The longest lifetime in seconds that is guessed if the origin states none, or 0 for no guess: a
+    /// day is 86,400.
+    pub longest_guess: u64,
+}
+
 // What is done with a request that the stored response is selected for, which has this age.
 fn found(
     alloc: Global,
@@ -170,25 +180,28 @@ impl Store {
         ensures numbers { GoOn self.old.next (contents_of self.old) self.new.next (contents_of self.new) }
         ensures limits { self.new.limits ≡ self.old.limits }
     {
-        self.lookup_guessing(alloc, target, request, now, 0)
+        let times = LookupTimes {
+            now,
+            longest_guess: 0,
+        };
+        self.lookup_guessing(alloc, target, request, times)
     }
 
     /// Decides what a cache does with a request (RFC 9111, section 4), and may guess a lifetime. If
     /// the origin states none, a tenth of the time from the last modification to the response is
-    /// guessed, and at most `most` seconds (section 4.2.2): a day is 86,400. A guess needs a status
-    /// that is heuristically cacheable, or `public`. The rest is as for `lookup`.
+    /// guessed, but no more than `times` allow (section 4.2.2). A guess needs a status that is
+    /// heuristically cacheable, or `public`. The rest is as for `lookup`.
     pub fn lookup_guessing(
         &mut self,
         alloc: Global,
         target: &str,
         request: &RequestHead<'_>,
-        now: u64,
-        most: u64,
+        times: LookupTimes,
     ) -> Result<Lookup, AllocError>
-        ensures answer { IfOk result (IsAnswer (policy_of_store self.old) most (request_of request.now) now
-            (responses_at target.now (contents_of self.new))) }
-        ensures memory { OnErr result (HasFields (policy_of_store self.old) most (request_of request.now) now
-            (responses_at target.now (contents_of self.new))) }
+        ensures answer { IfOk result (IsAnswer (policy_of_store self.old) times.longest_guess (request_of request.now)
+            times.now (responses_at target.now (contents_of self.new))) }
+        ensures memory { OnErr result (HasFields (policy_of_store self.old) times.longest_guess
+            (request_of request.now) times.now (responses_at target.now (contents_of self.new))) }
         ensures step { Step (policy_of_store self.old) self.old.limits (Looked target.now) (contents_of self.old)
             (contents_of self.new) }
         ensures contents { contents_of self.new ≡ used target.now (contents_of self.old) }
@@ -201,9 +214,9 @@ impl Store {
             alloc,
             self.responses(target),
             request,
-            now,
+            times.now,
             &self.policy(),
-            most,
+            times.longest_guess,
         )
     }
 

@@ -19,7 +19,7 @@ mod store_answering;
 mod store_recording;
 
 pub use crate::parts::answering::{answer_part, bytes_of_part, part_fields};
-pub use crate::parts::combining::{Combined, combine, have_same_tag};
+pub use crate::parts::combining::{Combined, PartPair, combine, have_same_tag};
 pub use crate::parts::completing::{completing_fields, lacking};
 pub use crate::parts::extent::{Extent, extent_in, strong_tag};
 pub use crate::parts::received::{is_part, received_extent};

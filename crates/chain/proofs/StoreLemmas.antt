@@ -437,7 +437,7 @@ module _ (law : StoreLaws) (caching : Caching) (origin : Origin) (now : ℕ) (ta
 
   pub content_is : reply.content ≡ unless_head request.method from.reply.content
   content_is =
-      f.content ∙ ap (λ c. unless_head request.method c.items) come.kept.content
+      f.content ∙ ap (unless_head request.method) come.kept.content
       ∙ ap (λ (content : List ℕ). unless_head request.method content) from.noted.content
 
   -- of what a server says to the first method

@@ -105,7 +105,7 @@ pub record IsNoted (request : Request) (requested : ℕ) (reply : Reply) (receiv
   pub asked_fields : (name : List ℕ) → lines_at came.request name ≡ request.fields name
   pub status : came.status ≡ reply.status
   pub fields : (name : List ℕ) → fields_of_stored came name ≡ reply.fields name
-  pub content : came.content.items ≡ reply.content
+  pub content : came.content ≡ reply.content
   pub requested_at : came.requested ≡ requested
   pub received_at : came.received ≡ received
 
@@ -185,6 +185,6 @@ pub record IsFromStore (caching : Caching) (origin : Origin) (now : ℕ) (target
   pub serves : Serves lookup number age
       ⊎ (ServesOnError lookup number × (age ≡ age_of_stored stored (caching.clock.shows now)))
   pub status : reply.status ≡ stored.status
-  pub content : reply.content ≡ unless_head request.method stored.content.items
+  pub content : reply.content ≡ unless_head request.method stored.content
   pub fields : (name : List ℕ) → name ≢ codes "age" → reply.fields name ≡ fields_of_stored stored name
   pub has_age : reply.fields (codes "age") ≡ age.1

@@ -64,7 +64,7 @@ reply_of received =
     record {
       status = received.status;
       fields = lines_at received.fields;
-      content = received.content.items;
+      content = received.content;
     }
 
 -- What becomes of the response: it is stored as it came, with the times of both, or it isn't, since it may not be or is

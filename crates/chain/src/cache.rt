@@ -8,9 +8,10 @@ ghost use Rattle.chain.{specs.Caches.{IsBareRead, IsPlain, key_of}, specs.Servin
 ghost use Rattle.chain.specs.Serving.{IsPending, IsTaken, has_special, is_there, reply_of};
 ghost use Rattle.decide_resource.specs.Requests.{Request, request_of};
 
+use bytes::Bytes;
 use cache_policy::RequestHead as AskedHead;
 use cache_rules::{Reception, StoredResponse};
-use cache_store::{Lookup, Store};
+use cache_store::{Lookup, LookupTimes, Store};
 use decide_preconditions::is_get_or_head;
 use decide_resource::{RequestContent, RequestHead};
 use gateway_messages::Protocol;
@@ -40,7 +41,7 @@ pub struct ArrivedResponse {
     /// The fields.
     pub fields: HeaderMap,
     /// The content.
-    pub content: Vec<u8>,
+    pub content: Bytes,
 }
 
 /// What a cache in a chain does with a request. A number names a stored response: `Store::response`
@@ -193,9 +194,8 @@ fn acted(
 }
 
 /// Decides what a cache in a chain does with a request (RFC 9111, section 4). For a plain request
-/// it asks its store, and any other is sent on. The target is a path and perhaps a query. `now` is
-/// what its clock shows, in seconds since 1970. If no lifetime is stated, at most `most` seconds
-/// are guessed.
+/// it asks its store, and any other is sent on. The target is a path and perhaps a query. The
+/// present is what the cache's clock shows.
 ///
 /// Fails only if an allocation fails. Then the target of a plain request may be the most recently
 /// used.
@@ -204,11 +204,11 @@ pub fn answer_from_store(
     store: &mut Store,
     target: &str,
     request: &RequestHead<'_>,
-    now: u64,
-    most: u64,
+    times: LookupTimes,
 ) -> Result<Action, AllocError>
-    ensures ok { IfOk result (λ action. IsAction target.now (request_of request.now) now
-        (policy_of_store store.old) store.old.limits most (contents_of store.old) (contents_of store.new) action) }
+    ensures ok { IfOk result (λ action. IsAction target.now (request_of request.now) times.now
+        (policy_of_store store.old) store.old.limits times.longest_guess (contents_of store.old)
+        (contents_of store.new) action) }
     ensures err { OnErr result (IsPlain target.now (request_of request.now)
         × ((contents_of store.new ≡ contents_of store.old)
         ⊎ (contents_of store.new ≡ used (key_of target.now (request_of request.now)) (contents_of store.old)))) }
@@ -223,8 +223,8 @@ pub fn answer_from_store(
         method: request.method,
         fields: request.fields,
     };
-    let lookup = store.lookup_guessing(alloc, &key, &head, now, most)?;
-    let action = acted(lookup, key, request, now)?;
+    let lookup = store.lookup_guessing(alloc, &key, &head, times)?;
+    let action = acted(lookup, key, request, times.now)?;
     Ok(action)
 }
 

@@ -4,7 +4,7 @@ use crate::store::{
 };
 use cache_rules::{Reception, StoredResponse};
 use cache_store::parts::{PartAnswer, PartLookup, PartStore, Recorded};
-use cache_store::{Options, Store};
+use cache_store::{LookupTimes, Options, Store};
 use std::alloc::Global;
 use std::hash::RandomState;
 use test_rows::{Answer, Arguments, Failure};
@@ -83,9 +83,12 @@ fn call_look_up_part(
     arguments: &mut Arguments<'_>,
     answer: &mut Answer,
 ) -> Result<(), Failure> {
-    let (now, most) = (arguments.number()?, arguments.number()?);
+    let times = LookupTimes {
+        now: arguments.number()?,
+        longest_guess: arguments.number()?,
+    };
     let asked = Asked::read(arguments)?;
-    match parts.lookup(answer.alloc(), target, &asked.head(), now, most)? {
+    match parts.lookup(answer.alloc(), target, &asked.head(), times)? {
         PartLookup::Serve(found) => add_part_answer(parts, target, &found, answer),
         PartLookup::Complete(fields) => {
             answer.word("complete")?;

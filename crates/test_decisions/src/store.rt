@@ -1,9 +1,10 @@
 //! The calls of a store.
 use crate::parts::{make_part_call, new_parts};
+use bytes::Bytes;
 use cache_policy::{Kind, RequestHead};
 use cache_rules::{Exchange, Reception, StoredAnswer, StoredResponse};
 use cache_store::parts::PartStore;
-use cache_store::{Limits, Lookup, Options, Refreshed, Store, named_targets};
+use cache_store::{Limits, Lookup, LookupTimes, Options, Refreshed, Store, named_targets};
 use headers::{Encoded, HeaderMap};
 use http::{Method, StatusCode};
 use std::alloc::{AllocError, Global};
@@ -197,7 +198,10 @@ fn look_up(
 ) -> Result<(), Failure> {
     let (alloc, request) = (answer.alloc(), asked.head());
     let found = match guess {
-        Some(most) => store.lookup_guessing(alloc, target, &request, now, most)?,
+        Some(longest_guess) => {
+            let times = LookupTimes { now, longest_guess };
+            store.lookup_guessing(alloc, target, &request, times)?
+        }
         None => store.lookup(alloc, target, &request, now)?,
     };
     add_lookup(store, target, &found, answer)
@@ -230,7 +234,7 @@ pub fn read_came(arguments: &mut Arguments<'_>) -> Result<StoredResponse, Failur
     } = exchange(arguments)?;
     let Asked { method, fields } = Asked::read(arguments)?;
     let status = status(arguments)?;
-    let content = arguments.bytes()?;
+    let content = Bytes::from_vec(arguments.bytes()?)?;
     let response = arguments.map()?;
     Ok(StoredResponse {
         method,

@@ -1071,14 +1071,13 @@ extern "C" {
     pub fn typed_headers_pass_fields(pass: *mut Pass, room: *mut u8, room_length: usize, written: *mut usize) -> u8;
     pub fn typed_headers_pass_validation(pass: *mut Pass, room: *mut u8, room_length: usize, written: *mut usize) -> u8;
     pub fn typed_headers_pass_content(
-        cache: *mut Cache,
         pass: *mut Pass,
         from: usize,
         room: *mut u8,
         room_length: usize,
         written: *mut usize,
     ) -> u8;
-    pub fn typed_headers_pass_received(cache: *mut Cache, pass: *mut Pass, piece: *const u8, piece_length: usize) -> u8;
+    pub fn typed_headers_pass_received(pass: *mut Pass, piece: *const u8, piece_length: usize) -> u8;
     pub fn typed_headers_pass_ended(
         cache: *mut Cache,
         pass: *mut Pass,

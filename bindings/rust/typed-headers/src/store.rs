@@ -186,9 +186,7 @@ impl Pass<'_> {
     pub fn received(&mut self, piece: &[u8]) -> Result<Option<()>, Error> {
         let pass = self.handle.alone();
         // SAFETY: as above.
-        let is_done = check(self.cache.0.with(|cache| unsafe {
-            sys::typed_headers_pass_received(cache, pass, piece.as_ptr(), piece.len())
-        }))?;
+        let is_done = check(unsafe { sys::typed_headers_pass_received(pass, piece.as_ptr(), piece.len()) })?;
         Ok(is_done.then_some(()))
     }
 
@@ -213,49 +211,41 @@ impl Pass<'_> {
         Ok(Section::from_bytes(found.map_or(Vec::new(), |(lines, _)| lines)))
     }
 
-    // Makes a step, and reads what it names while the cache is held.
+    // Makes a step while the cache is held, and then reads what it names.
     fn step(
         &mut self,
         call: impl FnOnce(*mut sys::Cache, *mut sys::Pass, *mut sys::PassFacts) -> u8,
     ) -> Result<Option<Step>, Error> {
         let pass: *mut sys::Pass = self.handle.alone();
-        self.cache.0.with(|cache| {
-            let mut facts = sys::PassFacts::default();
-            if !check(call(cache, pass, &mut facts))? {
-                return Ok(None);
+        let mut facts = sys::PassFacts::default();
+        if !check(self.cache.0.with(|cache| call(cache, pass, &mut facts)))? {
+            return Ok(None);
+        }
+        // SAFETY: as above.
+        let fields = || {
+            written(512, |room: *mut u8, length, count| unsafe {
+                sys::typed_headers_pass_fields(pass, room, length, count)
+            })
+            .map(|found| Section::from_bytes(found.map_or(Vec::new(), |(lines, _)| lines)))
+        };
+        Ok(Some(match facts.action {
+            0 | 1 => {
+                let most = facts.count as usize;
+                let (mut content, mut count) = (alloc::vec![0; most.max(1)], 0);
+                // SAFETY: as above.
+                check(unsafe {
+                    let (first, room) = (facts.first as usize, content.as_mut_ptr());
+                    sys::typed_headers_pass_content(pass, first, room, most, &mut count)
+                })?;
+                content.truncate(count);
+                Step::Reply(Reply { status: facts.status, fields: fields()?, content, validates: facts.action == 1 })
             }
-            // SAFETY: as above.
-            let fields = || {
-                written(512, |room: *mut u8, length, count| unsafe {
-                    sys::typed_headers_pass_fields(pass, room, length, count)
-                })
-                .map(|found| Section::from_bytes(found.map_or(Vec::new(), |(lines, _)| lines)))
-            };
-            Ok(Some(match facts.action {
-                0 | 1 => {
-                    let most = facts.count as usize;
-                    let (mut content, mut count) = (alloc::vec![0; most.max(1)], 0);
-                    // SAFETY: as above.
-                    check(unsafe {
-                        sys::typed_headers_pass_content(
-                            cache,
-                            pass,
-                            facts.first as usize,
-                            content.as_mut_ptr(),
-                            most,
-                            &mut count,
-                        )
-                    })?;
-                    content.truncate(count);
-                    Step::Reply(Reply { status: facts.status, fields: fields()?, content, validates: facts.action == 1 })
-                }
-                2 => Step::Ask,
-                3 => Step::Validate(fields()?),
-                4 => Step::Unavailable,
-                5 | 6 => Step::PassOn { stores: facts.action == 5 },
-                8 => Step::Wait,
-                _ => Step::NoResponse,
-            }))
-        })
+            2 => Step::Ask,
+            3 => Step::Validate(fields()?),
+            4 => Step::Unavailable,
+            5 | 6 => Step::PassOn { stores: facts.action == 5 },
+            8 => Step::Wait,
+            _ => Step::NoResponse,
+        }))
     }
 }

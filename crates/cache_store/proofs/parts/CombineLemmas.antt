@@ -59,7 +59,7 @@ module _ (policy : Policy) (stored came head fresh combined : StoredResponse) (r
     (own other : Extent) (request : Request) (exchange : Exchange) (bytes : List ℕ) (changes : List Field)
     (may : AreCombinable stored came reception own other) (is_head : IsHeadOfStored stored head)
     (is_request : request ≡ request_of_stored came) (is_exchange : exchange ≡ exchange_of came)
-    (is_bytes : bytes ≡ joined own stored.content.items other came.content.items)
+    (is_bytes : bytes ≡ joined own stored.content other came.content)
     (is_changes : changes ≡ extent_fields (joint own other)) (extended : IsExtended fresh bytes changes combined)
     (by : IsFreshened head (fields_of_stored came) exchange fresh) where
   abbrev whole : StoredResponse
@@ -67,7 +67,7 @@ module _ (policy : Policy) (stored came head fresh combined : StoredResponse) (r
 
   is-combination : IsCombination stored came own other whole combined
   is-combination =
-      let is_extended : IsExtended fresh (joined own stored.content.items other came.content.items) (extent_fields
+      let is_extended : IsExtended fresh (joined own stored.content other came.content) (extent_fields
       (joint own other)) combined = rw is_changes at (rw is_bytes at extended) in
       record {
         freshened = freshened-whole _ _ _ _ _ is_head (rw is_exchange at by);
@@ -87,7 +87,8 @@ module _ (policy : Policy) (stored came head fresh combined : StoredResponse) (r
       → IsReusable policy (fields_of_stored stored) (request_of_stored came) (fields_of_stored came) whole
   own-reusable is =
       let asked = subst (λ (r : Request). MayBeReused policy r (fields_of_stored came) fresh) is_request is.1 in (
-        subst (λ (r : Entries FieldValue). IsForOthers policy (lines_at r) (fields_of_stored came)) is_head.response is.0,
+        subst (λ (r : Entries FieldValue). IsForOthers policy (lines_at r) (fields_of_stored came)) is_head.response
+            is.0,
         record {
           first = asked.first;
           validating = asked.validating;

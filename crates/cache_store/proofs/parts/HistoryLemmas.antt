@@ -42,23 +42,23 @@ module _ (calls : PartHistory) (key : List ℕ) where
   abbrev pub IsFaithful : StoredResponse → Type 0
   IsFaithful stored =
       (tag : Line) (own : Extent) → strong_tag (fields_of_stored stored) ≡ Some tag → Holds stored own
-      → AreReceived calls key tag own.len own.first stored.content.items
+      → AreReceived calls key tag own.len own.first stored.content
 
   -- Which part a response is that is taken, and that all its bytes were received.
   pub record IsTraced (part : StoredResponse) : Type 0 where
     pub extent : Extent
     pub tag : Line
     pub strong : strong_tag (fields_of_stored part) ≡ Some tag
-    pub is : IsPartOf extent (length part.content.items)
+    pub is : IsPartOf extent (length part.content)
     pub lines : fields_of_stored part (codes "content-range") ≡ recorded_lines extent
-    pub each : AreReceived calls key tag extent.len extent.first part.content.items
+    pub each : AreReceived calls key tag extent.len extent.first part.content
 
   faithful : (part : StoredResponse) → IsTraced part → IsFaithful part
   faithful part traced tag own strong holds =
-      let same = recorded-says (fields_of_stored part) traced.extent own (length part.content.items) traced.is
+      let same = recorded-says (fields_of_stored part) traced.extent own (length part.content) traced.is
       traced.lines holds.extent in
       let tags : traced.tag ≡ tag = same_Some traced.tag tag (sym traced.strong ∙ strong) in
-      subst (λ (t : Line). AreReceived calls key t own.len own.first part.content.items) tags
+      subst (λ (t : Line). AreReceived calls key t own.len own.first part.content) tags
       (rw (← same) at traced.each)
 
   -- the ordinary store changes neither the content nor what these fields say
@@ -66,19 +66,19 @@ module _ (calls : PartHistory) (key : List ℕ) where
   faithful-stored part stored kept is tag own strong holds =
       let held : Holds part own = record {
         extent = extent-stored _ _ kept own holds.extent;
-        bytes = ap (λ c. length c.items) (sym kept.content) ∙ holds.bytes;
+        bytes = ap length (sym kept.content) ∙ holds.bytes;
       } in
-      rw (ap (λ c. c.items) (sym kept.content)) at (is tag own (tag-stored _ _ kept tag strong) held)
+      rw (sym kept.content) at (is tag own (tag-stored _ _ kept tag strong) held)
 
 module _ (calls : PartHistory) (key : List ℕ) (came : StoredResponse) (reception : Reception) (extent : Extent)
-    (received : received_extent reception came.status (length came.content.items) (fields_of_stored came)
+    (received : received_extent reception came.status (length came.content) (fields_of_stored came)
     ≡ Some extent) where
   abbrev now_calls : PartHistory
   now_calls = Received key came reception ∷ calls
 
   -- the bytes that came were received
   came-received : (tag : Line) (len : ℕ) → strong_tag (fields_of_stored came) ≡ Some tag → extent.len ≡ len
-      → AreReceived now_calls key tag len extent.first came.content.items
+      → AreReceived now_calls key tag len extent.first came.content
   came-received tag len strong whole i byte h =
       record {
         came = came;
@@ -93,8 +93,8 @@ module _ (calls : PartHistory) (key : List ℕ) (came : StoredResponse) (recepti
         same = h;
       }
 
-  came-is : IsPartOf extent (length came.content.items)
-  came-is = received-is reception came.status (length came.content.items) (fields_of_stored came) extent received
+  came-is : IsPartOf extent (length came.content)
+  came-is = received-is reception came.status (length came.content) (fields_of_stored came) extent received
 
   -- a part that is taken by itself
   traced-recorded : (part : StoredResponse) → IsSome (strong_tag (fields_of_stored came))
@@ -105,9 +105,9 @@ module _ (calls : PartHistory) (key : List ℕ) (came : StoredResponse) (recepti
         extent = extent;
         tag = tag.0;
         strong = recorded-tag came part extent is ∙ tag.1;
-        is = subst (λ c. IsPartOf extent (length c.items)) (sym is.content) came-is;
+        is = subst (λ c. IsPartOf extent (length c)) (sym is.content) came-is;
         lines = recorded-range came part extent is;
-        each = subst (λ c. AreReceived now_calls key tag.0 extent.len extent.first c.items) (sym is.content)
+        each = subst (λ c. AreReceived now_calls key tag.0 extent.len extent.first c) (sym is.content)
             (came-received tag.0 extent.len tag.1 refl);
       }
 
@@ -118,22 +118,22 @@ module _ (calls : PartHistory) (key : List ℕ) (came : StoredResponse) (recepti
   traced-combined stored fresh part own is may by strong =
       let tag = some-tag (strong_tag (fields_of_stored came)) strong in
       let stored_tag = sym (tags-same stored came may.suit.tag) ∙ tag.1 in
-      let old = stored.content.items in
+      let old = stored.content in
       let own_is = extent-is (fields_of_stored stored) own may.stored_part.extent in
       let before : AllAt (WasReceived now_calls key tag.0 own.len) own.first old = λ i byte h.
       earlier (Received key came reception) calls key tag.0 own.len (own.first + i) byte
       (is tag.0 own stored_tag may.stored_part i byte h) in
-      let count = length-joined own extent old came.content.items own_is.ordered came-is.ordered may.stored_part.bytes
+      let count = length-joined own extent old came.content own_is.ordered came-is.ordered may.stored_part.bytes
       came-is.size may.suit.touch in
       record {
         extent = joint own extent;
         tag = tag.0;
         strong = combined-tag stored came fresh part own extent by may.suit.tag ∙ tag.1;
         is = rw (← (ap length by.extended.content ∙ count)) at
-            (joint-is own extent (own.last + 1 - own.first) (length came.content.items) own_is came-is may.suit.whole);
+            (joint-is own extent (own.last + 1 - own.first) (length came.content) own_is came-is may.suit.whole);
         lines = combined-range stored came fresh part own extent by;
         each = rw (← by.extended.content) at (all-joined (WasReceived now_calls key tag.0 own.len) own extent old
-            came.content.items own_is.ordered came-is.ordered may.stored_part.bytes came-is.size may.suit.touch before
+            came.content own_is.ordered came-is.ordered may.stored_part.bytes came-is.size may.suit.touch before
             (came-received tag.0 own.len tag.1 (sym may.suit.whole)));
       }
 
@@ -261,7 +261,7 @@ module _ (policy : Policy) (limits : Limits) where
         record {
           count = ap length same ∙ length-within _ _ _ within holds.bytes;
           each = rw (← within.len) at (rw (← same) at
-              (all-within (WasReceived calls key tag own.len) own part stored.content.items within all));
+              (all-within (WasReceived calls key tag own.len) own part stored.content within all));
         }
 
     answered-tag : (request : Request) (stored : StoredResponse) (now : ℕ) (part : Extent)
@@ -298,14 +298,14 @@ module _ (policy : Policy) (limits : Limits) where
     pub whole_received : (came : StoredResponse) (reception : Reception) (part : StoredResponse)
         → IsTaken policy (responses_at key contents) came reception part → IsWhole part
         → (tag : Line) × (strong_tag (fields_of_stored part) ≡ Some tag)
-        × AreReceived (Received key came reception ∷ calls) key tag (length part.content.items) 0 part.content.items
+        × AreReceived (Received key came reception ∷ calls) key tag (length part.content) 0 part.content
     whole_received came reception part taken whole =
         let t = traced-taken calls contents (run-known calls contents ran) key came reception part taken in
         let all = whole-lines t.extent (fields_of_stored part (codes "content-range")) t.lines whole in
         let one = and_parts (nat_le t.extent.first 0) (nat_le t.extent.len (t.extent.last + 1)) all in
         let start : t.extent.first ≡ 0 = grind (arith, one.0, nat_tests) in
         let end : t.extent.len ≤ t.extent.last + 1 = grind (arith, one.1, nat_tests) in
-        let count : t.extent.len ≡ length part.content.items = omega (arith, start, end, t.is.within, t.is.size) in (
+        let count : t.extent.len ≡ length part.content = omega (arith, start, end, t.is.within, t.is.size) in (
           t.tag,
           t.strong,
           rw start at (rw count at t.each),

@@ -62,7 +62,7 @@ module _ (request : Request) (stored : StoredResponse) where
 abbrev pub HasBytes : StoredResponse → Extent → List ℕ → Type 0
 HasBytes stored part bytes =
     (extent : Extent) × Holds stored extent × IsWithin extent part
-    × (bytes ≡ bytes_within extent stored.content.items part)
+    × (bytes ≡ bytes_within extent stored.content part)
 
 -- the fields of a 206 with this part (RFC 9110, section 15.3.7.1), for `set_all` on the stored ones
 abbrev pub part_fields : Extent → List Field

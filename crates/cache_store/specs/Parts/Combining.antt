@@ -17,7 +17,7 @@ HaveSameTag stored came =
 -- the stored response is this part, and has all of its bytes
 pub record Holds (stored : StoredResponse) (own : Extent) : Type 0 where
   pub extent : extent_in (fields_of_stored stored) ≡ Some own
-  pub bytes : length stored.content.items ≡ size own
+  pub bytes : length stored.content ≡ size own
 
 -- These parts suit each other: they have the same strong validator, they are of a whole of the same length, and no
 -- position lies between them. It is known which fields of the new one are those of the connection.
@@ -30,7 +30,7 @@ pub record Suit (stored came : StoredResponse) (own other : Extent) : Type 0 whe
 -- a stored part and a new one may be combined
 pub record AreCombinable (stored came : StoredResponse) (reception : Reception) (own other : Extent) : Type 0 where
   pub stored_part : Holds stored own
-  pub new_part : received_extent reception came.status (length came.content.items) (fields_of_stored came) ≡ Some other
+  pub new_part : received_extent reception came.status (length came.content) (fields_of_stored came) ≡ Some other
   pub suit : Suit stored came own other
 
 -- a copy of a stored response without its content
@@ -54,7 +54,7 @@ pub record IsExtended (fresh : StoredResponse) (bytes : List ℕ) (changes : Lis
     pub status : new.status ≡ fresh.status
     pub requested : new.requested ≡ fresh.requested
     pub received : new.received ≡ fresh.received
-    pub content : new.content.items ≡ bytes
+    pub content : new.content ≡ bytes
     pub fields : (name : List ℕ) → fields_of_stored new name ≡ set_all (fields_of_stored fresh) changes name
 
 -- The combination: the fields of the new response update those of the stored one (RFC 9111, section 3.2), and it has
@@ -62,7 +62,7 @@ pub record IsExtended (fresh : StoredResponse) (bytes : List ℕ) (changes : Lis
 pub record IsCombination (stored came : StoredResponse) (own other : Extent) (fresh combined : StoredResponse) : Type 0
   where
     pub freshened : IsFreshened stored (fields_of_stored came) (exchange_of came) fresh
-    pub extended : IsExtended fresh (joined own stored.content.items other came.content.items)
+    pub extended : IsExtended fresh (joined own stored.content other came.content)
         (extent_fields (joint own other)) combined
 
 -- A map is too small for the combination: that of the stored part for the fields of the new one, or with these for the
@@ -85,6 +85,10 @@ module _ (policy : Policy) (stored came : StoredResponse) (reception : Reception
   abbrev pub IsCombinedAs : Combined → Type 0
   IsCombinedAs Apart = (own other : Extent) → ¬ (AreCombinable stored came reception own other)
   IsCombinedAs (Stored combined) =
-      IsCombinedTo (IsReusable policy (fields_of_stored stored) (request_of_stored came) (fields_of_stored came)) combined
+      IsCombinedTo (IsReusable policy (fields_of_stored stored) (request_of_stored came) (fields_of_stored came))
+      combined
   IsCombinedAs (Once combined) =
-      IsCombinedTo (λ fresh. ¬ (IsReusable policy (fields_of_stored stored) (request_of_stored came) (fields_of_stored came) fresh)) combined
+      IsCombinedTo
+      (λ fresh. ¬ (IsReusable policy (fields_of_stored stored) (request_of_stored came) (fields_of_stored came)
+      fresh))
+      combined

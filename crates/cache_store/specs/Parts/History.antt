@@ -51,11 +51,11 @@ module _ (calls : PartHistory) (key : List ℕ) (tag : Line) where
     pub offset : ℕ
     pub called : Has calls (Received key came reception)
     pub strong : strong_tag (fields_of_stored came) ≡ Some tag
-    pub part : received_extent reception came.status (length came.content.items) (fields_of_stored came)
+    pub part : received_extent reception came.status (length came.content) (fields_of_stored came)
         ≡ Some extent
     pub whole : extent.len ≡ len
     pub position : at ≡ extent.first + offset
-    pub same : slice_get came.content.items offset ≡ Some byte
+    pub same : slice_get came.content offset ≡ Some byte
 
   -- each byte of these, the first of which is at this position, was received there
   abbrev pub AreReceived : ℕ → ℕ → List ℕ → Type 0

@@ -54,7 +54,7 @@ received_extent reception status count fields =
 pub record IsPart (policy : Policy) (came : StoredResponse) (reception : Reception) (extent : Extent) : Type 0 where
   pub get : came.method ≡ codes "GET"
   pub strong : IsSome (strong_tag (fields_of_stored came))
-  pub received : received_extent reception came.status (length came.content.items) (fields_of_stored came) ≡ Some extent
+  pub received : received_extent reception came.status (length came.content) (fields_of_stored came) ≡ Some extent
   pub allowed : IsStored policy (request_of_stored came) 200 (fields_of_stored came) Complete
 
 -- A 206 to a request with If-Range may lack fields of the representation, which that client has (RFC 9110, section

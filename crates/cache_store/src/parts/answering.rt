@@ -104,7 +104,7 @@ pub fn bytes_of_part<'a>(
     }
     let first = (part.first - extent.first) as usize;
     let end = (part.last - extent.first + 1) as usize;
-    Some(&stored.content[first..end])
+    Some(&stored.content.as_slice()[first..end])
 }
 
 /// The fields of a 206 with one part, for `set_all` on the stored ones (RFC 9110, section 15.3.7.1):

@@ -8,6 +8,7 @@ ghost use Rattle.cache_store.specs.Parts.{Combining.{exchange_of, IsHeadOfStored
 
 use crate::parts::extent::{Extent, extent_in, strong_tag};
 use crate::parts::received::received_extent;
+use bytes::Bytes;
 use cache_policy::{Policy, is_updated};
 use cache_rules::{Exchange, Freshened, Reception, StoredResponse, freshen, set_fields};
 use headers::{Encoded, InsertError};
@@ -95,9 +96,9 @@ fn joined(
     own: &[u8],
     new: &Extent,
     other: &[u8],
-) -> Result<Vec<u8>, AllocError>
+) -> Result<Bytes, AllocError>
     requires { new.now.last < new.now.len }
-    ensures { IfOk result (λ bytes. bytes.items ≡ joined old.now own.now new.now other.now) }
+    ensures { IfOk result (λ bytes. bytes ≡ joined old.now own.now new.now other.now) }
 {
     let before = new.first.saturating_sub(old.first).min(own.len() as u64) as usize;
     let after = (new.last + 1)
@@ -107,11 +108,11 @@ fn joined(
     bytes.extend_from_slice(&own[..before])?;
     bytes.extend_from_slice(other)?;
     bytes.extend_from_slice(&own[after..])?;
-    Ok(bytes)
+    Ok(Bytes::from_vec(bytes)?)
 }
 
 // A stored response without its content.
-fn head_of(alloc: Global, stored: &StoredResponse) -> Result<StoredResponse, AllocError>
+fn head_of(stored: &StoredResponse) -> Result<StoredResponse, AllocError>
     ensures { IfOk result (IsHeadOfStored stored.now) }
 {
     Ok(StoredResponse {
@@ -119,7 +120,7 @@ fn head_of(alloc: Global, stored: &StoredResponse) -> Result<StoredResponse, All
         request: stored.request.clone()?,
         status: stored.status,
         response: stored.response.clone()?,
-        content: Vec::new(alloc),
+        content: Bytes::new(),
         requested: stored.requested,
         received: stored.received,
         number: stored.number,
@@ -139,16 +140,25 @@ fn exchange_of(came: &StoredResponse) -> Exchange
 // A response with this content and these fields in place of its own.
 fn extended(
     fresh: StoredResponse,
-    content: Vec<u8>,
+    content: Bytes,
     fields: Vec<Encoded>,
 ) -> Result<StoredResponse, InsertError>
-    ensures extended { IfOk result (IsExtended fresh content.items (fields_of fields.items)) }
+    ensures extended { IfOk result (IsExtended fresh content (fields_of fields.items)) }
     ensures full { IsErrOf result InsertError.Full → IsTooSmallFor fresh.response (fields_of fields.items) }
 {
     let mut whole = fresh;
     set_fields(&mut whole.response, fields)?;
     whole.content = content;
     Ok(whole)
+}
+
+/// A stored part, and a response that may have more of it.
+#[derive(Clone, Copy)]
+pub struct PartPair<'a> {
+    /// The stored part.
+    pub stored: &'a StoredResponse,
+    /// The response that came.
+    pub came: &'a StoredResponse,
 }
 
 /// Combines a stored part and a received one (RFC 9111, section 3.4; RFC 9110, section 15.3.7.3): they
@@ -163,22 +173,30 @@ fn extended(
 /// combination is. Both need two parts that may be combined.
 pub fn combine(
     alloc: Global,
-    stored: &StoredResponse,
-    came: &StoredResponse,
+    pair: PartPair<'_>,
     reception: Reception,
     policy: &Policy<'_>,
 ) -> Result<Combined, InsertError>
-    ensures combined { IfOk result (IsCombinedAs (policy_of policy.now) stored.now came.now reception) }
-    ensures memory { OnErr result
-        ((own : Extent) × (other : Extent) × AreCombinable stored.now came.now reception own other) }
-    ensures full { IsErrOf result InsertError.Full → IsTooSmallToCombine stored.now came.now reception }
+    ensures combined { IfOk result
+        (IsCombinedAs (policy_of policy.now) pair.entry.stored.now pair.entry.came.now reception) }
+    ensures memory { OnErr result ((own : Extent) × (other : Extent)
+        × AreCombinable pair.entry.stored.now pair.entry.came.now reception own other) }
+    ensures full { IsErrOf result InsertError.Full
+        → IsTooSmallToCombine pair.entry.stored.now pair.entry.came.now reception }
 {
+    let PartPair { stored, came } = pair;
     let Some((own, other)) = combinable(alloc, stored, came, reception) else {
         return Ok(Combined::Apart);
     };
     let fields = own.joint(&other).fields(alloc)?;
-    let content = joined(alloc, &own, &stored.content, &other, &came.content)?;
-    let head = head_of(alloc, stored)?;
+    let content = joined(
+        alloc,
+        &own,
+        stored.content.as_slice(),
+        &other,
+        came.content.as_slice(),
+    )?;
+    let head = head_of(stored)?;
     let exchange = exchange_of(came);
     match freshen(alloc, head, &came.head(), &came.response, exchange, policy)? {
         Freshened::Stored(fresh) => Ok(Combined::Stored(extended(fresh, content, fields)?)),

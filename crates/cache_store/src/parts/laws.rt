@@ -77,8 +77,8 @@ pub fn wholes_were_received()
         → Run policy limits calls contents → (key : List ℕ) (came : StoredResponse) (reception : Reception)
         (part : StoredResponse) → IsTaken policy (responses_at key contents) came reception part → IsWhole part
         → (tag : Line) × (strong_tag (fields_of_stored part) ≡ Some tag)
-        × AreReceived (Received key came reception ∷ calls) key tag (length part.content.items) 0
-        part.content.items }
+        × AreReceived (Received key came reception ∷ calls) key tag (length part.content) 0
+        part.content }
 {}
 
 /// Theorem: `record` needs memory exactly if a part of the response is taken by itself or combined. If

@@ -9,7 +9,7 @@ ghost use Rattle.cache_store.specs.Parts.Kept.{limits_of_parts, parts_of, policy
 ghost use Rattle.cache_store.specs.declared.parts.extent.Extent.{Extent};
 ghost use Rattle.cache_policy.specs.Requests.{request_of};
 
-use crate::lookup::Lookup;
+use crate::lookup::{Lookup, LookupTimes};
 use crate::parts::answering::{answer_part, bytes_of_part, part_fields};
 use crate::parts::completing::{completing_fields, lacking};
 use crate::parts::extent::{Extent, extent_in};
@@ -131,9 +131,8 @@ fn reused(
 
 impl PartStore {
     /// Decides what a cache does with a request, by its stored parts (RFC 9111, section 3.3). The target
-    /// becomes the most recently used. `now` is the present, in seconds since 1970. If the origin states
-    /// no lifetime, at most `most` seconds are guessed, as by `lookup_guessing` of the store of complete
-    /// responses. Ask that store first: a part is for the requests that it would forward.
+    /// becomes the most recently used. A lifetime may be guessed, as by `lookup_guessing` of the store of
+    /// complete responses. Ask that store first: a part is for the requests that it would forward.
     ///
     /// A stored part answers with 206, if it is selected for the request and may be reused without asking
     /// the origin, and the request is a GET for one range that lies wholly within it. If the request is a
@@ -145,22 +144,21 @@ impl PartStore {
         alloc: Global,
         key: &str,
         request: &RequestHead<'_>,
-        now: u64,
-        most: u64,
+        times: LookupTimes,
     ) -> Result<PartLookup, AllocError>
-        ensures answer { IfOk result (IsLookedUp (policy_of_parts self.old) most (request_of request.now) now
-            (responses_at key.now (parts_of self.new))) }
-        ensures memory { OnErr result (HasFields (policy_of_parts self.old) most (request_of request.now) now
-            (responses_at key.now (parts_of self.new))) }
+        ensures answer { IfOk result (IsLookedUp (policy_of_parts self.old) times.longest_guess
+            (request_of request.now) times.now (responses_at key.now (parts_of self.new))) }
+        ensures memory { OnErr result (HasFields (policy_of_parts self.old) times.longest_guess
+            (request_of request.now) times.now (responses_at key.now (parts_of self.new))) }
         ensures parts { parts_of self.new ≡ used key.now (parts_of self.old) }
         ensures step { Step (policy_of_parts self.old) (limits_of_parts self.old) (Looked key.now) (parts_of self.old)
             (parts_of self.new) }
         ensures policy { policy_of_parts self.new ≡ policy_of_parts self.old }
         ensures limits { limits_of_parts self.new ≡ limits_of_parts self.old }
     {
-        match self.store.lookup_guessing(alloc, key, request, now, most)? {
+        match self.store.lookup_guessing(alloc, key, request, times)? {
             Lookup::Serve(number, age) => match self.store.response(key, number) {
-                Some(stored) => reused(alloc, request, stored, now, number, age),
+                Some(stored) => reused(alloc, request, stored, times.now, number, age),
                 None => Ok(PartLookup::Forward),
             },
             Lookup::ServeAndRevalidate(number, _) => self.ask(alloc, key, number, request),

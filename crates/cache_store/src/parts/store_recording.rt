@@ -8,7 +8,7 @@ ghost use Rattle.cache_store.specs.Parts.Recording.{IsCombinable, IsContent, IsC
 ghost use Rattle.cache_store.specs.Parts.Recording.{IsKeptAs, IsMerged, IsSelectedPart, IsTooSmallToMerge};
 ghost use Rattle.cache_store.specs.Parts.Recording.{IsTooSmallToRecord, IsTooSmallToTake, NeedsMemory};
 
-use crate::parts::combining::{Combined, combine, have_same_tag};
+use crate::parts::combining::{Combined, PartPair, combine, have_same_tag};
 use crate::parts::extent::Extent;
 use crate::parts::received::is_part;
 use crate::parts::recording::record;
@@ -176,7 +176,10 @@ impl PartStore {
             → IsTooSmallToMerge (responses_at key.now (parts_of self.now)) came.now reception }
     {
         match self.selected(key, came) {
-            Some(stored) => combine(alloc, stored, came, reception, &self.store.policy()),
+            Some(stored) => {
+                let pair = PartPair { stored, came };
+                combine(alloc, pair, reception, &self.store.policy())
+            }
             None => Ok(Combined::Apart),
         }
     }

@@ -1,9 +1,11 @@
 use Rattle.headers.specs.LineMap.{lines_at}
 use Rattle.chain.{specs.Serving.HasBareHost, proofs.ServingLemmas.{not_special, without_special}}
 use Rattle.chain.proofs.cache.plain_host.Goals as goal
-use Rattle.chain.proofs.cache.plain_host.Goals.{then-not-is_bare_read-via-then-not-is_bare_read}
-use Rattle.chain.proofs.cache.plain_host.Goals.{then-not-is_bare_read-via-else-not-is_bare_read+then-not-is_path}
-use Rattle.chain.proofs.cache.plain_host.Goals.{then-not-is_bare_read-via-else-not-is_bare_read+else-not-is_path+then-has_special}
+use Rattle.chain.proofs.cache.plain_host.Goals.{
+  then-not-is_bare_read-via-then-not-is_bare_read,
+  then-not-is_bare_read-via-else-not-is_bare_read+then-not-is_path,
+  then-not-is_bare_read-via-else-not-is_bare_read+else-not-is_path+then-has_special,
+}
 
 pub returns-then-not-is_bare_read : goal.returns-then-not-is_bare_read
 returns-then-not-is_bare_read c = λ h. elim c.then-not-is_bare_read.branch [

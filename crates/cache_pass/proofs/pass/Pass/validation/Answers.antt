@@ -27,7 +27,8 @@ returns-in_err-set_fields-clause-full c = λ full.
 
 pub returns-clause-ok : goal.returns-clause-ok
 returns-clause-ok c =
-    let same : c.in_ok-request.request ≡ c.args.self.now.request = same_map _ _ c.in_ok-request.ensures.cases in record {
+    let same : c.in_ok-request.request ≡ c.args.self.now.request = same_map _ _ c.in_ok-request.ensures.cases in
+    record {
       key = cc (c.new.ensures.key, c.in_ok-key.ensures.cases);
       method = ap (λ (r : Request). r.method) c.new.ensures.request ∙ c.in_ok-method.ensures.cases;
       fields = λ name. ap (λ (r : Request). r.fields name) c.new.ensures.request

@@ -6,14 +6,14 @@ pub returns-in_ok-extended-in-Stored-clause-combined : goal.returns-in_ok-extend
 returns-in_ok-extended-in-Stored-clause-combined c =
     let told = rw c.in-Stored.is at c.in_ok-fresh.ensures.freshened in
     reusable _ _ _ _ _ _ _ _ _ _ _ _ _ c.in-Some.ensures.value c.in_ok-head.ensures c.head.ensures
-    c.exchange_of-exchange.ensures (rw (c.deref.ensures.value, c.deref-2.ensures.value) at c.in_ok-content.ensures)
+    c.exchange_of-exchange.ensures (rw (c.as_slice.ensures, c.as_slice-2.ensures) at c.in_ok-content.ensures)
     (rw c.joint.ensures at c.in_ok-fields.ensures) c.in_ok-extended-in-Stored.ensures.extended told.1 told.2
 
 pub returns-in_ok-extended-in-Once-clause-combined : goal.returns-in_ok-extended-in-Once-clause-combined
 returns-in_ok-extended-in-Once-clause-combined c =
     let told = rw c.in-Once.is at c.in_ok-fresh.ensures.freshened in
     unusable _ _ _ _ _ _ _ _ _ _ _ _ _ c.in-Some.ensures.value c.in_ok-head.ensures c.head.ensures
-    c.exchange_of-exchange.ensures (rw (c.deref.ensures.value, c.deref-2.ensures.value) at c.in_ok-content.ensures)
+    c.exchange_of-exchange.ensures (rw (c.as_slice.ensures, c.as_slice-2.ensures) at c.in_ok-content.ensures)
     (rw c.joint.ensures at c.in_ok-fields.ensures) c.in_ok-extended-in-Once.ensures.extended told.1 told.2
 
 pub returns-in_err-extended-in-Stored-clause-full : goal.returns-in_err-extended-in-Stored-clause-full

@@ -50,8 +50,9 @@ pub put_in-requires-clause-numbers : goal.put_in-requires-clause-numbers
 put_in-requires-clause-numbers c =
     rw (← c.take_numbers.ensures.contents) at (numbered-left c.args.self.now.next c.take_numbers.new.self.next
     c.in_ok-first.first (contents_of c.args.self.now) (contents_of c.take_out-responses.new.self)
-    c.take_out-responses.result.items c.take_out-responses.result.items c.in_ok-left.left.items c.args.self.now.counted.numbered
-    c.take_out-responses.ensures.numbers (c.in_ok-first.ensures.ok.0 ∙ c.take_out-responses.ensures.next) (omega (
+    c.take_out-responses.result.items c.take_out-responses.result.items c.in_ok-left.left.items
+    c.args.self.now.counted.numbered c.take_out-responses.ensures.numbers
+    (c.in_ok-first.ensures.ok.0 ∙ c.take_out-responses.ensures.next) (omega (
       arith,
       c.in_ok-first.ensures.ok,
       c.take_out-responses.ensures.next,

@@ -8,8 +8,8 @@ invariant_of-self c =
     let more : c.in-Some.more ≡ bytes_at c.args.target.now c.args.kept.items =
     c.in-Some.ensures.0 ∙ ap (bytes_at c.args.target.now) c.deref.ensures.value in
     let are = c.args.self.now.counted in
-    let put = put-absent c.args.target.now c.args.self.now.targets.entries c.put.new.self.entries c.args.self.now.targets.cap
-    c.in_ok-key.key c.args.kept
+    let put = put-absent c.args.target.now c.args.self.now.targets.entries c.put.new.self.entries
+    c.args.self.now.targets.cap c.in_ok-key.key c.args.kept
     c.in_ok-key.ensures.ok c.requires.absent (omega (
       arith,
       c.len-targets.ensures.len,

@@ -2,6 +2,24 @@ use Rattle.std.proofs.Common.{◌∙◌, arith, inl, inr, refl}
 use Rattle.cache_store.proofs.{GoOnLemmas.goes-front, GoOnLemmas.goes-inserted, StoringLemmas.same_number}
 use Rattle.cache_store.specs.{Changes.FitsAlone, Contents.size_at}
 use Rattle.cache_store.proofs.store.Store.store.Goals as goal
+use Rattle.cache_store.proofs.store.Store.store.Goals.{then-not-is_stored-via-then-not-is_stored}
+use Rattle.cache_store.proofs.store.Store.store.Goals.{
+  then-not-is_stored-via-else-not-is_stored+then-not-fits,
+}
+
+pub returns-then-not-is_stored-clause-unstored : goal.returns-then-not-is_stored-clause-unstored
+returns-then-not-is_stored-clause-unstored c = λ _. elim c.then-not-is_stored.branch [
+  | then-not-is_stored-via-then-not-is_stored w ↦ (inl w.if-not-is_stored.ensures, refl)
+  | then-not-is_stored-via-else-not-is_stored+then-not-fits w ↦
+      let unfit = rw w.size_at.ensures at w.if-not-fits.ensures in (
+        inr (inl (λ (fits : FitsAlone c.args.self.now.limits 1 (size_at c.args.target.now c.args.came)). unfit (record {
+          variants = omega (arith, fits.variants);
+          few = omega (arith, fits.few);
+          light = omega (arith, fits.light);
+        }))),
+        refl,
+      )
+]
 
 pub returns-then-not-fits-2-clause-unstored : goal.returns-then-not-fits-2-clause-unstored
 returns-then-not-fits-2-clause-unstored c = λ _.
