@@ -9,7 +9,7 @@ from unittest import mock
 from wsgiref.util import FileWrapper, setup_testing_defaults
 from wsgiref.validate import validator
 
-from typed_headers import CorsPolicy, Headers, asgi, wsgi
+from typed_headers import Cache, CorsPolicy, Headers, asgi, wsgi
 
 CONTENT = bytes(place % 251 for place in range(10_000))
 DATE = "Sun, 06 Nov 1994 08:49:37 GMT"
@@ -349,6 +349,7 @@ class OfAsgi(unittest.TestCase):
         classes: Tuple[Tuple[Any, Dict[str, Any]], ...] = (
             (asgi.ConditionalRequests, {"tags": True}),
             (asgi.Cors, {"policy": CorsPolicy("*")}),
+            (asgi.Cached, {"cache": Cache(shared=True)}),
         )
         for made, options in classes:
             for middleware in (made(app=app, **options), made(app, **options)):
