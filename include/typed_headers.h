@@ -1661,7 +1661,8 @@ uint8_t typed_headers_pass_free(struct typed_headers_pass *pass);
  *
  * Refused: the pass is open, the target is no UTF-8, the method is no token, or a line of the section before its first
  * empty one is no field. Absent: the cache is closed. Memory: nothing is rejected. On each of these the pass stays as
- * it was, and a program forwards the request as it is and passes on what comes.
+ * it was, and a program forwards the request as it is and passes on what comes. If that is a 2xx or 3xx, and the method
+ * isn't known to be safe, call `typed_headers_cache_remove` (RFC 9111, section 4.4): it never runs out of memory.
  */
 uint8_t typed_headers_pass_begin(struct typed_headers_cache *cache, struct typed_headers_pass *pass,
                                  const struct typed_headers_cache_request *request, uint64_t now,
@@ -1684,8 +1685,8 @@ uint8_t typed_headers_pass_resume(struct typed_headers_cache *cache, struct type
  *
  * Refused: the status is no number from 100 to 999, or a line of the section before its first empty one is no field.
  * Absent: the cache or the pass is closed, or the pass doesn't ask the origin. On these two nothing changes. Memory:
- * nothing is rejected. Then what came is passed on and not stored; if it is a 304 to a request that validates, the
- * request is forwarded again as it is.
+ * nothing is rejected. Then what came is passed on and not stored, and it may be that nothing was removed: see
+ * `typed_headers_pass_begin`. If it is a 304 to a request that validates, the request is forwarded again as it is.
  */
 uint8_t typed_headers_pass_came(struct typed_headers_cache *cache, struct typed_headers_pass *pass, uint16_t status,
                                 const uint8_t *section, size_t section_length, uint64_t now,

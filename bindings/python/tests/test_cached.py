@@ -3,6 +3,7 @@
 import asyncio
 import unittest
 from typing import Any, Callable, Dict, Iterable, Iterator, List, Optional, Tuple
+from unittest import mock
 from wsgiref.util import setup_testing_defaults
 from wsgiref.validate import validator
 
@@ -241,6 +242,16 @@ class CachedTest(unittest.TestCase):
             served.ask()
             served.ask("PUT")
             self.assertEqual(served.ask().content, b"a")
+
+    def test_an_unsafe_request_removes_also_without_memory(self) -> None:
+        outcomes = (("PUT", 204, b"b"), ("X", 303, b"b"), ("PUT", 404, b"a"), ("OPTIONS", 204, b"a"))
+        for method, status, content in outcomes:
+            pages = [Given(200, [("Cache-Control", "max-age=60")], text) for text in (b"a", b"b")]
+            for served in self.each(lambda: in_turn(pages[0], Given(status, []), pages[1])):
+                served.ask()
+                with mock.patch.object(served.cache, "begin", side_effect=MemoryError):
+                    self.assertEqual(served.ask(method).status, status)
+                self.assertEqual(served.ask().content, content)
 
     def test_stores_nothing_that_changed_on_the_way(self) -> None:
         for kind in ("wsgi", "asgi"):

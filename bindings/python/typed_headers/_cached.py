@@ -17,6 +17,8 @@ from .values import Host
 Step = Union[Ask, Reply, Wait]
 #: A request that waits tries again after so many seconds at the latest.
 MOMENT = 1.0
+#: The methods that are known to be safe (RFC 9110, section 9.2.1).
+_SAFE = ("GET", "HEAD", "OPTIONS", "TRACE")
 
 
 def target_of(scheme: str, hosts: Sequence[str], server: str, path: str, query: str) -> Optional[str]:
@@ -53,7 +55,7 @@ class Turn:
     """A request, and what a cache in front of an application does with it.
 
     If memory runs out, or the library can't parse what is passed, the request goes to the application as it is, and its
-    response to the client, unstored.
+    response to the client, unstored. What is stored for the target is removed, if the response outdates it.
     """
 
     def __init__(self, rules: Rules, method: str, target: str, request: Headers) -> None:
@@ -94,6 +96,9 @@ class Turn:
     def came(self, status: int, fields: Fields) -> Optional[Step]:
         """What is done with the response of the application: `None` passes it on."""
         if self.pass_ is None:
+            # No pass removes what the response outdates (RFC 9111, section 4.4).
+            if self.method not in _SAFE and 200 <= status < 400:
+                self.rules.cache.remove(self.target)
             return None
         try:
             step = self.pass_.came(status, fields, now=self.rules.now())
