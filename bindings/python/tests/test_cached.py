@@ -359,6 +359,27 @@ class CachedTest(unittest.TestCase):
             with self.assertRaises(ValueError):
                 middleware(None, Cache(shared=False))
 
+    def test_keeps_little_of_the_content_of_a_get(self) -> None:
+        """What is given to the application once more is bounded, also in the number of its messages."""
+
+        def came_again(piece: bytes, count: int) -> bool:
+            async def receive() -> Any:
+                return {"type": "http.request", "body": piece, "more_body": True}
+
+            async def read() -> bool:
+                given = asgi._Given(receive, "GET")
+                for _ in range(count):
+                    await given()
+                self.assertLessEqual(len(given.messages), 256)
+                return given.rewind()
+
+            return asyncio.run(read())
+
+        for piece, count in ((b"a", 200), (b"", 200), (bytes(60_000), 1)):
+            self.assertTrue(came_again(piece, count))
+        for piece, count in ((b"a", 300), (b"", 300), (bytes(70_000), 1)):
+            self.assertFalse(came_again(piece, count))
+
     def test_rejects_a_host_that_names_another_target(self) -> None:
         """A Host that has a part of a path would store one page under the URI of another one."""
         for served in self.each(lambda: lambda seen: Given(200, [("Cache-Control", "max-age=60")], seen.path.encode())):

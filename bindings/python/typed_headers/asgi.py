@@ -221,8 +221,9 @@ class Cors:
         await self.application(scope, receive, add)
 
 
-#: How many bytes of the content of a GET or HEAD are kept, to be given again.
-_MOST_GIVEN = 64 * 1024
+#: How many bytes of the messages of a GET or HEAD are kept, to be given again, and how many a message has beside its
+#: content.
+_MOST_GIVEN, _OF_MESSAGE = 64 * 1024, 256
 
 
 class Cached:
@@ -344,7 +345,7 @@ class _Given:
             self.place += 1
             return self.messages[self.place - 1]
         message = await self.receive()
-        self.left -= len(message.get("body", b""))
+        self.left -= _OF_MESSAGE + len(message.get("body", b""))
         if self.is_whole and self.left >= 0:
             self.messages.append(message)
             self.place += 1
