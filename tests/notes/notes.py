@@ -22,8 +22,10 @@ JSON = "application/json"
 CORS = CorsPolicy("*", ["PUT", "DELETE"], ["content-type", "if-match", "if-none-match"], ["etag", "location"])
 GET, POST, DELETE = Method("GET"), Method("POST", JSON), Method("DELETE")
 PUT = Method("PUT", JSON, needs_condition=True)
-# Without a route each method of the RFC is answered by 404.
-EVERY = ("GET", "POST", "PUT", "DELETE", "CONNECT", "TRACE", "PATCH")
+# The methods of the server, beside GET and HEAD.
+IMPLEMENTED = ("POST", "PUT", "DELETE")
+# Without a route each of them is answered by 404, and any other method by 501.
+EVERY = ("GET", *IMPLEMENTED)
 
 
 class Notes:
@@ -63,7 +65,7 @@ class Notes:
             return served([GET, POST], (listed, self.tag()), {"POST": self.add})
         note = re.fullmatch("/notes/([1-9][0-9]*)", path)
         if not note:
-            return Served(Resource(EVERY, state=State.ABSENT, cors=CORS))
+            return Served(Resource(EVERY, state=State.ABSENT, implemented=IMPLEMENTED, cors=CORS))
         place = int(note[1])
         methods = {"PUT": lambda it: self.put(place, it), "DELETE": lambda it: self.remove(place)}
         return served([GET, PUT, DELETE], self.by_id.get(place), methods)
@@ -80,7 +82,7 @@ def content_of(environ):
 
 def served(methods, text, performed):
     """A resource with these methods, whose current text this is."""
-    named = {"by_media_type": True, "is_strict": True, "limit": 65536, "cors": CORS}
+    named = {"implemented": IMPLEMENTED, "by_media_type": True, "is_strict": True, "limit": 65536, "cors": CORS}
     if text is None:
         return Served(Resource(methods, state=State.ABSENT, **named), methods=performed)
     content, tag = text
