@@ -1,21 +1,35 @@
 //! Single decisions of the cache policy, and dates.
 use crate::store::kind;
-use cache_policy::{Freshness, RequestHead, StoredHeads, decide_by, freshening_fields};
-use headers::set_all;
+use cache_policy::{Freshness, RequestHead, StoredHeads, date_field, decide_by, freshening_fields};
+use headers::{HeaderMap, set_all};
 use http::Method;
+use http_header::AGE;
 use rfc_values::{Timestamp, Value, read_date, read_entry};
 use test_rows::{Answer, Arguments, Calls, Failure};
 
-// STORED UPDATE: the stored fields after the update, if it is about them.
-fn call_freshening(arguments: &mut Arguments<'_>, answer: &mut Answer) -> Result<(), Failure> {
+// Date is the time at which a 304 came, and Age is removed.
+fn age_anew(stored: &mut HeaderMap, second: u64, answer: &Answer) -> Result<(), Failure> {
+    let date = date_field(answer.alloc(), second)?;
+    set_all(stored, vec![in answer.alloc(); date]?).map_err(|_| Failure::Memory)?;
+    stored.remove(AGE);
+    Ok(())
+}
+
+// STORED UPDATE: the stored fields after the update, if it is about them. If it came at a second, they are aged anew.
+fn call_freshening(
+    second: Option<u64>,
+    arguments: &mut Arguments<'_>,
+    answer: &mut Answer,
+) -> Result<(), Failure> {
     let (mut stored, update) = (arguments.map()?, arguments.map()?);
-    match freshening_fields(arguments.alloc(), &stored, &update)? {
-        Some(fields) => {
-            set_all(&mut stored, fields).map_err(|_| Failure::Memory)?;
-            answer.map(&stored)
-        }
-        None => Ok(answer.word("not_updated")?),
+    let Some(fields) = freshening_fields(arguments.alloc(), &stored, &update)? else {
+        return Ok(answer.word("not_updated")?);
+    };
+    if let Some(second) = second {
+        age_anew(&mut stored, second, answer)?;
     }
+    set_all(&mut stored, fields).map_err(|_| Failure::Memory)?;
+    answer.map(&stored)
 }
 
 // KIND LIFETIME AGE REQUEST RESPONSE: what is done with the GET, by a response to the same.
@@ -94,7 +108,11 @@ pub struct Policies;
 impl Calls for Policies {
     fn make(name: &str, arguments: &mut Arguments<'_>, answer: &mut Answer) -> Result<(), Failure> {
         match name {
-            "freshening_steps" => call_freshening(arguments, answer),
+            "freshening_steps" => call_freshening(None, arguments, answer),
+            "freshening_at" => {
+                let second = arguments.number()?;
+                call_freshening(Some(second), arguments, answer)
+            }
             "decide_by" => call_decide_by(arguments, answer),
             "dictionary" => call_dictionary(arguments, answer),
             "from_unix_seconds" => {

@@ -399,6 +399,10 @@ case(G, "304-connection", "required", step([DATE, ETAG, ("X-T", "old")] + cc("ma
      cites="9111 3.1, 3.2")
 case(G, "304-kept-field", "required", step([DATE, ETAG, ("X-T", "old")] + cc("max-age=1"), pause=3),
      step(FRESH + [ETAG], same=True, expect={"validated"}, see={"x-t": "old"}), cites="9111 3.2")
+# (a stored Age that stayed would leave the response as old as before)
+case(G, "304-age", "optimal", step([DATE, ETAG, ("Age", "7200")] + cc("max-age=3600")),
+     step(cc("max-age=3600") + [ETAG], same=True, expect={"validated"}), step(FRESH, expect=REUSED),
+     cites="9111 4.2.3, 4.3.4")
 case(G, "304-etag-other", "check", step([DATE, ETAG] + cc("max-age=1"), pause=3),
      step(FRESH + [("ETag", '"other"')], same=True, expect={"validated"}))
 

@@ -3,7 +3,7 @@
     python3 -m caching.proxy PORT ORIGIN shared|private
 
 By the library for C: may_store, lifetime, heuristic_lifetime, current_age, decide, validators, evaluate, select, and
-what an empty cache does. By the program of test cases, as C has no such call: decide_by and freshening_steps. By hand,
+what an empty cache does. By the program of test cases, as C has no such call: decide_by and freshening_at. By hand,
 as nothing of ours has it: what is stored under which target, invalidation, fields that aren't stored, and the answer if
 nothing is stored.
 """
@@ -98,10 +98,9 @@ def row(*words: str) -> str:
     return rows.answers(PROGRAM, [" ".join(words)])[0]
 
 
-def freshened(stored: Fields, update: Fields, received: str) -> Fields | None:
+def freshened(stored: Fields, update: Fields, received: int) -> Fields | None:
     """The stored fields after a 304 that came at this time, or `None` if that isn't about the stored response."""
-    stored = [it for it in stored if it[0] not in ("age", "date")] + [("date", received)]
-    answer = row("freshening_steps", *rows.map_words(stored), "(/)", *rows.map_words(update))
+    answer = row("freshening_at", str(received), *rows.map_words(stored), "(/)", *rows.map_words(update))
     if answer == "not_updated":
         return None
     return [(name.decode(), value.decode("latin-1")) for name, value in rows.read_map(answer.split(" "))]
@@ -198,7 +197,7 @@ class Proxy(BaseHTTPRequestHandler):
                 self.serve(on_error, request)
             return
         if fetched.status == 304 and entry is not None:
-            fields = freshened(entry.fields, fetched.fields, self.date_time_string(fetched.received))
+            fields = freshened(entry.fields, fetched.fields, fetched.received)
             if fields is None:
                 self.fetch([it for it in request if it[0].lower() not in CONDITIONS], answers=answers)
                 return
