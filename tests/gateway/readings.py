@@ -40,6 +40,9 @@ class Reading:
     finds_chunked: bool = False
     # Whether a line that begins with a blank is a field line of its own.
     splits_folds: bool = False
+    # How many bits a length has. What is above them is lost, or such a length is none (RFC 9110, section 8.6).
+    bits: int | None = None
+    loses_bits: bool = False
 
 
 STRICT = Reading("strict")
@@ -53,6 +56,10 @@ READINGS = [
     Reading("underscores", takes_underscores=True, length="last"),
     Reading("bare LF", takes_bare_lf=True, length="first"),
     Reading("folds split", splits_folds=True, length="last"),
+    # (nginx, Go and Apache have this limit, but reject a greater length)
+    Reading("63 bits", length="first", bits=63, loses_bits=True),
+    # (old CGI servers have this one; RFC 9110 has none, so a gateway forwards greater lengths)
+    Reading("31 bits", length="first", bits=31),
 ]
 
 TOKEN = re.compile(rb"[!#$%&'*+\-.^_`|~0-9A-Za-z]+")
@@ -111,7 +118,12 @@ def length_of(reading: Reading, lengths: list[bytes]) -> int | None:
     found = re.match(rb"\s*[+]?(\d+)", value)
     if not found:
         raise Malformed(value)
-    return int(found[1])
+    number = int(found[1])
+    if reading.bits is not None and number >> reading.bits:
+        if not reading.loses_bits:
+            raise Malformed(value)
+        number &= (1 << reading.bits) - 1
+    return number
 
 
 def chunks_of(reading: Reading, stream: bytes, start: int) -> tuple[bytes, int]:

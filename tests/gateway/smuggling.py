@@ -77,6 +77,9 @@ class Outcome:
 
     def is_permitted(self, attempt: Attempt) -> bool:
         found = self.shown()
+        if found == "none" and "none" not in attempt.permitted:
+            # (a gateway may close the connection in place of an error, if no part of a message went on)
+            return "reject" in attempt.permitted and self.is_whole
         if not self.messages:
             return "reject" in attempt.permitted or "none" in attempt.permitted
         # (a gateway may close the connection in place of an error)
@@ -165,9 +168,9 @@ def run(context: Context) -> Part:
     part.section += [
         f"A client sends {len(corpus)} attempts to make two servers read different messages in the same bytes",
         "(`tests/gateway/corpus.txt`), each on a connection of its own. Behind each gateway is an origin that keeps",
-        "what it receives. Nine servers then read those bytes: one by RFC 9112 for the plain forms, the others with",
-        "a mistake each, as the last of two lengths, a length before a coding, any value with `chunked` in it, LF",
-        "alone as the end of a line.", "",
+        f"what it receives. Then {len(READINGS)} servers read those bytes: one by RFC 9112 for the plain forms, the",
+        "others with a mistake or a limit each, as the last of two lengths, a length before a coding, any value with",
+        "`chunked` in it, LF alone as the end of a line, lengths of 63 bits.", "",
     ]
     rows = []
     for title, outcomes in judged.items():
@@ -180,7 +183,7 @@ def run(context: Context) -> Part:
                 "Other than the RFCs say"], rows)
     part.section += [
         "In the table below, a cell has the first status that the client gets, and how many messages reach the origin.",
-        "`differs` says that two of the nine servers read different messages in them, and `(!)` that RFC 9110 to 9112",
+        "`differs` says that two of these servers read different messages in them, and `(!)` that RFC 9110 to 9112",
         "say that something else must or should be done.",
         "`closed` is a connection that ends without an answer, or stays open without one.", "",
     ]
