@@ -41,21 +41,27 @@ fn add_encoded(encoded: &[Encoded], answer: &mut Answer) -> Result<(), AllocErro
     Ok(())
 }
 
-// NAME consumed|relayed|underscores: a gateway that protects X-Client.
+// NAME consumed|relayed|underscores|signed: a gateway that protects X-Client, and if it is signed, Signature.
 fn read_gateway(arguments: &mut Arguments<'_>) -> Result<Gateway, Failure> {
     let alloc = arguments.alloc();
     let mut gateway = Gateway::new(alloc, Pseudonym::new(alloc, arguments.word()?)?);
-    let (consumes_credentials, passes_underscores) = choose(
+    let (consumes_credentials, passes_underscores, is_signed) = choose(
         arguments,
         &[
-            ("consumed", (true, false)),
-            ("relayed", (false, false)),
-            ("underscores", (true, true)),
+            ("consumed", (true, false, false)),
+            ("relayed", (false, false, false)),
+            ("underscores", (true, true, false)),
+            ("signed", (true, false, true)),
         ],
     )?;
     gateway.consumes_credentials = consumes_credentials;
     gateway.passes_underscores = passes_underscores;
     gateway.protected.push(HeaderName::from_static("x-client"))?;
+    if is_signed {
+        gateway
+            .protected
+            .push(HeaderName::from_static("signature"))?;
+    }
     Ok(gateway)
 }
 
