@@ -1,8 +1,9 @@
 -- Heads that were read.
 use Rattle.std.proofs.Common.{◌≡◌, ℕ, List, ◌++◌, ◌∙◌, ap, sym, subst, drop, false, Err, IfErr, IfOk, IsErr, Ok, Option}
-use Rattle.std.{proofs.Common.{Result, ◌⊎◌, inl, inr, map}, proofs.KnownBytes.Consumes-kept}
+use Rattle.std.proofs.Common.{Result, ◌⊎◌, inl, inr, map, take, take-append-drop}
+use Rattle.std.{proofs.KnownBytes.Consumes-kept, proofs.lemmas.List.append_cancel_right}
 use Rattle.std.specs.Io.KnownBytes.{Consumes, Keeps}
-use Rattle.httparse.{specs.Grammar.{RequestHead, ResponseHead}, specs.Spans.name_and_value}
+use Rattle.httparse.{specs.Grammar.{RequestHead, ResponseHead, print_request}, specs.Spans.name_and_value}
 use Rattle.httparse.{specs.declared.spans.HeaderSpan.HeaderSpan, specs.declared.spans.RequestSpans.RequestSpans}
 use Rattle.httparse.specs.declared.spans.ResponseSpans.{ResponseSpans}
 use Rattle.http1.{specs.Client.{ClientReads, ReadsAt, ReadsFirst, ReadsHead, TakesHead}, specs.Conn.awaits_head}
@@ -15,7 +16,8 @@ use Rattle.http1.specs.declared.server.Server.{Server}
 use Rattle.gateway_relay.{specs.Content.map_of, specs.declared.failure.Failure.Failure}
 use Rattle.gateway_relay.{specs.declared.response.Response.Response, specs.Failures.{HasNoMap, IsMapFailure}}
 use Rattle.gateway_relay.{specs.Failures.{IsReceiveFailure, Receives}, specs.Heads.FailsToReadRequest}
-use Rattle.gateway_relay.specs.Heads.{FailsToReadResponse, IsHeadFailure, IsResponseAt, ReadsResponseHead}
+use Rattle.gateway_relay.specs.Heads.{FailsToReadResponse, IsHeadFailure, IsRequestAt, IsResponseAt, ReadsRequestHead}
+use Rattle.gateway_relay.{specs.Heads.ReadsResponseHead, specs.declared.request.Request.Request}
 use Rattle.http1.specs.Server as Serving
 use Rattle.http1.specs.declared.conn.Reading.TheVariants as Reads
 use Rattle.gateway_relay.specs.declared.failure.Failure.TheVariants as Failed
@@ -113,6 +115,35 @@ pub takes_request : (old new : Server) (limits : Limits) (input : List ℕ) (spa
     (read : Progress RequestSpans) (r : RequestSpans) → old ≡ new_server limits → ServerReads old input spans new read
     → read.event ≡ Head r → Serving.TakesHead (new_server limits) input spans new read.consumed r
 takes_request old new limits input spans read r same reads is = rw is at (rw same at reads)
+
+-- its parts were taken
+pub request_taken : (limits : Limits) (new : Server) (before taken input seen again after : List ℕ)
+    (left left_after : Option (List ℕ)) (spans : List HeaderSpan) (len : ℕ) (r : RequestSpans) (request : Request)
+    → Serving.TakesHead (new_server limits) seen spans new len r → Consumes left left_after taken
+    → input ≡ before ++ taken → seen ≡ input → again ≡ input → after ≡ drop r.len input
+    → IsRequestAt again spans r request → ReadsRequestHead limits before after left left_after new request
+request_taken limits new before taken input seen again after left left_after spans len r request t received is same
+    same_again rest parts_again =
+    let parts = subst (λ (s : List ℕ). IsRequestAt s spans r request) (same_again ∙ sym same) parts_again in
+    let left_is : drop len seen ≡ after = ap (λ (n : ℕ). drop n seen) t.consumed
+    ∙ ap (λ (s : List ℕ). drop r.len s) same ∙ sym rest in
+    record {
+      taken = taken;
+      received = received;
+      head = t.head;
+      framing = t.framing;
+      accepts = subst (λ (s : List ℕ). AcceptsRequest limits s t.head t.framing after) (same ∙ is)
+          (subst (λ (s : List ℕ). AcceptsRequest limits seen t.head t.framing s) left_is t.accepts);
+      parts = record {
+        method = parts.method ∙ t.covered.method;
+        target = parts.target ∙ t.covered.path;
+        minor = parts.minor ∙ t.covered.version;
+        fields = parts.fields ∙ ap map_of t.covered.fields;
+        text = parts.text ∙ append_cancel_right (take r.len seen) (print_request t.head) (drop r.len seen)
+            (take-append-drop r.len seen ∙ t.covered.reads.1);
+      };
+      next = t.next;
+    }
 
 -- ---- responses
 

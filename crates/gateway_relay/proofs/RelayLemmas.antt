@@ -387,9 +387,9 @@ module _ {d : Decoder} {e : Encoder} {before input : List ℕ} {left left_now he
   -- the relay fails, and no more is sent
   pub relays_failed : (ends : Bool) (left_new : Option (List ℕ)) (result : Result (Entries FieldValue) Failure)
       (after : List ℕ) (written : Writing) (failure : Failure) → result ≡ Err failure → Keeps left_now left_new
-      → IsRelayFailure ends d e (before ++ p.taken) left_new p.pieces failure
+      → IsRelayFailure ends d e (before ++ p.taken) left_new p.pieces failure → after ≡ input
       → Relays ends d e before after left left_new held held_now written result
-  relays_failed ends left_new result after written failure is keeps because =
+  relays_failed ends left_new result after written failure is keeps because remains =
       subst (λ (x : Result (Entries FieldValue) Failure). Relays ends d e before after left left_new held held_now
       written x) (sym is)
       (record {
@@ -403,14 +403,15 @@ module _ {d : Decoder} {e : Encoder} {before input : List ℕ} {left left_now he
         sends = (p.sent, pending, p.text, p.told, tt);
         ends = tt;
         fails = because;
+        remains = remains;
       })
 
   -- sending fails
   pub relays_unsent : (ends : Bool) (sent unsent : List ℕ) (held_new : Option (List ℕ))
       (result : Result (Entries FieldValue) Failure) (after : List ℕ) (written : Writing) (failure : Failure)
       → result ≡ Err failure → failure ≡ Failed.Writer → pending ≡ sent ++ unsent → Appends held_now held_new sent
-      → Relays ends d e before after left left_now held held_new written result
-  relays_unsent ends sent unsent held_new result after written failure is writer text told =
+      → after ≡ input → Relays ends d e before after left left_now held held_new written result
+  relays_unsent ends sent unsent held_new result after written failure is writer text told remains =
       subst (λ (x : Result (Entries FieldValue) Failure). Relays ends d e before after left left_now held held_new
       written x) (sym (is ∙ ap Err writer))
       (record {
@@ -430,6 +431,7 @@ module _ {d : Decoder} {e : Encoder} {before input : List ℕ} {left left_now he
         );
         ends = tt;
         fails = tt;
+        remains = remains;
       })
 
   -- the content ends, and all of it is sent
@@ -448,6 +450,7 @@ module _ {d : Decoder} {e : Encoder} {before input : List ℕ} {left left_now he
         sends = (p.sent, [], p.text ∙ ap (λ (t : List ℕ). p.sent ++ t) all, p.told, refl);
         ends = (end, p.is_writing);
         fails = tt;
+        remains = tt;
       }
 
   -- a read fails
@@ -618,7 +621,7 @@ module _ {d : Decoder} {e : Encoder} {before old_input input : List ℕ}
   relays_closed (Err failure) sent empty all until cut =
       relays_failed p ends _ (Err failure) _ _ failure refl (Keeps-refl _)
       (subst (λ (f : Failure). IsRelayFailure ends d e (before ++ p.taken) left_now p.pieces f) (sym cut.0)
-      (closed_early cut.1))
+      (closed_early cut.1)) refl
 
 -- ---- what was relayed is the content of the message
 

@@ -1,7 +1,8 @@
 -- The heads of messages, as they are read.
-use Rattle.std.specs.Prelude.{◌≡◌, ◌≢◌, ⊤, ℕ, false, List, [], ◌++◌, map, Option}
+use Rattle.std.specs.Prelude.{◌≡◌, ◌≢◌, ⊤, ℕ, false, List, [], ◌++◌, map, Option, take}
 use Rattle.std.specs.Io.KnownBytes.{Consumes, IsAtEnd}
-use Rattle.httparse.specs.Grammar.{HasNoRequest, HasNoResponse, RequestHead, ResponseHead, reason_phrase, status_code}
+use Rattle.httparse.specs.Grammar.{HasNoRequest, HasNoResponse, RequestHead, ResponseHead, print_request, reason_phrase}
+use Rattle.httparse.specs.Grammar.{status_code}
 use Rattle.httparse.specs.{Spans.name_and_value, Spans.span_bytes, declared.spans.HeaderSpan.HeaderSpan}
 use Rattle.httparse.specs.{declared.spans.RequestSpans.RequestSpans, declared.spans.ResponseSpans.ResponseSpans}
 use Rattle.http1.specs.{Client.RefusesFirst, Client.after_head, Decoder.decoder_for, Message.AcceptsRequest}
@@ -23,6 +24,7 @@ pub record IsRequestAt (input : List ℕ) (spans : List HeaderSpan) (r : Request
   pub target : request.target ≡ span_bytes input r.path
   pub minor : request.minor ≡ r.version
   pub fields : request.fields ≡ map_of (headers_at input spans r.headers)
+  pub text : request.text ≡ take r.len input
 
 -- the parts of a head of the grammar
 pub record IsRequestOf (h : RequestHead) (request : Request) : Type 0 where
@@ -30,6 +32,7 @@ pub record IsRequestOf (h : RequestHead) (request : Request) : Type 0 where
   pub target : request.target ≡ h.target
   pub minor : request.minor ≡ h.minor
   pub fields : request.fields ≡ map_of (map name_and_value h.fields)
+  pub text : request.text ≡ print_request h
 
 -- a server that has read this head, and reads the content next
 abbrev pub server_after : Limits → RequestHead → Framing → Server

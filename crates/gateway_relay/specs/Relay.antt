@@ -1,5 +1,5 @@
 -- What a relay of content does.
-use Rattle.std.specs.Prelude.{◌≡◌, ℕ, List, [], ◌++◌, map, Option, Result, Bool, IfErr, IfOk, OnOk}
+use Rattle.std.specs.Prelude.{◌≡◌, ℕ, List, [], ◌++◌, map, Option, Result, Bool, IfErr, IfOk, OnErr, OnOk}
 use Rattle.std.specs.{List.concat, Io.KnownBytes.Appends, Io.KnownBytes.Consumes}
 use Rattle.httparse.specs.{Grammar.Field, Spans.name_and_value}
 use Rattle.http_header.specs.{FieldValue.FieldValue, HeaderMap.Entries}
@@ -22,7 +22,7 @@ HasEnd last unread trailers after =
 
 -- Content passes from a reader to a writer. The input was `before`, and is `after`. Of the reader these bytes were
 -- taken meanwhile, and of both together these pieces are content. They are written in their frames, all of them where
--- the content ended, and else a first part.
+-- the content ended, and else a first part. What isn't a piece of it then is still in the input.
 pub record Relays (ends_with_connection : Bool) (d : Decoder) (e : Encoder) (before after : List ℕ)
     (left left_after held held_after : Option (List ℕ)) (written : Writing)
     (result : Result (Entries FieldValue) Failure) : Type 0 where
@@ -37,6 +37,7 @@ pub record Relays (ends_with_connection : Bool) (d : Decoder) (e : Encoder) (bef
   pub ends : IfOk result (λ trailers. HasEnd last unread trailers after × (written ≡ Writes.Body
       (after_pieces pieces e)))
   pub fails : IfErr result (IsRelayFailure ends_with_connection d e (before ++ taken) left_after pieces)
+  pub remains : OnErr result (after ≡ unread)
 
 -- What was relayed is the content of a message: the input and what was taken of the reader begin with a body of the
 -- grammar, and what is left is what follows it. Its bytes are written in pieces, each in its frame.

@@ -47,7 +47,7 @@ fn pass_piece<T: ContentSink>(
         (data_refusal (T.writing sink.old) (length (span_bytes input.old.items piece)))) }
     ensures short { length (span_bytes input.old.items piece) < 2 ^ 64 }
     ensures kept { T.kept sink.new ≡ T.kept sink.old }
-    ensures err { OnErr result (output.new.items ≡ output.old.items) }
+    ensures err { OnErr result ((output.new.items ≡ output.old.items) × (input.new.items ≡ input.old.items)) }
 {
     sink.write_piece(output, piece.of(input.as_slice()))?;
     input.advance(piece.end);

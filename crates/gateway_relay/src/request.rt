@@ -30,6 +30,8 @@ pub struct Request {
     pub minor: u8,
     /// The fields.
     pub fields: HeaderMap,
+    /// All of it, byte for byte.
+    pub text: Bytes,
 }
 
 // The head under the spans.
@@ -49,11 +51,13 @@ fn request_at(
     };
     let target = Bytes::copy_from_slice(alloc, head.path.of(input))?;
     let fields = fields_at(alloc, keys, input, head.len, spans, head.headers)?;
+    let text = Bytes::copy_from_slice(alloc, &input[..head.len])?;
     Ok(Request {
         method,
         target,
         minor: head.version,
         fields,
+        text,
     })
 }
 

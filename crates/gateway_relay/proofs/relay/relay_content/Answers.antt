@@ -27,7 +27,7 @@ returns-in-Err-clause-relays g c d e reading writing =
     let seen = c.as_slice.ensures in
     relays_failed p g.S.ContentSource.ends_with_connection _ _ _ _ _ refl (Keeps-refl _) (content_fails p
     g.S.ContentSource.ends_with_connection (g.R.Read.remaining c.loop-turn.reader) c.in-Err.error
-    (rw seen at (rw c.as_slice.array_long at wrong.0)) (rw seen at (rw c.as_slice.array_long at wrong.1)))
+    (rw seen at (rw c.as_slice.array_long at wrong.0)) (rw seen at (rw c.as_slice.array_long at wrong.1))) refl
 
 pub returns-in_err-pass_piece-in-Data-clause-relays : goal.returns-in_err-pass_piece-in-Data-clause-relays
 returns-in_err-pass_piece-in-Data-clause-relays g c d e reading writing =
@@ -36,22 +36,28 @@ returns-in_err-pass_piece-in-Data-clause-relays g c d e reading writing =
     let y = err_from_is_err_and c.from_residual.result c.from_residual.ensures.1 in
     relays_failed p g.S.ContentSource.ends_with_connection _ _ _ _ _ (y.1 ∙ ap Err y.2) (Keeps-refl _)
     (piece_fails p g.S.ContentSource.ends_with_connection _ _ f.0 _ _ f.3 c.in_err-pass_piece-in-Data.ensures.refused)
+    c.in_err-pass_piece-in-Data.ensures.err.1
 
 pub returns-in_err-send-in-NeedMore-clause-relays : goal.returns-in_err-send-in-NeedMore-clause-relays
 returns-in_err-send-in-NeedMore-clause-relays g c d e reading writing =
     let s = c.send.ensures.sends in
     let y = err_from_is_err_and _ c.from_residual-in_err-send-in-NeedMore.ensures.1 in
-    relays_unsent (c.loop-turn.invariant.passing d e reading writing).0 _ s.0 s.1 _ _ _ _ _ (y.1 ∙ ap Err y.2)
-    c.in_err-send-in-NeedMore.ensures.err (sym c.as_slice-in-NeedMore.ensures ∙ s.2) s.3
+    let p = (c.loop-turn.invariant.passing d e reading writing).0 in
+    let f = found p _ _ _ _ _ c.in-Ok.ensures.ok c.as_slice.ensures c.in-NeedMore.is in
+    relays_unsent (passing_waits p f.0 _ _ f.1 f.2) _ s.0 s.1 _ _ _ _ _ (y.1 ∙ ap Err y.2)
+    c.in_err-send-in-NeedMore.ensures.err (sym c.as_slice-in-NeedMore.ensures ∙ s.2) s.3 c.advance.ensures.items
 
 pub returns-in_err-receive-in-NeedMore-clause-relays : goal.returns-in_err-receive-in-NeedMore-clause-relays
 returns-in_err-receive-in-NeedMore-clause-relays g c d e reading writing =
     let s = c.in_ok-send-in-NeedMore.ensures.sends in
-    let p = passing_sent (c.loop-turn.invariant.passing d e reading writing).0 s.0 s.1 _
-    (sym c.as_slice-in-NeedMore.ensures ∙ s.2) s.3 s.4 in
+    let old = (c.loop-turn.invariant.passing d e reading writing).0 in
+    let f = found old _ _ _ _ _ c.in-Ok.ensures.ok c.as_slice.ensures c.in-NeedMore.is in
+    let p = passing_sent (passing_waits old f.0 _ _ f.1 f.2) s.0 s.1 _ (sym c.as_slice-in-NeedMore.ensures
+    ∙ s.2) s.3 s.4 in
     let y = err_from_is_err_and _ c.from_residual-in_err-receive-in-NeedMore.ensures.1 in
     relays_failed p _ _ _ _ _ _ (y.1 ∙ ap Err y.2) c.in_err-receive-in-NeedMore.ensures.err.1
     (receive_fails p _ _ _ c.in_err-receive-in-NeedMore.ensures.reason)
+    (c.in_err-receive-in-NeedMore.ensures.err.0 ∙ c.advance.ensures.items)
 
 pub returns-then-branch-eq0-clause-relays : goal.returns-then-branch-eq0-clause-relays
 unfolding passing_received passing_sent passing_waits
@@ -82,7 +88,7 @@ returns-in_err-send-in-End-clause-relays g c d e reading writing =
     let s = c.send-in-End.ensures.sends in
     let y = err_from_is_err_and _ c.from_residual-in_err-send-in-End.ensures.1 in
     relays_unsent (c.loop-turn.invariant.passing d e reading writing).0 _ s.0 s.1 _ _ _ _ _ (y.1 ∙ ap Err y.2)
-    c.in_err-send-in-End.ensures.err (sym c.as_slice-in-End.ensures ∙ s.2) s.3
+    c.in_err-send-in-End.ensures.err (sym c.as_slice-in-End.ensures ∙ s.2) s.3 refl
 
 pub returns-in_err-fields-in-End-clause-relays : goal.returns-in_err-fields-in-End-clause-relays
 returns-in_err-fields-in-End-clause-relays g c d e reading writing =
@@ -92,7 +98,7 @@ returns-in_err-fields-in-End-clause-relays g c d e reading writing =
     let f = found p _ _ _ _ _ c.in-Ok.ensures.ok c.as_slice.ensures c.in-End.is in
     let y = err_from_is_err_and _ c.from_residual-in_err-fields-in-End.ensures.1 in
     relays_failed p _ _ _ _ _ _ (y.1 ∙ ap Err y.2) (Keeps-refl _)
-    (trailers_fail p _ _ _ _ _ _ f (rw c.as_slice-in-End-2.ensures at c.in_err-fields-in-End.ensures.reason))
+    (trailers_fail p _ _ _ _ _ _ f (rw c.as_slice-in-End-2.ensures at c.in_err-fields-in-End.ensures.reason)) refl
 
 pub returns-in-End-clause-relays : goal.returns-in-End-clause-relays
 returns-in-End-clause-relays g c d e reading writing =
@@ -169,4 +175,4 @@ pub returns-clause-relays : goal.returns-clause-relays
 returns-clause-relays g c d e reading writing =
     let p = (c.loop-turn.invariant.passing d e reading writing).0 in
     relays_failed p g.S.ContentSource.ends_with_connection _ _ _ _ _ refl (Keeps-refl _)
-    (counts_all _ _ p.taken _ ((c.loop-turn.invariant.passing d e reading writing).1) c.loop-turn-test.false)
+    (counts_all _ _ p.taken _ ((c.loop-turn.invariant.passing d e reading writing).1) c.loop-turn-test.false) refl
