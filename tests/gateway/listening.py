@@ -139,11 +139,11 @@ def run(context: Context) -> Part:
         for target in TARGETS:
             found = answer(FIRST_PORT + 6, b"GET %s HTTP/1.1\r\nHost: a\r\n\r\n" % target)
             part.want(f"the target {target!r}", found[:12], "http/1.1 400")
-        # (RFC 9112, section 9.3.1: the client may send it again, so it gets no 502)
-        for request in (b"GET / HTTP/1.1\r\nHost: a\r\n\r\n",
-                        b"POST / HTTP/1.1\r\nHost: a\r\nContent-Length: 5\r\n\r\nhello"):
+        # (RFC 9112, section 9.3.1: the gateway sends it again, or the client may, so it gets no 502)
+        for request, wanted in ((REQUEST, b"HTTP/1.1 200"),
+                                (b"POST / HTTP/1.1\r\nHost: a\r\nContent-Length: 5\r\n\r\nhello", b"")):
             found = after(b"/last", FIRST_PORT + 6, request)
-            part.want(f"{request[:4]!r} after the origin ended its connection", found, b"")
+            part.want(f"{request[:4]!r} after the origin ended its connection", found[:12], wanted)
         # (RFC 9112, section 9.2: what comes unasked is no response. What comes after a pause is seen too late for the
         # next request of that client, as the page of the gateway says; no other client gets it.)
         found = after(b"/more", FIRST_PORT + 6, REQUEST)

@@ -10,10 +10,10 @@ use crate::options::command;
 use clap::ArgMatches;
 use gateway_hops::{Forwarding, Node, NodeName, Received};
 use gateway_messages::{Gateway, Pseudonym};
-use gateway_proxy::{Proxy, serve_gateway};
+use gateway_proxy::{Connector, Proxy, serve_gateway};
 use headers::HeaderValue;
 use http1::Limits;
-use std::fs::OpenOptions;
+use std::fs::{File, OpenOptions};
 use std::hash::RandomState;
 use std::net::IpAddr;
 use std::process::ExitCode;
@@ -21,6 +21,26 @@ use std::{env, fs};
 
 // The status of a mistake in the words of the command line.
 const MISTAKE: u8 = 2;
+
+// Two files, which connect to the origin server whenever they are opened, in this order.
+#[derive(Drop)]
+struct Files<'a> {
+    rt: &'a HostRuntime,
+    from: &'a str,
+    to: &'a str,
+}
+
+impl Connector for Files<'_> {
+    type From = File;
+
+    type To = File;
+
+    fn connect(&mut self) -> Option<(File, File)> {
+        let from = fs::open(self.rt, self.from).ok()?;
+        let to = OpenOptions::new().write(true).open(self.rt, self.to).ok()?;
+        Some((from, to))
+    }
+}
 
 // The client, if its address is told.
 fn client_of(matches: &ArgMatches<'_>) -> Node {
@@ -65,9 +85,11 @@ fn run(rt: &HostRuntime, matches: &ArgMatches<'_>) -> anyhow::Result<ExitCode> {
         client: client_of(matches),
         limits: Limits::default(),
     };
-    let mut from_origin = fs::open(rt, matches.get_str("FROM").unwrap_or(""))?;
-    let to_origin = matches.get_str("TO").unwrap_or("");
-    let mut to_origin = OpenOptions::new().write(true).open(rt, to_origin)?;
+    let mut connector = Files {
+        rt,
+        from: matches.get_str("FROM").unwrap_or(""),
+        to: matches.get_str("TO").unwrap_or(""),
+    };
     let keys = RandomState::new(rt)?;
     let (mut reader, mut writer) = (rt.stdin(), rt.stdout());
     match serve_gateway(
@@ -77,8 +99,7 @@ fn run(rt: &HostRuntime, matches: &ArgMatches<'_>) -> anyhow::Result<ExitCode> {
         &proxy,
         &mut reader,
         &mut writer,
-        &mut from_origin,
-        &mut to_origin,
+        &mut connector,
     ) {
         Ok(()) => Ok(ExitCode::SUCCESS),
         Err(_) => Ok(ExitCode::FAILURE),

@@ -1,6 +1,6 @@
 -- Responses that were read.
-use Rattle.std.proofs.Common.{◌≡◌, ◌∙◌, ℕ, ◌/◌, Bool, true, false, not, ◌&&◌, ◌||◌, ◌==◌, List, Option, ap, refl, subst}
-use Rattle.std.{proofs.Common.{if◌then◌else◌, nat_lt, nat_le, sym, ◌≢◌, Some}, specs.Bool.MatchBool}
+use Rattle.std.proofs.Common.{◌≡◌, ◌∙◌, ℕ, ◌/◌, Bool, true, false, ◌&&◌, ◌||◌, ◌==◌, List, Option, ap, refl, subst}
+use Rattle.std.{proofs.Common.{if◌then◌else◌, nat_lt, sym, ◌≢◌, Some}, specs.Bool.MatchBool}
 use Rattle.httparse.specs.Grammar.{ResponseHead, status_code}
 use Rattle.http1.{specs.Client.{after_head, reading_body, switches, upgraded_client}, specs.Conn.awaits_head}
 use Rattle.http1.{specs.Conn.is_connect, specs.Decoder.decoder_for, specs.Message.known_of}
@@ -13,7 +13,6 @@ use Rattle.headers.specs.LineMap.{lines_at}
 use Rattle.gateway_messages.specs.Responses as Answers
 use Rattle.gateway_messages.specs.Responses.{IsForwardedResponse, IsResponseOutcome, is_known_to}
 use Rattle.gateway_messages.specs.declared.protocol.Protocol.{Protocol}
-use Rattle.gateway_messages.specs.declared.protocol.Protocol.TheVariants.{Http10, Http11}
 use Rattle.gateway_messages.specs.declared.gateway.Gateway.{Gateway}
 use Rattle.gateway_messages.specs.declared.response.ForwardedResponse.{ForwardedResponse}
 use Rattle.gateway_messages.specs.declared.response.ResponseOutcome.{ResponseOutcome}

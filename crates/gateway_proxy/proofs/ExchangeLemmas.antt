@@ -20,7 +20,8 @@ use Rattle.gateway_proxy.specs.Cuts.{CutsFinal, CutsResponse, IsCut, broken, in_
 use Rattle.gateway_proxy.{specs.Decisions.IsDecision, specs.Exchanges.{Accepted, BeginsAnswer, BreaksOff, EndsInterims}}
 use Rattle.gateway_proxy.specs.Exchanges.{FindsFinal, FindsNone, IsContinued, IsDelivered, IsFinalUnsent, IsHeadUnsent}
 use Rattle.gateway_proxy.specs.Exchanges.{IsReceived, IsResponded, IsTurn, PassesAnswer, PassesExchange, PassesInPart}
-use Rattle.gateway_proxy.{specs.Exchanges.{PassesOn, Wires, goes_on}, specs.Faults.{IsUnusable, fault_status}}
+use Rattle.gateway_proxy.specs.Exchanges.{GivesUp, IsUnanswered, PassesOn, Wires, goes_on, in_part, is_repeatable}
+use Rattle.gateway_proxy.{specs.Exchanges.unanswered, specs.Faults.{IsUnusable, fault_status}}
 use Rattle.gateway_proxy.{specs.Faults.request_status, specs.Own.own_text, specs.Passing.{BeginsResponse, FailsToPass}}
 use Rattle.gateway_proxy.specs.Passing.{FailsToPassRequest, IsSameRequest, Passes, PassesRequest, PassesResponse}
 use Rattle.gateway_proxy.{specs.Passing.{past_response_head, response_size}, specs.Responses.{is_open, written_fields}}
@@ -34,7 +35,8 @@ use Rattle.gateway_proxy.specs.declared.exchange.Turn.TheVariants as Turns
 use Rattle.gateway_proxy.specs.declared.fault.Fault.{Fault}
 use Rattle.gateway_proxy.specs.declared.fault.Fault.TheVariants as Faults
 use Rattle.gateway_proxy.{specs.declared.proxy.Proxy.Proxy, proofs.AnswerLemmas.{final_unusable, head_fails}}
-use Rattle.gateway_proxy.proofs.PassLemmas.{open_after_end}
+use Rattle.gateway_proxy.{proofs.PassLemmas.open_after_end, proofs.RepeatLemmas.{fails_to_pass_none, gives_up}}
+use Rattle.gateway_proxy.proofs.RepeatLemmas.{passes_none, repeated_content, repeated_told}
 
 -- what a server has beside its writing
 abbrev kept_at : Server → Kept
@@ -68,7 +70,7 @@ module _ (proxy : Proxy) {final : Final} {server server_begun : Server} {d : Dec
   -- or it didn't
   pub cuts_content : (failure : Failure)
       → FailsToPass true proxy.gateway (lines_at final.response.fields) final.sent.framing d
-      (encoder_for begins.plan.framing) before left left_after held_head held_after failure
+      (encoder_for begins.plan.framing) before after left left_after held_head held_after failure
       → CutsFinal proxy server final d before after left left_after held held_after failure
   cuts_content failure fails = inl (past_response_head server_begun held_head begins fails)
 
@@ -117,6 +119,7 @@ module _ {proxy : Proxy} {request : Request} {client client_read : Client} {serv
   responds (Ok Turns.Last) d = (answer d.0, d.1)
   responds (Ok Turns.Closed) d = absurd d
   responds (Ok Turns.Refused) d = absurd d
+  responds (Ok Turns.Unanswered) d = absurd d
   responds (Ok (Turns.Dropped failure)) d = absurd d
   responds (Ok (Turns.Broken fault)) d =
       record { told = told; finds = unsent fault d.0 d.2 d.3; answers = d.1 }
@@ -127,7 +130,7 @@ module _ {proxy : Proxy} {request : Request} {client client_read : Client} {serv
       rest left_after told held_after)
       → IfErr r (CutsResponse proxy request client server before left left_after held held_after)
   cuts_final (Ok turn) d = tt
-  cuts_final (Err failure) (inl fails) = in_final client_read server_told unread rest told final finds fails
+  cuts_final (Err failure) (inl fails) = in_final client_read server_told unread after rest told final finds fails
   cuts_final (Err failure) (inr d) = in_answer after told d.0 (unsent d.0 d.1 d.3 d.4) d.2
 
 -- no byte of a final response was sent, and the gateway answers itself
@@ -234,6 +237,7 @@ module _ (proxy : Proxy) (answered : Bool) (before after : Wires) (told : Option
   by_turn (Ok Turns.Last) d = exchanged Turns.Last d
   by_turn (Ok Turns.Closed) d = absurd d
   by_turn (Ok Turns.Refused) d = absurd d
+  by_turn (Ok Turns.Unanswered) d = absurd d
   by_turn (Ok (Turns.Dropped failure)) d = absurd d
   by_turn (Ok (Turns.Broken (Faults.Request failure))) d = absurd (no_request d.finds.count failure d.finds.now
       d.finds.unread after.answered d.finds.rest after.answered_left d.finds.ends)
@@ -417,19 +421,55 @@ module _ {proxy : Proxy} {before : Wires} (head : Accepted proxy before) (server
         cuts_response proxy answered before after told (passed_on client_after server passes same) unread rest_read
         begins r became
 
-  pub passed_in_part : (rest_then : Option (List ℕ)) (failure : Failure)
+  pub passed_in_part : (unread_then : List ℕ) (rest_then : Option (List ℕ)) (failure : Failure)
       → IfRead (FailsToPassRequest proxy.gateway client head.request head.outgoing
-      (decoder_for proxy.limits head.reads.framing) head.unread head.rest rest_then before.sent after.sent failure)
+      (decoder_for proxy.limits head.reads.framing) head.unread unread_then head.rest rest_then before.sent after.sent
+      failure)
       → after.answered ≡ before.answered → after.answered_left ≡ before.answered_left
       → PassesInPart proxy before after told failure
-  passed_in_part rest_then failure fails answered left = record {
+  passed_in_part unread_then rest_then failure fails answered left = record {
     accepted = head;
     server_continued = server_continued;
     continued = continued;
+    unread_then = unread_then;
     rest_then = rest_then;
     fails = subst (λ (x : Client). FailsToPassRequest proxy.gateway x head.request head.outgoing
-        (decoder_for proxy.limits head.reads.framing) head.unread head.rest rest_then before.sent after.sent failure)
-        is_new (read _ fails);
+        (decoder_for proxy.limits head.reads.framing) head.unread unread_then head.rest rest_then before.sent
+        after.sent failure) is_new (read _ fails);
     answered = answered;
     answered_left = left;
   }
+
+  -- the origin server ended the connection first
+  module _ (answered : Bool) (is_answered : answered ≡ true) (repeats : Bool)
+      (is : repeats ≡ is_repeatable head.request head.outgoing head.server) (is_told : after.told ≡ told)
+      (failure : Failure) (asked : List ℕ) (turn : Turn)
+      (became : GivesUp repeats head.request.text failure after.asked asked turn) where
+    pub gives_up_in_part :
+        IfRead (FailsToPassRequest proxy.gateway client head.request head.outgoing
+        (decoder_for proxy.limits head.reads.framing) head.unread after.asked head.rest after.asked_left before.sent
+        after.sent failure)
+        → after.answered ≡ before.answered → after.answered_left ≡ before.answered_left → failure ≡ Failed.Writer
+        → IsTurn proxy answered before (record after { asked = asked }) turn
+    unfolding passed_in_part
+    gives_up_in_part fails same same_left writer =
+        let passed = passed_in_part after.asked after.asked_left failure fails same same_left in
+        gives_up head answered (record after { asked = asked }) after.asked repeats failure is_answered
+        (in_part told passed writer is_told (sym is))
+        (λ yes. fails_to_pass_none _ (repeated_content head (sym is ∙ yes)) passed.fails)
+        (λ yes. is_told ∙ repeated_told head server_continued told continued (sym is ∙ yes)) turn became
+
+    pub gives_up_unanswered : (client_after : Client) (server : Server)
+        → IfRead (PassesRequest proxy.gateway client client_after head.request head.outgoing
+        (decoder_for proxy.limits head.reads.framing) head.unread after.asked head.rest after.asked_left before.sent
+        after.sent)
+        → IfRead (IsSameRequest server_continued server)
+        → IsUnanswered before.answered after.answered before.answered_left after.answered_left failure
+        → IsTurn proxy answered before (record after { asked = asked }) turn
+    unfolding passed_on
+    gives_up_unanswered client_after server passes same none =
+        let passed = passed_on client_after server passes same in
+        gives_up head answered (record after { asked = asked }) after.asked repeats failure is_answered
+        (unanswered told passed none is_told (sym is))
+        (λ yes. passes_none _ (repeated_content head (sym is ∙ yes)) passed.passes)
+        (λ yes. is_told ∙ repeated_told head server_continued told continued (sym is ∙ yes)) turn became

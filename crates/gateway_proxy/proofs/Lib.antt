@@ -4,3 +4,5 @@ pub mod ExchangeLemmas
 pub mod FaultLemmas
 pub mod PassLemmas
 pub mod PlanLemmas
+pub mod RepeatLemmas
+pub mod SessionLemmas

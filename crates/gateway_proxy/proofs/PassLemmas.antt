@@ -206,10 +206,10 @@ module _ {source : Bool} {gateway : Gateway} {fields : LineMap} {framing : Frami
   pub content_fails : (r : Result (Unit {0}) Failure)
       → Writes (end_refusal (after_pieces content.relays.pieces e) trailers)
       (end_text (after_pieces content.relays.pieces e) trailers) held_content held_after r
-      → IfErr r (FailsToPass source gateway fields framing d e before left left_after held held_after)
+      → IfErr r (FailsToPass source gateway fields framing d e before after left left_after held held_after)
   content_fails (Ok value) writes = tt
   content_fails (Err failure) writes =
-      at_end after held_content written sent content
+      at_end held_content written sent content
       (subst (λ (t : List Header). FailsToWrite (end_refusal (after_pieces content.relays.pieces e) t)
       (end_text (after_pieces content.relays.pieces e) t) held_content held_after failure) same writes)
 
@@ -240,8 +240,8 @@ module _ {client client_begun : Client} {request : Request} {outgoing : Outgoing
 
   pub request_fails : (r : Result (Unit {0}) Failure)
       → IfErr r (FailsToPass false gateway (lines_at request.fields) outgoing.framing d
-      (encoder_for begins.plan.framing) before left left_after held_head held_after)
-      → IfErr r (FailsToPassRequest gateway client request outgoing d before left left_after held held_after)
+      (encoder_for begins.plan.framing) before after left left_after held_head held_after)
+      → IfErr r (FailsToPassRequest gateway client request outgoing d before after left left_after held held_after)
   request_fails (Ok value) fails = tt
   request_fails (Err failure) fails = past_request_head client_begun held_head begins fails
 

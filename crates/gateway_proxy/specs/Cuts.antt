@@ -11,7 +11,7 @@ use Rattle.gateway_relay.specs.declared.failure.Failure.TheVariants as Failed
 use Rattle.gateway_relay.{specs.declared.request.Request.Request, specs.declared.response.Response.Response}
 use Rattle.gateway_proxy.{specs.Decisions.NeedsMemory, specs.Exchanges.{Accepted, BeginsAnswer, Exchanges, FindsFinal}}
 use Rattle.gateway_proxy.specs.Exchanges.{FindsNone, Interims, IsFinalUnsent, IsRefusedWith, LeavesOrigin, PassesInPart}
-use Rattle.gateway_proxy.{specs.Exchanges.{PassesOn, Wires, wires}, specs.Faults.{fault_status, request_status}}
+use Rattle.gateway_proxy.{specs.Exchanges.{PassesOn, Wires}, specs.Faults.{fault_status, request_status}}
 use Rattle.gateway_proxy.{specs.Own.own_text, specs.Passing.FailsToPassResponse, specs.Responses.received}
 use Rattle.gateway_proxy.{specs.declared.answer.Final.Final, specs.declared.fault.Fault.Fault}
 use Rattle.gateway_proxy.specs.declared.proxy.Proxy.{Proxy}
@@ -43,11 +43,11 @@ pub data CutsResponse (proxy : Proxy) (request : Request) (client : Client) (ser
       → FindsNone proxy request client before after left left_after held told server fault
       → FailsToWrite None (own_text (fault_status fault)) told held_after failure
       → CutsResponse proxy request client server before left left_after held held_after failure
-  in_final : (client_read : Client) (server_told : Server) (unread : List ℕ) (rest told : Option (List ℕ))
+  in_final : (client_read : Client) (server_told : Server) (unread after : List ℕ) (rest told : Option (List ℕ))
       (final : Final)
       (finds : FindsFinal proxy request client client_read before unread left rest held told server server_told final)
       → FailsToPassResponse proxy.gateway server_told final.response final.sent
-      (decoder_for client.limits finds.finds.reads.framing) unread rest left_after told held_after failure
+      (decoder_for client.limits finds.finds.reads.framing) unread after rest left_after told held_after failure
       → CutsResponse proxy request client server before left left_after held held_after failure
 
 -- A final response doesn't pass whole: a write of it failed, or what follows its head isn't passed on; or no byte of it
@@ -55,7 +55,8 @@ pub data CutsResponse (proxy : Proxy) (request : Request) (client : Client) (ser
 abbrev pub CutsFinal : Proxy → Server → Final → Decoder → List ℕ → List ℕ → Option (List ℕ) → Option (List ℕ)
     → Option (List ℕ) → Option (List ℕ) → Failure → Type 0
 CutsFinal proxy server final d before after left left_after held held_after failure =
-    FailsToPassResponse proxy.gateway server final.response final.sent d before left left_after held held_after failure
+    FailsToPassResponse proxy.gateway server final.response final.sent d before after left left_after held held_after
+    failure
     ⊎ ((fault : Fault) × IsFinalUnsent server final fault
     × FailsToWrite None (own_text (fault_status fault)) held held_after failure
     × (after ≡ before) × (left_after ≡ left))
@@ -104,11 +105,3 @@ pub record IsCutAfter (proxy : Proxy) (first last : Wires) (failure : Failure) :
   pub before : Wires
   pub exchanges : Exchanges proxy first count before
   pub ended : EndsBy proxy count before last failure
-
--- the same, of what readers and writers tell, with nothing read before
-pub record IsCutFrom (proxy : Proxy) (asked told answered sent asked_after told_after answered_after sent_after :
-    Option (List ℕ)) (failure : Failure) : Type 0 where
-  pub unread : List ℕ
-  pub unasked : List ℕ
-  pub cut : IsCutAfter proxy (wires [] asked told [] answered sent)
-      (wires unread asked_after told_after unasked answered_after sent_after) failure

@@ -1,7 +1,10 @@
 -- One request and its response, and a whole connection (RFC 9110, sections 7 and 15.2; RFC 9112, section 9).
 use Rattle.std.specs.Prelude.{◌≡◌, ◌≢◌, ◌⊎◌, ⊤, ℕ, ◌+◌, ◌-◌, ◌^◌, Bool, true, false, ◌&&◌, nat_lt, ◌==◌, List, []}
-use Rattle.std.{specs.Prelude.{Option, Some, codes, length}, specs.Io.KnownBytes.{Appends, IsAtEnd}}
-use Rattle.http1.{specs.Client.new_client, specs.Conn.Plan, specs.Decoder.decoder_for, specs.Head.response_text}
+use Rattle.std.{specs.Prelude.{◌++◌, Option, Some, codes, length, not}, specs.Io.KnownBytes.{Appends, IsAtEnd}}
+use Rattle.http.specs.Method.{idempotent_methods, is_among}
+use Rattle.http1.{specs.Client.new_client, specs.Conn.{Plan, unread_size}, specs.Decoder.decoder_for}
+use Rattle.http1.{specs.Head.response_text, specs.declared.conn.BodySize.BodySize}
+use Rattle.http1.specs.declared.conn.BodySize.TheVariants as Size
 use Rattle.http1.specs.Server as Serving
 use Rattle.http1.{specs.Server.after_informational, specs.declared.client.Client.Client}
 use Rattle.http1.{specs.declared.decode.Decoder.Decoder, specs.declared.server.Server.Server}
@@ -187,6 +190,7 @@ IsDelivered proxy server final d before after left left_after held held_after Tu
     held_after) × (goes_on passes.begins.plan after ≡ false)
 IsDelivered proxy server final d before after left left_after held held_after Turns.Closed = ⊥
 IsDelivered proxy server final d before after left left_after held held_after Turns.Refused = ⊥
+IsDelivered proxy server final d before after left left_after held held_after Turns.Unanswered = ⊥
 IsDelivered proxy server final d before after left left_after held held_after (Turns.Dropped failure) = ⊥
 IsDelivered proxy server final d before after left left_after held held_after (Turns.Broken fault) =
     IsFinalUnsent server final fault × Appends held held_after (own_text (fault_status fault))
@@ -210,6 +214,7 @@ IsResponded proxy request client server before after left left_after held held_a
     × (goes_on answer.passes.begins.plan after ≡ false)
 IsResponded proxy request client server before after left left_after held held_after Turns.Closed = ⊥
 IsResponded proxy request client server before after left left_after held held_after Turns.Refused = ⊥
+IsResponded proxy request client server before after left left_after held held_after Turns.Unanswered = ⊥
 IsResponded proxy request client server before after left left_after held held_after (Turns.Dropped failure) = ⊥
 IsResponded proxy request client server before after left left_after held held_after (Turns.Broken fault) =
     AnswersInPlace proxy request client server before after left left_after held held_after fault
@@ -286,10 +291,11 @@ pub record PassesInPart (proxy : Proxy) (before after : Wires) (told : Option (L
     pub accepted : Accepted proxy before
     pub server_continued : Server
     pub continued : IsContinued accepted.outgoing.is_awaited accepted.server server_continued before.told told
+    pub unread_then : List ℕ
     pub rest_then : Option (List ℕ)
     pub fails : FailsToPassRequest proxy.gateway (new_client proxy.limits) accepted.request accepted.outgoing
-        (decoder_for proxy.limits accepted.reads.framing) accepted.unread accepted.rest rest_then before.sent after.sent
-        failure
+        (decoder_for proxy.limits accepted.reads.framing) accepted.unread unread_then accepted.rest rest_then
+        before.sent after.sent failure
     pub answered : after.answered ≡ before.answered
     pub answered_left : after.answered_left ≡ before.answered_left
 
@@ -309,14 +315,57 @@ pub record BreaksRequest (proxy : Proxy) (before after : Wires) (failure : Failu
   pub passed : PassesInPart proxy before after told failure
   pub answers : Appends told after.told (own_text (request_status failure))
 
+-- the remainder of a message has no bytes
+abbrev pub has_no_bytes : BodySize → Bool
+has_no_bytes Size.Empty = false
+has_no_bytes (Size.Known len) = len == 0
+has_no_bytes Size.Unknown = false
+
+-- A request may be sent again: its method is idempotent (RFC 9110, section 9.2.2), its client is sent no 100, and it
+-- has no content, as the server tells that read its head.
+abbrev pub is_repeatable : Request → Outgoing → Server → Bool
+is_repeatable request outgoing server =
+    is_among idempotent_methods request.method
+    && (not outgoing.is_awaited && has_no_bytes (unread_size server.reading))
+
+abbrev pub may_repeat : {proxy : Proxy} {before : Wires} → Accepted proxy before → Bool
+may_repeat accepted = is_repeatable accepted.request accepted.outgoing accepted.server
+
 -- A request passes, maybe in part, to an origin server that answered before, and that ended its connection before a
--- byte of this answer. The client gets none either, and may send the request again.
-pub data IsDropped (proxy : Proxy) (before after : Wires) (failure : Failure) : Type 0 where
-  in_part : (told : Option (List ℕ)) → PassesInPart proxy before after told failure → failure ≡ Failed.Writer
-      → after.told ≡ told → IsDropped proxy before after failure
-  unanswered : (told : Option (List ℕ)) → PassesOn proxy before after told
+-- byte of this answer. It may be sent again, or not.
+pub data EndsFirst (proxy : Proxy) (before after : Wires) (repeats : Bool) (failure : Failure) : Type 0 where
+  in_part : (told : Option (List ℕ)) (passed : PassesInPart proxy before after told failure)
+      → failure ≡ Failed.Writer → after.told ≡ told → may_repeat passed.accepted ≡ repeats
+      → EndsFirst proxy before after repeats failure
+  unanswered : (told : Option (List ℕ)) (passed : PassesOn proxy before after told)
       → IsUnanswered before.answered after.answered before.answered_left after.answered_left failure
-      → after.told ≡ told → IsDropped proxy before after failure
+      → after.told ≡ told → may_repeat passed.accepted ≡ repeats → EndsFirst proxy before after repeats failure
+
+-- The client gets no answer to it, as it may not be sent again, or memory ran out.
+pub record IsDropped (proxy : Proxy) (before after : Wires) (failure : Failure) : Type 0 where
+  pub repeats : Bool
+  pub reason : Failure
+  pub ends : EndsFirst proxy before after repeats reason
+  pub because : ((repeats ≡ false) × (failure ≡ reason)) ⊎ (failure ≡ Failed.OutOfMemory)
+
+-- It may be sent again: it is in the input again, before what followed it, and the client was sent nothing.
+pub record IsPutBack (proxy : Proxy) (before after : Wires) : Type 0 where
+  pub unread : List ℕ
+  pub reason : Failure
+  pub ends : EndsFirst proxy before (record after { asked = unread }) true reason
+  pub receives : Takes before.asked after.asked before.asked_left after.asked_left
+  pub told : after.told ≡ before.told
+
+-- what becomes of a request whose head has this text, and of the input, that ended so
+abbrev pub GivesUp : Bool → List ℕ → Failure → List ℕ → List ℕ → Turn → Type 0
+GivesUp repeats text failure before after Turns.Next = ⊥
+GivesUp repeats text failure before after Turns.Last = ⊥
+GivesUp repeats text failure before after Turns.Closed = ⊥
+GivesUp repeats text failure before after Turns.Refused = ⊥
+GivesUp repeats text failure before after (Turns.Broken fault) = ⊥
+GivesUp repeats text failure before after Turns.Unanswered = (repeats ≡ true) × (after ≡ text ++ before)
+GivesUp repeats text failure before after (Turns.Dropped error) =
+    (after ≡ before) × (((repeats ≡ false) × (error ≡ failure)) ⊎ (error ≡ Failed.OutOfMemory))
 
 -- why the gateway answers with this status, before it sends anything to the origin server: the request can't be read,
 -- or it is decided so
@@ -359,6 +408,7 @@ IsTurn proxy answered before after Turns.Last = PassesExchange proxy answered be
 IsTurn proxy answered before after Turns.Closed = IsClosed before after
 IsTurn proxy answered before after Turns.Refused = IsRefused proxy before after
 IsTurn proxy answered before after (Turns.Broken fault) = IsBroken proxy answered before after fault
+IsTurn proxy answered before after Turns.Unanswered = (answered ≡ true) × IsPutBack proxy before after
 IsTurn proxy answered before after (Turns.Dropped failure) =
     (answered ≡ true) × IsDropped proxy before after failure
 
@@ -372,18 +422,9 @@ pub data Exchanges (proxy : Proxy) (first : Wires) : ℕ → Wires → Type 0 wh
 
 -- A connection that ended without a failure: exchanges that passed, and what became of the last request. None ends
 -- after an exchange that keeps it.
-pub record IsServed (proxy : Proxy) (first last : Wires) : Type 0 where
+pub record IsServed (proxy : Proxy) (first last : Wires) (turn : Turn) : Type 0 where
   pub count : ℕ
   pub before : Wires
   pub exchanges : Exchanges proxy first count before
-  pub turn : Turn
   pub ended : IsTurn proxy (nat_lt 0 count) before last turn
   pub no_other : turn ≢ Turns.Next
-
--- the same, of what readers and writers tell, with nothing read before
-pub record IsServedFrom (proxy : Proxy) (asked told answered sent asked_after told_after answered_after sent_after :
-    Option (List ℕ)) : Type 0 where
-  pub unread : List ℕ
-  pub unasked : List ℕ
-  pub served : IsServed proxy (wires [] asked told [] answered sent)
-      (wires unread asked_after told_after unasked answered_after sent_after)

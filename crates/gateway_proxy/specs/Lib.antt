@@ -5,4 +5,5 @@ pub mod Faults
 pub mod Own
 pub mod Passing
 pub mod Responses
+pub mod Sessions
 pub mod Targets

@@ -69,21 +69,21 @@ pub record Passes (source : Bool) (gateway : Gateway) (fields : LineMap) (framin
 -- Why a message doesn't pass to its end after its head, and what of it is sent nevertheless: its content isn't relayed
 -- whole, memory runs out for its trailer fields, or its end isn't written.
 pub data FailsToPass (source : Bool) (gateway : Gateway) (fields : LineMap) (framing : Framing) (d : Decoder)
-    (e : Encoder) (before : List ℕ) (left left_after held held_after : Option (List ℕ)) (failure : Failure) : Type 0
-  where
-    at_content : (after : List ℕ) (written : Writing)
-        → Relays source d e before after left left_after held held_after written (Err failure)
-        → FailsToPass source gateway fields framing d e before left left_after held held_after failure
-    at_trailers : (after : List ℕ) (written : Writing) (trailers : Entries FieldValue)
-        → Relays source d e before after left left_after held held_after written (Ok trailers)
-        → failure ≡ Failed.OutOfMemory
-        → FailsToPass source gateway fields framing d e before left left_after held held_after failure
-    at_end : (after : List ℕ) (held_content : Option (List ℕ)) (written : Writing) (sent : List Field)
-        (content : PassesContent source gateway fields framing d e before after left left_after held held_content
-        written sent)
-        → FailsToWrite (end_refusal (after_pieces content.relays.pieces e) sent)
-        (end_text (after_pieces content.relays.pieces e) sent) held_content held_after failure
-        → FailsToPass source gateway fields framing d e before left left_after held held_after failure
+    (e : Encoder) (before after : List ℕ) (left left_after held held_after : Option (List ℕ)) (failure : Failure)
+    : Type 0 where
+  at_content : (written : Writing)
+      → Relays source d e before after left left_after held held_after written (Err failure)
+      → FailsToPass source gateway fields framing d e before after left left_after held held_after failure
+  at_trailers : (written : Writing) (trailers : Entries FieldValue)
+      → Relays source d e before after left left_after held held_after written (Ok trailers)
+      → failure ≡ Failed.OutOfMemory
+      → FailsToPass source gateway fields framing d e before after left left_after held held_after failure
+  at_end : (held_content : Option (List ℕ)) (written : Writing) (sent : List Field)
+      (content : PassesContent source gateway fields framing d e before after left left_after held held_content
+      written sent)
+      → FailsToWrite (end_refusal (after_pieces content.relays.pieces e) sent)
+      (end_text (after_pieces content.relays.pieces e) sent) held_content held_after failure
+      → FailsToPass source gateway fields framing d e before after left left_after held held_after failure
 
 -- ---- requests
 
@@ -120,20 +120,20 @@ pub record PassesRequest (gateway : Gateway) (client client_after : Client) (req
 
 -- Why a request doesn't pass, and what of it is sent nevertheless: its head isn't written, or what follows isn't.
 pub data FailsToPassRequest (gateway : Gateway) (client : Client) (request : Request) (outgoing : Outgoing)
-    (d : Decoder) (before : List ℕ) (left left_after held held_after : Option (List ℕ)) (failure : Failure) : Type 0
-  where
-    at_request_head :
-        FailsToWrite (Asking.request_refusal client request.method outgoing.target (request_size outgoing.framing)
-        (fields_of outgoing.fields.items))
-        (Asking.planned_request client request.method outgoing.target (request_size outgoing.framing)
-        (fields_of outgoing.fields.items)) held held_after failure
-        → left_after ≡ left
-        → FailsToPassRequest gateway client request outgoing d before left left_after held held_after failure
-    past_request_head : (client_begun : Client) (held_head : Option (List ℕ))
-        (begins : BeginsRequest client client_begun request outgoing held held_head)
-        → FailsToPass false gateway (lines_at request.fields) outgoing.framing d (encoder_for begins.plan.framing)
-        before left left_after held_head held_after failure
-        → FailsToPassRequest gateway client request outgoing d before left left_after held held_after failure
+    (d : Decoder) (before after : List ℕ) (left left_after held held_after : Option (List ℕ)) (failure : Failure)
+    : Type 0 where
+  at_request_head :
+      FailsToWrite (Asking.request_refusal client request.method outgoing.target (request_size outgoing.framing)
+      (fields_of outgoing.fields.items))
+      (Asking.planned_request client request.method outgoing.target (request_size outgoing.framing)
+      (fields_of outgoing.fields.items)) held held_after failure
+      → after ≡ before → left_after ≡ left
+      → FailsToPassRequest gateway client request outgoing d before after left left_after held held_after failure
+  past_request_head : (client_begun : Client) (held_head : Option (List ℕ))
+      (begins : BeginsRequest client client_begun request outgoing held held_head)
+      → FailsToPass false gateway (lines_at request.fields) outgoing.framing d (encoder_for begins.plan.framing)
+      before after left left_after held_head held_after failure
+      → FailsToPassRequest gateway client request outgoing d before after left left_after held held_after failure
 
 -- ---- responses
 
@@ -180,17 +180,17 @@ pub record PassesResponse (gateway : Gateway) (server : Server) (response : Resp
 -- Why a final response doesn't pass, and what of it is sent nevertheless: a write of its head failed, or what follows
 -- isn't written.
 pub data FailsToPassResponse (gateway : Gateway) (server : Server) (response : Response) (sent : ForwardedResponse)
-    (d : Decoder) (before : List ℕ) (left left_after held held_after : Option (List ℕ)) (failure : Failure) : Type 0
-  where
-    at_response_head : failure ≡ Failed.Writer
-        → FailsToWrite (Serving.response_refusal server response.status response.reason (response_size sent.content)
-        (written_fields response sent))
-        (Serving.planned_response server response.status response.reason (response_size sent.content)
-        (written_fields response sent)) held held_after failure
-        → left_after ≡ left
-        → FailsToPassResponse gateway server response sent d before left left_after held held_after failure
-    past_response_head : (server_begun : Server) (held_head : Option (List ℕ))
-        (begins : BeginsResponse server server_begun response sent held held_head)
-        → FailsToPass true gateway (lines_at response.fields) sent.framing d (encoder_for begins.plan.framing) before
-        left left_after held_head held_after failure
-        → FailsToPassResponse gateway server response sent d before left left_after held held_after failure
+    (d : Decoder) (before after : List ℕ) (left left_after held held_after : Option (List ℕ)) (failure : Failure)
+    : Type 0 where
+  at_response_head : failure ≡ Failed.Writer
+      → FailsToWrite (Serving.response_refusal server response.status response.reason (response_size sent.content)
+      (written_fields response sent))
+      (Serving.planned_response server response.status response.reason (response_size sent.content)
+      (written_fields response sent)) held held_after failure
+      → after ≡ before → left_after ≡ left
+      → FailsToPassResponse gateway server response sent d before after left left_after held held_after failure
+  past_response_head : (server_begun : Server) (held_head : Option (List ℕ))
+      (begins : BeginsResponse server server_begun response sent held held_head)
+      → FailsToPass true gateway (lines_at response.fields) sent.framing d (encoder_for begins.plan.framing) before
+      after left left_after held_head held_after failure
+      → FailsToPassResponse gateway server response sent d before after left left_after held held_after failure

@@ -1,6 +1,6 @@
 -- The target of a request (RFC 9112, section 3.2).
 use Rattle.std.specs.Prelude.{ℕ, ◌==◌, Bool, false, ◌||◌, ◌&&◌, not, nat_le, List, [], ◌∷◌, Option, Some, None}
-use Rattle.std.{specs.Prelude.{bytes_eq, codes, drop, if◌then◌else◌, length, option_map, take}, specs.List.list_all}
+use Rattle.std.{specs.Prelude.{bytes_eq, codes, drop, if◌then◌else◌, option_map, take}, specs.List.list_all}
 use Rattle.gateway_messages.specs.Targets.{authority_len, scheme_len}
 use Rattle.gateway_proxy.specs.declared.target.Target.{Target}
 

@@ -8,6 +8,7 @@ ghost use Rattle.gateway_relay.{specs.Failures.FailsToWrite, specs.declared.fail
 ghost use Rattle.gateway_proxy.{specs.Cuts.{CutsFinal, CutsResponse, IsCut, IsUndecided}, specs.Exchanges.BreaksOff};
 ghost use Rattle.gateway_proxy.specs.Exchanges.{IsContinued, IsDelivered, IsReceived, IsResponded, IsTurn};
 ghost use Rattle.gateway_proxy.{specs.Exchanges.{BeginsAnswer, IsUnanswered, wires}, specs.Faults.fault_status};
+ghost use Rattle.gateway_proxy.specs.Exchanges.{GivesUp, has_no_bytes, is_repeatable};
 ghost use Rattle.gateway_proxy.{specs.Own.own_text, specs.Responses.is_open};
 
 use crate::answer::{Final, Reply, final_response};
@@ -19,7 +20,7 @@ use crate::proxy::{Clock, Proxy};
 use bytes::BytesMut;
 use gateway_relay::{Failure, Request, read_request, receive, send_interim};
 use http::StatusCode;
-use http1::{Client, Server};
+use http1::{BodySize, Client, Server};
 use std::alloc::Global;
 use std::hash::RandomState;
 use std::io::{Read, Write};
@@ -54,8 +55,11 @@ pub(crate) enum Turn {
     /// It was sent, maybe in part, and the gateway answered it itself. The connections end.
     Broken(Fault),
     /// It was sent, maybe in part, to an origin server that had answered before, and that ended its
-    /// connection before a byte of this answer. The connections end without one, so that the client
-    /// may send the request again (RFC 9112, section 9.3.1).
+    /// connection before a byte of this answer. It is in the input again, to be sent on a new connection
+    /// (RFC 9112, section 9.3.1).
+    Unanswered,
+    /// The same, but it may not be sent again, or memory ran out. The connections end without an answer, so
+    /// that the client may send it again.
     Dropped(Failure),
 }
 
@@ -220,6 +224,47 @@ fn await_answer<R: Read>(
     Ok(())
 }
 
+fn has_no_bytes(size: BodySize) -> bool
+    ensures { result ≡ has_no_bytes size }
+{
+    match size {
+        BodySize::Known(len) => len == 0,
+        BodySize::Empty | BodySize::Unknown => false,
+    }
+}
+
+// Whether a request may be sent again: its method is idempotent (RFC 9110, section 9.2.2), it has no content,
+// of which the gateway stores none, and its client is sent no 100 (Continue). The server has read its head.
+fn is_repeatable(request: &Request, outgoing: &Outgoing, server: &Server) -> bool
+    ensures { result ≡ is_repeatable request.now outgoing.now server.now }
+{
+    request.method.is_idempotent() && !outgoing.is_awaited && has_no_bytes(server.unread_size())
+}
+
+// What becomes of a request that got no answer. If it is sent again, its head is put back before what
+// followed it.
+fn give_up(
+    alloc: Global,
+    repeats: bool,
+    request: &Request,
+    failure: Failure,
+    requests: &mut BytesMut,
+) -> Turn
+    ensures { GivesUp repeats request.now.text failure requests.old.items requests.new.items result }
+{
+    if !repeats {
+        return Turn::Dropped(failure);
+    }
+    let Ok(mut input) = BytesMut::copy_from_slice(alloc, request.text.as_slice()) else {
+        return Turn::Dropped(Failure::OutOfMemory);
+    };
+    if input.extend_from_slice(requests.as_slice()).is_err() {
+        return Turn::Dropped(Failure::OutOfMemory);
+    }
+    *requests = input;
+    Turn::Unanswered
+}
+
 // Sends the 100 (Continue) for which a client waits.
 fn continue_if<W: Write>(
     alloc: Global,
@@ -281,6 +326,7 @@ pub(crate) fn exchange<C: Clock, R: Read, W: Write, S: Read, T: Write>(
         }
         Received::Accepted(request, outgoing) => (request, outgoing),
     };
+    let repeats = is_repeatable(&request, &outgoing, &server);
     continue_if(alloc, outgoing.is_awaited, &mut server, writer)?;
     let mut client = Client::new(proxy.limits);
     let passed = pass_request(
@@ -297,14 +343,14 @@ pub(crate) fn exchange<C: Clock, R: Read, W: Write, S: Read, T: Write>(
     );
     if let Err(failure) = passed {
         if has_ended(answered, failure) {
-            return Ok(Turn::Dropped(failure));
+            return Ok(give_up(alloc, repeats, &request, failure, requests));
         }
         let turn = break_off(alloc, Fault::Request(failure), writer);
         drain(requests, reader);
         return turn;
     }
     if let Err(failure) = await_answer(answered, responses, from_origin) {
-        return Ok(Turn::Dropped(failure));
+        return Ok(give_up(alloc, repeats, &request, failure, requests));
     }
     respond(
         alloc,

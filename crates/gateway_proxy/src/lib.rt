@@ -16,4 +16,4 @@ mod target;
 pub use crate::decision::{Outgoing, RequestDecision, decide};
 pub use crate::own::send_own;
 pub use crate::proxy::{Clock, Proxy};
-pub use crate::serve::serve_gateway;
+pub use crate::serve::{Connector, serve_gateway};

@@ -89,8 +89,8 @@ pub(crate) fn pass_content<S: ContentSource, R: Read, T: ContentSink, W: Write>(
         (R.remaining reader.new) (W.contents writer.old) (W.contents writer.new)) }
     ensures fails { (d : Decoder) (e : Encoder) → S.reading source.old ≡ Reads.Body d
         → T.writing sink.old ≡ Writes.Body e → IfErr result (FailsToPass S.ends_with_connection gateway.now
-        (lines_at fields.now) framing d e input.old.items (R.remaining reader.old) (R.remaining reader.new)
-        (W.contents writer.old) (W.contents writer.new)) }
+        (lines_at fields.now) framing d e input.old.items input.new.items (R.remaining reader.old)
+        (R.remaining reader.new) (W.contents writer.old) (W.contents writer.new)) }
     ensures waiting { (d : Decoder) (e : Encoder) → S.reading source.old ≡ Reads.Body d
         → T.writing sink.old ≡ Writes.Body e → OnOk result (S.is_waiting source.new ≡ false) }
     ensures asked { (d : Decoder) (e : Encoder) → S.reading source.old ≡ Reads.Body d
@@ -152,7 +152,7 @@ pub(crate) fn pass_request<R: Read, W: Write>(
         (W.contents writer.old) (W.contents writer.new)) }
     ensures fails { (d : Decoder) → content_read (Serving.writing server.old) (Serving.reading server.old)
         ≡ Reads.Body d → IfErr result (FailsToPassRequest proxy.now.gateway client.old request.now outgoing.now d
-        input.old.items (R.remaining reader.old) (R.remaining reader.new)
+        input.old.items input.new.items (R.remaining reader.old) (R.remaining reader.new)
         (W.contents writer.old) (W.contents writer.new)) }
 {
     begin_request(alloc, request, outgoing, client, writer)?;

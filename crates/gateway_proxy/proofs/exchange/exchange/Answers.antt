@@ -1,9 +1,9 @@
 use Rattle.std.{proofs.Common.refl, proofs.lemmas.Result.err_from_is_err_and}
 use Rattle.http1.specs.Decoder.{decoder_for}
 use Rattle.gateway_relay.proofs.HeadLemmas.{fails_as}
-use Rattle.gateway_proxy.{specs.Cuts.{IsCut, continued, refused, undecided}, specs.Exchanges.{in_part, unanswered}}
-use Rattle.gateway_proxy.{specs.Exchanges.wires, proofs.ExchangeLemmas.{accepted, breaks, cuts, cuts_answer}}
-use Rattle.gateway_proxy.proofs.ExchangeLemmas.{passed_in_part, passed_on, refused_with, turns}
+use Rattle.gateway_proxy.{specs.Cuts.{IsCut, continued, refused, undecided}, specs.Exchanges.wires}
+use Rattle.gateway_proxy.proofs.ExchangeLemmas.{accepted, breaks, cuts, cuts_answer, gives_up_in_part}
+use Rattle.gateway_proxy.proofs.ExchangeLemmas.{gives_up_unanswered, passed_in_part, refused_with, turns}
 use Rattle.gateway_proxy.proofs.exchange.exchange.Goals as goal
 
 pub returns : goal.returns
@@ -52,7 +52,8 @@ returns-in-Err g c =
     let told = w c.continue_if.new.writer in
     let failure = c.in-Err.failure in
     let passed = passed_in_part head c.continue_if.new.server told c.in_ok-continue_if.ensures.continued after
-    c.new-client.result c.new-client.ensures (r c.pass_request-passed.new.reader) failure
+    c.new-client.result c.new-client.ensures c.pass_request-passed.new.input.items
+    (r c.pass_request-passed.new.reader) failure
     (c.in-Err.ensures.fails (decoder_for proxy.limits head.reads.framing)) refl refl in
     record {
       turn = breaks proxy c.args.answered before after told failure passed
@@ -123,11 +124,11 @@ returns-then-has_ended-clause-turn g c =
     let head = accepted proxy before c.receive_request.new.input.items (r c.receive_request.new.reader)
     c.receive_request.new.server _ c.in-Accepted.request c.in-Accepted.outgoing
     (c.in_ok-receive_request.ensures.received c.new-server.ensures) c.in-Accepted.is in
-    let passed = passed_in_part head c.continue_if.new.server told c.in_ok-continue_if.ensures.continued after
-    c.new-client.result c.new-client.ensures (r c.pass_request-passed.new.reader) c.in-Err.failure
-    (c.in-Err.ensures.fails (decoder_for proxy.limits head.reads.framing)) refl refl in
     let ended = c.has_ended.ensures.ended (c.if-has_ended.true) in
-    (ended.0, in_part told passed ended.1 refl)
+    gives_up_in_part head c.continue_if.new.server told c.in_ok-continue_if.ensures.continued after c.new-client.result
+    c.new-client.ensures c.args.answered ended.0 c.is_repeatable-repeats.result c.is_repeatable-repeats.ensures refl
+    c.in-Err.failure c.give_up.new.requests.items c.give_up.result c.give_up.ensures
+    (c.in-Err.ensures.fails (decoder_for proxy.limits head.reads.framing)) refl refl ended.1
 
 pub returns-in-Err-await_answer-clause-turn : goal.returns-in-Err-await_answer-clause-turn
 returns-in-Err-await_answer-clause-turn g c =
@@ -144,8 +145,10 @@ returns-in-Err-await_answer-clause-turn g c =
     c.receive_request.new.server _ c.in-Accepted.request c.in-Accepted.outgoing
     (c.in_ok-receive_request.ensures.received c.new-server.ensures) c.in-Accepted.is in
     let d = decoder_for proxy.limits head.reads.framing in
-    let passed = passed_on head c.continue_if.new.server told c.in_ok-continue_if.ensures.continued after
-    c.new-client.result c.new-client.ensures c.pass_request-passed.new.client c.pass_request-passed.new.server
-    (c.in_default.ensures.passes d) (c.in_default.ensures.same d) in
     let ends = c.in-Err-await_answer.ensures.ends in
-    (ends.0, unanswered told passed ends.1 refl)
+    let gives = c.give_up-in-Err-await_answer in
+    gives_up_unanswered head c.continue_if.new.server told c.in_ok-continue_if.ensures.continued after
+    c.new-client.result c.new-client.ensures c.args.answered ends.0 c.is_repeatable-repeats.result
+    c.is_repeatable-repeats.ensures refl c.in-Err-await_answer.failure gives.new.requests.items gives.result
+    gives.ensures c.pass_request-passed.new.client c.pass_request-passed.new.server (c.in_default.ensures.passes d)
+    (c.in_default.ensures.same d) ends.1

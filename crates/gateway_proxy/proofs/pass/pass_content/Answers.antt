@@ -11,15 +11,15 @@ pub returns-in_err-trailers-clause-fails : goal.returns-in_err-trailers-clause-f
 returns-in_err-trailers-clause-fails g c d e reading writing =
     let r = c.from_residual in
     let y = err_from_is_err_and r.result r.ensures.1 in
-    fails_as r.result y.1 y.2 (FailsToPass g.S.ContentSource.ends_with_connection _ _ _ d e _ _ _ _ _)
-    (at_content _ _ (c.in_err-trailers.ensures.relays d e reading writing))
+    fails_as r.result y.1 y.2 (FailsToPass g.S.ContentSource.ends_with_connection _ _ _ d e _ _ _ _ _ _)
+    (at_content _ (c.in_err-trailers.ensures.relays d e reading writing))
 
 pub returns-in_err-sent-clause-fails : goal.returns-in_err-sent-clause-fails
 returns-in_err-sent-clause-fails g c d e reading writing =
     let r = c.from_residual-in_err-sent in
     let y = err_from_is_err_and r.result r.ensures.1 in
-    fails_as r.result y.1 (refl {a = y.0}) (FailsToPass g.S.ContentSource.ends_with_connection _ _ _ d e _ _ _ _ _)
-    (at_trailers _ _ _ (c.in_ok-trailers.ensures.relays d e reading writing) y.2)
+    fails_as r.result y.1 (refl {a = y.0}) (FailsToPass g.S.ContentSource.ends_with_connection _ _ _ d e _ _ _ _ _ _)
+    (at_trailers _ _ (c.in_ok-trailers.ensures.relays d e reading writing) y.2)
 
 pub returns-in_err-list-clause-fails : goal.returns-in_err-list-clause-fails
 returns-in_err-list-clause-fails g c d e reading writing =
@@ -28,8 +28,8 @@ returns-in_err-list-clause-fails g c d e reading writing =
     (c.in_ok-trailers.ensures.relays d e reading writing) c.in_ok-sent.ensures.forwarded in
     let r = c.from_residual-in_err-list in
     let y = err_from_is_err_and r.result r.ensures.1 in
-    fails_as r.result y.1 y.2 (FailsToPass g.S.ContentSource.ends_with_connection _ _ _ d e _ _ _ _ _)
-    (at_end _ _ _ _ content refl)
+    fails_as r.result y.1 y.2 (FailsToPass g.S.ContentSource.ends_with_connection _ _ _ d e _ _ _ _ _ _)
+    (at_end _ _ _ content refl)
 
 pub returns-clause-passes : goal.returns-clause-passes
 returns-clause-passes g c d e reading writing =

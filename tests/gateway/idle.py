@@ -1,0 +1,174 @@
+"""An origin server that ends a connection once it was idle, between two requests of a client.
+
+A request that got no answer for that is sent again, once, on a new connection, if its method is idempotent (RFC 9112,
+section 9.3.1; RFC 9110, section 9.2.2) and it has no content. For another one the client's connection ends without an
+answer, so that the client may send it again.
+"""
+import contextlib
+import os
+import signal
+import socket
+import struct
+import subprocess
+import threading
+import time
+
+from common import processes
+from common.part import Context, Part
+from listening import listening
+
+FIRST_PORT = 18570
+IDLE = 0.2
+# A client waits so long that socat still takes the next request, and then so long that it doesn't.
+PAUSES = (0.4, 1.2)
+# Requests that aren't sent again, and what comes for them. A bar is the end of the connection.
+OTHERS = [("POST", b"Content-Length: 0\r\n", b"", "|"), ("POST", b"Content-Length: 5\r\n", b"hello", "|"),
+          ("PUT", b"Content-Length: 5\r\n", b"hello", "|"),
+          ("PUT", b"Expect: 100-continue\r\nContent-Length: 5\r\n", b"hello", "100", "|")]
+
+
+class Origin(threading.Thread):
+    """An origin that ends each connection once it was idle after an answer, and at once instead of an answer to
+    /never. It tells what it was asked on which connection."""
+
+    def __init__(self, port: int) -> None:
+        super().__init__(daemon=True)
+        self.listener = socket.create_server(("127.0.0.1", port), backlog=64)
+        self.asked: list[tuple[int, str]] = []
+
+    def run(self) -> None:
+        for number in range(10**6):
+            connection, _ = self.listener.accept()
+            threading.Thread(target=self.serve, args=(number, connection), daemon=True).start()
+
+    def serve(self, number: int, connection: socket.socket) -> None:
+        with connection, connection.makefile("rb") as lines, contextlib.suppress(OSError):
+            while head := b"".join(iter(lines.readline, b"\r\n")):
+                method, target, _ = head.split(b" ", 2)
+                if b"content-length: 5" in head.lower():
+                    lines.read(5)
+                self.asked.append((number, target.decode()))
+                if target == b"/never":
+                    return
+                head, content = b"HTTP/1.1 200 OK\r\nContent-Length: %d\r\n\r\n" % (len(target) + 2), target + b"\r\n"
+                connection.sendall(head if method == b"HEAD" else head + content)
+                connection.settimeout(IDLE)
+
+    def told(self, target: str) -> list[tuple[int, str]]:
+        """On which connections it was asked for a target."""
+        return [it for it in self.asked if it[1] == target]
+
+
+def request(method: str, target: str, fields: bytes = b"", content: bytes = b"") -> bytes:
+    return f"{method} {target} HTTP/1.1\r\nHost: a\r\n".encode() + fields + b"\r\n" + content
+
+
+def status_and_content(found: bytes) -> list[str]:
+    """The statuses and the contents in a text, and a bar if the connection ended after it."""
+    lines = found.decode().replace("|", "\r\n|").split("\r\n")
+    return [it.removeprefix("HTTP/1.1 ")[:3] if it.startswith("HTTP/1.1 ") else it
+            for it in lines if it.startswith(("HTTP/1.1 ", "/", "|"))]
+
+
+def heard(connection: socket.socket, count: int) -> list[str]:
+    """What a client gets until so much has come, and nothing follows for a while, or the connection ends."""
+    found, until = b"", time.monotonic() + 20
+    while not found.endswith(b"|"):
+        whole = len(status_and_content(found)) >= count
+        connection.settimeout(0.2 if whole else max(until - time.monotonic(), 0.01))
+        try:
+            found += connection.recv(65536) or b"|"
+        except TimeoutError:
+            break
+        except ConnectionError:
+            found += b"|"
+    return status_and_content(found)
+
+
+class Conversation:
+    """A client that was answered once, and pauses."""
+
+    def __init__(self, port: int, pause: float) -> None:
+        self.connection = socket.create_connection(("127.0.0.1", port), timeout=20)
+        self.ask(0, request("GET", "/first"), 2)
+        time.sleep(pause)
+
+    def ask(self, pause: float, text: bytes, count: int) -> list[str]:
+        time.sleep(pause)
+        with contextlib.suppress(ConnectionError):
+            self.connection.sendall(text)
+        return heard(self.connection, count)
+
+    def __enter__(self) -> "Conversation":
+        return self
+
+    def __exit__(self, *_: object) -> None:
+        self.connection.close()
+
+
+def of_session(session: int) -> list[str]:
+    """The processes of a session, but for those that ended."""
+    lines = subprocess.run(["ps", "-e", "-o", "sid=,stat=,args="], capture_output=True, text=True).stdout.split("\n")
+    return [line for line in lines if line.split()[:1] == [str(session)] and line.split()[1][0] != "Z"]
+
+
+def left_by(port: int, way: str, folder: str) -> list[str]:
+    """The processes and files that a gateway leaves of a client that was answered once."""
+    ours, theirs = socket.socketpair()
+    process = subprocess.Popen([os.environ["GATE"], f"127.0.0.1:{port}"], stdin=theirs, stdout=theirs,
+                               env=processes.environment({"TMPDIR": folder}), start_new_session=True)
+    theirs.close()
+    ours.sendall(request("GET", "/once"))
+    heard(ours, 2)
+    if way == "SIGTERM":
+        process.send_signal(signal.SIGTERM)
+    ours.close()
+    process.wait(10)
+    for _ in range(40):
+        if not (left := of_session(process.pid) + os.listdir(folder)):
+            break
+        time.sleep(0.1)
+    return left
+
+
+def run(context: Context) -> Part:
+    part = Part("Idle connections")
+    if "GATE_PROGRAM" not in os.environ:
+        part.missing.append("the gateway was not built")
+        return part
+    port, folder = FIRST_PORT + 1, context.work / "pipes"
+    folder.mkdir()
+    os.environ["TMPDIR"] = str(folder)
+    origin = Origin(FIRST_PORT)
+    origin.start()
+    with listening(port, FIRST_PORT, context.work):
+        for pause in PAUSES:
+            def want(what: str, text: bytes, wanted: list[str]) -> None:
+                with Conversation(port, pause) as client:
+                    part.want(f"{what} after {pause} s", client.ask(0, text, len(wanted)), wanted)
+
+            for method in ("GET", "HEAD", "DELETE", "PUT", "OPTIONS", "TRACE"):
+                target = f"/{method}{pause}"
+                want(method, request(method, target), ["200"] + [target] * (method != "HEAD"))
+                part.want(f"how often {method} came", len(origin.told(target)), 1)
+            for method, fields, content, *wanted in OTHERS:
+                want(f"{method} with {fields!r}", request(method, "/not", fields, content), wanted)
+            want("a request whose second connection ends too", request("GET", "/never"), ["502", "|"])
+            targets = [f"/{pause}/{number}" for number in range(4)]
+            want("requests behind the one that is sent again", b"".join(request("GET", it) for it in targets),
+                 [word for it in targets for word in ("200", it)])
+            part.want("how often they came", [len(origin.told(it)) for it in targets], [1] * 4)
+        part.want("what wasn't to be sent again", origin.told("/not"), [])
+        with Conversation(port, 0) as client:
+            found = [client.ask(PAUSES[0], request("GET", f"/chain{number}"), 2) for number in range(10)]
+        part.want("ten connections in a chain", found, [["200", f"/chain{number}"] for number in range(10)])
+        part.want("each on one of its own", len({it[0] for it in origin.asked if "/chain" in it[1]}), 10)
+        reset = Conversation(port, 0).connection
+        reset.setsockopt(socket.SOL_SOCKET, socket.SO_LINGER, struct.pack("ii", 1, 0))
+        reset.close()
+        time.sleep(1)
+        part.want("files that are left", os.listdir(folder), [])
+    for way in ("a client that ends", "SIGTERM"):
+        part.want(f"what is left after {way}", left_by(FIRST_PORT, way, str(folder)), [])
+    del os.environ["TMPDIR"]
+    return part
