@@ -1655,9 +1655,9 @@ uint8_t typed_headers_pass_free(struct typed_headers_pass *pass);
 
 /*
  * Opens a closed pass for a request, and says what is done first, at the present `now` (RFC 9111, section 4): one of
- * `typed_headers_pass_action`. The steps of passes through one cache may interleave in any way. A program holds its
- * lock of the cache for one call, or for a call and the reading of the content that it names, and none while it waits
- * for the origin.
+ * `typed_headers_pass_action`. The steps of passes through one cache may interleave in any way. Each later step of the
+ * pass takes the same cache. A program holds its lock of the cache for one call, and none while it reads content or
+ * waits for the origin.
  *
  * Refused: the pass is open, the target is no UTF-8, the method is no token, or a line of the section before its first
  * empty one is no field. Absent: the cache is closed. Memory: nothing is rejected. On each of these the pass stays as
