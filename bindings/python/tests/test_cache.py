@@ -289,7 +289,8 @@ class CacheTest(unittest.TestCase):
         self.assertEqual(wrong, [])
 
     def test_holds_no_other_while_content_is_read(self) -> None:
-        cache, read, others = filled(), _library.calls.pass_content, []
+        cache, read = filled(), _library.calls.pass_content
+        others: List[object] = []
 
         def change() -> None:
             others.append(cache.begin("GET", B, {}, now=1000).step)
