@@ -1,8 +1,8 @@
 -- The first of the greatest score in a list.
 use Rattle.std.proofs.Common.{◌≡◌, ℕ, zero, suc, ◌+◌, ◌<◌, ◌≤◌, Bool, true, false, List, [], ◌∷◌, length, get_or}
-use Rattle.std.{proofs.Common.{Option, Some, None, inl, inr, refl, sym, ◌∙◌, ap, arith}, proofs.lemmas.Bool.cases_order}
-use Rattle.std.{proofs.lemmas.Bool.{ltb-false, ltb-true}, specs.Prelude.{MatchOption, nat_lt, if◌then◌else◌}}
-use Rattle.decide_negotiation.{specs.Choice.{IsFirstOfGreatest, Picks, led}, specs.declared.choice.Leader.Leader}
+use Rattle.std.proofs.{Common.{Option, Some, None, refl, sym, ◌∙◌, ap, arith}, lemmas.Bool.{cases_order, ltb-false}}
+use Rattle.std.{proofs.lemmas.Bool.ltb-true, specs.Prelude.{MatchOption, nat_lt, if◌then◌else◌}}
+use Rattle.decide_negotiation.specs.{Choice.{IsFirstOfGreatest, Picks, led}, declared.choice.Leader.Leader}
 
 -- a place within a list has one element
 pub at_place : {A : Type 0} (xs : List A) (k : ℕ) (a b : A) → k < length xs → get_or xs k a ≡ get_or xs k b
@@ -37,24 +37,7 @@ module _ {A : Type 0} (score : A → ℕ) (xs : List A) where
     bound_more : (old new : ℕ) → old ≤ new → score x ≤ new
         → ((k : ℕ) (other : A) → k < n → score (get_or xs k other) ≤ old) → (k : ℕ) (other : A) → k < n + 1
         → score (get_or xs k other) ≤ new
-    bound_more old new up own bound k other low =
-        elim (cases_order k n) [
-          | inl same ↦
-              let e : score (get_or xs k other) ≡ score x =
-              ap (λ (j : ℕ). score (get_or xs j other)) same ∙ here other in
-              omega (arith, e, own)
-          | inr apart ↦
-              elim apart [
-                | inl lower ↦ omega (arith, bound k other lower, up)
-                | inr higher ↦ absurd (omega (arith, low, higher))
-              ]
-        ]
-
-    leads_more : (greatest : ℕ) (place : Option ℕ) → MatchOption place (greatest ≡ 0) (Leads n greatest)
-        → MatchOption place (greatest ≡ 0) (Leads (n + 1) greatest)
-    leads_more greatest None h = h
-    leads_more greatest (Some place) h =
-        record { within = omega (arith, h.within); positive = h.positive; has = h.has; before = h.before }
+    bound_more old new up own bound k other low = grind (arith, cases_order, here, bound)
 
     -- so it is with one more
     pub leading_on : (leader : Leader) → IsLeading n leader → IsLeading (n + 1) (led leader (Some n) (score x))
@@ -78,7 +61,7 @@ module _ {A : Type 0} (score : A → ℕ) (xs : List A) where
             let own : score x ≤ leader.score = ltb-false leader.score (score x) e in
             record {
               bound = bound_more leader.score leader.score (omega arith) own h.bound;
-              leads = leads_more leader.score leader.place h.leads;
+              leads = grind (arith, h.leads);
             }
 
   -- who leads in the end is picked
@@ -114,14 +97,7 @@ module _ {A : Type 0} (score : A → ℕ) (xs : List A) where
   picks_one None (Some b) h k = absurd (picked_is_some b k h)
   picks_one (Some a) None h k = absurd (picked_is_some a h k)
   picks_one (Some a) (Some b) h k =
-      elim (cases_order a b) [
-        | inl same ↦ ap (λ (n : ℕ). Some n) same
-        | inr apart ↦
-            elim apart [
-              | inl lower ↦ absurd (not_lower a b h k lower)
-              | inr higher ↦ absurd (not_lower b a k h higher)
-            ]
-      ]
+      grind (arith, cases_order a b, not_lower a b h k, not_lower b a k h)
 
   -- who leads a part of the list, from the first on
   leader_of : (n : ℕ) → n ≤ length xs → (leader : Leader) × IsLeading n leader

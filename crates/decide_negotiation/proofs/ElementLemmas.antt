@@ -1,12 +1,9 @@
 -- What is before and after the first semicolon of a text.
-use Rattle.std.proofs.Common.{◌≡◌, ◌∙◌, ◌≢◌, ℕ, ◌+◌, ◌≤◌, Bool, true, List, [], ◌∷◌, length, refl, sym, ap, arith, inl}
-use Rattle.std.{proofs.{Common.{inr, Option, Some, None}, lemmas.Bool.cases_Bool}, specs.Prelude.{filter, not}}
-use Rattle.{std.specs.List.cons_option, rfc_fields.specs.{Directives.HasParameters, Grammar.semicolon, Scan.Member}}
-use Rattle.rfc_fields.specs.{Scan.{is_cut, pieces, push, state_after, Member.{Whole, Malformed}}, Members.is_member}
-use Rattle.rfc_fields.specs.Members.{members, members_of, trimmed}
+use Rattle.std.proofs.Common.{◌≡◌, ◌∙◌, ◌≢◌, ℕ, ◌+◌, ◌≤◌, Bool, true, List, [], ◌∷◌, length, refl, sym, ap, arith}
+use Rattle.{std.proofs.lemmas.Bool.cases_Bool, rfc_fields.specs.{Directives.HasParameters, Scan.{Member, pieces, push}}}
+use Rattle.rfc_fields.specs.{Scan.Member.{Whole, Malformed}, Members.{members, members_of}}
 use Rattle.decide_negotiation.specs.Elements.{between_semicolons, first_of, members_after, others_of, own_parameters}
-use Rattle.decide_negotiation.specs.{Elements.value_of, Parameters.{ParameterParts, is_weight, parameter_of}}
-use Rattle.decide_negotiation.proofs.ParameterLemmas.{own, read}
+use Rattle.decide_negotiation.{specs.Elements.value_of, proofs.ParameterLemmas.own}
 
 pub no_members : members true [] ≡ []
 unfolding pieces
@@ -24,23 +21,18 @@ members_after-read text value others h = h.listed ∙ ap others_of (sym h.cut)
 
 module _ (text : List ℕ)
     (none : (first : List ℕ) (others : List Member) → between_semicolons text ≢ Whole first ∷ others) where
-  first-none : (ms : List Member) → between_semicolons text ≡ ms → first_of ms ≡ []
-  first-none [] e = refl
-  first-none (Whole first ∷ others) e = absurd (none first others e)
-  first-none (Malformed ∷ others) e = refl
-
-  others-none : (ms : List Member) → between_semicolons text ≡ ms → others_of ms ≡ []
-  others-none [] e = refl
-  others-none (Whole first ∷ others) e = absurd (none first others e)
-  others-none (Malformed ∷ others) e = refl
+  nothing : (ms : List Member) → between_semicolons text ≡ ms → (first_of ms ≡ []) × (others_of ms ≡ [])
+  nothing [] e = (refl, refl)
+  nothing (Whole first ∷ others) e = absurd (none first others e)
+  nothing (Malformed ∷ others) e = (refl, refl)
 
   pub value_of-none : value_of text ≡ []
   unfolding value_of
-  value_of-none = first-none (between_semicolons text) refl
+  value_of-none = (nothing (between_semicolons text) refl).0
 
   pub members_after-none : members_after text ≡ []
   unfolding members_after
-  members_after-none = others-none (between_semicolons text) refl
+  members_after-none = (nothing (between_semicolons text) refl).1
 
 -- ---- how many members there are
 
@@ -54,38 +46,19 @@ pieces-length : (separator : ℕ) (pairs : Bool) (s : List ℕ) (state : _)
 unfolding pieces
 pieces-length separator pairs [] state = omega arith
 pieces-length separator pairs (b ∷ s) state =
-    elim (cases_Bool (is_cut separator state b)) [
-      | inl cut ↦ rw cut (omega (arith, pieces-length separator pairs s))
-      | inr more ↦
-          rw more
-          (omega (
-            arith,
-            length-push b (pieces separator pairs (state_after pairs state b) s),
-            pieces-length separator pairs s (state_after pairs state b),
-          ))
-    ]
+    grind (arith, cases_Bool, length-push, pieces-length separator pairs s)
 
 trimmed-length : (ms : List Member) → length (members_of ms) ≤ length ms
 trimmed-length [] = omega arith
 trimmed-length (m ∷ ms) = grind (arith, cases_Bool, trimmed-length ms)
 
-others-length : (ms : List Member) → length (others_of ms) + 1 ≤ length ms + 1
+others-length : (ms : List Member) → length (others_of ms) ≤ length ms
 others-length [] = omega arith
-others-length (Whole text ∷ others) = omega (arith, trimmed-length others)
-others-length (Malformed ∷ others) = omega arith
+others-length (m ∷ others) = grind (arith, trimmed-length others)
 
 own-length : (ms : List Member) → length (own ms) ≤ length ms
 own-length [] = omega arith
-own-length (m ∷ ms) = by (parameter_of m) (own-length ms)
-  where
-    by : (o : Option ParameterParts) → length (own ms) ≤ length ms
-        → length (filter (λ p. not (is_weight p)) (cons_option o (read ms))) ≤ length (m ∷ ms)
-    by None h = omega (arith, h)
-    by (Some p) h =
-        elim (cases_Bool (is_weight p)) [
-          | inl weight ↦ rw weight (omega (arith, h))
-          | inr other ↦ rw other (omega (arith, h))
-        ]
+own-length (m ∷ ms) = grind (arith, cases_Bool, own-length ms)
 
 -- a text has no more parameters than bytes
 pub own_parameters-length : (text : List ℕ) → length (own_parameters text) ≤ length text + 1

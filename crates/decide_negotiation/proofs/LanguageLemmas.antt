@@ -1,5 +1,5 @@
 -- Fronts of language tags.
-use Rattle.std.{proofs.Common.{◌≡◌, ℕ, ◌<◌, false, List, [], ◌∷◌, length, drop, ap, arith}, proofs.Math.Seq.drop-cons}
+use Rattle.std.proofs.{Common.{◌≡◌, ℕ, ◌<◌, false, List, [], ◌∷◌, length, drop, ap, arith}, Math.Seq.drop-cons}
 use Rattle.decide_negotiation.specs.Languages.{covers}
 
 -- no range that is longer covers a tag

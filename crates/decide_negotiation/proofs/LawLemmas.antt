@@ -1,28 +1,29 @@
 -- What the definitions say, in the words of the RFCs.
 use Rattle.std.proofs.Common.{◌≡◌, ◌∙◌, ◌⊎◌, ℕ, zero, suc, ◌<◌, ◌≤◌, Bool, true, false, List, [], ◌∷◌, ◌++◌, get_or}
-use Rattle.std.proofs.Common.{Option, Some, None, inl, inr, refl, sym, ap, subst, arith, codes, fold, rules, tests}
-use Rattle.std.proofs.{Math.Bool.or-true, lemmas.{Slice.Eq.bytes_eq-Decides, Bool.{and_parts, cases_Bool, eqb-true}}}
-use Rattle.std.{proofs.lemmas.Bool.{leb-false, leb-true, or_cases}, specs.Prelude.{Any, Contains, filter_map, ◌&&◌}}
-use Rattle.std.specs.{Prelude.{◌==◌, nat_le, option_and_then}, Bool.MatchBool, List.{cons_option, list_all, list_any}}
+use Rattle.std.proofs.{Common.{Option, Some, None, inl, inr, refl, sym, ap, arith, codes, fold}, Math.Bool.or-true}
+use Rattle.std.proofs.lemmas.{Slice.Eq.bytes_eq-Decides, Bool.{and_from, and_parts, cases_Bool, eqb-true, leb-false}}
+use Rattle.std.proofs.lemmas.{Bool.{leb-true, or_cases}, List.Folds.{Any-from_list_any, list_any-from_Any}}
+use Rattle.std.proofs.lemmas.List.{Sums.{AllPass-from_list_all, list_all-from_AllPass}, Elements.All-contains}
+use Rattle.std.{proofs.lemmas.List.Elements.Contains-get_or, specs.Prelude.{Any, Contains, filter_map, ◌&&◌, ◌==◌}}
+use Rattle.std.specs.{Prelude.nat_le, Bool.MatchBool, List.{cons_option, list_any}}
 use Rattle.{http_header.specs.{FieldValue.FieldValue, Token.lowercase}, headers_syntax.specs.AsciiCase.SameButForCase}
-use Rattle.{headers_syntax.specs.{AsciiCase.same_name, Lines.Line}, rfc_fields.specs.Members.{field_members, members}}
-use Rattle.rfc_fields.specs.{Scan.{Member, Member.Malformed}, Values.octets_of}
-use Rattle.decide_negotiation.specs.Choice.{Chooses, IsFirstOfGreatest, Picks, first_place, offer_rank}
-use Rattle.decide_negotiation.specs.Codings.{coding_quality, coding_says, encoding_quality, is_same_coding}
-use Rattle.decide_negotiation.specs.Codings.{member_quality, quality_of_all, quality_or, says_of, unlisted}
-use Rattle.decide_negotiation.specs.{Elements.{ElementParts, bare_element_of}, Preferences.strongest}
+use Rattle.{headers_syntax.specs.Lines.Line, rfc_fields.specs.{Members.{field_members, members}, Scan.Member}}
+use Rattle.{rfc_fields.specs.Scan.Member.Malformed, decide_negotiation.specs.Choice.{Chooses, IsFirstOfGreatest, Picks}}
+use Rattle.decide_negotiation.specs.{Choice.{first_place, offer_rank}, Codings.{coding_quality, coding_says}}
+use Rattle.decide_negotiation.specs.Codings.{encoding_quality, is_same_coding, member_quality, quality_of_all}
+use Rattle.decide_negotiation.specs.{Codings.{quality_or, unlisted}, Elements.ElementParts, Preferences.strongest}
 use Rattle.decide_negotiation.specs.declared.{acceptability.Quality.Quality, preference.Preference.Preference}
-use Rattle.decide_negotiation.specs.{Languages.{covers, hyphen, is_front}, Laws.EachCodingIsAccepted}
-use Rattle.decide_negotiation.specs.Laws.{ExcludesIdentity, HasOneChoice, HasOneLookup, HasTwoNames}
+use Rattle.decide_negotiation.specs.{Languages.{covers, hyphen, is_front, language_element_of}, Laws.HasTwoNames}
+use Rattle.decide_negotiation.specs.Laws.{EachCodingIsAccepted, ExcludesIdentity, HasOneChoice, HasOneLookup}
 use Rattle.decide_negotiation.specs.Laws.{IdentityIsExcludedByName, IsSameParameter, IsStarOrSame, ListedComesFirst}
 use Rattle.decide_negotiation.specs.Laws.{Matches, MostSpecificDecides, RangesCover, RangesMatch, TakesTheFirst}
 use Rattle.decide_negotiation.specs.Lookup.{Finds, IsDefault, IsLookedUp, LooksUp, LooksUpIn, accepts_any}
-use Rattle.decide_negotiation.specs.{Lookup.{offer_nearness, range_weight}, MediaRanges.{are_had, is_star}}
-use Rattle.decide_negotiation.specs.{MediaRanges.{is_star_or_same, matches}, Parameters.ParameterParts}
-use Rattle.decide_negotiation.specs.{Parameters.{is_same_parameter, is_same_value}, Qualities.{least, quality_in, rank}}
-use Rattle.decide_negotiation.{specs.Qualities.weighed, proofs.ChoiceLemmas.{at_place, picks_one, picks_some}}
-use Rattle.decide_negotiation.proofs.LookupLemmas.{no_element, range_finds_nothing, star_finds_nothing}
-use Rattle.decide_negotiation.proofs.PreferenceLemmas.{one_best, strongest_is_best}
+use Rattle.decide_negotiation.specs.{Lookup.{offer_nearness, range_weight}, MediaRanges.{are_had, is_star_or_same}}
+use Rattle.decide_negotiation.specs.{MediaRanges.matches, Parameters.{ParameterParts, is_same_parameter}}
+use Rattle.decide_negotiation.{specs.Qualities.{least, quality_in, rank, weighed}, proofs.ChoiceLemmas.at_place}
+use Rattle.decide_negotiation.proofs.{ChoiceLemmas.{picks_one, picks_some}, LookupLemmas.no_element}
+use Rattle.decide_negotiation.proofs.{LookupLemmas.{range_finds_nothing, star_finds_nothing}, PreferenceLemmas.one_best}
+use Rattle.decide_negotiation.proofs.PreferenceLemmas.{strongest_is_best}
 
 pub most_specific : MostSpecificDecides
 most_specific = record { decides = strongest_is_best; one = one_best }
@@ -56,38 +57,8 @@ listed_first lines offers place k offer other chosen unlisted low =
     ap score (at_place offers place other offer chosen.within) ∙ ap (λ (q : Quality). rank q) unlisted in
     omega (arith, chosen.greatest k other low, one)
 
--- ---- tests of elements
-
-module _ {A : Type 0} (f : A → Bool) where
-  all_at : (xs : List A) (x : A) → list_all f xs ≡ true → Contains xs x → f x ≡ true
-  all_at [] x h c = absurd (omega (arith, c.1))
-  all_at (y ∷ ys) x h (zero, low, is) = subst (λ (z : A). f z ≡ true) is (and_parts (f y) (list_all f ys) h).0
-  all_at (y ∷ ys) x h (suc k, low, is) =
-      all_at ys x (and_parts (f y) (list_all f ys) h).1 (k, omega (arith, low), is)
-
-  all_by : (xs : List A) → ((x : A) → Contains xs x → f x ≡ true) → list_all f xs ≡ true
-  all_by [] h = refl
-  all_by (y ∷ ys) h = grind (arith, all_by ys (λ x c. h x (suc c.0, omega (arith, c.1), c.2)))
-
-  any_at : (xs : List A) → list_any f xs ≡ true → Any (λ x. f x ≡ true) xs
-  any_at [] h = absurd (cc h)
-  any_at (y ∷ ys) h = by (or_cases (f y) (list_any f ys) h) (any_at ys)
-    where
-      by : (f y ≡ true) ⊎ (list_any f ys ≡ true) → (list_any f ys ≡ true → Any (λ x. f x ≡ true) ys)
-          → Any (λ x. f x ≡ true) (y ∷ ys)
-      by (inl e) later = (0, y, omega arith, refl, e)
-      by (inr e) later = let a = later e in (suc a.0, a.1, omega (arith, a.2), a.3, a.4)
-
-  any_by : (xs : List A) → Any (λ x. f x ≡ true) xs → list_any f xs ≡ true
-  any_by [] (k, x, low, is, e) = absurd (omega (arith, low))
-  any_by (y ∷ ys) (zero, x, low, is, e) = rw (ap f is ∙ e) refl
-  any_by (y ∷ ys) (suc k, x, low, is, e) = grind (arith, or-true, any_by ys (k, x, omega (arith, low), is, e))
-
 Any-more : {A : Type 0} (P Q : A → Type 0) → ((x : A) → P x → Q x) → (xs : List A) → Any P xs → Any Q xs
 Any-more P Q f xs h = (h.0, h.1, h.2, h.3, f h.1 h.4)
-
-both : (a b : Bool) → a ≡ true → b ≡ true → (a && b) ≡ true
-both a b e f = rw (e, f) refl
 
 -- ---- media ranges
 
@@ -102,7 +73,7 @@ same_parameter : (p q : ParameterParts) → is_same_parameter p q ≡ true → I
 same_parameter p q e = grind (arith, and_parts, bytes_eq-Decides, lowercase)
 
 parameter_same : (p q : ParameterParts) → IsSameParameter p q → is_same_parameter p q ≡ true
-parameter_same p q h = grind (arith, both, bytes_eq-Decides, lowercase)
+parameter_same p q h = grind (arith, and_from, bytes_eq-Decides, lowercase)
 
 pub ranges_match : RangesMatch
 ranges_match r t = (forward, back)
@@ -122,22 +93,20 @@ ranges_match r t = (forward, back)
           subtype = name_matches _ _ others.0;
           parameters = λ p among.
               Any-more (λ (q : ParameterParts). is_same_parameter p q ≡ true) (IsSameParameter p) (same_parameter p)
-              t.parameters
-              (any_at (is_same_parameter p) t.parameters
-              (all_at (λ (p : ParameterParts). list_any (is_same_parameter p) t.parameters) r.parameters p others.1
-              among));
+              t.parameters (Any-from_list_any (is_same_parameter p) t.parameters
+              (All-contains (λ (p : ParameterParts). has p ≡ true) r.parameters p
+              (AllPass-from_list_all has r.parameters others.1) among));
         }
 
     back : Matches r t → matches r t ≡ true
     back h =
-        both (is_star_or_same r.names.type_name t.names.type_name)
+        and_from (is_star_or_same r.names.type_name t.names.type_name)
         (is_star_or_same r.names.subtype t.names.subtype && are_had r.parameters t.parameters)
-        (name_matching _ _ h.type_name) (both (is_star_or_same r.names.subtype t.names.subtype)
-        (are_had r.parameters t.parameters) (name_matching _ _ h.subtype) (all_by
-        (λ (p : ParameterParts). list_any (is_same_parameter p) t.parameters) r.parameters (λ p among. any_by
-        (is_same_parameter p) t.parameters (Any-more (IsSameParameter p)
-        (λ (q : ParameterParts). is_same_parameter p q ≡ true) (parameter_same p) t.parameters
-        (h.parameters p among)))))
+        (name_matching _ _ h.type_name) (and_from (is_star_or_same r.names.subtype t.names.subtype)
+        (are_had r.parameters t.parameters) (name_matching _ _ h.subtype) (list_all-from_AllPass has r.parameters
+        (λ k d low. let p = get_or r.parameters k d in list_any-from_Any (is_same_parameter p) t.parameters
+        (Any-more (IsSameParameter p) (λ (q : ParameterParts). is_same_parameter p q ≡ true) (parameter_same p)
+        t.parameters (h.parameters p (Contains-get_or r.parameters k d low))))))
 
 -- ---- codings
 
@@ -202,18 +171,9 @@ names_identity : (name : List ℕ) → is_same_coding name (codes "identity") �
 unfolding is_same_coding
 names_identity name e = grind (arith, cases_Bool, bytes_eq-Decides, lowercase)
 
-excluding : (member : Member) (p : Preference) (e : ElementParts) → bare_element_of member ≡ Some e
-    → says_of (codes "identity") e ≡ Some p → p.quality ≡ 0 → ExcludesIdentity member
-excluding member p e is says none = grind (arith, cases_Bool, bytes_eq-Decides, names_identity)
-
 excluding_member : (member : Member) (p : Preference) → coding_says (codes "identity") member ≡ Some p
     → p.quality ≡ 0 → ExcludesIdentity member
-excluding_member member p says none = by (bare_element_of member) refl says
-  where
-    by : (o : Option ElementParts) → bare_element_of member ≡ o
-        → option_and_then (says_of (codes "identity")) o ≡ Some p → ExcludesIdentity member
-    by None is says = absurd (cc says)
-    by (Some e) is says = excluding member p e is says none
+excluding_member member p says none = grind (arith, cases_Bool, bytes_eq-Decides, names_identity)
 
 pub identity_excluded : IdentityIsExcludedByName
 unfolding coding_quality
@@ -238,16 +198,13 @@ front_is (a ∷ front) [] e = absurd (cc e)
 front_is (a ∷ front) (b ∷ text) e =
     grind (arith, and_parts, eqb-true, front_is front text (and_parts (a == b) (is_front front text) e).1)
 
-eqb-same : (a : ℕ) → (a == a) ≡ true
-eqb-same a = search (rules, tests)
-
 is_front-itself : (text : List ℕ) → is_front text text ≡ true
 is_front-itself [] = refl
-is_front-itself (b ∷ text) = rw (eqb-same b) (is_front-itself text)
+is_front-itself (b ∷ text) = grind (arith, is_front-itself text)
 
 is_front-longer : (front rest : List ℕ) → is_front front (front ++ hyphen ∷ rest) ≡ true
 is_front-longer [] rest = refl
-is_front-longer (b ∷ front) rest = rw (eqb-same b) (is_front-longer front rest)
+is_front-longer (b ∷ front) rest = grind (arith, is_front-longer front rest)
 
 pub ranges_cover : RangesCover
 ranges_cover range tag = (front_is (lowercase range) (lowercase tag), back)
@@ -264,7 +221,7 @@ module _ (field : List Member) (offers : List FieldValue) where
       picks_one (range_weight field offers) field (Some h.index) (Some k.index) h.first k.first in
       let index : h.index ≡ k.index = cc indices in
       let elements : Some h.element ≡ Some k.element =
-      sym (h.is Malformed) ∙ ap (λ (n : ℕ). bare_element_of (get_or field n Malformed)) index ∙ k.is Malformed in
+      sym (h.is Malformed) ∙ ap (λ (n : ℕ). language_element_of (get_or field n Malformed)) index ∙ k.is Malformed in
       let element : h.element ≡ k.element = cc elements in
       let places : Some a ≡ Some b =
       picks_one (offer_nearness field (Some h.element.range)) offers (Some a) (Some b) h.nearest
@@ -299,30 +256,22 @@ module _ (field : List Member) (offers : List FieldValue) where
       by false = (None, refl)
 
   -- a range with a score finds an offer
-  module _ (member : Member) (e : ElementParts) (is : bare_element_of member ≡ Some e)
+  module _ (member : Member) (e : ElementParts) (is : language_element_of member ≡ Some e)
       (scores : 0 < range_weight field offers member) where
     nearest_some : (place : ℕ) × IsFirstOfGreatest (offer_nearness field (Some e.range)) offers place
     nearest_some =
         let nearest = picks_some (offer_nearness field (Some e.range)) offers in by nearest.0 nearest.1
       where
-        none : range_weight field offers member ≡ 0
-            → (place : ℕ) × IsFirstOfGreatest (offer_nearness field (Some e.range)) offers place
-        none zero_weight = absurd (omega (arith, zero_weight, scores))
-
         by : (place : Option ℕ) → Picks (offer_nearness field (Some e.range)) offers place
             → (place : ℕ) × IsFirstOfGreatest (offer_nearness field (Some e.range)) offers place
         by (Some place) h = (place, h)
-        by None h =
-            elim (cases_Bool (is_star e.range)) [
-              | inl star ↦ none (star_finds_nothing field offers member e is star)
-              | inr range ↦ none (range_finds_nothing field offers member e is range h)
-            ]
+        by None h = grind (arith, cases_Bool, star_finds_nothing, range_finds_nothing)
 
   found_some : (index : ℕ) → IsFirstOfGreatest (range_weight field offers) field index
       → (place : ℕ) × IsLookedUp field offers place
-  found_some index first = by (bare_element_of (get_or field index Malformed)) refl
+  found_some index first = by (language_element_of (get_or field index Malformed)) refl
     where
-      by : (o : Option ElementParts) → bare_element_of (get_or field index Malformed) ≡ o
+      by : (o : Option ElementParts) → language_element_of (get_or field index Malformed) ≡ o
           → (place : ℕ) × IsLookedUp field offers place
       by None is =
           absurd
@@ -335,7 +284,7 @@ module _ (field : List Member) (offers : List FieldValue) where
               index = index;
               element = e;
               first = first;
-              is = λ other. ap (λ (m : Member). bare_element_of m) (at_place _ _ _ _ first.within) ∙ is;
+              is = λ other. ap (λ (m : Member). language_element_of m) (at_place _ _ _ _ first.within) ∙ is;
               nearest = nearest.1;
             },
           )

@@ -2,21 +2,18 @@
 use Rattle.std.proofs.Common.{◌≡◌, ◌∙◌, ℕ, zero, suc, ◌+◌, ◌<◌, ◌≤◌, Bool, true, false, List, [], ◌∷◌, length, drop}
 use Rattle.std.proofs.Common.{get_or, Option, Some, None, refl, sym, ap, subst, arith, length-drop}
 use Rattle.std.{proofs.{Math.{Seq.drop-cons, Bool.or-true}, lemmas.Bool.{ltb-true, lt-ltb}}, specs.Prelude.{⊤, nat_lt}}
-use Rattle.std.specs.{Prelude.if◌then◌else◌, List.list_any, Option.option_map_or}
-use Rattle.{http_header.specs.FieldValue.FieldValue, rfc_fields.specs.Scan.Member}
-use Rattle.decide_negotiation.specs.{Choice.{IsFirstOfGreatest, Picks, led}, Elements.{ElementParts, bare_element_of}}
-use Rattle.decide_negotiation.specs.{MediaRanges.is_star, declared.choice.Leader.Leader, Lookup.{Finds, FoundBy, finds}}
-use Rattle.decide_negotiation.specs.Lookup.{offer_nearness, range_weight, weight_if_found}
+use Rattle.std.{specs.{Prelude.if◌then◌else◌, List.list_any}, proofs.lemmas.List.Folds.list_any_none}
+use Rattle.{std.specs.Option.option_map_or, http_header.specs.FieldValue.FieldValue, rfc_fields.specs.Scan.Member}
+use Rattle.decide_negotiation.specs.{Choice.{IsFirstOfGreatest, Picks, led}, Elements.ElementParts}
+use Rattle.decide_negotiation.specs.{Languages.language_element_of, MediaRanges.is_star, declared.choice.Leader.Leader}
+use Rattle.decide_negotiation.specs.Lookup.{Finds, FoundBy, finds, offer_nearness, range_weight, weight_if_found}
 use Rattle.decide_negotiation.proofs.ChoiceLemmas.{IsLeading, at_place, leading_on, leader_is_picked, none_leads}
 
 -- ---- whether anything has a score
 
 module _ {A : Type 0} (score : A → ℕ) where
   none_scores : (xs : List A) → Picks score xs None → list_any (λ x. nat_lt 0 (score x)) xs ≡ false
-  none_scores [] h = refl
-  none_scores (x ∷ xs) h =
-      let own : score x ≡ 0 = h 0 x (omega arith) in
-      rw own (none_scores xs (λ k other low. h (suc k) other (omega (arith, low))))
+  none_scores xs h = list_any_none (λ x. nat_lt 0 (score x)) xs (λ k other low. rw (h k other low) refl)
 
   one_scores : (xs : List A) (place : ℕ) → place < length xs → ((other : A) → 0 < score (get_or xs place other))
       → list_any (λ x. nat_lt 0 (score x)) xs ≡ true
@@ -33,10 +30,10 @@ module _ (field : List Member) (offers : List FieldValue) (member : Member) wher
   pub finds_nothing : range_weight field offers member ≡ 0 → FoundBy field offers member nothing
   finds_nothing e = record { score = sym e; place = λ some. absurd (omega (arith, some)) }
 
-  pub no_element : bare_element_of member ≡ None → range_weight field offers member ≡ 0
+  pub no_element : language_element_of member ≡ None → range_weight field offers member ≡ 0
   no_element e = ap (λ o. option_map_or (weight_if_found field offers) o 0) e
 
-  module _ (e : ElementParts) (is : bare_element_of member ≡ Some e) where
+  module _ (e : ElementParts) (is : language_element_of member ≡ Some e) where
     weight_is : range_weight field offers member ≡ weight_if_found field offers e
     weight_is = ap (λ o. option_map_or (weight_if_found field offers) o 0) is
 
@@ -65,7 +62,7 @@ module _ (field : List Member) (offers : List FieldValue) where
   -- the range at an index finds the offer at a place
   abbrev FindsAt : ℕ → ℕ → Type 0
   FindsAt index place =
-      (e : ElementParts) × ((other : Member) → bare_element_of (get_or field index other) ≡ Some e)
+      (e : ElementParts) × ((other : Member) → language_element_of (get_or field index other) ≡ Some e)
       × IsFirstOfGreatest (offer_nearness field (Some e.range)) offers place
 
   abbrev Follows : Option ℕ → Option ℕ → Type 0
@@ -101,7 +98,7 @@ module _ (field : List Member) (offers : List FieldValue) where
       → (within : n < length field) → member ≡ get_or field n member
       → IsLeading (range_weight field offers) field n indices → Follows indices.place place
       → (0 < range_weight field offers member
-      → (e : ElementParts) × (p : ℕ) × (bare_element_of member ≡ Some e) × (found ≡ Some p)
+      → (e : ElementParts) × (p : ℕ) × (language_element_of member ≡ Some e) × (found ≡ Some p)
       × IsFirstOfGreatest (offer_nearness field (Some e.range)) offers p)
       → rest ≡ drop (n + 1) field
       → SoFar rest (led (record { place = place; score = indices.score }) found (range_weight field offers member))
@@ -129,7 +126,7 @@ module _ (field : List Member) (offers : List FieldValue) where
             follows =
                 subst (Follows (Some n)) (sym by_member.3) (
                   by_member.0,
-                  λ other. ap bare_element_of (at_place field n other member within ∙ sym is) ∙ by_member.2,
+                  λ other. ap language_element_of (at_place field n other member within ∙ sym is) ∙ by_member.2,
                   by_member.4,
                 );
           }

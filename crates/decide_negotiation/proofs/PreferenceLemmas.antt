@@ -1,32 +1,10 @@
 -- The order of what elements say, and the strongest of a list.
-use Rattle.std.proofs.Common.{◌≡◌, ◌⊎◌, ℕ, zero, suc, ◌<◌, ◌≤◌, Bool, true, false, List, [], ◌∷◌, length, Option, Some}
-use Rattle.std.proofs.{Common.{None, inl, inr, refl, sym, ◌∙◌, ap, arith}, lemmas.Bool.{and_cases, and_parts}}
-use Rattle.std.proofs.lemmas.Bool.{cases_order, eqb-false, eqb-true, ltb-false, ltb-true, or_cases, or_parts}
-use Rattle.std.proofs.lemmas.List.Elements.{All-cons, All-contains, All-head, All-nil, All-tail}
-use Rattle.std.specs.{Prelude.{Contains, filter_map, nat_lt, ◌==◌, ◌&&◌, if◌then◌else◌}, List.fold}
-use Rattle.{rfc_fields.specs.Scan.Member, decide_negotiation.specs.Preferences.{AtMost, IsBest, IsStrongest, is_below}}
-use Rattle.decide_negotiation.specs.{Preferences.{is_below_or, stronger, strongest}, Qualities.{preferred, weighed}}
-use Rattle.decide_negotiation.specs.declared.preference.Preference.{Preference}
-
--- x is below y, or they are the same and the rest decides
-abbrev BelowOr : ℕ → ℕ → Type 0 → Type 0
-BelowOr x y Rest = (x < y) ⊎ ((x ≡ y) × Rest)
-
-below_or-true : (x y : ℕ) (rest : Bool) → is_below_or x y rest ≡ true → BelowOr x y (rest ≡ true)
-below_or-true x y rest e = grind (arith, or_cases, nat_lt, ltb-true, and_parts, eqb-true)
-
-below_or-false : (x y : ℕ) (rest : Bool) → is_below_or x y rest ≡ false → BelowOr y x (rest ≡ false)
-below_or-false x y rest e = grind (arith, nat_lt, or_parts, ltb-false, cases_order, and_cases, eqb-false)
-
-map_below_or : (x y : ℕ) (P Q : Type 0) → (P → Q) → BelowOr x y P → BelowOr x y Q
-map_below_or x y P Q f (inl low) = inl low
-map_below_or x y P Q f (inr same) = inr (same.0, f same.1)
-
-join_below_or : (x y z : ℕ) (P Q R : Type 0) → (P → Q → R) → BelowOr x y P → BelowOr y z Q → BelowOr x z R
-join_below_or x y z P Q R f (inl h) (inl k) = inl (omega (arith, h, k))
-join_below_or x y z P Q R f (inl h) (inr k) = inl (omega (arith, h, k.0))
-join_below_or x y z P Q R f (inr h) (inl k) = inl (omega (arith, h.0, k))
-join_below_or x y z P Q R f (inr h) (inr k) = inr (h.0 ∙ k.0, f h.1 k.1)
+use Rattle.std.proofs.Common.{◌≡◌, zero, suc, Bool, true, false, List, [], ◌∷◌, Option, Some, None, inr, refl, arith}
+use Rattle.std.proofs.lemmas.Bool.{and_cases, and_parts, cases_order, eqb-false, eqb-true, ltb-false, ltb-true}
+use Rattle.std.proofs.lemmas.{Bool.{or_cases, or_parts}, List.Elements.{All-cons, All-head, All-tail}}
+use Rattle.{std.specs.{Prelude.{Contains, filter_map, nat_lt, if◌then◌else◌}, List.fold}, rfc_fields.specs.Scan.Member}
+use Rattle.decide_negotiation.specs.Preferences.{AtMost, IsBest, IsStrongest, is_below, stronger, strongest}
+use Rattle.decide_negotiation.specs.{Qualities.preferred, declared.preference.Preference.Preference}
 
 -- ---- the order
 
@@ -34,29 +12,19 @@ at_most_itself : (a : Preference) → AtMost a a
 at_most_itself a = inr (refl, inr (refl, omega arith))
 
 at_most_along : (a b c : Preference) → AtMost a b → AtMost b c → AtMost a c
-at_most_along a b c = grind (arith, join_below_or)
+at_most_along a b c = grind (arith)
 
 is_below-true : (a b : Preference) → is_below a b ≡ true → AtMost a b
 unfolding is_below
-is_below-true a b e = grind (arith, map_below_or, ltb-true, below_or-true)
+is_below-true a b e = grind (arith, or_cases, nat_lt, ltb-true, and_parts, eqb-true)
 
 is_below-false : (a b : Preference) → is_below a b ≡ false → AtMost b a
 unfolding is_below
-is_below-false a b e = grind (arith, map_below_or, ltb-false, below_or-false)
+is_below-false a b e = grind (arith, nat_lt, or_parts, ltb-false, cases_order, and_cases, eqb-false)
 
 -- two that are at most each other have one quality
 same_quality : (a b : Preference) → AtMost a b → AtMost b a → a.quality ≡ b.quality
-same_quality a b (inl h) (inl k) = absurd (omega (arith, h, k))
-same_quality a b (inl h) (inr k) = absurd (omega (arith, h, k.0))
-same_quality a b (inr h) (inl k) = absurd (omega (arith, h.0, k))
-same_quality a b (inr h) (inr k) = inner h.1 k.1
-  where
-    inner : (a.extent < b.extent) ⊎ ((a.extent ≡ b.extent) × (a.quality ≤ b.quality))
-        → (b.extent < a.extent) ⊎ ((b.extent ≡ a.extent) × (b.quality ≤ a.quality)) → a.quality ≡ b.quality
-    inner (inl h) (inl k) = absurd (omega (arith, h, k))
-    inner (inl h) (inr k) = absurd (omega (arith, h, k.0))
-    inner (inr h) (inl k) = absurd (omega (arith, h.0, k))
-    inner (inr h) (inr k) = omega (arith, h.1, k.1)
+same_quality a b h k = grind (arith)
 
 -- ---- the strongest
 

@@ -100,7 +100,7 @@ abbrev pub bare : ElementParts → Option ElementParts
 bare e =
     if is_token e.range then (if length e.parameters == 0 then Some e else excluding_nothing e) else None
 
--- the element of Accept-Encoding or Accept-Language that a member counts as, if it counts
+-- the element of Accept-Encoding that a member counts as, if it counts
 abbrev pub bare_element_of : Member → Option ElementParts
 bare_element_of (Whole text) = option_and_then bare (element_in text)
 bare_element_of Malformed = None

@@ -1,8 +1,8 @@
 -- Language ranges and tags (RFC 9110, section 12.5.4; RFC 4647).
 use Rattle.std.specs.Prelude.{ℕ, Bool, ◌&&◌, ◌==◌, true, false, List, [], ◌∷◌, length, Option, Some, None}
-use Rattle.std.specs.Prelude.{option_and_then, if◌then◌else◌}
-use Rattle.http_header.specs.Token.{lowercase}
-use Rattle.{rfc_fields.specs.Scan.Member, decide_negotiation.specs.Elements.{ElementParts, bare_element_of}}
+use Rattle.std.specs.Prelude.{codes, option_and_then, if◌then◌else◌}
+use Rattle.{http_header.specs.Token.lowercase, rfc_fields.specs.Scan.{Member, Member.{Whole, Malformed}}}
+use Rattle.decide_negotiation.specs.Elements.{ElementParts, bare_element_of}
 use Rattle.decide_negotiation.specs.{MediaRanges.is_star, declared.preference.Preference.Preference}
 
 -- b'-'
@@ -27,5 +27,10 @@ says_of tag e =
     if is_star e.range then Some (record { names = 0; extent = 0; quality = e.weight })
     else (if covers e.range tag then Some (record { names = 1; extent = length e.range; quality = e.weight }) else None)
 
+-- the element that a member counts as, if it counts; one whose quote has no end is the range of all tags, as in Accept
+abbrev pub language_element_of : Member → Option ElementParts
+language_element_of (Whole text) = bare_element_of (Whole text)
+language_element_of Malformed = bare_element_of (Whole (codes "*;q=0.001"))
+
 abbrev pub language_says : List ℕ → Member → Option Preference
-language_says tag member = option_and_then (says_of tag) (bare_element_of member)
+language_says tag member = option_and_then (says_of tag) (language_element_of member)

@@ -5,7 +5,7 @@ use Rattle.std.specs.{Bool.MatchBool, Option.option_map_or, List.list_any}
 use Rattle.http_header.specs.FieldValue.{FieldValue}
 use Rattle.{headers_syntax.specs.{AsciiCase.same_name, Lines.Line}, rfc_fields.specs.Members.field_members}
 use Rattle.{rfc_fields.specs.Scan.Member, decide_negotiation.specs.Choice.{IsFirstOfGreatest, Picks, first_place}}
-use Rattle.decide_negotiation.specs.{Elements.{ElementParts, bare_element_of}, Languages.{covers, hyphen}}
+use Rattle.decide_negotiation.specs.{Elements.ElementParts, Languages.{covers, hyphen, language_element_of}}
 use Rattle.decide_negotiation.specs.{Languages.language_says, MediaRanges.is_star, Preferences.strongest}
 use Rattle.decide_negotiation.specs.declared.{choice.Leader.Leader, preference.Preference.Preference}
 
@@ -42,7 +42,7 @@ weight_if_found field offers e = if not (is_star e.range) && finds field offers 
 
 -- the weight of a range that finds an offer; a star is skipped
 abbrev pub range_weight : List Member → List FieldValue → Member → ℕ
-range_weight field offers member = option_map_or (weight_if_found field offers) (bare_element_of member) 0
+range_weight field offers member = option_map_or (weight_if_found field offers) (language_element_of member) 0
 
 -- The ranges are tried by their weights, and those of one weight in their order. The first that finds an offer finds
 -- this one, the nearest to it.
@@ -50,7 +50,7 @@ pub record IsLookedUp (field : List Member) (offers : List FieldValue) (place : 
   pub index : ℕ
   pub element : ElementParts
   pub first : IsFirstOfGreatest (range_weight field offers) field index
-  pub is : (other : Member) → bare_element_of (get_or field index other) ≡ Some element
+  pub is : (other : Member) → language_element_of (get_or field index other) ≡ Some element
   pub nearest : IsFirstOfGreatest (offer_nearness field (Some element.range)) offers place
 
 -- the result of the ranges
@@ -63,7 +63,7 @@ is_any e = is_star e.range && not (e.weight == 0)
 
 -- the field has a star
 abbrev pub accepts_any : List Member → Bool
-accepts_any field = list_any (λ member. option_map_or is_any (bare_element_of member) false) field
+accepts_any field = list_any (λ member. option_map_or is_any (language_element_of member) false) field
 
 -- the result if no range finds an offer: with a star the default, which is the first that isn't excluded
 abbrev pub IsDefault : List Member → List FieldValue → Option ℕ → Type 0
@@ -85,5 +85,5 @@ LooksUp (line ∷ lines) offers choice = LooksUpIn (field_members true (line ∷
 pub record FoundBy (field : List Member) (offers : List FieldValue) (member : Member) (found : Leader) : Type 0 where
   pub score : found.score ≡ range_weight field offers member
   pub place : 0 < found.score
-      → (element : ElementParts) × (place : ℕ) × (bare_element_of member ≡ Some element) × (found.place ≡ Some place)
-      × IsFirstOfGreatest (offer_nearness field (Some element.range)) offers place
+      → (element : ElementParts) × (place : ℕ) × (language_element_of member ≡ Some element)
+      × (found.place ≡ Some place) × IsFirstOfGreatest (offer_nearness field (Some element.range)) offers place

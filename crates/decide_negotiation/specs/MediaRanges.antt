@@ -109,6 +109,8 @@ abbrev pub says_in : List ℕ → List ℕ → Option Preference
 says_in offer element =
     option_and_then (λ r. option_and_then (says_of r) (media_type_in offer)) (media_range_in element)
 
+-- A quote without an end hides the rest of its line, which may accept anything: its member counts as the range of all
+-- media types, with the least weight above 0.
 abbrev pub media_type_says : List ℕ → Member → Option Preference
 media_type_says offer (Whole element) = says_in offer element
-media_type_says offer Malformed = None
+media_type_says offer Malformed = says_in offer (codes "*/*;q=0.001")

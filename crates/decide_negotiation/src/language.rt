@@ -1,6 +1,7 @@
 //! Languages.
-ghost use Rattle.std.specs.Prelude.{◌≡◌};
-ghost use Rattle.decide_negotiation.specs.{Elements.element_parts, Languages.covers, Languages.says_of};
+ghost use Rattle.std.specs.Prelude.{◌≡◌, option_map};
+ghost use Rattle.rfc_fields.specs.Members.{member_of};
+ghost use Rattle.decide_negotiation.specs.{Elements.element_parts, Languages.{covers, language_element_of, says_of}};
 
 use crate::acceptability::{Quality, preferred};
 use crate::dimension::Dimension;
@@ -59,13 +60,23 @@ fn says_of(tag: &[u8], element: &Element<'_>) -> Option<Preference>
     }
 }
 
+/// Parses a member of the field as an element. A quote without an end counts as `*;q=0.001`.
+pub(crate) fn language_element_of<'a>(member: Result<&'a [u8], Malformed>) -> Option<Element<'a>>
+    ensures { option_map element_parts result ≡ language_element_of (member_of member.entry) }
+{
+    match member {
+        Ok(text) => bare_element_of(Ok(text)),
+        Err(Malformed) => bare_element_of(Ok(b"*;q=0.001")),
+    }
+}
+
 impl Ranges for AcceptLanguage {
     ghost use Rattle.decide_negotiation.specs.Languages.{language_says};
 
     ghost says = { language_says };
 
     fn preference(offer: &[u8], member: Result<&[u8], Malformed>) -> Option<Preference> {
-        match bare_element_of(member) {
+        match language_element_of(member) {
             Some(element) => says_of(offer, &element),
             None => None,
         }

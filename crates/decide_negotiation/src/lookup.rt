@@ -4,14 +4,15 @@ ghost use Rattle.http_header.specs.HeaderMap.{get_all};
 ghost use Rattle.headers_syntax.specs.Lines.{lines_of};
 ghost use Rattle.rfc_fields.specs.Members.{field_members, member_of};
 ghost use Rattle.decide_negotiation.specs.Choice.{Picks};
-ghost use Rattle.decide_negotiation.specs.{Choice.first_place, Elements.{bare_element_of, element_parts}, Lookup.Finds};
+ghost use Rattle.decide_negotiation.specs.{Choice.first_place, Elements.element_parts, Lookup.Finds};
+ghost use Rattle.decide_negotiation.specs.Languages.{language_element_of};
 ghost use Rattle.decide_negotiation.specs.Lookup.{FoundBy, IsDefault, LooksUp, LooksUpIn, accepts_any, ends_single};
 ghost use Rattle.decide_negotiation.specs.Lookup.{excludes, is_any, is_excluded, is_truncation, nearness};
 ghost use Rattle.decide_negotiation.specs.Lookup.{offer_nearness};
 
 use crate::choice::{Leader, led};
-use crate::element::{Element, bare_element_of};
-use crate::language::{AcceptLanguage, covers};
+use crate::element::Element;
+use crate::language::{AcceptLanguage, covers, language_element_of};
 use crate::media::is_star;
 use crate::preference::{Preference, strongest};
 use http_header::{ACCEPT_LANGUAGE, GetAll, HeaderMap, HeaderValue};
@@ -89,7 +90,7 @@ fn found_by(
 ) -> Leader
     ensures { FoundBy (field_members true (lines_of field.now)) offers.now (member_of member.entry) result }
 {
-    match bare_element_of(member) {
+    match language_element_of(member) {
         Some(element) => {
             if is_star(element.range) {
                 return Leader::NONE;
@@ -125,9 +126,9 @@ fn is_any(element: &Element<'_>) -> bool
 }
 
 fn is_any_member(member: Result<&[u8], Malformed>) -> bool
-    ensures { result ≡ option_map_or is_any (bare_element_of (member_of member.entry)) false }
+    ensures { result ≡ option_map_or is_any (language_element_of (member_of member.entry)) false }
 {
-    match bare_element_of(member) {
+    match language_element_of(member) {
         Some(element) => is_any(&element),
         None => false,
     }

@@ -171,7 +171,7 @@ impl Ranges for Accept {
     fn preference(offer: &[u8], member: Result<&[u8], Malformed>) -> Option<Preference> {
         match member {
             Ok(element) => says_in(offer, element),
-            Err(Malformed) => None,
+            Err(Malformed) => says_in(offer, b"*/*;q=0.001"),
         }
     }
 }

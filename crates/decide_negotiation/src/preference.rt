@@ -25,7 +25,7 @@ pub(crate) trait Ranges {
     // What a member of the field says of an offer, if it matches.
     ghost says: { List ℕ → Member → Option Preference };
 
-    /// Returns the preference of a member for an offer. `None` if it is malformed or doesn't match.
+    /// Returns the preference of a member for an offer. `None` if it doesn't match.
     fn preference(offer: &[u8], member: Result<&[u8], Malformed>) -> Option<Preference>
         ensures { result ≡ says offer.now (member_of member.entry) };
 }

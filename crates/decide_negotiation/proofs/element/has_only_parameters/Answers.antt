@@ -1,6 +1,6 @@
 use Rattle.std.proofs.{Common.{rules, tests}, lemmas.Iterator.Consumers.YieldsList-from_first}
 use Rattle.{std.proofs.lemmas.Iterator.Search.all_from_yields_List, rfc_fields.specs.Members.{member_of, members_left}}
-use Rattle.decide_negotiation.specs.Elements.{is_parameter, members_after}
+use Rattle.decide_negotiation.specs.Elements.{is_parameter}
 use Rattle.decide_negotiation.proofs.element.has_only_parameters.Goals as goal
 
 pub returns : goal.returns

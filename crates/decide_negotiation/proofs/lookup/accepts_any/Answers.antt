@@ -1,10 +1,10 @@
-use Rattle.std.{proofs.Common.{rules, tests, false}, proofs.lemmas.Iterator.Consumers.YieldsList-from_first}
+use Rattle.std.proofs.{Common.{rules, tests, false}, lemmas.Iterator.Consumers.YieldsList-from_first}
 use Rattle.std.{proofs.lemmas.Iterator.Search.any_from_yields_List, specs.Option.option_map_or}
-use Rattle.rfc_fields.{specs.Members.{field_left, member_of}, specs.Scan.Member}
-use Rattle.decide_negotiation.{specs.Elements.bare_element_of, specs.Lookup.is_any}
+use Rattle.rfc_fields.specs.{Members.{field_left, member_of}, Scan.Member}
+use Rattle.decide_negotiation.specs.{Languages.language_element_of, Lookup.is_any}
 use Rattle.decide_negotiation.proofs.lookup.accepts_any.Goals as goal
 
 pub returns : goal.returns
 returns c =
-    any_from_yields_List (λ (member : Member). option_map_or is_any (bare_element_of member) false) _ _ _
+    any_from_yields_List (λ (member : Member). option_map_or is_any (language_element_of member) false) _ _ _
     c.any.ensures.ran (YieldsList-from_first member_of field_left _ c.new.ensures) (λ x b q k. search (rules, tests))
