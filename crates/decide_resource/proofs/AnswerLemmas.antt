@@ -2,15 +2,15 @@
 use Rattle.std.proofs.Common.{arith, ◌≡◌, ℕ, Bool, true, false, List, ◌++◌, Option, Some, None, refl, sym, ◌∙◌, ap}
 use Rattle.{std.proofs.Common.subst, http_header.specs.FieldValue.FieldValue, headers.specs.LineMap.{Field, LineMap}}
 use Rattle.{headers.specs.Lines.Line, decide_cors.{specs.Policy.Policy, proofs.SameLemmas.same_lines}}
-use Rattle.decide_negotiation.proofs.ChoiceLemmas.{picks_one, picks_some}
+use Rattle.decide_negotiation.proofs.ChoiceLemmas.{picks_one}
 use Rattle.decide_preconditions.specs.{Contents.{divisible_len, limits_of}, Fields.{fields_sent, is_known_by}}
 use Rattle.decide_preconditions.specs.{Plans.IsSamePlan, Responses.IsAnswered, declared.content.Content.Content}
 use Rattle.decide_preconditions.specs.declared.{plan.Plan.Plan, resource.Resource.Resource as Target}
 use Rattle.decide_preconditions.{specs.declared.response.Response.Response, proofs.OnePlanLemmas.one_plan}
 use Rattle.decide_resource.specs.Answers.{AreSame, AreSent, Gives, GivesIf, Goes, GoesOn, IsAnswer, IsSelected}
-use Rattle.decide_resource.specs.Answers.{IsShared, Stops, at_place, is_admitted, is_sent, place_in, response_fields}
+use Rattle.decide_resource.specs.Answers.{IsShared, Stops, at_place, is_admitted, is_sent, response_fields}
 use Rattle.decide_resource.specs.{Answers.{status_sent, with_metadata}, Fields.{vary_fields, vary_lines}}
-use Rattle.decide_resource.specs.{Representations.score, Requests.Request, declared.answer.{Answer.Answer, Sends.Sends}}
+use Rattle.decide_resource.specs.{Requests.Request, declared.answer.{Answer.Answer, Sends.Sends}}
 use Rattle.decide_resource.specs.declared.{reason.Reason.Reason, representation.Representation.Representation}
 use Rattle.decide_resource.{specs.declared.resource.Resource.Resource, proofs.OneReasonLemmas.one_reason}
 use Rattle.decide_resource.proofs.PlanLemmas.{same_by_plan}
@@ -19,14 +19,6 @@ use Rattle.decide_resource.specs.declared.answer.Sends.TheVariants as sends
 pub one_place : (resource : Resource) (fields : LineMap) (a b : Option ℕ) → IsSelected resource fields a
     → IsSelected resource fields b → a ≡ b
 one_place resource fields a b h k = grind (arith, resource, picks_one, fields)
-
-pub some_place : (resource : Resource) (fields : LineMap) → (place : Option ℕ) × IsSelected resource fields place
-some_place resource fields =
-    let representations = resource.representations.items in
-    let picked = picks_some (score resource.negotiation fields) representations in (
-      place_in resource.state representations picked.0,
-      record { choice = picked.0; picks = picked.1; is = refl },
-    )
 
 sent_self : (sent : Sends) → AreSent sent sent
 sent_self (sends.Planned place plan) = (refl, (refl, refl))
@@ -117,7 +109,7 @@ shared_same (Some policy) request lines fs gs h k = grind (arith, same_lines)
 pub one_answer : (present : ℕ) (resource : Resource) (request : Request) (a b : Answer)
     → IsAnswer present resource request a → IsAnswer present resource request b → AreSame a b
 one_answer present resource request a b h k =
-    let reason : b.reason ≡ a.reason = one_reason resource request b.reason a.reason k.first h.first in
+    let reason : b.reason ≡ a.reason = one_reason present resource request b.reason a.reason k.first h.first in
     let gives : Gives present resource request a.reason b.status b.sends k.own =
     subst (λ (r : Reason). Gives present resource request r b.status b.sends k.own) reason k.gives in
     let given = gives_same present resource request a.status b.status a.sends b.sends h.own k.own

@@ -6,7 +6,7 @@ use Rattle.decide_resource.specs.{Answers.{IsAnswer, IsSelected, is_admitted, is
 use Rattle.decide_resource.specs.{Requests.{Request, unconditional}, declared.answer.{Answer.Answer, Sends.Sends}}
 use Rattle.decide_resource.specs.declared.reason.Reason.{Reason, TheVariants.NotAcceptable}
 use Rattle.decide_resource.specs.declared.{representation.Representation.Representation, resource.Resource.Resource}
-use Rattle.decide_resource.proofs.{AnswerLemmas.one_place, PickLemmas.picks_alike}
+use Rattle.decide_resource.proofs.{AnswerLemmas.one_place, ChosenLemmas.same_selected}
 use Rattle.decide_resource.specs.declared.answer.Sends.TheVariants as sends
 
 module _ (present : ℕ) (resource : Resource) (request : Request) where
@@ -41,13 +41,5 @@ same_place present resource request a b p q plan other h k e f =
     h.gives e in
     let theirs = is_selected present resource (unconditional request) (is_admitted b.reason) b.reason b.status b.sends
     k.own q other k.gives f in
-    let here : IsSelected resource request.fields q =
-    record {
-      choice = theirs.choice;
-      picks =
-          picks_alike (score resource.negotiation (unconditional request).fields)
-          (score resource.negotiation request.fields) (score_alike resource request) resource.representations.items
-          theirs.choice theirs.picks;
-      is = theirs.is;
-    } in
-    one_place resource request.fields p q mine here
+    one_place resource request.fields p q mine
+    (same_selected resource (unconditional request).fields request.fields (score_alike resource request) q theirs)

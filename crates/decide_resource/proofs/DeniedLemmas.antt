@@ -13,21 +13,21 @@ use Rattle.decide_resource.{specs.declared.resource.Resource.Resource, proofs.An
 use Rattle.decide_resource.proofs.OneReasonLemmas.{one_reason}
 
 module _ (request : Request) (why : Denial) (denies : request.denied ≡ Some why) where
-  is_denied : (resource : Resource) → applies resource request Denied ≡ true
-  is_denied resource = ap (λ (denied : Option Denial). is_some denied) denies
+  is_denied : (present : ℕ) (resource : Resource) → applies present resource request Denied ≡ true
+  is_denied present resource = ap (λ (denied : Option Denial). is_some denied) denies
 
   -- Host, a policy or the denial decides
-  early : (resource : Resource) (reason : Reason) → IsFirst (applies resource request) reason
+  early : (present : ℕ) (resource : Resource) (reason : Reason) → IsFirst (applies present resource request) reason
       → Before reason UnknownMethod
-  early resource reason first =
+  early present resource reason first =
       elim (cases_order (stage reason) 3) [
         | inl level ↦ omega (arith, level)
         | inr apart ↦
             elim apart [
               | inl low ↦ omega (arith, low)
               | inr high ↦
-                  let none : applies resource request Denied ≡ false = first.none_before Denied high in
-                  absurd (cc (none, is_denied resource))
+                  let none : applies present resource request Denied ≡ false = first.none_before Denied high in
+                  absurd (cc (none, is_denied present resource))
             ]
       ]
 
@@ -47,7 +47,7 @@ module _ (request : Request) (why : Denial) (denies : request.denied ≡ Some wh
   pub told_why : (present : ℕ) (resource : Resource) (answer : Answer) → IsAnswer present resource request answer
       → Before answer.reason Denied ⊎ (answer.status ≡ Some (status_denied why))
   told_why present resource answer a =
-      let low : Before answer.reason UnknownMethod = early resource answer.reason a.first in
+      let low : Before answer.reason UnknownMethod = early present resource answer.reason a.first in
       elim (cases_order (stage answer.reason) 3) [
         | inl level ↦
             let is : answer.reason ≡ Denied = only_denied answer.reason level in
@@ -63,8 +63,9 @@ module _ (request : Request) (why : Denial) (denies : request.denied ≡ Some wh
             ]
       ]
 
-  module _ (a b : Resource) (hosts : a.hosts ≡ b.hosts) (cors : a.cors ≡ b.cors) where
-    same_test : (reason : Reason) → Before reason UnknownMethod → applies a request reason ≡ applies b request reason
+  module _ (present later : ℕ) (a b : Resource) (hosts : a.hosts ≡ b.hosts) (cors : a.cors ≡ b.cors) where
+    same_test : (reason : Reason) → Before reason UnknownMethod
+        → applies present a request reason ≡ applies later b request reason
     same_test InvalidHost low = refl
     same_test Misdirected low =
         ap (λ (own : Option (Vec FieldValue)). option_map_or
@@ -75,9 +76,10 @@ module _ (request : Request) (why : Denial) (denies : request.denied ≡ Some wh
     same_test Denied low = refl
     same_test reason low = absurd (omega (arith, low))
 
-    same_first : (reason : Reason) → IsFirst (applies b request) reason → IsFirst (applies a request) reason
+    same_first : (reason : Reason) → IsFirst (applies later b request) reason
+        → IsFirst (applies present a request) reason
     same_first reason first =
-        let low : Before reason UnknownMethod = early b reason first in
+        let low : Before reason UnknownMethod = early later b reason first in
         record {
           is = same_test reason low ∙ first.is;
           none_before = λ other before.
@@ -114,12 +116,12 @@ module _ (request : Request) (why : Denial) (denies : request.denied ≡ Some wh
     not_admitted Denied low = refl
     not_admitted reason low = absurd (omega (arith, low))
 
-    pub tells_nothing : (present later : ℕ) (x y : Answer) → IsAnswer present a request x → IsAnswer later b request y
+    pub tells_nothing : (x y : Answer) → IsAnswer present a request x → IsAnswer later b request y
         → AreSame x y
-    tells_nothing present later x y h k =
-        let low : Before x.reason UnknownMethod = early a x.reason h.first in
+    tells_nothing x y h k =
+        let low : Before x.reason UnknownMethod = early present a x.reason h.first in
         let reason : y.reason ≡ x.reason =
-        one_reason a request y.reason x.reason (same_first y.reason k.first) h.first in
+        one_reason present a request y.reason x.reason (same_first y.reason k.first) h.first in
         let mine : Stops a request x.reason x.status x.sends h.own =
         stops present a x.reason x.status x.sends h.own low h.gives in
         let other : GivesIf (is_admitted x.reason) later b request x.reason y.status y.sends k.own =

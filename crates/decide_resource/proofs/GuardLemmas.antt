@@ -1,22 +1,29 @@
 -- A method that is performed replaces what its request names, and conditions decide last.
 use Rattle.std.proofs.Common.{◌≡◌, ◌≢◌, ◌⊎◌, ◌<◌, ℕ, Bool, true, false, List, [], ◌∷◌, Option, Some, None, refl, sym}
 use Rattle.std.proofs.{Common.{◌∙◌, subst, inl, inr, arith, bytes_eq, lit<}, lemmas.Bool.{and_parts, both_ways}}
-use Rattle.std.{proofs.lemmas.{Bool.or_cases, Slice.Eq.bytes_eq-Decides}, specs.Prelude.{◌&&◌, ◌||◌, not, codes}}
+use Rattle.std.{proofs.lemmas.{Bool.{leb-true, ltb-false, ltb-true, or_cases}, Slice.Eq.bytes_eq-Decides}}
+use Rattle.std.specs.{Prelude.{◌+◌, ◌≤◌, ◌&&◌, ◌||◌, IfSome, IsSomeAnd, codes, if◌then◌else◌, nat_le, not, option_and_then}}
+use Rattle.{std.specs.Option.option_map_or, rfc_values.specs.Calendar.unix_epoch}
 use Rattle.headers.specs.{LineMap.{Field, LineMap}, Lines.Line, Typed.HasLine}
-use Rattle.decide_preconditions.specs.Preconditions.{Answers, AreIgnored, IsGetOrHead, IsUnconditional, StepsAnswer}
+use Rattle.decide_preconditions.specs.{Conditions.{dates, modified_of}, Preconditions.{Answers, AreIgnored}}
+use Rattle.decide_preconditions.specs.Preconditions.{HasIfMatch, IsGetOrHead, IsUnconditional, StepsAnswer}
 use Rattle.decide_preconditions.specs.{Tags.is_star, declared.resource.Resource.Resource as Target}
 use Rattle.decide_preconditions.specs.{declared.response.Response.Response, Responses.IsAnswered}
 use Rattle.decide_resource.specs.Answers.{GivesIf, IsAnswer, IsSelected, at_place, content_of, is_admitted, is_sent}
-use Rattle.decide_resource.specs.{Answers.{sent_for, target_of}, Applies.{applies, is_guarded, is_present, is_read}}
-use Rattle.decide_resource.specs.Applies.{is_unacceptable, needs_condition, rule, rule_for, takes_type}
-use Rattle.decide_resource.specs.{Guards.{ReplacesListed, ReplacesNamed, ReplacesNothing}, Reasons.{IsFirst, stage}}
+use Rattle.decide_resource.specs.{Answers.{sent_for, target_of}, Applies.{applies, date_selected, is_dated, is_guarded}}
+use Rattle.decide_resource.specs.Applies.{is_present, is_read, is_unacceptable, names_current, needs_condition, rule}
+use Rattle.decide_resource.specs.{Applies.{rule_for, takes_type}, Guards.{IsNamed, ReplacesDated, ReplacesListed}}
+use Rattle.decide_resource.specs.{Guards.{ReplacesNamed, ReplacesNothing}, Reasons.{IsFirst, stage}}
 use Rattle.decide_resource.specs.{Representations.score, Requests.{Request, unconditional}}
 use Rattle.decide_resource.specs.declared.{answer.{Answer.Answer, Sends.Sends}, reason.Reason.Reason}
 use Rattle.decide_resource.specs.declared.reason.Reason.TheVariants.{NotAcceptable, PreconditionRequired, Admitted}
-use Rattle.decide_resource.{specs.declared.resource.Resource.Resource, proofs.OneReasonLemmas.one_reason}
+use Rattle.decide_resource.specs.declared.representation.Representation.{Representation}
+use Rattle.decide_resource.specs.declared.resource.{Resource.Resource, State.State}
+use Rattle.decide_resource.proofs.{ChosenLemmas.date_at, OneReasonLemmas.one_reason}
 use Rattle.decide_preconditions.specs.declared.precondition.Precondition.TheVariants as precondition
 use Rattle.decide_preconditions.specs.declared.resource.Resource.TheVariants as target
 use Rattle.decide_resource.specs.declared.answer.Sends.TheVariants as sends
+use Rattle.decide_resource.specs.declared.resource.State.TheVariants as state
 
 -- ---- what a guard lets pass
 
@@ -24,10 +31,6 @@ use Rattle.decide_resource.specs.declared.answer.Sends.TheVariants as sends
 star_is_there : (lines : List Line) → is_star lines ≡ true → HasLine lines
 star_is_there [] e = absurd (cc e)
 star_is_there (line ∷ lines) e = omega arith
-
-present_is_there : (lines : List Line) → is_present lines ≡ true → HasLine lines
-present_is_there [] e = absurd (cc e)
-present_is_there (line ∷ lines) e = omega arith
 
 or_right : (a : Bool) → (a || true) ≡ true
 or_right true = refl
@@ -49,34 +52,59 @@ counted current method counts other (inl is) = counts is
 counted target.Missing method counts other (inr read) = other read
 counted (target.Current validators) method counts other (inr none) = none
 
-module _ (present : ℕ) (fields : LineMap) (method : List ℕ) (other : ¬ (IsGetOrHead method)) where
+-- a date that isn't later than that of the representation, and isn't earlier, is the same
+date_met : (both : Option (ℕ × ℕ)) → option_map_or (λ (d : ℕ × ℕ). nat_le d.0 (unix_epoch + d.1)) both false ≡ true
+    → IfSome both (λ d. unix_epoch + d.1 ≤ d.0) → IsSomeAnd both (λ d. d.0 ≡ unix_epoch + d.1)
+date_met None e lets = absurd (cc e)
+date_met (Some both) e lets = let low = leb-true both.0 (unix_epoch + both.1) e in omega (arith, low, lets)
+
+module _ (present : ℕ) (resource : Resource) (fields : LineMap) (method : List ℕ) (other : ¬ (IsGetOrHead method)) where
   -- `*` in If-None-Match lets a method pass only if nothing is there
   none_there : is_star (fields (codes "if-none-match")) ≡ true → (current : Target)
       → StepsAnswer present fields current method precondition.Perform → ReplacesNothing fields current
   none_there star target.Missing steps = (star, refl)
   none_there star (target.Current validators) steps = grind (arith, star_is_there, in_middle)
 
-  -- tags in If-Match let it pass only on a representation that has one of them
-  listed_there : is_present (fields (codes "if-match")) ≡ true → is_star (fields (codes "if-match")) ≡ false
-      → (current : Target) → StepsAnswer present fields current method precondition.Perform
-      → ReplacesListed fields current
-  listed_there some star current steps = (star, steps.0.0 (present_is_there (fields (codes "if-match")) some))
-
-  guarded_replaces : is_guarded fields ≡ true → (current : Target)
-      → StepsAnswer present fields current method precondition.Perform
-      → ReplacesNothing fields current ⊎ ReplacesListed fields current
-  guarded_replaces guarded current steps =
-      let match = fields (codes "if-match") in
-      elim (or_cases (is_present match && not (is_star match)) (is_star (fields (codes "if-none-match"))) guarded) [
-        | inl tags ↦
-            let parts = and_parts (is_present match) (not (is_star match)) tags in
-            inr (listed_there parts.0 (opposite (is_star match) parts.1) current steps)
-        | inr star ↦ inl (none_there star current steps)
-      ]
+  -- tags in If-Match let it pass only on a representation that has one of them, and a strong date on one with that date
+  current_there : (current : Target) → modified_of current ≡ date_selected resource fields
+      → names_current present resource fields ≡ true → StepsAnswer present fields current method precondition.Perform
+      → ReplacesListed fields current ⊎ ReplacesDated present resource fields current
+  current_there current dated named steps = by (is_present (fields (codes "if-match"))) refl named
     where
       opposite : (b : Bool) → not b ≡ true → b ≡ false
       opposite true e = absurd (cc e)
       opposite false e = refl
+
+      by : (b : Bool) → is_present (fields (codes "if-match")) ≡ b
+          → (if b then not (is_star (fields (codes "if-match"))) else resource.has_strong_dates
+          && is_dated present (fields (codes "if-unmodified-since")) (date_selected resource fields)) ≡ true
+          → ReplacesListed fields current ⊎ ReplacesDated present resource fields current
+      by true some tags = inl (opposite (is_star (fields (codes "if-match"))) tags, steps.0.0 (ltb-true 0 _ some))
+      by false none says =
+          let parts = and_parts resource.has_strong_dates _ says in
+          let absent : ¬ (HasIfMatch fields) = λ has. omega (arith, ltb-false 0 _ none, has) in
+          inr (
+            parts.0,
+            absent,
+            date_met (dates present (codes "if-unmodified-since") fields current)
+                (subst (λ (modified : Option ℕ). is_dated present (fields (codes "if-unmodified-since")) modified
+                ≡ true) (sym dated) parts.1) (steps.0.1 absent),
+          )
+
+  guarded_replaces : is_guarded present resource fields ≡ true → (current : Target)
+      → modified_of current ≡ date_selected resource fields
+      → StepsAnswer present fields current method precondition.Perform → IsNamed present resource fields current
+  guarded_replaces guarded current dated steps =
+      elim (or_cases (names_current present resource fields) (is_star (fields (codes "if-none-match"))) guarded) [
+        | inl named ↦ inr (current_there current dated named steps)
+        | inr star ↦ inl (none_there star current steps)
+      ]
+
+modified_at : (there : State) (found : Option Representation) → modified_of (target_of there found)
+    ≡ option_and_then (λ (r : Representation). r.validators.last_modified) found
+modified_at state.Current None = refl
+modified_at there None = refl
+modified_at there (Some found) = refl
 
 -- ---- a performed method has passed its preconditions
 
@@ -121,31 +149,35 @@ module _ (present : ℕ) (resource : Resource) (request : Request) where
   guarded_by false true false r n e = absurd (cc e)
 
   has_guard : (reason : Reason) → needs_condition (rule resource request) ≡ true → is_read request.method ≡ false
-      → is_admitted reason ≡ true → IsFirst (applies resource request) reason → is_guarded request.fields ≡ true
+      → is_admitted reason ≡ true → IsFirst (applies present resource request) reason
+      → is_guarded present resource request.fields ≡ true
   has_guard reason needs read admits first =
       let last : 14 < stage reason =
       subst (λ (r : Reason). 14 < stage r) (sym (only_admitted reason admits)) (lit< tt) in
-      guarded_by (is_read request.method) (needs_condition (rule resource request)) (is_guarded request.fields) read
-      needs (first.none_before PreconditionRequired last)
+      guarded_by (is_read request.method) (needs_condition (rule resource request))
+      (is_guarded present resource request.fields) read needs (first.none_before PreconditionRequired last)
 
   pub replaces_named : (answer : Answer) → needs_condition (rule resource request) ≡ true
       → is_read request.method ≡ false → ¬ (IsUnconditional request.method)
-      → IsAnswer present resource request answer → answer.sends ≡ sends.Perform → ReplacesNamed resource request
+      → IsAnswer present resource request answer → answer.sends ≡ sends.Perform
+      → ReplacesNamed present resource request
   replaces_named answer needs read counts is performs =
       let on = passes_if (is_admitted answer.reason) answer.reason refl answer.status answer.sends is.own is.gives
       performs in (
         on.place,
         on.selected,
-        guarded_replaces present request.fields request.method (no_read request.method read)
-            (has_guard answer.reason needs read on.admitted is.first) (target_at on.place) (on.passes.conditional
+        guarded_replaces present resource request.fields request.method (no_read request.method read)
+            (has_guard answer.reason needs read on.admitted is.first) (target_at on.place)
+            (modified_at resource.state (at_place resource.representations.items on.place)
+            ∙ date_at resource request.fields on.place on.selected) (on.passes.conditional
             (counted (target_at on.place) request.method counts (no_read request.method read))),
       )
 
 -- ---- conditions decide last
 
-module _ (resource : Resource) (request : Request) where
+module _ (present : ℕ) (resource : Resource) (request : Request) where
   same_without : (reason : Reason) → reason ≢ PreconditionRequired
-      → applies resource (unconditional request) reason ≡ applies resource request reason
+      → applies present resource (unconditional request) reason ≡ applies present resource request reason
   unfolding rule_for is_unacceptable takes_type score
   same_without PreconditionRequired other = absurd (other refl)
   same_without reason other = refl
@@ -156,11 +188,11 @@ module _ (resource : Resource) (request : Request) where
   early reason a p = lit< tt
 
   first_without : (reason : Reason) → reason ≢ Admitted → reason ≢ PreconditionRequired
-      → IsFirst (applies resource (unconditional request)) reason → IsFirst (applies resource request) reason
+      → IsFirst (applies present resource (unconditional request)) reason → IsFirst (applies present resource request) reason
   first_without reason a p first = grind (arith, same_without, reason, early)
 
-  pub conditions_last : (present : ℕ) (a b : Answer) → IsAnswer present resource request a
+  pub conditions_last : (a b : Answer) → IsAnswer present resource request a
       → IsAnswer present resource (unconditional request) b → b.reason ≢ Admitted → b.reason ≢ PreconditionRequired
       → a.reason ≡ b.reason
-  conditions_last present a b h k admits asks =
-      one_reason resource request a.reason b.reason h.first (first_without b.reason admits asks k.first)
+  conditions_last a b h k admits asks =
+      one_reason present resource request a.reason b.reason h.first (first_without b.reason admits asks k.first)

@@ -10,11 +10,12 @@ use Rattle.decide_resource.specs.{Applies.{is_unacceptable, rule_for, takes_type
 use Rattle.decide_resource.specs.{Representations.score, Requests.{Request, get_of, head_of}}
 use Rattle.decide_resource.specs.declared.{answer.{Answer.Answer, Sends.Sends}, reason.Reason.Reason}
 use Rattle.decide_resource.specs.declared.{representation.Representation.Representation, resource.Resource.Resource}
-use Rattle.decide_resource.{specs.declared.resource.State.State, proofs.PickLemmas.{first_alike, picks_alike}}
+use Rattle.decide_resource.specs.declared.resource.State.{State}
+use Rattle.decide_resource.proofs.{ChosenLemmas.same_selected, PickLemmas.first_alike}
 use Rattle.decide_cors.specs.declared.kind.CorsKind.TheVariants as kinds
 use Rattle.decide_resource.specs.declared.resource.State.TheVariants as states
 
-module _ (resource : Resource) (request : Request) where
+module _ (present : ℕ) (resource : Resource) (request : Request) where
   abbrev missing_by : State → List ℕ → Bool
   missing_by state method =
       is_missing state resource.rules.items (rule_for resource.rules.items method) method
@@ -24,7 +25,8 @@ module _ (resource : Resource) (request : Request) where
   missing_alike states.Current = refl
   missing_alike state = refl
 
-  apply_alike : (reason : Reason) → applies resource (get_of request) reason ≡ applies resource (head_of request) reason
+  apply_alike : (reason : Reason)
+      → applies present resource (get_of request) reason ≡ applies present resource (head_of request) reason
   unfolding rule_for is_unacceptable takes_type score
   apply_alike Reason.NotFound = missing_alike resource.state
   apply_alike reason = refl
@@ -42,14 +44,14 @@ module _ (resource : Resource) (request : Request) where
 
   selected_alike : (place : Option ℕ) → IsSelected resource (get_of request).fields place
       → IsSelected resource (head_of request).fields place
-  selected_alike place h = grind (arith, picks_alike, resource, score_alike)
+  selected_alike = same_selected resource (get_of request).fields (head_of request).fields score_alike
 
-  answered_alike : (present : ℕ) (target : Target) (content : Content) (multipart : FieldValue)
+  answered_alike : (target : Target) (content : Content) (multipart : FieldValue)
       (response : Option Response)
       → IsAnswered present (codes "GET") (get_of request).fields target content multipart response
       → IsAnswered present (codes "HEAD") (head_of request).fields target content multipart response
-  answered_alike present target content multipart None h = grind (arith, head_as_get, content)
-  answered_alike present target content multipart (Some response) h = grind (arith, head_as_get, content, response)
+  answered_alike target content multipart None h = grind (arith, head_as_get, content)
+  answered_alike target content multipart (Some response) h = grind (arith, head_as_get, content, response)
 
   fields_alike : (representation : Option Representation) (response : Option Response)
       → response_fields (get_of request).fields representation response
@@ -59,12 +61,12 @@ module _ (resource : Resource) (request : Request) where
   fields_alike (Some representation) None = refl
   fields_alike (Some representation) (Some response) = refl
 
-  gives_alike : (present : ℕ) (b : Bool) (reason : Reason) (status : Option ℕ) (sent : Sends) (fields : List Field)
+  gives_alike : (b : Bool) (reason : Reason) (status : Option ℕ) (sent : Sends) (fields : List Field)
       → GivesIf b present resource (get_of request) reason status sent fields
       → GivesIf b present resource (head_of request) reason status sent fields
-  gives_alike present true reason status sent fields h =
+  gives_alike true reason status sent fields h =
       grind (arith, resource, selected_alike, answered_alike, fields_alike)
-  gives_alike present false reason status sent fields h = grind (arith, reason_alike, reason)
+  gives_alike false reason status sent fields h = grind (arith, reason_alike, reason)
 
   kind_alike : (kind : CorsKind) → IsKindOf (codes "GET") (get_of request).fields kind
       → IsKindOf (codes "HEAD") (head_of request).fields kind
@@ -78,7 +80,7 @@ module _ (resource : Resource) (request : Request) where
   shared_alike (Some policy) lines fields h =
       (h.0, record { kind = kind_alike h.0.kind h.1.kind; allowed = h.1.allowed; fields = h.1.fields }, h.2)
 
-  pub answer_of_get : (present : ℕ) (answer : Answer) → IsAnswer present resource (get_of request) answer
+  pub answer_of_get : (answer : Answer) → IsAnswer present resource (get_of request) answer
       → IsAnswer present resource (head_of request) answer
-  answer_of_get present answer h =
+  answer_of_get answer h =
       grind (arith, first_alike, applies, resource, apply_alike, gives_alike, shared_alike)

@@ -17,15 +17,17 @@ module _ (now : ℕ) (resource : Resource) (v w : Vec Representation) (e : v.ite
   unfolding is_unacceptable
   unacceptable = grind (arith, resource, nat_lt)
 
-  same_test : (reason : Reason) → applies first request reason ≡ applies second request reason
+  same_test : (reason : Reason) → applies now first request reason ≡ applies now second request reason
   same_test Reason.NotAcceptable = unacceptable
+  same_test Reason.PreconditionRequired = rw e refl
   same_test reason = refl
 
   same_fields : (reason : Reason) → reason_fields first request reason ≡ reason_fields second request reason
   same_fields Reason.NotAcceptable = refl
   same_fields reason = refl
 
-  same_first : (reason : Reason) → IsFirst (applies first request) reason → IsFirst (applies second request) reason
+  same_first : (reason : Reason) → IsFirst (applies now first request) reason
+      → IsFirst (applies now second request) reason
   same_first reason h = grind (arith, same_test, reason)
 
   same_selected : (fields : LineMap) (place : Option ℕ) → IsSelected first fields place → IsSelected second fields place

@@ -1,5 +1,6 @@
 mod AllowLemmas
 pub mod AnswerLemmas
+mod ChosenLemmas
 mod ConditionLemmas
 mod DeniedLemmas
 mod GuardLemmas

@@ -1,7 +1,7 @@
 -- What a resource answers depends on the members of Accept, Accept-Language and Accept-Encoding, and not on the field
 -- lines in which they are.
 use Rattle.std.proofs.Common.{◌≡◌, ◌↔◌, ℕ, Bool, true, false, List, [], ◌∷◌, Option, Some, None, refl, sym, ◌∙◌, ap}
-use Rattle.std.{proofs.Common.{inl, inr, arith, bytes_eq}, specs.Prelude.{◌&&◌, codes, if◌then◌else◌, length, nat_lt}}
+use Rattle.std.{proofs.Common.{inl, inr, arith, bytes_eq}, specs.Prelude.{◌&&◌, codes, if◌then◌else◌, length, nat_lt, not}}
 use Rattle.{headers.specs.{LineMap.{Field, LineMap}, Lines.Line}, decide_cors.specs.Answer.IsAnswer as IsPolicyAnswer}
 use Rattle.decide_cors.specs.{Kinds.IsKindOf, Policy.Policy, declared.kind.CorsKind.CorsKind}
 use Rattle.{decide_cors.specs.declared.policy.CorsAnswer.CorsAnswer, rfc_fields.specs.Scan.Member}
@@ -9,14 +9,14 @@ use Rattle.decide_negotiation.specs.declared.acceptability.Quality.{Quality}
 use Rattle.{decide_preconditions.specs.declared.response.Response.Response, decide_resource.specs.Answers.GivesIf}
 use Rattle.decide_resource.specs.Answers.{IsAnswer, IsShared, at_place, content_of, is_admitted, response_fields}
 use Rattle.decide_resource.specs.{Answers.{target_of, varying}, Applies.{applies, is_current, is_read, is_unacceptable}}
-use Rattle.decide_resource.specs.{Applies.takes_type, Fields.{reason_fields, vary_lines}}
+use Rattle.decide_resource.specs.{Applies.{needs_condition, rule, takes_type}, Fields.{reason_fields, vary_lines}}
 use Rattle.decide_resource.specs.{Representations.{are_unacceptable, rank_by, score}, Requests.Request, Vary.AreAlike}
 use Rattle.decide_resource.specs.{Vary.{AskAlike, ChooseAlike, ListAlike, SelectTheSame}, declared.answer.Answer.Answer}
 use Rattle.decide_resource.specs.declared.{answer.Sends.Sends, reason.Reason.Reason}
 use Rattle.decide_resource.specs.declared.representation.{Negotiation.Negotiation, Representation.Representation}
 use Rattle.decide_resource.{specs.declared.resource.Resource.Resource, proofs.OtherFieldLemmas.alike_back}
-use Rattle.decide_resource.proofs.{OtherFieldLemmas.other_fields, PickLemmas.{first_alike, picks_alike}}
-use Rattle.decide_resource.proofs.SamePlanLemmas.{answered}
+use Rattle.decide_resource.proofs.{ChosenLemmas.{same_guard, same_selected}, OtherFieldLemmas.other_fields}
+use Rattle.decide_resource.proofs.{PickLemmas.first_alike, SamePlanLemmas.answered}
 
 rank_same : (gives : List Member → List ℕ → Quality) (used : Bool) (lines others : List Line) (offer : Option Line)
     → ListAlike lines others → rank_by gives used lines offer ≡ rank_by gives used others offer
@@ -76,9 +76,12 @@ module _ (request : Request) (accept language coding : List Line)
         ap (λ (b : Bool). is_read request.method && (is_current resource.state && (n.is_strict
         && (nat_lt 0 (length xs) && b)))) (unacceptable_same n xs)
 
-    same_reason : (reason : Reason) → applies resource request reason ≡ applies resource chooser reason
+    same_reason : (reason : Reason) → applies present resource request reason ≡ applies present resource chooser reason
     unfolding takes_type
     same_reason Reason.NotAcceptable = unaccepted
+    same_reason Reason.PreconditionRequired =
+        ap (λ (b : Bool). not (is_read request.method) && (needs_condition (rule resource request) && not b))
+        (same_guard resource r s (score_same resource.negotiation) present asks)
     same_reason reason = refl
 
     same_fields : (reason : Reason) → reason_fields resource request reason ≡ reason_fields resource chooser reason
@@ -97,15 +100,7 @@ module _ (request : Request) (accept language coding : List Line)
         let rep = at_place resource.representations.items h.place in
         record {
           place = h.place;
-          selected =
-              record {
-                choice = h.selected.choice;
-                picks =
-                    picks_alike (score resource.negotiation r) (score resource.negotiation s)
-                    (score_same resource.negotiation) resource.representations.items h.selected.choice
-                    h.selected.picks;
-                is = h.selected.is;
-              };
+          selected = same_selected resource r s (score_same resource.negotiation) h.place h.selected;
           goes =
               record {
                 response = h.goes.response;
@@ -138,7 +133,9 @@ module _ (request : Request) (accept language coding : List Line)
     chosen : (a : Answer) → IsAnswer present resource request a → IsAnswer present resource chooser a
     chosen a h =
         record {
-          first = first_alike (applies resource request) (applies resource chooser) same_reason a.reason h.first;
+          first =
+              first_alike (applies present resource request) (applies present resource chooser) same_reason a.reason
+              h.first;
           own = h.own;
           gives = gives (is_admitted a.reason) a.reason a.status a.sends h.own h.gives;
           shared = h.shared;

@@ -115,16 +115,18 @@ unsized_or_long b (Some limit) sent.Unsized h k = cc k
 unsized_or_long true (Some limit) (sent.Sized len) h k = cc h
 unsized_or_long false (Some limit) (sent.Sized len) h k = cc h
 
-pub exclusive : (resource : Resource) (request : Request) → AreExclusive (applies resource request)
-exclusive resource request =
+pub exclusive : (present : ℕ) (resource : Resource) (request : Request)
+    → AreExclusive (applies present resource request)
+exclusive present resource request =
     grind (arith, moved_or_gone, resource, moved_or_missing, gone_or_missing, unsized_or_long, request)
 
-pub some_reason : (resource : Resource) (request : Request)
-    → (reason : Reason) × IsFirst (applies resource request) reason
-some_reason resource request =
-    let p = applies resource request in
+pub some_reason : (present : ℕ) (resource : Resource) (request : Request)
+    → (reason : Reason) × IsFirst (applies present resource request) reason
+some_reason present resource request =
+    let p = applies present resource request in
     (or_admitted (find p in_order), first_in_order p refl (find p in_order) refl)
 
-pub one_reason : (resource : Resource) (request : Request) (a b : Reason) → IsFirst (applies resource request) a
-    → IsFirst (applies resource request) b → a ≡ b
-one_reason resource request a b h k = one_first (applies resource request) (exclusive resource request) a b h k
+pub one_reason : (present : ℕ) (resource : Resource) (request : Request) (a b : Reason)
+    → IsFirst (applies present resource request) a → IsFirst (applies present resource request) b → a ≡ b
+one_reason present resource request =
+    one_first (applies present resource request) (exclusive present resource request)

@@ -55,10 +55,10 @@ transferred present resource r s a alike same h =
       coding = λ e. same.accept_encoding;
     } in
     record {
-      first = same_first resource r s alike leave a.reason (λ e. select) h.first;
+      first = same_first present resource r s alike leave a.reason (λ e. select) h.first;
       own = h.own;
       gives =
-          gives_alike resource r s alike leave present (is_admitted a.reason) a.reason a.status a.sends h.own
+          gives_alike present resource r s alike leave (is_admitted a.reason) a.reason a.status a.sends h.own
           (λ e. select) h.gives;
       shared = h.shared;
       is_shared =

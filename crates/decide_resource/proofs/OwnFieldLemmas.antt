@@ -96,7 +96,7 @@ module _ (present : ℕ) (resource : Resource) (request : Request) (answer : Ans
 
   -- where there is a policy, the reason applies
   asks_leave : (policy : Policy) → resource.cors ≡ Some policy → (sent : Sent)
-      → IsPreflightFor sent request.method request.fields → applies resource request Preflight ≡ true
+      → IsPreflightFor sent request.method request.fields → applies present resource request Preflight ≡ true
   asks_leave policy has sent asks = grind (arith, is_some)
 
   only_preflight : (reason : Reason) → stage reason ≡ 2 → reason ≡ Preflight
@@ -119,16 +119,17 @@ module _ (present : ℕ) (resource : Resource) (request : Request) (answer : Ans
             elim apart [
               | inl low ↦ inl low
               | inr high ↦
-                  let none : applies resource request Preflight ≡ false = a.first.none_before Preflight high in
+                  let none : applies present resource request Preflight ≡ false = a.first.none_before Preflight high in
                   absurd (cc (none, asks_leave policy has sent asks))
             ]
       ]
 
 -- ---- methods that are listed
 
-listed_applies : (resource : Resource) (request : Request) (answer : Answer) (reason : Reason)
-    → IsFirst (applies resource request) answer.reason → answer.reason ≡ reason → applies resource request reason ≡ true
-listed_applies resource request answer reason first same = grind (arith, applies, resource, same)
+listed_applies : (present : ℕ) (resource : Resource) (request : Request) (answer : Answer) (reason : Reason)
+    → IsFirst (applies present resource request) answer.reason → answer.reason ≡ reason
+    → applies present resource request reason ≡ true
+listed_applies present resource request answer reason first same = grind (arith, applies, resource, same)
 
 not_either : (b c : Bool) → not (b || c) ≡ true → c ≡ true → ⊥
 not_either true c e f = cc e
@@ -139,12 +140,12 @@ pub listed_is_had : (present : ℕ) (resource : Resource) (request : Request) (a
     → IsAnswer present resource request answer → Contains (methods resource.rules.items) request.method
     → (answer.reason ≢ MethodNotAllowed) × (answer.reason ≢ UnknownMethod)
 listed_is_had present resource request answer a listed =
-    let had : applies resource request MethodNotAllowed ≡ false =
+    let had : applies present resource request MethodNotAllowed ≡ false =
     (allow_is_exact resource.rules.items request.method).0 listed in (
       λ same.
-          let refused = listed_applies resource request answer MethodNotAllowed a.first same in
+          let refused = listed_applies present resource request answer MethodNotAllowed a.first same in
           cc (had, refused),
-      λ same. not_either _ _ (listed_applies resource request answer UnknownMethod a.first same)
+      λ same. not_either _ _ (listed_applies present resource request answer UnknownMethod a.first same)
           ((allow_lists resource.rules.items request.method).0 listed),
     )
 
@@ -161,16 +162,16 @@ unlisted_is_refused present resource request answer a unlisted = (
         ]
   ],
   λ same.
-      let leave = and_parts _ _ (listed_applies resource request answer Preflight a.first same) in
+      let leave = and_parts _ _ (listed_applies present resource request answer Preflight a.first same) in
       let options = and_parts (bytes_eq request.method (codes "OPTIONS")) _ leave.1 in
       unlisted ((allow_lists resource.rules.items request.method).1
       (ap (λ (b : Bool). b || is_some (rule_for resource.rules.items request.method)) options.0)),
 )
   where
-    refused : applies resource request MethodNotAllowed ≡ true
-    refused = by (applies resource request MethodNotAllowed) refl
+    refused : applies present resource request MethodNotAllowed ≡ true
+    refused = by (applies present resource request MethodNotAllowed) refl
       where
-        by : (b : Bool) → applies resource request MethodNotAllowed ≡ b → b ≡ true
+        by : (b : Bool) → applies present resource request MethodNotAllowed ≡ b → b ≡ true
         by true e = refl
         by false e = absurd (unlisted ((allow_is_exact resource.rules.items request.method).1 e))
 
@@ -191,7 +192,7 @@ implemented_not_allowed present resource request answer a same =
     let before : Before UnknownMethod answer.reason =
     subst (λ (r : Reason). Before UnknownMethod r) (sym same) (lit< tt) in
     first_of_two _ _ (a.first.none_before UnknownMethod before)
-    (listed_applies resource request answer MethodNotAllowed a.first same)
+    (listed_applies present resource request answer MethodNotAllowed a.first same)
 
 pub unknown_not_implemented : (present : ℕ) (resource : Resource) (request : Request) (answer : Answer)
     → IsAnswer present resource request answer → answer.reason ≡ UnknownMethod

@@ -9,8 +9,9 @@ use Rattle.decide_cors.specs.{Fields.{covers_origin, grant_fields, granted, vary
 use Rattle.decide_cors.proofs.{SameLemmas.{never_pre, same_by}, VaryLemmas.{nominates-behind, origin_tells}}
 use Rattle.decide_resource.specs.Answers.{AreSame, GivesIf, IsAnswer, IsShared, at_place, content_of, is_admitted}
 use Rattle.decide_resource.specs.{Answers.{response_fields, target_of}, Applies.{applies, is_current}}
-use Rattle.decide_resource.specs.Applies.{is_preflight_request, is_present, is_read, is_unacceptable, rule_for}
-use Rattle.decide_resource.specs.{Applies.{is_unsupported_part, takes_parts, takes_type}, Fields.depends_on_selection}
+use Rattle.decide_resource.specs.Applies.{is_guarded, is_preflight_request, is_present, is_read, is_unacceptable}
+use Rattle.decide_resource.specs.Applies.{is_unsupported_part, needs_condition, rule, rule_for, takes_parts, takes_type}
+use Rattle.decide_resource.specs.Fields.{depends_on_selection}
 use Rattle.decide_resource.specs.Fields.{describes, line_if, metadata_fields, reason_fields, selecting, status_of}
 use Rattle.decide_resource.specs.{Fields.{vary_fields, vary_lines}, Reasons.{IsFirst, stage}}
 use Rattle.decide_resource.specs.{Representations.{are_unacceptable, score}, Requests.Request, Vary.AreAlike}
@@ -22,8 +23,9 @@ use Rattle.decide_resource.specs.declared.reason.Reason.TheVariants.{Preconditio
 use Rattle.decide_resource.specs.declared.{denied.Denied.Denied as Denial, representation.Negotiation.Negotiation}
 use Rattle.decide_resource.specs.declared.representation.Representation.{Representation}
 use Rattle.decide_resource.specs.declared.{request.RequestContent.RequestContent, resource.Resource.Resource}
-use Rattle.decide_resource.proofs.{AnswerLemmas.gives_same, OneReasonLemmas.one_reason, PickLemmas.first_alike}
-use Rattle.decide_resource.proofs.{PickLemmas.picks_alike, SamePlanLemmas.answered, SelectionLemmas.SelectAlike}
+use Rattle.decide_resource.proofs.{AnswerLemmas.gives_same, ChosenLemmas.{same_guard, same_selected}}
+use Rattle.decide_resource.proofs.{OneReasonLemmas.one_reason, PickLemmas.first_alike, SamePlanLemmas.answered}
+use Rattle.decide_resource.proofs.SelectionLemmas.{SelectAlike}
 use Rattle.decide_resource.proofs.{SelectionLemmas.{score_alike, unacceptable_alike}, SharedLemmas.set_all-append}
 use Rattle.decide_preconditions.specs.{Responses.IsAnswered, declared.response.Response.Response}
 
@@ -176,31 +178,29 @@ module _ (present : ℕ) (resource : Resource) (request : Request) (answer : Ans
 
 -- ---- what depends on the other fields alone
 
-abbrev fields_with : List Line → List Line → List Line → List Line → List Line → List Line → LineMap
-fields_with host expect type coding match none_match name =
+abbrev fields_with : List Line → List Line → List Line → List Line → LineMap
+fields_with host expect type coding name =
     if bytes_eq (codes "host") name then host else (if bytes_eq (codes "expect") name then expect
     else (if bytes_eq (codes "content-type") name then type
-    else (if bytes_eq (codes "content-encoding") name then coding else (if bytes_eq (codes "if-match") name then match
-    else (if bytes_eq (codes "if-none-match") name then none_match else [])))))
+    else (if bytes_eq (codes "content-encoding") name then coding else [])))
 
--- a request of what the reasons read, but for 406 and for a part that PUT doesn't take
+-- a request of what the reasons read, but for those after the selection and for a part that PUT doesn't take
 built : Protocol → List ℕ → Option Line → RequestContent → Option Denial → List Line → List Line → List Line
-    → List Line → List Line → List Line → Request
-built protocol method authority content denied host expect type coding match none_match =
+    → List Line → Request
+built protocol method authority content denied host expect type coding =
     record {
       protocol = protocol;
       method = method;
       authority = authority;
       content = content;
-      fields = fields_with host expect type coding match none_match;
+      fields = fields_with host expect type coding;
       denied = denied;
     }
 
 abbrev read_of : Request → Request
 read_of q =
     built q.protocol q.method q.authority q.content q.denied (q.fields (codes "host")) (q.fields (codes "expect"))
-    (q.fields (codes "content-type")) (q.fields (codes "content-encoding")) (q.fields (codes "if-match"))
-    (q.fields (codes "if-none-match"))
+    (q.fields (codes "content-type")) (q.fields (codes "content-encoding"))
 
 same_read : (r s : Request) → AreAlike r s → read_of r ≡ read_of s
 same_read r s h = grind (arith)
@@ -215,8 +215,11 @@ admitted_depends : (reason : Reason) → is_admitted reason ≡ true → depends
 admitted_depends Admitted e = refl
 admitted_depends reason e = absurd (cc e)
 
-other_than : (reason : Reason) → stage reason < 13 → reason ≢ NotAcceptable
-other_than reason low e = let level : stage reason ≡ 13 = ap stage e in omega (arith, low, level)
+before_selection : (reason : Reason) → stage reason < 13 → depends_on_selection reason ≡ false
+before_selection NotAcceptable low = absurd (omega (arith, low))
+before_selection PreconditionRequired low = absurd (omega (arith, low))
+before_selection Admitted low = absurd (omega (arith, low))
+before_selection reason low = refl
 
 no_preflight : (m : List ℕ) (fields : LineMap) → m ≢ codes "OPTIONS" → is_preflight_request m fields ≡ false
 no_preflight m fields other = by (bytes_eq m (codes "OPTIONS")) refl
@@ -227,7 +230,7 @@ no_preflight m fields other = by (bytes_eq m (codes "OPTIONS")) refl
     by true e = absurd (other ((bytes_eq-Decides m (codes "OPTIONS")).0 e))
     by false e = refl
 
-module _ (resource : Resource) (r s : Request) (alike : AreAlike r s)
+module _ (present : ℕ) (resource : Resource) (r s : Request) (alike : AreAlike r s)
     (leave : is_preflight_request r.method r.fields ≡ is_preflight_request s.method s.fields) where
   -- only of PUT does Content-Range count
   same_part : (m : List ℕ) → (m ≡ codes "PUT" → r.fields (codes "content-range") ≡ s.fields (codes "content-range"))
@@ -243,15 +246,17 @@ module _ (resource : Resource) (r s : Request) (alike : AreAlike r s)
       by true e = ap rest (same ((bytes_eq-Decides m (codes "PUT")).0 e))
       by false e = refl
 
-  same_reason : (reason : Reason) → reason ≢ NotAcceptable → applies resource r reason ≡ applies resource s reason
+  same_reason : (reason : Reason) → depends_on_selection reason ≡ false
+      → applies present resource r reason ≡ applies present resource s reason
   unfolding built rule_for takes_type
-  same_reason Preflight other = ap (λ (b : Bool). is_some resource.cors && b) leave
-  same_reason PartialContent other = grind (arith, same_part, resource)
-  same_reason Moved other = refl
-  same_reason Gone other = refl
-  same_reason NotAcceptable other = absurd (other refl)
-  same_reason Admitted other = refl
-  same_reason reason other = ap (λ (q : Request). applies resource q reason) (same_read r s alike)
+  same_reason Preflight early = ap (λ (b : Bool). is_some resource.cors && b) leave
+  same_reason PartialContent early = grind (arith, same_part, resource)
+  same_reason Moved early = refl
+  same_reason Gone early = refl
+  same_reason NotAcceptable early = absurd (cc early)
+  same_reason PreconditionRequired early = absurd (cc early)
+  same_reason Admitted early = refl
+  same_reason reason early = ap (λ (q : Request). applies present resource q reason) (same_read r s alike)
 
   same_fields : (reason : Reason) → reason_fields resource r reason ≡ reason_fields resource s reason
   unfolding built rule_for
@@ -271,9 +276,18 @@ module _ (resource : Resource) (r s : Request) (alike : AreAlike r s)
         ap (λ (m : List ℕ). is_read m && there (are_unacceptable n r.fields xs)) alike.method
         ∙ ap (λ (b : Bool). is_read s.method && there b) (unacceptable_alike n r.fields s.fields select xs)
 
-    all_reasons : (reason : Reason) → applies resource r reason ≡ applies resource s reason
+    scores : (x : Representation) → score resource.negotiation r.fields x ≡ score resource.negotiation s.fields x
+    scores = score_alike resource.negotiation r.fields s.fields select
+
+    all_reasons : (reason : Reason) → applies present resource r reason ≡ applies present resource s reason
     all_reasons NotAcceptable = unacceptable_same
-    all_reasons reason = same_reason reason (λ e. absurd (cc e))
+    all_reasons PreconditionRequired =
+        ap (λ (m : List ℕ). not (is_read m) && (needs_condition (rule_for resource.rules.items m)
+        && not (is_guarded present resource r.fields))) alike.method
+        ∙ ap (λ (b : Bool). not (is_read s.method) && (needs_condition (rule resource s) && not b))
+        (same_guard resource r.fields s.fields scores present alike.asks)
+    all_reasons Admitted = refl
+    all_reasons reason = same_reason reason refl
 
     known : (rep : Option Representation) (response : Option Response)
         → response_fields r.fields rep response ≡ response_fields s.fields rep response
@@ -285,14 +299,25 @@ module _ (resource : Resource) (r s : Request) (alike : AreAlike r s)
 
   pub same_first : (reason : Reason)
       → (depends_on_selection reason ≡ true → SelectAlike resource.negotiation r.fields s.fields)
-      → IsFirst (applies resource r) reason → IsFirst (applies resource s) reason
+      → IsFirst (applies present resource r) reason → IsFirst (applies present resource s) reason
   same_first reason select h =
-      grind (arith, cases_Bool, reason, first_alike, applies, resource, all_reasons, early, same_reason, other_than)
+      grind (
+        arith,
+        cases_Bool,
+        reason,
+        first_alike,
+        applies,
+        resource,
+        all_reasons,
+        early,
+        same_reason,
+        before_selection,
+      )
 
-  pub gives_alike : (present : ℕ) (b : Bool) (reason : Reason) (status : Option ℕ) (sent : Sends) (fields : List Field)
+  pub gives_alike : (b : Bool) (reason : Reason) (status : Option ℕ) (sent : Sends) (fields : List Field)
       → (b ≡ true → SelectAlike resource.negotiation r.fields s.fields)
       → GivesIf b present resource r reason status sent fields → GivesIf b present resource s reason status sent fields
-  gives_alike present true reason status sent fields select h =
+  gives_alike true reason status sent fields select h =
       let rep = at_place resource.representations.items h.place in
       let target = target_of resource.state rep in
       let alike_select = select refl in
@@ -301,15 +326,7 @@ module _ (resource : Resource) (r s : Request) (alike : AreAlike r s)
       alike.method h.goes.answered in
       record {
         place = h.place;
-        selected =
-            record {
-              choice = h.selected.choice;
-              picks =
-                  picks_alike (score resource.negotiation r.fields) (score resource.negotiation s.fields)
-                  (score_alike resource.negotiation r.fields s.fields alike_select) resource.representations.items
-                  h.selected.choice h.selected.picks;
-              is = h.selected.is;
-            };
+        selected = same_selected resource r.fields s.fields (scores alike_select) h.place h.selected;
         goes =
             record {
               response = h.goes.response;
@@ -321,7 +338,7 @@ module _ (resource : Resource) (r s : Request) (alike : AreAlike r s)
               has_fields = h.goes.has_fields ∙ known alike_select rep h.goes.response;
             };
       }
-  gives_alike present false reason status sent fields select h =
+  gives_alike false reason status sent fields select h =
       record {
         has_status =
             h.has_status ∙ ap (λ (why : Option Denial). Some (status_of resource.state why reason)) alike.denied;
@@ -343,9 +360,10 @@ vary_is_sound present resource r s a b before h k alike other v =
     let leave : is_preflight_request r.method r.fields ≡ is_preflight_request s.method s.fields =
     no_preflight r.method r.fields other ∙ sym (no_preflight s.method s.fields (λ e. other (alike.method ∙ e))) in
     let reason : b.reason ≡ a.reason =
-    one_reason resource s b.reason a.reason k.first (same_first resource r s alike leave a.reason select h.first) in
+    one_reason present resource s b.reason a.reason k.first
+    (same_first present resource r s alike leave a.reason select h.first) in
     let mine : GivesIf (is_admitted a.reason) present resource s a.reason a.status a.sends h.own =
-    gives_alike resource r s alike leave present (is_admitted a.reason) a.reason a.status a.sends h.own
+    gives_alike present resource r s alike leave (is_admitted a.reason) a.reason a.status a.sends h.own
     (λ e. select (admitted_depends a.reason e)) h.gives in
     let theirs : GivesIf (is_admitted a.reason) present resource s a.reason b.status b.sends k.own =
     subst (λ (q : Reason). GivesIf (is_admitted q) present resource s q b.status b.sends k.own) reason k.gives in
@@ -354,7 +372,7 @@ vary_is_sound present resource r s a b before h k alike other v =
     let shares : IsShared resource.cors s (vary_lines resource a.reason) k.shared =
     subst (λ (q : Reason). IsShared resource.cors s (vary_lines resource q) k.shared) reason k.is_shared in
     let shared : h.shared ≡ k.shared =
-    shared_alike resource r s alike leave resource.cors (vary_lines resource a.reason) h.shared k.shared
+    shared_alike present resource r s alike leave resource.cors (vary_lines resource a.reason) h.shared k.shared
     (grants present resource r a h before r.fields s.fields v) other h.is_shared shares in
     record {
       reason = sym reason;

@@ -143,7 +143,7 @@ IsShared (Some policy) request lines fields =
 
 -- The answer has the first reason that applies, and what it gives; then Vary, and what the policy says.
 pub record IsAnswer (present : ℕ) (resource : Resource) (request : Request) (answer : Answer) : Type 0 where
-  pub first : IsFirst (applies resource request) answer.reason
+  pub first : IsFirst (applies present resource request) answer.reason
   pub own : List Field
   pub gives : Gives present resource request answer.reason answer.status answer.sends own
   pub shared : List Field

@@ -1,13 +1,15 @@
 -- When a reason applies to a request (RFC 9110).
-use Rattle.std.specs.Prelude.{ℕ, ◌==◌, Bool, true, false, not, ◌&&◌, ◌||◌, List, [], ◌∷◌, ◌++◌, Option, Some, None}
-use Rattle.std.specs.Prelude.{bytes_eq, codes, drop, find, flat_map, is_some, length, nat_le, nat_lt, take}
-use Rattle.std.specs.{Prelude.if◌then◌else◌, Char.is_ascii_digit, List.{list_all, list_any}, Option.option_map_or}
-use Rattle.{http_header.specs.FieldValue.FieldValue, headers.specs.{LineMap.{LineMap, lines_at}, Lines.Line}}
+use Rattle.std.specs.Prelude.{ℕ, ◌+◌, ◌==◌, Bool, true, false, not, ◌&&◌, ◌||◌, List, [], ◌∷◌, ◌++◌, Option, Some, None}
+use Rattle.std.specs.Prelude.{bytes_eq, codes, drop, find, flat_map, is_some, length, nat_le, nat_lt, option_and_then}
+use Rattle.std.specs.{Prelude.{if◌then◌else◌, take}, Char.is_ascii_digit, List.{list_all, list_any}}
+use Rattle.{std.specs.Option.{option_map_or, option_zip}, http_header.specs.FieldValue.FieldValue}
+use Rattle.{rfc_values.specs.Calendar.unix_epoch, headers.specs.{LineMap.{LineMap, lines_at}, Lines.Line}}
 use Rattle.{headers.specs.Lines.only_line, gateway_messages.specs.Expectations.has_known_expectation}
 use Rattle.{gateway_messages.specs.Requests.has_host, decide_negotiation.specs.Codings.encoding_quality}
 use Rattle.decide_negotiation.specs.{MediaRanges.media_type_says, Qualities.{quality_by, quality_in, rank}}
-use Rattle.{decide_preconditions.specs.Tags.is_star, headers_syntax.specs.AsciiCase.same_name}
-use Rattle.decide_resource.specs.{Representations.are_unacceptable, Requests.Request, declared.reason.Reason.Reason}
+use Rattle.{decide_preconditions.specs.{Conditions.date_in, Tags.is_star}, headers_syntax.specs.AsciiCase.same_name}
+use Rattle.decide_resource.specs.{Representations.{are_unacceptable, first_preferred, score}, Requests.Request}
+use Rattle.decide_resource.specs.declared.{reason.Reason.Reason, representation.Representation.Representation}
 use Rattle.decide_resource.specs.declared.reason.Reason.TheVariants.{InvalidHost, Misdirected, Preflight, Denied}
 use Rattle.decide_resource.specs.declared.reason.Reason.TheVariants.{UnknownMethod, MethodNotAllowed, UnmetExpectation}
 use Rattle.decide_resource.specs.declared.reason.Reason.TheVariants.{PartialContent, Moved, Gone, NotFound, Options}
@@ -177,14 +179,36 @@ is_preflight_request method fields =
 
 -- ---- conditions (RFC 6585, section 3)
 
--- The request names what it may replace: by entity tags in If-Match, the representation that has one of them; by `*` in
--- If-None-Match, nothing. No other precondition does: `*` in If-Match is true of each representation, tags in
--- If-None-Match of each but theirs, and within a second a date in If-Unmodified-Since is true of what the client has
--- never seen (RFC 9110, sections 13.1 and 8.8.2.2).
-abbrev pub is_guarded : LineMap → Bool
-is_guarded fields =
-    (is_present (fields (codes "if-match")) && not (is_star (fields (codes "if-match"))))
-    || is_star (fields (codes "if-none-match"))
+-- the representation that a request selects, if there is a current one (RFC 9110, section 12.1)
+abbrev pub selected_of : Resource → LineMap → Option Representation
+selected_of resource fields =
+    if is_current resource.state
+    then first_preferred (score resource.negotiation fields) resource.representations.items else None
+
+-- when it was last modified, if that is known
+abbrev pub date_selected : Resource → LineMap → Option ℕ
+date_selected resource fields = option_and_then (λ r. r.validators.last_modified) (selected_of resource fields)
+
+-- If-Unmodified-Since is a date, and no later than that of the representation: a later one is true of states that its
+-- client has never seen.
+abbrev pub is_dated : ℕ → List Line → Option ℕ → Bool
+is_dated present lines modified =
+    option_map_or (λ both. nat_le both.0 (unix_epoch + both.1)) (option_zip (date_in present lines) modified) false
+
+-- The request names the representation that it may replace: by entity tags in If-Match, or without that field, which
+-- takes the place of the other (RFC 9110, section 13.1.4), by a strong date in If-Unmodified-Since.
+abbrev pub names_current : ℕ → Resource → LineMap → Bool
+names_current present resource fields =
+    if is_present (fields (codes "if-match")) then not (is_star (fields (codes "if-match")))
+    else resource.has_strong_dates
+    && is_dated present (fields (codes "if-unmodified-since")) (date_selected resource fields)
+
+-- The request names what it may replace: a representation, or by `*` in If-None-Match, nothing. No other precondition
+-- does: `*` in If-Match is true of each representation, tags in If-None-Match of each but theirs, and a weak date of two
+-- states within a second (RFC 9110, sections 13.1 and 8.8.2.2).
+abbrev pub is_guarded : ℕ → Resource → LineMap → Bool
+is_guarded present resource fields =
+    names_current present resource fields || is_star (fields (codes "if-none-match"))
 
 abbrev pub needs_condition : Option MethodRule → Bool
 needs_condition rule = option_map_or (λ r. r.needs_condition) rule false
@@ -200,7 +224,11 @@ is_unacceptable resource request =
 
 -- ---- when each reason applies
 
-module _ (resource : Resource) (request : Request) where
+-- the rule for the method of a request
+abbrev pub rule : Resource → Request → Option MethodRule
+rule resource request = rule_for resource.rules.items request.method
+
+module _ (present : ℕ) (resource : Resource) (request : Request) where
   -- whether a reason applies, where this is the rule for the method
   abbrev pub applies_by : Option MethodRule → Reason → Bool
   applies_by rule InvalidHost = not (has_host request.protocol (request.fields (codes "host")))
@@ -224,11 +252,8 @@ module _ (resource : Resource) (request : Request) where
       has_content request.content && option_map_or (λ r. not (takes_coding r request.fields)) rule false
   applies_by rule NotAcceptable = is_unacceptable resource request
   applies_by rule PreconditionRequired =
-      not (is_read request.method) && (needs_condition rule && not (is_guarded request.fields))
+      not (is_read request.method) && (needs_condition rule && not (is_guarded present resource request.fields))
   applies_by rule Admitted = true
 
-  abbrev pub rule : Option MethodRule
-  rule = rule_for resource.rules.items request.method
-
   abbrev pub applies : Reason → Bool
-  applies = applies_by rule
+  applies = applies_by (rule resource request)

@@ -1,6 +1,7 @@
 -- Which representation a request selects (RFC 9110, section 12.1).
-use Rattle.std.specs.Prelude.{ℕ, ◌+◌, ◌*◌, ◌==◌, Bool, true, false, ◌||◌, List, Option, Some, None, codes, option_map}
-use Rattle.std.specs.{Prelude.if◌then◌else◌, List.list_all, Option.option_map_or}
+use Rattle.std.specs.Prelude.{ℕ, ◌+◌, ◌*◌, ◌==◌, Bool, true, false, ◌&&◌, ◌||◌, List, slice_get, Option, Some, None}
+use Rattle.std.specs.Prelude.{codes, find, if◌then◌else◌, nat_le, nat_lt, option_map}
+use Rattle.std.specs.{List.list_all, Option.{option_map_or, option_or}}
 use Rattle.headers.specs.LineMap.{LineMap}
 use Rattle.{headers.specs.Lines.Line, rfc_fields.specs.Scan.Member, decide_negotiation.specs.Codings.encoding_quality}
 use Rattle.decide_negotiation.specs.{Languages.language_says, MediaRanges.media_type_says, Qualities.quality_by}
@@ -38,6 +39,16 @@ score negotiation fields representation =
     rank_by encoding_quality negotiation.coding (fields (codes "accept-encoding"))
     (Some (coding_of representation))
     )
+
+-- the client accepts a representation, and prefers none of these to it
+abbrev pub is_preferred : (Representation → ℕ) → List Representation → Representation → Bool
+is_preferred scored representations one =
+    nat_lt 0 (scored one) && list_all (λ other. nat_le (scored other) (scored one)) representations
+
+-- the first that it prefers, or else the first
+abbrev pub first_preferred : (Representation → ℕ) → List Representation → Option Representation
+first_preferred scored representations =
+    option_or (find (is_preferred scored representations) representations) (slice_get representations 0)
 
 abbrev pub are_unacceptable : Negotiation → LineMap → List Representation → Bool
 are_unacceptable negotiation fields representations = list_all (λ r. score negotiation fields r == 0) representations

@@ -178,7 +178,7 @@ pub fn answer_request(
 ) -> Result<Answer, AllocError>
     ensures { IfOk result (IsAnswer present resource.now (request_of request.now)) }
 {
-    let reason = reason_for(resource, request);
+    let reason = reason_for(resource, request, present);
     let Given {
         status,
         sends,

@@ -1,22 +1,25 @@
 //! The content of a request, and its preconditions.
 ghost use Rattle.std.specs.{Prelude.{◌≡◌, ◌&&◌, codes, false, nat_lt, not, option_copied}, List.list_all};
-ghost use Rattle.std.specs.Option.{option_map_or};
+ghost use Rattle.std.specs.{Option.option_map_or, Prelude.option_and_then};
 ghost use Rattle.headers.specs.LineMap.{lines_at};
-ghost use Rattle.decide_preconditions.specs.Tags.{is_star};
-ghost use Rattle.decide_resource.specs.Applies.{exceeds, has_content};
+ghost use Rattle.decide_preconditions.specs.{Conditions.date_in, Tags.is_star};
+ghost use Rattle.decide_resource.specs.Applies.{date_selected, exceeds, has_content, is_dated};
 ghost use Rattle.decide_resource.specs.Applies.{is_guarded, is_preflight_request, is_present, is_unsized};
-ghost use Rattle.decide_resource.specs.Applies.{is_unsupported_part, needs_condition, takes_coding, takes_codings};
-ghost use Rattle.decide_resource.specs.Applies.{takes_parts, takes_type, type_named};
+ghost use Rattle.decide_resource.specs.Applies.{is_unsupported_part, names_current, needs_condition, takes_coding};
+ghost use Rattle.decide_resource.specs.Applies.{takes_codings, takes_parts, takes_type, type_named};
 
+use crate::chosen::{at_place, selected};
+use crate::representation::Representation;
 use crate::request::RequestContent;
-use crate::resource::MethodRule;
+use crate::resource::{MethodRule, Resource};
 use decide_negotiation::{Accept, AcceptEncoding, quality};
-use headers::{HeaderMap, HeaderName, HeaderValue};
+use headers::{HeaderMap, HeaderName, HeaderValue, trim};
 use http_header::{
     ACCEPT_ENCODING, ACCESS_CONTROL_REQUEST_METHOD, CONTENT_ENCODING, CONTENT_RANGE, CONTENT_TYPE,
-    IF_MATCH, IF_NONE_MATCH, ORIGIN,
+    IF_MATCH, IF_NONE_MATCH, IF_UNMODIFIED_SINCE, ORIGIN,
 };
 use rfc_fields::only_value;
+use rfc_values::{Timestamp, read_date};
 
 pub(crate) fn is_unsized(content: RequestContent) -> bool
     ensures { result ≡ is_unsized content }
@@ -161,11 +164,55 @@ fn is_star(fields: &HeaderMap, name: HeaderName) -> bool
     }
 }
 
-// Whether a request names what it may replace.
-fn is_guarded(fields: &HeaderMap) -> bool
-    ensures { result ≡ is_guarded (lines_at fields.now) }
+// When a representation was last modified, if that is known.
+fn date_of(representation: Option<&Representation>) -> Option<u64>
+    ensures { result ≡ option_and_then (λ r. r.validators.last_modified) (option_copied representation.entry) }
 {
-    (is_present(fields, IF_MATCH) && !is_star(fields, IF_MATCH)) || is_star(fields, IF_NONE_MATCH)
+    Some(representation?.validators.last_modified?.unix_secs())
+}
+
+// The date of the representation that a request selects.
+#[tactic(auto, using(crate::proofs::ChosenLemmas::date_at))]
+fn date_selected(resource: &Resource, fields: &HeaderMap) -> Option<u64>
+    ensures { result ≡ date_selected resource.now (lines_at fields.now) }
+{
+    let place = selected(resource, fields);
+    date_of(at_place(&resource.representations, place))
+}
+
+// The date of If-Unmodified-Since, if it is one.
+fn date_in(fields: &HeaderMap, present: u64) -> Option<Timestamp>
+    ensures { result ≡ date_in present (lines_at fields.now (codes "if-unmodified-since")) }
+{
+    let field = fields.get_all(IF_UNMODIFIED_SINCE);
+    read_date(trim(only_value(&field)?.as_bytes()), present)
+}
+
+// Whether If-Unmodified-Since is a date that isn't later than this one.
+fn is_dated(fields: &HeaderMap, present: u64, modified: Option<u64>) -> bool
+    ensures { result ≡ is_dated present (lines_at fields.now (codes "if-unmodified-since")) modified }
+{
+    match date_in(fields, present).zip(modified) {
+        Some((date, modified)) => !date.is_after(modified),
+        None => false,
+    }
+}
+
+// Whether a request names the representation that it may replace.
+fn names_current(resource: &Resource, fields: &HeaderMap, present: u64) -> bool
+    ensures { result ≡ names_current present resource.now (lines_at fields.now) }
+{
+    if is_present(fields, IF_MATCH) {
+        return !is_star(fields, IF_MATCH);
+    }
+    resource.has_strong_dates && is_dated(fields, present, date_selected(resource, fields))
+}
+
+// Whether a request names what it may replace.
+fn is_guarded(resource: &Resource, fields: &HeaderMap, present: u64) -> bool
+    ensures { result ≡ is_guarded present resource.now (lines_at fields.now) }
+{
+    names_current(resource, fields, present) || is_star(fields, IF_NONE_MATCH)
 }
 
 fn needs_condition(rule: Option<&MethodRule>) -> bool
@@ -178,8 +225,14 @@ fn needs_condition(rule: Option<&MethodRule>) -> bool
 }
 
 /// Whether a request must name what it may replace, and doesn't.
-pub(crate) fn lacks_condition(rule: Option<&MethodRule>, fields: &HeaderMap) -> bool
-    ensures { result ≡ (needs_condition (option_copied rule.entry) && not (is_guarded (lines_at fields.now))) }
+pub(crate) fn lacks_condition(
+    resource: &Resource,
+    rule: Option<&MethodRule>,
+    fields: &HeaderMap,
+    present: u64,
+) -> bool
+    ensures { result ≡ (needs_condition (option_copied rule.entry)
+        && not (is_guarded present resource.now (lines_at fields.now))) }
 {
-    needs_condition(rule) && !is_guarded(fields)
+    needs_condition(rule) && !is_guarded(resource, fields, present)
 }

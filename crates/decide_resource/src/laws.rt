@@ -19,10 +19,10 @@ ghost use Rattle.decide_preconditions.specs.declared.plan.Plan.TheVariants.{Full
 
 /// Theorem: every request has exactly one first reason: reasons of one stage exclude each other.
 pub fn request_has_one_reason()
-    ensures some { (resource : Resource) (request : Request)
-        → (reason : Reason) × IsFirst (applies resource request) reason }
-    ensures one { (resource : Resource) (request : Request) (a b : Reason)
-        → IsFirst (applies resource request) a → IsFirst (applies resource request) b → a ≡ b }
+    ensures some { (present : ℕ) (resource : Resource) (request : Request)
+        → (reason : Reason) × IsFirst (applies present resource request) reason }
+    ensures one { (present : ℕ) (resource : Resource) (request : Request) (a b : Reason)
+        → IsFirst (applies present resource request) a → IsFirst (applies present resource request) b → a ≡ b }
 {}
 
 /// Theorem: every request selects exactly one place: that of a representation, or none.
@@ -72,20 +72,22 @@ pub fn preconditions_come_last()
 {}
 
 /// Theorem: where a method needs a condition, it is never performed on what its client doesn't
-/// name: the selected representation has a tag that If-Match lists, by strong comparison, or there
-/// is nothing to replace and If-None-Match is `*` (RFC 6585, section 3). CONNECT, OPTIONS and TRACE,
-/// whose preconditions don't count, are left out (RFC 9110, section 13.2.1).
+/// name: the selected representation has a tag that If-Match lists, by strong comparison; there is
+/// nothing to replace and If-None-Match is `*`; or, where dates are strong and If-Match is absent,
+/// its date is If-Unmodified-Since (RFC 6585, section 3). CONNECT, OPTIONS and TRACE, whose
+/// preconditions don't count, are left out (RFC 9110, section 13.2.1).
 pub fn performed_method_replaces_what_it_names()
     ensures { (present : ℕ) (resource : Resource) (request : Request) (answer : Answer)
         → needs_condition (rule resource request) ≡ true → is_read request.method ≡ false
         → ¬ (IsUnconditional request.method) → IsAnswer present resource request answer
-        → answer.sends ≡ Perform → ReplacesNamed resource request }
+        → answer.sends ≡ Perform → ReplacesNamed present resource request }
 {}
 
 /// Theorem: Allow lists exactly the methods that aren't answered by 405 (RFC 9110, section 10.2.1).
 pub fn allow_is_exact()
-    ensures { (resource : Resource) (request : Request) → Contains (methods resource.rules.items) request.method
-        ↔ (applies resource request MethodNotAllowed ≡ false) }
+    ensures { (present : ℕ) (resource : Resource) (request : Request)
+        → Contains (methods resource.rules.items) request.method
+        ↔ (applies present resource request MethodNotAllowed ≡ false) }
 {}
 
 /// Theorem: a GET without Range gets the status and the fields of a HEAD with the same fields (RFC

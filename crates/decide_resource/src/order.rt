@@ -43,10 +43,11 @@ fn rule_of<'a>(resource: &'a Resource, request: &RequestHead<'_>) -> Option<&'a 
 fn applies_by(
     resource: &Resource,
     request: &RequestHead<'_>,
+    present: u64,
     rule: Option<&MethodRule>,
     reason: Reason,
 ) -> bool
-    ensures { result ≡ applies_by resource.now (request_of request.now) (option_copied rule.entry) reason }
+    ensures { result ≡ applies_by present resource.now (request_of request.now) (option_copied rule.entry) reason }
 {
     let (method, content, fields) = (request.method, request.content, request.fields);
     match reason {
@@ -72,7 +73,7 @@ fn applies_by(
         Reason::UnsupportedCoding => is_unsupported_coding(content, rule, fields),
         Reason::NotAcceptable => is_unacceptable(resource, request),
         Reason::PreconditionRequired => {
-            !is_read(method.as_str()) && lacks_condition(rule, fields)
+            !is_read(method.as_str()) && lacks_condition(resource, rule, fields, present)
         }
         Reason::Admitted => true,
     }
@@ -82,21 +83,19 @@ fn applies_by(
 fn first_of(
     resource: &Resource,
     request: &RequestHead<'_>,
+    present: u64,
     rule: Option<&MethodRule>,
     reasons: &[Reason],
 ) -> Option<Reason>
     ensures { result
-        ≡ find (applies_by resource.now (request_of request.now) (option_copied rule.entry)) reasons.now }
+        ≡ find (applies_by present resource.now (request_of request.now) (option_copied rule.entry)) reasons.now }
 {
-    reasons
-        .iter()
-        .copied()
-        .find(|reason| applies_by(resource, request, rule, *reason))
+    reasons.iter().copied().find(|reason| applies_by(resource, request, present, rule, *reason))
 }
 
-/// Why a request is answered as it is.
-pub(crate) fn reason_for(resource: &Resource, request: &RequestHead<'_>) -> Reason
-    ensures { IsFirst (applies resource.now (request_of request.now)) result }
+/// Why a request is answered as it is. `present` is the time, in seconds since 1970.
+pub(crate) fn reason_for(resource: &Resource, request: &RequestHead<'_>, present: u64) -> Reason
+    ensures { IsFirst (applies present resource.now (request_of request.now)) result }
 {
     let in_order = [
         Reason::InvalidHost,
@@ -119,7 +118,7 @@ pub(crate) fn reason_for(resource: &Resource, request: &RequestHead<'_>) -> Reas
         Reason::PreconditionRequired,
     ];
     let rule = rule_of(resource, request);
-    match first_of(resource, request, rule, &in_order) {
+    match first_of(resource, request, present, rule, &in_order) {
         Some(reason) => reason,
         None => Reason::Admitted,
     }

@@ -40,8 +40,8 @@ pub enum Reason {
     UnsupportedCoding,
     /// 406: no representation is acceptable (section 15.5.7).
     NotAcceptable,
-    /// 428: the request doesn't name what it may replace, by entity tags in If-Match or by `*` in
-    /// If-None-Match (RFC 6585, section 3).
+    /// 428: the request doesn't name what it may replace, by entity tags in If-Match, by `*` in
+    /// If-None-Match, or by a strong date in If-Unmodified-Since (RFC 6585, section 3).
     PreconditionRequired,
     /// Nothing keeps the method from being performed: the preconditions and Range decide.
     Admitted,

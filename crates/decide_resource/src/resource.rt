@@ -21,8 +21,9 @@ pub struct MethodRule {
     /// Whether the method is performed if there is no current representation, as PUT is (section
     /// 9.3.4). Any other method then gets 404, and so does OPTIONS if no method of the resource is.
     pub creates: bool,
-    /// Whether the request must name what it may replace, by entity tags in If-Match or by `*` in
-    /// If-None-Match (RFC 6585, section 3). GET and HEAD replace nothing, and need none.
+    /// Whether the request must name what it may replace, by entity tags in If-Match, by `*` in
+    /// If-None-Match, or by a strong date in If-Unmodified-Since (RFC 6585, section 3). GET and HEAD
+    /// replace nothing, and need none.
     pub needs_condition: bool,
     /// Whether PUT takes a part of a representation, which Content-Range places (RFC 9110, section
     /// 14.5). Otherwise it gets 400. Other methods ignore Content-Range.
@@ -77,6 +78,10 @@ pub struct Resource {
     pub negotiation: Negotiation,
     /// The boundary between several parts. The caller must make sure that no part contains it.
     pub boundary: Boundary,
+    /// Whether each change of a representation gives it a later date, so that its dates are strong
+    /// validators (RFC 9110, section 8.8.2.2). Then If-Unmodified-Since with the date of the
+    /// representation names it. An old date isn't enough: two changes may have come in its second.
+    pub has_strong_dates: bool,
     /// Whether content must have a length (RFC 9110, section 15.5.12).
     pub needs_length: bool,
     /// The greatest length of content in bytes, if there is one (section 15.5.14).

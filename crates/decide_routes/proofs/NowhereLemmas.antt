@@ -93,7 +93,7 @@ module _ (resource : Resource)
   pub never_refused : (present : ℕ) (request : Request) (answer : Answer) → IsAnswer present resource request answer
       → answer.reason ≢ MethodNotAllowed
   never_refused present request answer is same =
-      let first : IsFirst (applies resource request) MethodNotAllowed = rw same at is.first in
+      let first : IsFirst (applies present resource request) MethodNotAllowed = rw same at is.first in
       unknown (is_implemented resource.implemented.items request.method)
       (has_method resource.rules.items request.method) (has_implemented request.method) first.is
       (first.none_before UnknownMethod (lit< tt))
@@ -128,42 +128,42 @@ idle_makes (m ∷ methods) = idle_makes methods
 
 -- ---- the reasons
 
-module _ (resource : Resource) (request : Request) (not_moved : applies resource request Moved ≡ false)
-    (not_gone : applies resource request Gone ≡ false) where
-  module _ (missing : applies resource request NotFound ≡ true) where
-    past : (reason : Reason) → IsFirst (applies resource request) reason → Before NotFound reason → ⊥
+module _ (present : ℕ) (resource : Resource) (request : Request)
+    (not_moved : applies present resource request Moved ≡ false)
+    (not_gone : applies present resource request Gone ≡ false) where
+  module _ (missing : applies present resource request NotFound ≡ true) where
+    past : (reason : Reason) → IsFirst (applies present resource request) reason → Before NotFound reason → ⊥
     past reason first later = let none = first.none_before NotFound later in cc (none, missing)
 
-    pub answered : (present : ℕ) (reason : Reason) (status : Option ℕ) (sent : Sends) (own : List Field)
-        → IsFirst (applies resource request) reason → Gives present resource request reason status sent own
+    pub answered : (reason : Reason) (status : Option ℕ) (sent : Sends) (own : List Field)
+        → IsFirst (applies present resource request) reason → Gives present resource request reason status sent own
         → Before reason NotFound ⊎ (status ≡ Some 404)
-    answered present InvalidHost status sent own first gives = inl (lit< tt)
-    answered present Misdirected status sent own first gives = inl (lit< tt)
-    answered present Preflight status sent own first gives = inl (lit< tt)
-    answered present Denied status sent own first gives = inl (lit< tt)
-    answered present UnknownMethod status sent own first gives = inl (lit< tt)
-    answered present MethodNotAllowed status sent own first gives = inl (lit< tt)
-    answered present UnmetExpectation status sent own first gives = inl (lit< tt)
-    answered present PartialContent status sent own first gives = inl (lit< tt)
-    answered present Moved status sent own first gives = absurd (cc (not_moved, first.is))
-    answered present Gone status sent own first gives = absurd (cc (not_gone, first.is))
-    answered present NotFound status sent own first gives = inr gives.has_status
-    answered present Options status sent own first gives = absurd (past Options first (lit< tt))
-    answered present LengthRequired status sent own first gives = absurd (past LengthRequired first (lit< tt))
-    answered present ContentTooLarge status sent own first gives = absurd (past ContentTooLarge first (lit< tt))
-    answered present UnsupportedMediaType status sent own first gives =
-        absurd (past UnsupportedMediaType first (lit< tt))
-    answered present UnsupportedCoding status sent own first gives = absurd (past UnsupportedCoding first (lit< tt))
-    answered present NotAcceptable status sent own first gives = absurd (past NotAcceptable first (lit< tt))
-    answered present PreconditionRequired status sent own first gives =
-        absurd (past PreconditionRequired first (lit< tt))
-    answered present Admitted status sent own first gives = absurd (past Admitted first (lit< tt))
+    answered InvalidHost status sent own first gives = inl (lit< tt)
+    answered Misdirected status sent own first gives = inl (lit< tt)
+    answered Preflight status sent own first gives = inl (lit< tt)
+    answered Denied status sent own first gives = inl (lit< tt)
+    answered UnknownMethod status sent own first gives = inl (lit< tt)
+    answered MethodNotAllowed status sent own first gives = inl (lit< tt)
+    answered UnmetExpectation status sent own first gives = inl (lit< tt)
+    answered PartialContent status sent own first gives = inl (lit< tt)
+    answered Moved status sent own first gives = absurd (cc (not_moved, first.is))
+    answered Gone status sent own first gives = absurd (cc (not_gone, first.is))
+    answered NotFound status sent own first gives = inr gives.has_status
+    answered Options status sent own first gives = absurd (past Options first (lit< tt))
+    answered LengthRequired status sent own first gives = absurd (past LengthRequired first (lit< tt))
+    answered ContentTooLarge status sent own first gives = absurd (past ContentTooLarge first (lit< tt))
+    answered UnsupportedMediaType status sent own first gives = absurd (past UnsupportedMediaType first (lit< tt))
+    answered UnsupportedCoding status sent own first gives = absurd (past UnsupportedCoding first (lit< tt))
+    answered NotAcceptable status sent own first gives = absurd (past NotAcceptable first (lit< tt))
+    answered PreconditionRequired status sent own first gives = absurd (past PreconditionRequired first (lit< tt))
+    answered Admitted status sent own first gives = absurd (past Admitted first (lit< tt))
 
-  module _ (found : applies resource request NotFound ≡ false) (options : applies resource request Options ≡ true) where
-    behind : (reason : Reason) → IsFirst (applies resource request) reason → Before Options reason → ⊥
+  module _ (found : applies present resource request NotFound ≡ false)
+      (options : applies present resource request Options ≡ true) where
+    behind : (reason : Reason) → IsFirst (applies present resource request) reason → Before Options reason → ⊥
     behind reason first later = let none = first.none_before Options later in cc (none, options)
 
-    pub told : (reason : Reason) → IsFirst (applies resource request) reason
+    pub told : (reason : Reason) → IsFirst (applies present resource request) reason
         → Before reason NotFound ⊎ (reason ≡ Options)
     told InvalidHost first = inl (lit< tt)
     told Misdirected first = inl (lit< tt)
@@ -194,9 +194,9 @@ module _ (resource : Resource) (nowhere : IsNowhere resource) where
   none_makes : list_any makes (map told_of rules) ≡ false
   none_makes = ap (list_any makes) nowhere.rules ∙ idle_makes resource.implemented.items
 
-  missing : (request : Request) → applies resource request NotFound ≡ true
+  missing : (present : ℕ) (request : Request) → applies present resource request NotFound ≡ true
   unfolding rule_for
-  missing request =
+  missing present request =
       ap
       (λ (s : State). is_missing s rules
       (find (λ (r : MethodRule). bytes_eq r.method (ruled request.method)) rules) request.method) nowhere.absent
@@ -212,14 +212,14 @@ module _ (resource : Resource) (nowhere : IsNowhere resource) where
   pub not_found : (present : ℕ) (request : Request) (answer : Answer) → IsAnswer present resource request answer
       → Before answer.reason NotFound ⊎ (answer.status ≡ Some 404)
   not_found present request answer is =
-      answered resource request (ap has_moved nowhere.absent) (ap is_gone nowhere.absent) (missing request) present
-      answer.reason answer.status answer.sends is.own is.first is.gives
+      answered present resource request (ap has_moved nowhere.absent) (ap is_gone nowhere.absent)
+      (missing present request) answer.reason answer.status answer.sends is.own is.first is.gives
 
 -- ---- the server in general
 
 module _ (resource : Resource) (wide : IsServerWide resource) (present : ℕ) (request : Request) (answer : Answer)
     (is : IsAnswer present resource request answer) where
-  general : applies resource request NotFound ≡ not (bytes_eq request.method (codes "OPTIONS"))
+  general : applies present resource request NotFound ≡ not (bytes_eq request.method (codes "OPTIONS"))
   general =
       ap
       (λ (s : State). is_missing s resource.rules.items (rule_for resource.rules.items request.method) request.method)
@@ -228,8 +228,8 @@ module _ (resource : Resource) (wide : IsServerWide resource) (present : ℕ) (r
   pub others_missing : request.method ≢ codes "OPTIONS"
       → Before answer.reason NotFound ⊎ (answer.status ≡ Some 404)
   others_missing other =
-      answered resource request (ap has_moved wide.general) (ap is_gone wide.general)
-      (general ∙ ap not (unequal (bytes_eq request.method (codes "OPTIONS")) refl)) present answer.reason answer.status
+      answered present resource request (ap has_moved wide.general) (ap is_gone wide.general)
+      (general ∙ ap not (unequal (bytes_eq request.method (codes "OPTIONS")) refl)) answer.reason answer.status
       answer.sends is.own is.first is.gives
     where
       unequal : (b : Bool) → bytes_eq request.method (codes "OPTIONS") ≡ b
@@ -241,5 +241,5 @@ module _ (resource : Resource) (wide : IsServerWide resource) (present : ℕ) (r
   options_told options =
       let asks : bytes_eq request.method (codes "OPTIONS") ≡ true
       = (bytes_eq-Decides request.method (codes "OPTIONS")).1 options in
-      told resource request (ap has_moved wide.general) (ap is_gone wide.general) (general ∙ ap not asks) asks
+      told present resource request (ap has_moved wide.general) (ap is_gone wide.general) (general ∙ ap not asks) asks
       answer.reason is.first

@@ -7,4 +7,4 @@ returns-clause-status c present resource request answer why denies =
 
 pub returns-clause-same : goal.returns-clause-same
 returns-clause-same c present later a b request x y why denies hosts cors =
-    tells_nothing request why denies a b hosts cors present later x y
+    tells_nothing request why denies present later a b hosts cors x y

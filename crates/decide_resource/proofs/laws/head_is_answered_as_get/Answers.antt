@@ -2,4 +2,4 @@ use Rattle.decide_resource.proofs.HeadLemmas.{answer_of_get}
 use Rattle.decide_resource.proofs.laws.head_is_answered_as_get.Goals as goal
 
 pub returns : goal.returns
-returns c present resource request answer h = answer_of_get resource request present answer h
+returns c = answer_of_get

@@ -1,4 +1,4 @@
-use Rattle.decide_resource.proofs.AnswerLemmas.{one_place, some_place}
+use Rattle.decide_resource.proofs.{AnswerLemmas.one_place, ChosenLemmas.some_place}
 use Rattle.decide_resource.proofs.laws.request_selects_one_place.Goals as goal
 
 pub returns-clause-some : goal.returns-clause-some
