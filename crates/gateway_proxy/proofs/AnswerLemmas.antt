@@ -123,16 +123,6 @@ pub interim_unsent : (proxy : Proxy) (request : Request) (server : Server) (resp
     held held_after failure
     → failure ≢ Failed.Writer
     → IsUnsent proxy request server response failure × (held_after ≡ held)
-interim_unsent proxy request server response date sent text held held_after Failed.Reader forwards interim fails other =
-    absurd fails
-interim_unsent proxy request server response date sent text held held_after Failed.CutShort forwards interim fails
-    other = absurd fails
-interim_unsent proxy request server response date sent text held held_after Failed.InvalidFields forwards interim fails
-    other = absurd fails
-interim_unsent proxy request server response date sent text held held_after (Failed.Malformed e) forwards interim fails
-    other = absurd fails
-interim_unsent proxy request server response date sent text held held_after Failed.TooLong forwards interim fails
-    other = absurd fails
 interim_unsent proxy request server response date sent text held held_after (Failed.Unsendable e) forwards interim fails
     other = (
       (
@@ -153,6 +143,8 @@ interim_unsent proxy request server response date sent text held held_after Fail
       record { stated = forwards.stated; accepted = forwards.accepted; known = forwards.known },
       fails,
     )
+interim_unsent proxy request server response date sent text held held_after failure forwards interim fails other =
+    absurd fails
 
 -- a final response
 pub final_unusable : (proxy : Proxy) (request : Request) (client client_after : Client) (server : Server)
@@ -160,12 +152,6 @@ pub final_unusable : (proxy : Proxy) (request : Request) (client client_after : 
     → ReadsFinal proxy request client client_after before after left left_after final
     → IsFinalUnsent server final fault
     → IsUnusable proxy request client server before after left left_after fault
-final_unusable proxy request client client_after server before after left left_after final (Faults.Request failure)
-    reads unsent = absurd unsent
-final_unusable proxy request client client_after server before after left left_after final (Faults.Unread failure) reads
-    unsent = absurd unsent
-final_unusable proxy request client client_after server before after left left_after final (Faults.Rejected rejection)
-    reads unsent = absurd unsent
 final_unusable proxy request client client_after server before after left left_after final (Faults.Unsent failure) reads
     unsent = (
       final.response,
@@ -179,11 +165,6 @@ final_unusable proxy request client client_after server before after left left_a
         → IsForwardedResponse proxy.gateway date (received request final.response) final.sent
         → nat_lt final.response.status 200 ≡ false → IsHeadUnsent server final failure
         → IsUnsent proxy request server final.response failure
-    head_unsent proxy request server final Failed.Reader date forwards is_final unsent = absurd unsent
-    head_unsent proxy request server final Failed.CutShort date forwards is_final unsent = absurd unsent
-    head_unsent proxy request server final Failed.InvalidFields date forwards is_final unsent = absurd unsent
-    head_unsent proxy request server final (Failed.Malformed e) date forwards is_final unsent = absurd unsent
-    head_unsent proxy request server final Failed.TooLong date forwards is_final unsent = absurd unsent
     head_unsent proxy request server final (Failed.Unsendable e) date forwards is_final unsent = (
       date,
       final.sent,
@@ -193,10 +174,10 @@ final_unusable proxy request client client_after server before after left left_a
           (response_refusal server final.response.status final.response.reason (response_size final.sent.content)
           (written_fields final.response final.sent) ≡ Some e)) (sym is_final) unsent,
     )
-    head_unsent proxy request server final Failed.Writer date forwards is_final unsent = absurd unsent
     head_unsent proxy request server final Failed.OutOfMemory date forwards is_final unsent =
         record { stated = forwards.stated; accepted = forwards.accepted; known = forwards.known }
-final_unusable proxy request client client_after server before after left left_after final Faults.Endless reads unsent =
+    head_unsent proxy request server final failure date forwards is_final unsent = absurd unsent
+final_unusable proxy request client client_after server before after left left_after final fault reads unsent =
     absurd unsent
 
 -- the head of a final response isn't sent
@@ -205,11 +186,7 @@ pub head_fails : (server : Server) (final : Final) (text : List ℕ) (held held_
     → FailsToWrite (response_refusal server final.response.status final.response.reason
     (response_size final.sent.content) (written_fields final.response final.sent)) text held held_after failure
     → failure ≢ Failed.Writer → IsHeadUnsent server final failure × (held_after ≡ held)
-head_fails server final text held held_after Failed.Reader fails other = absurd fails
-head_fails server final text held held_after Failed.CutShort fails other = absurd fails
-head_fails server final text held held_after Failed.InvalidFields fails other = absurd fails
-head_fails server final text held held_after (Failed.Malformed e) fails other = absurd fails
-head_fails server final text held held_after Failed.TooLong fails other = absurd fails
 head_fails server final text held held_after (Failed.Unsendable e) fails other = fails
 head_fails server final text held held_after Failed.Writer fails other = absurd (other refl)
 head_fails server final text held held_after Failed.OutOfMemory fails other = (tt, fails)
+head_fails server final text held held_after failure fails other = absurd fails

@@ -1,7 +1,8 @@
 -- From the parts of an exchange to the exchange.
 use Rattle.std.proofs.Common.{◌≡◌, ◌≢◌, ◌∙◌, ◌⊎◌, ◌&&◌, ◌==◌, ℕ, Bool, true, false, List, Option, Result, Ok, Err}
-use Rattle.std.proofs.Common.{IfErr, IfOk, ap, bytes_eq, codes, if◌then◌else◌, inl, inr, length, None, refl, subst, sym}
-use Rattle.std.{specs.Bool.MatchBool, specs.Io.KnownBytes.Appends}
+use Rattle.std.proofs.Common.{IfErr, IfOk, IfSome, ap, bytes_eq, codes, if◌then◌else◌, inl, inr, length, None, refl}
+use Rattle.std.{proofs.Common.{subst, sym}, specs.Bool.MatchBool, specs.Io.KnownBytes.Appends}
+use Rattle.bytes.specs.Filled.{Filled}
 use Rattle.http1.{specs.Client.new_client, specs.Conn.{awaits_head, is_connect}, specs.Decoder.decoder_for}
 use Rattle.http1.{specs.Encoder.encoder_for, specs.Framing.method_kind}
 use Rattle.http1.specs.Server as Serving
@@ -12,7 +13,7 @@ use Rattle.http1.specs.declared.framing.MethodKind.{MethodKind}
 use Rattle.http1.specs.declared.framing.MethodKind.TheVariants as Method
 use Rattle.http1.specs.declared.server.Server.{Server}
 use Rattle.headers.specs.LineMap.{lines_at}
-use Rattle.gateway_relay.{specs.Content.{Kept, content_read}, specs.Failures.FailsToWrite}
+use Rattle.gateway_relay.{specs.Content.{Kept, content_read}, specs.Failures.{Copies, FailsToWrite}}
 use Rattle.gateway_relay.specs.declared.failure.Failure.{Failure}
 use Rattle.gateway_relay.specs.declared.failure.Failure.TheVariants as Failed
 use Rattle.gateway_relay.specs.declared.request.Request.{Request}
@@ -35,8 +36,7 @@ use Rattle.gateway_proxy.specs.declared.exchange.Turn.TheVariants as Turns
 use Rattle.gateway_proxy.specs.declared.fault.Fault.{Fault}
 use Rattle.gateway_proxy.specs.declared.fault.Fault.TheVariants as Faults
 use Rattle.gateway_proxy.{specs.declared.proxy.Proxy.Proxy, proofs.AnswerLemmas.{final_unusable, head_fails}}
-use Rattle.gateway_proxy.{proofs.PassLemmas.open_after_end, proofs.RepeatLemmas.{fails_to_pass_none, gives_up}}
-use Rattle.gateway_proxy.proofs.RepeatLemmas.{passes_none, repeated_content, repeated_told}
+use Rattle.gateway_proxy.{proofs.PassLemmas.open_after_end, proofs.RepeatLemmas.{gives_up, repeated_told}}
 
 -- what a server has beside its writing
 abbrev kept_at : Server → Kept
@@ -117,12 +117,9 @@ module _ {proxy : Proxy} {request : Request} {client client_read : Client} {serv
   unfolding answer
   responds (Ok Turns.Next) d = (answer d.0, d.1)
   responds (Ok Turns.Last) d = (answer d.0, d.1)
-  responds (Ok Turns.Closed) d = absurd d
-  responds (Ok Turns.Refused) d = absurd d
-  responds (Ok Turns.Unanswered) d = absurd d
-  responds (Ok (Turns.Dropped failure)) d = absurd d
   responds (Ok (Turns.Broken fault)) d =
       record { told = told; finds = unsent fault d.0 d.2 d.3; answers = d.1 }
+  responds (Ok turn) d = absurd d
   responds (Err failure) d = tt
 
   pub cuts_final : (r : Result Turn Failure)
@@ -235,17 +232,10 @@ module _ (proxy : Proxy) (answered : Bool) (before after : Wires) (told : Option
       → IfOk r (IsTurn proxy answered before after)
   by_turn (Ok Turns.Next) d = exchanged Turns.Next d
   by_turn (Ok Turns.Last) d = exchanged Turns.Last d
-  by_turn (Ok Turns.Closed) d = absurd d
-  by_turn (Ok Turns.Refused) d = absurd d
-  by_turn (Ok Turns.Unanswered) d = absurd d
-  by_turn (Ok (Turns.Dropped failure)) d = absurd d
   by_turn (Ok (Turns.Broken (Faults.Request failure))) d = absurd (no_request d.finds.count failure d.finds.now
       d.finds.unread after.answered d.finds.rest after.answered_left d.finds.ends)
-  by_turn (Ok (Turns.Broken (Faults.Unread failure))) d = exchanged (Turns.Broken (Faults.Unread failure)) d
-  by_turn (Ok (Turns.Broken (Faults.Rejected rejection))) d =
-      exchanged (Turns.Broken (Faults.Rejected rejection)) d
-  by_turn (Ok (Turns.Broken (Faults.Unsent failure))) d = exchanged (Turns.Broken (Faults.Unsent failure)) d
-  by_turn (Ok (Turns.Broken Faults.Endless)) d = exchanged (Turns.Broken Faults.Endless) d
+  by_turn (Ok (Turns.Broken fault)) d = exchanged (Turns.Broken fault) d
+  by_turn (Ok turn) d = absurd d
   by_turn (Err failure) d = tt
 
   cut_by : (r : Result Turn Failure)
@@ -443,8 +433,10 @@ module _ {proxy : Proxy} {before : Wires} (head : Accepted proxy before) (server
   -- the origin server ended the connection first
   module _ (answered : Bool) (is_answered : answered ≡ true) (repeats : Bool)
       (is : repeats ≡ is_repeatable head.request head.outgoing head.server) (is_told : after.told ≡ told)
-      (failure : Failure) (asked : List ℕ) (turn : Turn)
-      (became : GivesUp repeats head.request.text failure after.asked asked turn) where
+      (failure : Failure) (asked : List ℕ) (turn : Turn) (begun copy : Option Filled)
+      (begins : IfSome begun (λ first. first.items ≡ head.unread))
+      (copies : Copies begun copy head.rest after.asked_left)
+      (became : GivesUp repeats head.request.text copy failure after.asked asked turn) where
     pub gives_up_in_part :
         IfRead (FailsToPassRequest proxy.gateway client head.request head.outgoing
         (decoder_for proxy.limits head.reads.framing) head.unread after.asked head.rest after.asked_left before.sent
@@ -455,8 +447,7 @@ module _ {proxy : Proxy} {before : Wires} (head : Accepted proxy before) (server
     gives_up_in_part fails same same_left writer =
         let passed = passed_in_part after.asked after.asked_left failure fails same same_left in
         gives_up head answered (record after { asked = asked }) after.asked repeats failure is_answered
-        (in_part told passed writer is_told (sym is))
-        (λ yes. fails_to_pass_none _ (repeated_content head (sym is ∙ yes)) passed.fails)
+        (in_part told passed writer is_told (sym is)) begun copy begins copies
         (λ yes. is_told ∙ repeated_told head server_continued told continued (sym is ∙ yes)) turn became
 
     pub gives_up_unanswered : (client_after : Client) (server : Server)
@@ -470,6 +461,5 @@ module _ {proxy : Proxy} {before : Wires} (head : Accepted proxy before) (server
     gives_up_unanswered client_after server passes same none =
         let passed = passed_on client_after server passes same in
         gives_up head answered (record after { asked = asked }) after.asked repeats failure is_answered
-        (unanswered told passed none is_told (sym is))
-        (λ yes. passes_none _ (repeated_content head (sym is ∙ yes)) passed.passes)
+        (unanswered told passed none is_told (sym is)) begun copy begins copies
         (λ yes. is_told ∙ repeated_told head server_continued told continued (sym is ∙ yes)) turn became

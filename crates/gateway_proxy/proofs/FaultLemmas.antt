@@ -14,14 +14,9 @@ by_size false status is = inr is
 status_in : (e : ReadError) (status : ℕ) → status_of e ≡ status
     → (414 ≡ status) ⊎ ((431 ≡ status) ⊎ (400 ≡ status))
 status_in (Read.Parse e) status is = inr (by_size (is_too_large (Read.Parse e)) status is)
-status_in Read.BareLineFeed status is = inr (by_size false status is)
 status_in Read.TooLarge status is = inr (by_size true status is)
 status_in Read.UriTooLong status is = inl is
-status_in Read.Host status is = inr (by_size false status is)
-status_in (Read.Framing e) status is = inr (by_size false status is)
-status_in (Read.Chunk e) status is = inr (by_size false status is)
-status_in Read.UnexpectedEof status is = inr (by_size false status is)
-status_in Read.UnexpectedResponse status is = inr (by_size false status is)
+status_in e status is = inr (by_size false status is)
 
 no_status : (e : ReadError) (status : ℕ) → 414 ≢ status → 431 ≢ status → 400 ≢ status → status_of e ≢ status
 no_status e status first second third is =
@@ -32,67 +27,36 @@ no_status e status first second third is =
 
 pub response_504 : (failure : Failure) → response_status failure ≡ 504 → failure ≡ Failed.Reader
 response_504 Failed.Reader is = refl
-response_504 Failed.CutShort is = absurd (omega arith)
-response_504 Failed.InvalidFields is = absurd (omega arith)
-response_504 (Failed.Malformed e) is = absurd (omega arith)
-response_504 Failed.TooLong is = absurd (omega arith)
-response_504 (Failed.Unsendable e) is = absurd (omega arith)
-response_504 Failed.Writer is = absurd (omega arith)
-response_504 Failed.OutOfMemory is = absurd (omega arith)
+response_504 failure is = absurd (omega arith)
 
 pub response_500 : (failure : Failure) → response_status failure ≡ 500 → failure ≡ Failed.OutOfMemory
-response_500 Failed.Reader is = absurd (omega arith)
-response_500 Failed.CutShort is = absurd (omega arith)
-response_500 Failed.InvalidFields is = absurd (omega arith)
-response_500 (Failed.Malformed e) is = absurd (omega arith)
-response_500 Failed.TooLong is = absurd (omega arith)
-response_500 (Failed.Unsendable e) is = absurd (omega arith)
-response_500 Failed.Writer is = absurd (omega arith)
 response_500 Failed.OutOfMemory is = refl
+response_500 failure is = absurd (omega arith)
 
 pub response_502 : (failure : Failure) → failure ≢ Failed.Reader → failure ≢ Failed.OutOfMemory
     → response_status failure ≡ 502
 response_502 Failed.Reader first second = absurd (first refl)
-response_502 Failed.CutShort first second = refl
-response_502 Failed.InvalidFields first second = refl
-response_502 (Failed.Malformed e) first second = refl
-response_502 Failed.TooLong first second = refl
-response_502 (Failed.Unsendable e) first second = refl
-response_502 Failed.Writer first second = refl
 response_502 Failed.OutOfMemory first second = absurd (second refl)
+response_502 failure first second = refl
 
 pub request_408 : (failure : Failure) → request_status failure ≡ 408 → failure ≡ Failed.Reader
 request_408 Failed.Reader is = refl
-request_408 Failed.CutShort is = absurd (omega arith)
-request_408 Failed.InvalidFields is = absurd (omega arith)
 request_408 (Failed.Malformed e) is = absurd (no_status e 408 (λ x. omega arith) (λ x. omega arith)
     (λ x. omega arith) is)
-request_408 Failed.TooLong is = absurd (omega arith)
-request_408 (Failed.Unsendable e) is = absurd (omega arith)
-request_408 Failed.Writer is = absurd (omega arith)
-request_408 Failed.OutOfMemory is = absurd (omega arith)
+request_408 failure is = absurd (omega arith)
 
 pub request_500 : (failure : Failure) → request_status failure ≡ 500 → failure ≡ Failed.OutOfMemory
-request_500 Failed.Reader is = absurd (omega arith)
-request_500 Failed.CutShort is = absurd (omega arith)
-request_500 Failed.InvalidFields is = absurd (omega arith)
+request_500 Failed.OutOfMemory is = refl
 request_500 (Failed.Malformed e) is = absurd (no_status e 500 (λ x. omega arith) (λ x. omega arith)
     (λ x. omega arith) is)
-request_500 Failed.TooLong is = absurd (omega arith)
-request_500 (Failed.Unsendable e) is = absurd (omega arith)
-request_500 Failed.Writer is = absurd (omega arith)
-request_500 Failed.OutOfMemory is = refl
+request_500 failure is = absurd (omega arith)
 
 pub request_502 : (failure : Failure) → request_status failure ≡ 502 → IsUnwritten failure
-request_502 Failed.Reader is = absurd (omega arith)
-request_502 Failed.CutShort is = absurd (omega arith)
-request_502 Failed.InvalidFields is = absurd (omega arith)
 request_502 (Failed.Malformed e) is = absurd (no_status e 502 (λ x. omega arith) (λ x. omega arith)
     (λ x. omega arith) is)
-request_502 Failed.TooLong is = absurd (omega arith)
 request_502 (Failed.Unsendable e) is = inr (e, refl)
 request_502 Failed.Writer is = inl refl
-request_502 Failed.OutOfMemory is = absurd (omega arith)
+request_502 failure is = absurd (omega arith)
 
 pub unwritten_502 : (failure : Failure) → IsUnwritten failure → request_status failure ≡ 502
 unwritten_502 failure (inl is) = ap request_status is

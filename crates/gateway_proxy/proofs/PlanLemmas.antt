@@ -239,11 +239,7 @@ tells_five : (a said keeps waits last : Bool)
     → (a && (not (said || not keeps) && (not waits && not last))) ≡ true
     → (a ≡ true) × (said ≡ false) × (keeps ≡ true) × (waits ≡ false) × (last ≡ false)
 tells_five true false true false false is = (refl, refl, refl, refl, refl)
-tells_five false said keeps waits last is = absurd (cc)
-tells_five true true keeps waits last is = absurd (cc)
-tells_five true false false waits last is = absurd (cc)
-tells_five true false true true last is = absurd (cc)
-tells_five true false true false true is = absurd (cc)
+tells_five a said keeps waits last is = absurd (cc)
 
 pub five_told : (test a said keeps waits last : Bool)
     → test ≡ (a && (not (said || not keeps) && (not waits && not last)))
@@ -256,8 +252,4 @@ five_told test a said keeps waits last is = (
     all_five : (a said keeps waits last : Bool) → a ≡ true → said ≡ false → keeps ≡ true → waits ≡ false
         → last ≡ false → (a && (not (said || not keeps) && (not waits && not last))) ≡ true
     all_five true false true false false first second third fourth fifth = refl
-    all_five false said keeps waits last first second third fourth fifth = absurd (cc)
-    all_five true true keeps waits last first second third fourth fifth = absurd (cc)
-    all_five true false false waits last first second third fourth fifth = absurd (cc)
-    all_five true false true true last first second third fourth fifth = absurd (cc)
-    all_five true false true false true first second third fourth fifth = absurd (cc)
+    all_five a said keeps waits last first second third fourth fifth = absurd (cc)

@@ -1,6 +1,7 @@
 -- One request and its response, and a whole connection (RFC 9110, sections 7 and 15.2; RFC 9112, section 9).
 use Rattle.std.specs.Prelude.{◌≡◌, ◌≢◌, ◌⊎◌, ⊤, ℕ, ◌+◌, ◌-◌, ◌^◌, Bool, true, false, ◌&&◌, nat_lt, ◌==◌, List, []}
-use Rattle.std.{specs.Prelude.{◌++◌, Option, Some, codes, length, not}, specs.Io.KnownBytes.{Appends, IsAtEnd}}
+use Rattle.std.{specs.Prelude.{◌++◌, Option, Some, codes, length, nat_le, not}, specs.Io.KnownBytes.{Appends, IsAtEnd}}
+use Rattle.bytes.specs.Filled.{Filled}
 use Rattle.http.specs.Method.{idempotent_methods, is_among}
 use Rattle.http1.{specs.Client.new_client, specs.Conn.{Plan, unread_size}, specs.Decoder.decoder_for}
 use Rattle.http1.{specs.Head.response_text, specs.declared.conn.BodySize.BodySize}
@@ -156,24 +157,16 @@ BreaksOff fault held held_after turn =
 
 -- why the head of a final response isn't sent
 abbrev pub IsHeadUnsent : Server → Final → Failure → Type 0
-IsHeadUnsent server final Failed.Reader = ⊥
-IsHeadUnsent server final Failed.CutShort = ⊥
-IsHeadUnsent server final Failed.InvalidFields = ⊥
-IsHeadUnsent server final (Failed.Malformed e) = ⊥
-IsHeadUnsent server final Failed.TooLong = ⊥
 IsHeadUnsent server final (Failed.Unsendable e) =
     Serving.response_refusal server final.response.status final.response.reason (response_size final.sent.content)
     (written_fields final.response final.sent) ≡ Some e
-IsHeadUnsent server final Failed.Writer = ⊥
 IsHeadUnsent server final Failed.OutOfMemory = ⊤
+IsHeadUnsent server final failure = ⊥
 
 -- no byte of a final response is sent: `http1` doesn't write its head, or memory ran out
 abbrev pub IsFinalUnsent : Server → Final → Fault → Type 0
-IsFinalUnsent server final (Faults.Request failure) = ⊥
-IsFinalUnsent server final (Faults.Unread failure) = ⊥
-IsFinalUnsent server final (Faults.Rejected rejection) = ⊥
 IsFinalUnsent server final (Faults.Unsent failure) = IsHeadUnsent server final failure
-IsFinalUnsent server final Faults.Endless = ⊥
+IsFinalUnsent server final fault = ⊥
 
 -- both connections are kept after a response with this plan, and no byte is behind it
 abbrev pub goes_on : Plan → List ℕ → Bool
@@ -188,13 +181,10 @@ IsDelivered proxy server final d before after left left_after held held_after Tu
 IsDelivered proxy server final d before after left left_after held held_after Turns.Last =
     (passes : PassesResponse proxy.gateway server final.response final.sent d before after left left_after held
     held_after) × (goes_on passes.begins.plan after ≡ false)
-IsDelivered proxy server final d before after left left_after held held_after Turns.Closed = ⊥
-IsDelivered proxy server final d before after left left_after held held_after Turns.Refused = ⊥
-IsDelivered proxy server final d before after left left_after held held_after Turns.Unanswered = ⊥
-IsDelivered proxy server final d before after left left_after held held_after (Turns.Dropped failure) = ⊥
 IsDelivered proxy server final d before after left left_after held held_after (Turns.Broken fault) =
     IsFinalUnsent server final fault × Appends held held_after (own_text (fault_status fault))
     × (after ≡ before) × (left_after ≡ left)
+IsDelivered proxy server final d before after left left_after held held_after turn = ⊥
 
 -- the gateway answers in the place of the origin server
 pub record AnswersInPlace (proxy : Proxy) (request : Request) (client : Client) (server : Server)
@@ -212,12 +202,9 @@ IsResponded proxy request client server before after left left_after held held_a
 IsResponded proxy request client server before after left left_after held held_after Turns.Last =
     (answer : PassesAnswer proxy request client server before after left left_after held held_after)
     × (goes_on answer.passes.begins.plan after ≡ false)
-IsResponded proxy request client server before after left left_after held held_after Turns.Closed = ⊥
-IsResponded proxy request client server before after left left_after held held_after Turns.Refused = ⊥
-IsResponded proxy request client server before after left left_after held held_after Turns.Unanswered = ⊥
-IsResponded proxy request client server before after left left_after held held_after (Turns.Dropped failure) = ⊥
 IsResponded proxy request client server before after left left_after held held_after (Turns.Broken fault) =
     AnswersInPlace proxy request client server before after left left_after held held_after fault
+IsResponded proxy request client server before after left left_after held held_after turn = ⊥
 
 -- On a connection on which the origin server answered before, a byte of its next answer is there, or was read. It may
 -- have ended such a connection between two requests (RFC 9112, section 9.3.1).
@@ -315,18 +302,18 @@ pub record BreaksRequest (proxy : Proxy) (before after : Wires) (failure : Failu
   pub passed : PassesInPart proxy before after told failure
   pub answers : Appends told after.told (own_text (request_status failure))
 
--- the remainder of a message has no bytes
-abbrev pub has_no_bytes : BodySize → Bool
-has_no_bytes Size.Empty = false
-has_no_bytes (Size.Known len) = len == 0
-has_no_bytes Size.Unknown = false
+-- the remainder of a message has a stated length of at most 65,536 bytes
+abbrev pub is_short : BodySize → Bool
+is_short Size.Empty = false
+is_short (Size.Known len) = nat_le len 65536
+is_short Size.Unknown = false
 
--- A request may be sent again: its method is idempotent (RFC 9110, section 9.2.2), its client is sent no 100, and it
--- has no content, as the server tells that read its head.
+-- A request may be sent again: its method is idempotent (RFC 9110, section 9.2.2), its client is sent no 100, and its
+-- content is short, as the server tells that read its head.
 abbrev pub is_repeatable : Request → Outgoing → Server → Bool
 is_repeatable request outgoing server =
     is_among idempotent_methods request.method
-    && (not outgoing.is_awaited && has_no_bytes (unread_size server.reading))
+    && (not outgoing.is_awaited && is_short (unread_size server.reading))
 
 abbrev pub may_repeat : {proxy : Proxy} {before : Wires} → Accepted proxy before → Bool
 may_repeat accepted = is_repeatable accepted.request accepted.outgoing accepted.server
@@ -356,16 +343,14 @@ pub record IsPutBack (proxy : Proxy) (before after : Wires) : Type 0 where
   pub receives : Takes before.asked after.asked before.asked_left after.asked_left
   pub told : after.told ≡ before.told
 
--- what becomes of a request whose head has this text, and of the input, that ended so
-abbrev pub GivesUp : Bool → List ℕ → Failure → List ℕ → List ℕ → Turn → Type 0
-GivesUp repeats text failure before after Turns.Next = ⊥
-GivesUp repeats text failure before after Turns.Last = ⊥
-GivesUp repeats text failure before after Turns.Closed = ⊥
-GivesUp repeats text failure before after Turns.Refused = ⊥
-GivesUp repeats text failure before after (Turns.Broken fault) = ⊥
-GivesUp repeats text failure before after Turns.Unanswered = (repeats ≡ true) × (after ≡ text ++ before)
-GivesUp repeats text failure before after (Turns.Dropped error) =
+-- what becomes of a request whose head has this text, with this copy of all that was received since, and of the input,
+-- that ended so
+abbrev pub GivesUp : Bool → List ℕ → Option Filled → Failure → List ℕ → List ℕ → Turn → Type 0
+GivesUp repeats text copy failure before after Turns.Unanswered =
+    (repeats ≡ true) × (received : Filled) × (copy ≡ Some received) × (after ≡ text ++ received.items)
+GivesUp repeats text copy failure before after (Turns.Dropped error) =
     (after ≡ before) × (((repeats ≡ false) × (error ≡ failure)) ⊎ (error ≡ Failed.OutOfMemory))
+GivesUp repeats text copy failure before after turn = ⊥
 
 -- why the gateway answers with this status, before it sends anything to the origin server: the request can't be read,
 -- or it is decided so
@@ -392,14 +377,7 @@ pub record IsClosed (before after : Wires) : Type 0 where
 abbrev pub IsBroken : Proxy → Bool → Wires → Wires → Fault → Type 0
 IsBroken proxy answered before after (Faults.Request failure) =
     BreaksRequest proxy before after failure × (answered ≡ true → failure ≢ Failed.Writer)
-IsBroken proxy answered before after (Faults.Unread failure) =
-    PassesExchange proxy answered before after (Turns.Broken (Faults.Unread failure))
-IsBroken proxy answered before after (Faults.Rejected rejection) =
-    PassesExchange proxy answered before after (Turns.Broken (Faults.Rejected rejection))
-IsBroken proxy answered before after (Faults.Unsent failure) =
-    PassesExchange proxy answered before after (Turns.Broken (Faults.Unsent failure))
-IsBroken proxy answered before after Faults.Endless =
-    PassesExchange proxy answered before after (Turns.Broken Faults.Endless)
+IsBroken proxy answered before after fault = PassesExchange proxy answered before after (Turns.Broken fault)
 
 -- what became of a request, by whether the origin server answered one before
 abbrev pub IsTurn : Proxy → Bool → Wires → Wires → Turn → Type 0

@@ -31,13 +31,8 @@ request_status Failed.OutOfMemory = 500
 -- for a response that can't be read or sent
 abbrev pub response_status : Failure → ℕ
 response_status Failed.Reader = 504
-response_status Failed.CutShort = 502
-response_status Failed.InvalidFields = 502
-response_status (Failed.Malformed e) = 502
-response_status Failed.TooLong = 502
-response_status (Failed.Unsendable e) = 502
-response_status Failed.Writer = 502
 response_status Failed.OutOfMemory = 500
+response_status failure = 502
 
 abbrev pub fault_status : Fault → ℕ
 fault_status (Faults.Request failure) = request_status failure
@@ -62,22 +57,16 @@ RefusesResponse server response sent e =
 
 -- why no byte of a response that was read is sent
 abbrev pub IsUnsent : Proxy → Request → Server → Response → Failure → Type 0
-IsUnsent proxy request server response Failed.Reader = ⊥
-IsUnsent proxy request server response Failed.CutShort = ⊥
-IsUnsent proxy request server response Failed.InvalidFields = ⊥
-IsUnsent proxy request server response (Failed.Malformed e) = ⊥
-IsUnsent proxy request server response Failed.TooLong = ⊥
 IsUnsent proxy request server response (Failed.Unsendable e) =
     (date : ℕ) × (sent : ForwardedResponse) × IsForwardedResponse proxy.gateway date (received request response) sent
     × RefusesResponse server response sent e
-IsUnsent proxy request server response Failed.Writer = ⊥
 IsUnsent proxy request server response Failed.OutOfMemory =
     IsForwardableResponse proxy.gateway (received request response)
+IsUnsent proxy request server response failure = ⊥
 
 -- why the next response of the origin server isn't passed on
 abbrev pub IsUnusable : Proxy → Request → Client → Server → List ℕ → List ℕ → Option (List ℕ) → Option (List ℕ) → Fault
     → Type 0
-IsUnusable proxy request client server before after left left_after (Faults.Request failure) = ⊥
 IsUnusable proxy request client server before after left left_after (Faults.Unread failure) =
     FailsToReadResponse client before after left left_after failure
 IsUnusable proxy request client server before after left left_after (Faults.Rejected rejection) =
@@ -88,4 +77,4 @@ IsUnusable proxy request client server before after left left_after (Faults.Unse
     (response : Response) × (client_after : Client)
     × ReadsResponseHead client client_after before after left left_after response
     × IsUnsent proxy request server response failure
-IsUnusable proxy request client server before after left left_after Faults.Endless = ⊥
+IsUnusable proxy request client server before after left left_after fault = ⊥

@@ -1,5 +1,6 @@
 //! One request and its response.
-ghost use Rattle.std.specs.Prelude.{◌≡◌, ◌≢◌, ◌&&◌, ◌==◌, [], codes, false, true, length, IfErr, IfOk, None, OnOk};
+ghost use Rattle.std.specs.Prelude.{◌≡◌, ◌≢◌, ◌&&◌, ◌==◌, [], codes, false, true, length, IfErr, IfOk, IfSome};
+ghost use Rattle.std.specs.Prelude.{None, OnOk};
 ghost use Rattle.http1.{specs.Conn.{awaits_head, is_connect}, specs.Head.response_text};
 ghost use Rattle.http1.specs.Server.{informational_refusal, new_server};
 ghost use Rattle.http1.specs.declared.conn.Reading.TheVariants as Reads;
@@ -8,7 +9,7 @@ ghost use Rattle.gateway_relay.{specs.Failures.FailsToWrite, specs.declared.fail
 ghost use Rattle.gateway_proxy.{specs.Cuts.{CutsFinal, CutsResponse, IsCut, IsUndecided}, specs.Exchanges.BreaksOff};
 ghost use Rattle.gateway_proxy.specs.Exchanges.{IsContinued, IsDelivered, IsReceived, IsResponded, IsTurn};
 ghost use Rattle.gateway_proxy.{specs.Exchanges.{BeginsAnswer, IsUnanswered, wires}, specs.Faults.fault_status};
-ghost use Rattle.gateway_proxy.specs.Exchanges.{GivesUp, has_no_bytes, is_repeatable};
+ghost use Rattle.gateway_proxy.specs.Exchanges.{GivesUp, is_repeatable, is_short};
 ghost use Rattle.gateway_proxy.{specs.Own.own_text, specs.Responses.is_open};
 
 use crate::answer::{Final, Reply, final_response};
@@ -27,6 +28,9 @@ use std::io::{Read, Write};
 
 /// How often a client is read from after its request was answered early.
 const DRAINED_READS: usize = 64;
+
+/// The greatest length of the content of a request that may be sent again, in bytes.
+const MOST_REPEATED: u64 = 65_536;
 
 /// What was received of a client.
 #[derive(Debug, Drop)]
@@ -149,6 +153,7 @@ fn deliver<R: Read, W: Write>(
         client,
         input,
         reader,
+        &mut None,
         server,
         writer,
     )?;
@@ -224,41 +229,55 @@ fn await_answer<R: Read>(
     Ok(())
 }
 
-fn has_no_bytes(size: BodySize) -> bool
-    ensures { result ≡ has_no_bytes size }
+fn is_short(size: BodySize) -> bool
+    ensures { result ≡ is_short size }
 {
     match size {
-        BodySize::Known(len) => len == 0,
+        BodySize::Known(len) => len <= MOST_REPEATED,
         BodySize::Empty | BodySize::Unknown => false,
     }
 }
 
-// Whether a request may be sent again: its method is idempotent (RFC 9110, section 9.2.2), it has no content,
-// of which the gateway stores none, and its client is sent no 100 (Continue). The server has read its head.
+// Whether a request may be sent again: its method is idempotent (RFC 9110, section 9.2.2), its client is sent
+// no 100 (Continue), and its content is short enough to be copied. The server has read its head.
 fn is_repeatable(request: &Request, outgoing: &Outgoing, server: &Server) -> bool
     ensures { result ≡ is_repeatable request.now outgoing.now server.now }
 {
-    request.method.is_idempotent() && !outgoing.is_awaited && has_no_bytes(server.unread_size())
+    request.method.is_idempotent() && !outgoing.is_awaited && is_short(server.unread_size())
 }
 
-// What becomes of a request that got no answer. If it is sent again, its head is put back before what
-// followed it.
+// A copy of the input, if one is wanted and memory suffices.
+fn copy_if(alloc: Global, is_wanted: bool, input: &BytesMut) -> Option<BytesMut>
+    ensures { IfSome result (λ copy. copy.items ≡ input.now.items) }
+{
+    if !is_wanted {
+        return None;
+    }
+    BytesMut::copy_from_slice(alloc, input.as_slice()).ok()
+}
+
+// What becomes of a request that got no answer. If it is sent again, its head is put back, and behind it the
+// copy of all that was received since.
 fn give_up(
     alloc: Global,
     repeats: bool,
     request: &Request,
+    copy: Option<BytesMut>,
     failure: Failure,
     requests: &mut BytesMut,
 ) -> Turn
-    ensures { GivesUp repeats request.now.text failure requests.old.items requests.new.items result }
+    ensures { GivesUp repeats request.now.text copy failure requests.old.items requests.new.items result }
 {
     if !repeats {
         return Turn::Dropped(failure);
     }
+    let Some(received) = copy else {
+        return Turn::Dropped(Failure::OutOfMemory);
+    };
     let Ok(mut input) = BytesMut::copy_from_slice(alloc, request.text.as_slice()) else {
         return Turn::Dropped(Failure::OutOfMemory);
     };
-    if input.extend_from_slice(requests.as_slice()).is_err() {
+    if input.extend_from_slice(received.as_slice()).is_err() {
         return Turn::Dropped(Failure::OutOfMemory);
     }
     *requests = input;
@@ -327,6 +346,7 @@ pub(crate) fn exchange<C: Clock, R: Read, W: Write, S: Read, T: Write>(
         Received::Accepted(request, outgoing) => (request, outgoing),
     };
     let repeats = is_repeatable(&request, &outgoing, &server);
+    let mut copy = copy_if(alloc, answered && repeats, requests);
     continue_if(alloc, outgoing.is_awaited, &mut server, writer)?;
     let mut client = Client::new(proxy.limits);
     let passed = pass_request(
@@ -338,19 +358,20 @@ pub(crate) fn exchange<C: Clock, R: Read, W: Write, S: Read, T: Write>(
         &mut server,
         requests,
         reader,
+        &mut copy,
         &mut client,
         to_origin,
     );
     if let Err(failure) = passed {
         if has_ended(answered, failure) {
-            return Ok(give_up(alloc, repeats, &request, failure, requests));
+            return Ok(give_up(alloc, repeats, &request, copy, failure, requests));
         }
         let turn = break_off(alloc, Fault::Request(failure), writer);
         drain(requests, reader);
         return turn;
     }
     if let Err(failure) = await_answer(answered, responses, from_origin) {
-        return Ok(give_up(alloc, repeats, &request, failure, requests));
+        return Ok(give_up(alloc, repeats, &request, copy, failure, requests));
     }
     respond(
         alloc,

@@ -9,7 +9,7 @@ ghost use Rattle.http1.specs.Server as Serving;
 ghost use Rattle.http1.specs.declared.conn.Reading.TheVariants as Reads;
 ghost use Rattle.http1.specs.declared.conn.Writing.TheVariants as Writes;
 ghost use Rattle.http1.{specs.declared.decode.Decoder.Decoder, specs.declared.encode.Encoder.Encoder};
-ghost use Rattle.gateway_relay.{specs.Content.content_read, specs.Failures.FailsToWrite};
+ghost use Rattle.gateway_relay.{specs.Content.content_read, specs.Failures.{Copies, FailsToWrite}};
 ghost use Rattle.gateway_proxy.specs.Passing.{BeginsRequest, BeginsResponse, FailsToPass, FailsToPassRequest};
 ghost use Rattle.gateway_proxy.specs.Passing.{IsSameRequest, Passes, PassesRequest, request_size, response_size};
 ghost use Rattle.gateway_proxy.specs.Responses.{keeps_origin, written_fields};
@@ -70,7 +70,8 @@ fn response_size(content: Content) -> BodySize
     }
 }
 
-/// Passes the content of a message on to its end, with the trailer fields that are forwarded.
+/// Passes the content of a message on to its end, with the trailer fields that are forwarded. What it reads is
+/// appended to the copy too.
 pub(crate) fn pass_content<S: ContentSource, R: Read, T: ContentSink, W: Write>(
     alloc: Global,
     keys: RandomState,
@@ -80,6 +81,7 @@ pub(crate) fn pass_content<S: ContentSource, R: Read, T: ContentSink, W: Write>(
     source: &mut S,
     input: &mut BytesMut,
     reader: &mut R,
+    copy: &mut Option<BytesMut>,
     sink: &mut T,
     writer: &mut W,
 ) -> Result<(), Failure>
@@ -96,8 +98,9 @@ pub(crate) fn pass_content<S: ContentSource, R: Read, T: ContentSink, W: Write>(
     ensures asked { (d : Decoder) (e : Encoder) → S.reading source.old ≡ Reads.Body d
         → T.writing sink.old ≡ Writes.Body e → OnOk result (S.asked source.new ≡ S.asked source.old) }
     ensures ended { OnOk result ((last : T) × (T.kept last ≡ T.kept sink.old) × (sink.new ≡ T.after_end last)) }
+    ensures copies { Copies copy.old copy.new (R.remaining reader.old) (R.remaining reader.new) }
 {
-    let trailers = relay_content(alloc, keys, source, input, reader, sink, writer)?;
+    let trailers = relay_content(alloc, keys, source, input, reader, copy, sink, writer)?;
     let sent = forward_trailers(alloc, gateway, &MessageHead { fields, framing }, &trailers)?;
     let list = header_list(alloc, &sent)?;
     end_content(alloc, sink, &list, writer)
@@ -131,7 +134,8 @@ fn begin_request<W: Write>(
     )
 }
 
-/// Sends a request to the origin server: its head, and the content as the client sends it.
+/// Sends a request to the origin server: its head, and the content as the client sends it. What it reads is
+/// appended to the copy too.
 pub(crate) fn pass_request<R: Read, W: Write>(
     alloc: Global,
     keys: RandomState,
@@ -141,6 +145,7 @@ pub(crate) fn pass_request<R: Read, W: Write>(
     server: &mut Server,
     input: &mut BytesMut,
     reader: &mut R,
+    copy: &mut Option<BytesMut>,
     client: &mut Client,
     writer: &mut W,
 ) -> Result<(), Failure>
@@ -154,6 +159,7 @@ pub(crate) fn pass_request<R: Read, W: Write>(
         ≡ Reads.Body d → IfErr result (FailsToPassRequest proxy.now.gateway client.old request.now outgoing.now d
         input.old.items input.new.items (R.remaining reader.old) (R.remaining reader.new)
         (W.contents writer.old) (W.contents writer.new)) }
+    ensures copies { Copies copy.old copy.new (R.remaining reader.old) (R.remaining reader.new) }
 {
     begin_request(alloc, request, outgoing, client, writer)?;
     pass_content(
@@ -165,6 +171,7 @@ pub(crate) fn pass_request<R: Read, W: Write>(
         server,
         input,
         reader,
+        copy,
         client,
         writer,
     )

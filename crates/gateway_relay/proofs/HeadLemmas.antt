@@ -28,25 +28,15 @@ use Rattle.gateway_relay.specs.declared.failure.Failure.TheVariants as Failed
 unread : (is_cut has_no_map : Type 0) (is_malformed : ReadError → Type 0) (f : Failure) → IsReceiveFailure f
     → IsHeadFailure is_cut has_no_map is_malformed f
 unread is_cut has_no_map is_malformed Failed.Reader is = tt
-unread is_cut has_no_map is_malformed Failed.CutShort is = absurd is
-unread is_cut has_no_map is_malformed Failed.InvalidFields is = absurd is
-unread is_cut has_no_map is_malformed (Failed.Malformed e) is = absurd is
-unread is_cut has_no_map is_malformed Failed.TooLong is = absurd is
-unread is_cut has_no_map is_malformed (Failed.Unsendable e) is = absurd is
-unread is_cut has_no_map is_malformed Failed.Writer is = absurd is
 unread is_cut has_no_map is_malformed Failed.OutOfMemory is = tt
+unread is_cut has_no_map is_malformed f is = absurd is
 
 -- the fields of a head have no map
 unmapped : (is_cut has_no_map : Type 0) (is_malformed : ReadError → Type 0) (fields : List Header) (f : Failure)
     → IsMapFailure fields f → (HasNoMap fields → has_no_map) → IsHeadFailure is_cut has_no_map is_malformed f
-unmapped is_cut has_no_map is_malformed fields Failed.Reader is because = absurd is
-unmapped is_cut has_no_map is_malformed fields Failed.CutShort is because = absurd is
 unmapped is_cut has_no_map is_malformed fields Failed.InvalidFields is because = because is
-unmapped is_cut has_no_map is_malformed fields (Failed.Malformed e) is because = absurd is
-unmapped is_cut has_no_map is_malformed fields Failed.TooLong is because = absurd is
-unmapped is_cut has_no_map is_malformed fields (Failed.Unsendable e) is because = absurd is
-unmapped is_cut has_no_map is_malformed fields Failed.Writer is because = absurd is
 unmapped is_cut has_no_map is_malformed fields Failed.OutOfMemory is because = tt
+unmapped is_cut has_no_map is_malformed fields f is because = absurd is
 
 -- what was taken, and kept by a read that failed
 receives_kept : (before input : List ℕ) (left left_then left_now : Option (List ℕ)) (taken : List ℕ)

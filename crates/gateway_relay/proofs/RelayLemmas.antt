@@ -5,6 +5,7 @@ use Rattle.std.proofs.Common.{Result, Ok, Err, IfErr, IfOk, OnOk, arith, ◌≢�
 use Rattle.std.{proofs.Math.Seq.{drop-length, take-add}, proofs.lemmas.List.take_all, proofs.KnownBytes.Appends-nil}
 use Rattle.std.proofs.KnownBytes.{Appends-trans, Consumes-kept, Consumes-nil, Consumes-trans, Keeps-refl}
 use Rattle.std.{specs.Io.KnownBytes.{Appends, Consumes, IsAtEnd, Keeps}, specs.List.concat}
+use Rattle.bytes.specs.Filled.{Filled}
 use Rattle.httparse.{specs.Grammar.Field, specs.declared.spans.HeaderSpan.HeaderSpan}
 use Rattle.http_header.{specs.FieldValue.FieldValue, specs.HeaderMap.Entries}
 use Rattle.http1.{specs.Body.{Body, body_of}, specs.Conservative.{IsPlainRequest, IsPlainResponse}, specs.Fields.Header}
@@ -21,8 +22,9 @@ use Rattle.http1.specs.Head.{head_refusal, is_request_line, is_status_line, requ
 use Rattle.http1.specs.declared.decode.Decoder.TheVariants.{Chunked, Length, UntilClose}
 use Rattle.http1.proofs.ConservativeLemmas.{request_is_plain, response_is_plain}
 use Rattle.gateway_relay.specs.Content.{ArePassed, Finds, FindsPart, Gives, after_pieces, begins, map_of, pieces_text}
-use Rattle.gateway_relay.{specs.Content.{reads, receives, waits}, specs.Failures.{FailsToWrite, HasNoMap, IsMapFailure}}
-use Rattle.gateway_relay.specs.Failures.{IsPieceFailure, IsReceiveFailure, IsRelayFailure, Writes, write_failure}
+use Rattle.gateway_relay.{specs.Content.{reads, receives, waits}, specs.Failures.{Copies, FailsToWrite, HasNoMap}}
+use Rattle.gateway_relay.specs.Failures.{IsMapFailure, IsPieceFailure, IsReceiveFailure, IsRelayFailure, Writes}
+use Rattle.gateway_relay.specs.Failures.{write_failure}
 use Rattle.gateway_relay.{specs.Relay.{HasEnd, IsRelayed, Relays, Sends}, specs.declared.failure.Failure.Failure}
 use Rattle.gateway_relay.specs.declared.relay.TheConstants.{MAX_TRAILERS}
 use Rattle.http1.specs.Client as Asking
@@ -62,6 +64,34 @@ pub appends_all : (a b : Option (List ℕ)) (text : List ℕ) (at : ℕ) → App
     → Appends a b text
 appends_all a b text at told all = subst (Appends a b) (take_all at text all) told
 
+-- ---- the copy of what is read
+
+pub copies_none : (copy : Option Filled) (left : Option (List ℕ)) → Copies copy copy left left
+copies_none None left = tt
+copies_none (Some copy) left =
+    (copy, refl, record { taken = []; received = Consumes-nil left; input = sym (append-nil copy.items) })
+
+pub copies_more : (a b c : Option Filled) (left now last : Option (List ℕ)) → Copies a b left now
+    → Copies b c now last → Copies a c left last
+copies_more a b None left now last first second = tt
+copies_more a b (Some copy) left now last first second =
+    let f = subst (λ (x : Option Filled). Copies a x left now) second.1 first in (
+      f.0,
+      f.1,
+      record {
+        taken = f.2.taken ++ second.2.taken;
+        received = Consumes-trans left now last _ _ f.2.received second.2.received;
+        input = second.2.input ∙ ap (λ (t : List ℕ). t ++ second.2.taken) f.2.input
+            ∙ append_assoc f.0.items f.2.taken second.2.taken;
+      },
+    )
+
+pub copies_as : (a b : Option Filled) (left now : Option (List ℕ)) → Copies a b left now → (c : Option Filled)
+    (last : Option (List ℕ)) → c ≡ b → last ≡ now → Copies a c left last
+copies_as a b left now copies c last same remains =
+    subst (λ (x : Option Filled). Copies a x left last) (sym same)
+    (subst (λ (x : Option (List ℕ)). Copies a b left x) (sym remains) copies)
+
 -- ---- pieces
 
 pub pieces_text-append : (pieces : List (List ℕ)) (piece : List ℕ) (e : Encoder)
@@ -93,26 +123,8 @@ refusal_is (Some refused) spare len e outcome other = cc
 refused_as : (refusal : Option WriteError) (text : List ℕ) (held : Option (List ℕ)) (spare len : ℕ)
     (e : WriteError) → GivesOrRefuses {T = Unit {0}} refusal spare len (Err e)
     → FailsToWrite refusal text held held (write_failure e)
-refused_as refusal text held spare len Write.State outcome = (refusal_is _ _ _ _ outcome (λ is. absurd (cc)), refl)
-refused_as refusal text held spare len Write.InvalidStartLine outcome =
-    (refusal_is _ _ _ _ outcome (λ is. absurd (cc)), refl)
-refused_as refusal text held spare len Write.InvalidHeader outcome =
-    (refusal_is _ _ _ _ outcome (λ is. absurd (cc)), refl)
-refused_as refusal text held spare len Write.Host outcome = (refusal_is _ _ _ _ outcome (λ is. absurd (cc)), refl)
-refused_as refusal text held spare len (Write.Framing reason) outcome =
-    (refusal_is _ _ _ _ outcome (λ is. absurd (cc)), refl)
-refused_as refusal text held spare len Write.BodySize outcome = (refusal_is _ _ _ _ outcome (λ is. absurd (cc)), refl)
-refused_as refusal text held spare len Write.MissingUpgrade outcome =
-    (refusal_is _ _ _ _ outcome (λ is. absurd (cc)), refl)
-refused_as refusal text held spare len Write.UnusualFraming outcome =
-    (refusal_is _ _ _ _ outcome (λ is. absurd (cc)), refl)
-refused_as refusal text held spare len Write.BodyTooLong outcome =
-    (refusal_is _ _ _ _ outcome (λ is. absurd (cc)), refl)
-refused_as refusal text held spare len Write.BodyTooShort outcome =
-    (refusal_is _ _ _ _ outcome (λ is. absurd (cc)), refl)
-refused_as refusal text held spare len Write.UnexpectedTrailers outcome =
-    (refusal_is _ _ _ _ outcome (λ is. absurd (cc)), refl)
 refused_as refusal text held spare len Write.OutOfMemory outcome = refl
+refused_as refusal text held spare len e outcome = (refusal_is _ _ _ _ outcome (λ is. absurd (cc)), refl)
 
 accepted_as : {U : Type 0} (refusal : Option WriteError) (spare len : ℕ) (value : U)
     → GivesOrRefuses refusal spare len (Ok value) → refusal ≡ None
@@ -457,24 +469,14 @@ module _ {d : Decoder} {e : Encoder} {before input : List ℕ} {left left_now he
   pub receive_fails : (ends : Bool) (left_new : Option (List ℕ)) (failure : Failure) → IsReceiveFailure failure
       → IsRelayFailure ends d e (before ++ p.taken) left_new p.pieces failure
   receive_fails ends left_new Failed.Reader is = tt
-  receive_fails ends left_new Failed.CutShort is = absurd is
-  receive_fails ends left_new Failed.InvalidFields is = absurd is
-  receive_fails ends left_new (Failed.Malformed error) is = absurd is
-  receive_fails ends left_new Failed.TooLong is = absurd is
-  receive_fails ends left_new (Failed.Unsendable error) is = absurd is
-  receive_fails ends left_new Failed.Writer is = absurd is
   receive_fails ends left_new Failed.OutOfMemory is = tt
+  receive_fails ends left_new failure is = absurd is
 
   -- a piece is refused
   pub piece_fails : (ends : Bool) (left_new : Option (List ℕ)) (piece : List ℕ) (new : Decoder) (len : ℕ)
       (failure : Failure) → Continues p.last input new len piece
       → IsPieceFailure (data_refusal w (length piece)) failure
       → IsRelayFailure ends d e (before ++ p.taken) left_new p.pieces failure
-  piece_fails ends left_new piece new len Failed.Reader continues is = absurd is
-  piece_fails ends left_new piece new len Failed.CutShort continues is = absurd is
-  piece_fails ends left_new piece new len Failed.InvalidFields continues is = absurd is
-  piece_fails ends left_new piece new len (Failed.Malformed error) continues is = absurd is
-  piece_fails ends left_new piece new len Failed.TooLong continues is = absurd is
   piece_fails ends left_new piece new len (Failed.Unsendable error) continues is = (
     piece,
     new,
@@ -482,15 +484,13 @@ module _ {d : Decoder} {e : Encoder} {before input : List ℕ} {left left_now he
     reads (before ++ p.taken) p.pieces p.last new input len piece p.gives continues,
     subst (λ (x : Writing). data_refusal x (length piece) ≡ Some error) p.is_writing is,
   )
-  piece_fails ends left_new piece new len Failed.Writer continues is = absurd is
   piece_fails ends left_new piece new len Failed.OutOfMemory continues is = tt
+  piece_fails ends left_new piece new len failure continues is = absurd is
 
   -- no header map takes the trailer fields
   pub trailers_fail : (ends : Bool) (left_new : Option (List ℕ)) (spans : List HeaderSpan) (len count : ℕ)
       (failure : Failure) → Ends p.last input spans len count → IsMapFailure (headers_at input spans count) failure
       → IsRelayFailure ends d e (before ++ p.taken) left_new p.pieces failure
-  trailers_fail ends left_new spans len count Failed.Reader found is = absurd is
-  trailers_fail ends left_new spans len count Failed.CutShort found is = absurd is
   trailers_fail ends left_new spans len count Failed.InvalidFields found is = (
     _,
     _,
@@ -498,11 +498,8 @@ module _ {d : Decoder} {e : Encoder} {before input : List ℕ} {left left_now he
         (gives_back p.gives [] (body_of [] found.trailers) (drop len input ++ []) (found.completes [])),
     subst HasNoMap found.covered is,
   )
-  trailers_fail ends left_new spans len count (Failed.Malformed error) found is = absurd is
-  trailers_fail ends left_new spans len count Failed.TooLong found is = absurd is
-  trailers_fail ends left_new spans len count (Failed.Unsendable error) found is = absurd is
-  trailers_fail ends left_new spans len count Failed.Writer found is = absurd is
   trailers_fail ends left_new spans len count Failed.OutOfMemory found is = tt
+  trailers_fail ends left_new spans len count failure found is = absurd is
 
   -- the content is malformed
   pub content_fails : (ends : Bool) (left_new : Option (List ℕ)) (error : ReadError)

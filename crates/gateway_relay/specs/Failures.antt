@@ -2,6 +2,7 @@
 use Rattle.std.specs.Prelude.{◌≡◌, ◌≢◌, ⊤, ℕ, ◌≤◌, ◌^◌, ◌⊎◌, Bool, IsTrue, List, [], ◌∷◌, ◌++◌, length, map, take, Any}
 use Rattle.std.specs.Prelude.{MatchResult, None, Option, Result, Some}
 use Rattle.std.specs.Io.KnownBytes.{Appends, Consumes, IsAtEnd}
+use Rattle.bytes.specs.Filled.{Filled}
 use Rattle.httparse.specs.Spans.{name_and_value}
 use Rattle.http.specs.declared.error.Error.{Error}
 use Rattle.http_header.specs.{FieldName.IsFieldName, FieldValue.IsFieldValue, HeaderMap.RefusesAppend}
@@ -23,16 +24,17 @@ pub record Receives (before after : List ℕ) (left left_after : Option (List �
   pub received : Consumes left left_after taken
   pub input : after ≡ before ++ taken
 
+-- What was taken of the reader is behind what the copy had. There is none, or none any more, if memory ran out for it.
+abbrev pub Copies : Option Filled → Option Filled → Option (List ℕ) → Option (List ℕ) → Type 0
+Copies before None left left_after = ⊤
+Copies before (Some copy) left left_after =
+    (begun : Filled) × (before ≡ Some begun) × Receives begun.items copy.items left left_after
+
 -- a read failed, or memory ran out
 abbrev pub IsReceiveFailure : Failure → Type 0
 IsReceiveFailure Failed.Reader = ⊤
-IsReceiveFailure Failed.CutShort = ⊥
-IsReceiveFailure Failed.InvalidFields = ⊥
-IsReceiveFailure (Failed.Malformed e) = ⊥
-IsReceiveFailure Failed.TooLong = ⊥
-IsReceiveFailure (Failed.Unsendable e) = ⊥
-IsReceiveFailure Failed.Writer = ⊥
 IsReceiveFailure Failed.OutOfMemory = ⊤
+IsReceiveFailure failure = ⊥
 
 -- no header map takes the fields: a name or a value is invalid, or there are too many
 abbrev pub HasNoMap : List Header → Type 0
@@ -48,14 +50,9 @@ map_failure error = Failed.InvalidFields
 
 -- the fields have no map, or memory ran out
 abbrev pub IsMapFailure : List Header → Failure → Type 0
-IsMapFailure fields Failed.Reader = ⊥
-IsMapFailure fields Failed.CutShort = ⊥
 IsMapFailure fields Failed.InvalidFields = HasNoMap fields
-IsMapFailure fields (Failed.Malformed e) = ⊥
-IsMapFailure fields Failed.TooLong = ⊥
-IsMapFailure fields (Failed.Unsendable e) = ⊥
-IsMapFailure fields Failed.Writer = ⊥
 IsMapFailure fields Failed.OutOfMemory = ⊤
+IsMapFailure fields failure = ⊥
 
 -- Why content isn't passed on, where the decoder gave these pieces of the stream: the input, and what was taken of a
 -- reader, of which this is left. It is malformed, and no bytes that follow would mend it; or it is cut short; or its
@@ -92,14 +89,9 @@ Refuses refusal result =
 
 -- why a piece of content isn't written to a buffer
 abbrev pub IsPieceFailure : Option WriteError → Failure → Type 0
-IsPieceFailure refusal Failed.Reader = ⊥
-IsPieceFailure refusal Failed.CutShort = ⊥
-IsPieceFailure refusal Failed.InvalidFields = ⊥
-IsPieceFailure refusal (Failed.Malformed e) = ⊥
-IsPieceFailure refusal Failed.TooLong = ⊥
 IsPieceFailure refusal (Failed.Unsendable e) = refusal ≡ Some e
-IsPieceFailure refusal Failed.Writer = ⊥
 IsPieceFailure refusal Failed.OutOfMemory = ⊤
+IsPieceFailure refusal failure = ⊥
 
 -- a first part of the text is written
 pub record WritesPart (text : List ℕ) (held held_after : Option (List ℕ)) : Type 0 where
@@ -110,14 +102,10 @@ pub record WritesPart (text : List ℕ) (held held_after : Option (List ℕ)) : 
 
 -- why a text isn't written, and what is written nevertheless; `http1` may refuse it
 abbrev pub FailsToWrite : Option WriteError → List ℕ → Option (List ℕ) → Option (List ℕ) → Failure → Type 0
-FailsToWrite refusal text held held_after Failed.Reader = ⊥
-FailsToWrite refusal text held held_after Failed.CutShort = ⊥
-FailsToWrite refusal text held held_after Failed.InvalidFields = ⊥
-FailsToWrite refusal text held held_after (Failed.Malformed e) = ⊥
-FailsToWrite refusal text held held_after Failed.TooLong = ⊥
 FailsToWrite refusal text held held_after (Failed.Unsendable e) = (refusal ≡ Some e) × (held_after ≡ held)
 FailsToWrite refusal text held held_after Failed.Writer = (refusal ≡ None) × WritesPart text held held_after
 FailsToWrite refusal text held held_after Failed.OutOfMemory = held_after ≡ held
+FailsToWrite refusal text held held_after failure = ⊥
 
 -- The text is written, if `http1` doesn't refuse it. If it does, or memory runs out, nothing is written.
 abbrev pub Writes : {T : Type 0} → Option WriteError → List ℕ → Option (List ℕ) → Option (List ℕ) → Result T Failure

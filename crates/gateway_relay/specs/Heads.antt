@@ -61,10 +61,8 @@ IsHeadFailure is_cut has_no_map is_malformed Failed.Reader = ⊤
 IsHeadFailure is_cut has_no_map is_malformed Failed.CutShort = is_cut
 IsHeadFailure is_cut has_no_map is_malformed Failed.InvalidFields = has_no_map
 IsHeadFailure is_cut has_no_map is_malformed (Failed.Malformed e) = is_malformed e
-IsHeadFailure is_cut has_no_map is_malformed Failed.TooLong = ⊥
-IsHeadFailure is_cut has_no_map is_malformed (Failed.Unsendable e) = ⊥
-IsHeadFailure is_cut has_no_map is_malformed Failed.Writer = ⊥
 IsHeadFailure is_cut has_no_map is_malformed Failed.OutOfMemory = ⊤
+IsHeadFailure is_cut has_no_map is_malformed failure = ⊥
 
 -- why no request is read, when this is in the input and this is left of the reader
 abbrev pub IsRequestFailure : Limits → List ℕ → Option (List ℕ) → Failure → Type 0

@@ -9,12 +9,12 @@ ghost use Rattle.http1.specs.declared.conn.Writing.TheVariants as Written;
 ghost use Rattle.http1.specs.{declared.decode.Decoder.Decoder, declared.decode.Decoder.TheVariants.UntilClose};
 ghost use Rattle.http1.specs.{declared.encode.Encoder.Encoder};
 ghost use Rattle.gateway_relay.specs.{Content.map_of, declared.failure.Failure.TheVariants.CutShort, Relay.Relays};
-ghost use Rattle.gateway_relay.specs.Failures.{IsMapFailure, IsPieceFailure, Writes};
+ghost use Rattle.gateway_relay.specs.Failures.{Copies, IsMapFailure, IsPieceFailure, Writes};
 
 use crate::failure::Failure;
 use crate::sink::ContentSink;
 use crate::source::ContentSource;
-use crate::transfer::{receive, send};
+use crate::transfer::{receive_copied, send};
 use bytes::{Bytes, BytesMut};
 use http::HeaderMap;
 use http1::Header;
@@ -72,14 +72,15 @@ pub fn fields_at(
 }
 
 /// Relays the content of a message from a reader to a writer, piece by piece, in the frames of the
-/// sink (RFC 9112, section 6). Returns the trailer fields; the caller writes the end of the
-/// content.
+/// sink (RFC 9112, section 6). What it reads is appended to the copy too, which becomes `None` if memory runs
+/// out for it. Returns the trailer fields; the caller writes the end of the content.
 pub fn relay_content<S: ContentSource, R: Read, T: ContentSink, W: Write>(
     alloc: Global,
     keys: RandomState,
     source: &mut S,
     input: &mut BytesMut,
     reader: &mut R,
+    copy: &mut Option<BytesMut>,
     sink: &mut T,
     writer: &mut W,
 ) -> Result<HeaderMap, Failure>
@@ -93,6 +94,7 @@ pub fn relay_content<S: ContentSource, R: Read, T: ContentSink, W: Write>(
     ensures asked { (d : Decoder) (e : Encoder) → S.reading source.old ≡ Reads.Body d
         → T.writing sink.old ≡ Written.Body e → OnOk result (S.asked source.new ≡ S.asked source.old) }
     ensures kept { T.kept sink.new ≡ T.kept sink.old }
+    ensures copies { Copies copy.old copy.new (R.remaining reader.old) (R.remaining reader.new) }
 {
     let mut spans = [EMPTY_HEADER_SPAN; MAX_TRAILERS];
     let mut output = BytesMut::new(alloc);
@@ -107,7 +109,7 @@ pub fn relay_content<S: ContentSource, R: Read, T: ContentSink, W: Write>(
                 input.advance(len);
                 send(writer, output.as_slice())?;
                 output.clear();
-                if receive(reader, input)? == 0 {
+                if receive_copied(reader, input, copy)? == 0 {
                     return end_of_input(alloc, keys, source, input);
                 }
             }

@@ -1,7 +1,7 @@
 //! Bytes from a reader and to a writer.
 ghost use Rattle.std.specs.Prelude.{◌≡◌, ◌++◌, ℕ, List, [], length, IfErr, IfOk, OnErr, OnOk};
 ghost use Rattle.std.specs.Io.KnownBytes.{Consumes, IsAtEnd, Keeps};
-ghost use Rattle.gateway_relay.specs.{Failures.IsReceiveFailure, Relay.Sends};
+ghost use Rattle.gateway_relay.specs.{Failures.{Copies, IsReceiveFailure}, Relay.Sends};
 
 use crate::failure::Failure;
 use bytes::BytesMut;
@@ -47,4 +47,30 @@ pub fn receive<R: Read>(reader: &mut R, input: &mut BytesMut) -> Result<usize, F
         Ok(count) => Ok(count),
         Err(_) => Err(Failure::Reader),
     }
+}
+
+/// Reads as `receive`, and appends what was read to the copy too. That becomes `None` if memory runs out for it.
+pub(crate) fn receive_copied<R: Read>(
+    reader: &mut R,
+    input: &mut BytesMut,
+    copy: &mut Option<BytesMut>,
+) -> Result<usize, Failure>
+    ensures ok { IfOk result (λ count. (more : List ℕ) × (length more ≡ count)
+        × (input.new.items ≡ input.old.items ++ more)
+        × Consumes (R.remaining reader.old) (R.remaining reader.new) more) }
+    ensures end { result ≡ Ok 0 → IsAtEnd (R.remaining reader.new) }
+    ensures err { OnErr result ((input.new.items ≡ input.old.items)
+        × Keeps (R.remaining reader.old) (R.remaining reader.new)) }
+    ensures reason { IfErr result IsReceiveFailure }
+    ensures copies { Copies copy.old copy.new (R.remaining reader.old) (R.remaining reader.new) }
+{
+    let len = input.len();
+    let count = receive(reader, input)?;
+    let Some(mut text) = copy.take() else {
+        return Ok(count);
+    };
+    if text.extend_from_slice(&input.as_slice()[len..]).is_ok() {
+        *copy = Some(text);
+    }
+    Ok(count)
 }

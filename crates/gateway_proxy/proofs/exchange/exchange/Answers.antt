@@ -127,7 +127,8 @@ returns-then-has_ended-clause-turn g c =
     let ended = c.has_ended.ensures.ended (c.if-has_ended.true) in
     gives_up_in_part head c.continue_if.new.server told c.in_ok-continue_if.ensures.continued after c.new-client.result
     c.new-client.ensures c.args.answered ended.0 c.is_repeatable-repeats.result c.is_repeatable-repeats.ensures refl
-    c.in-Err.failure c.give_up.new.requests.items c.give_up.result c.give_up.ensures
+    c.in-Err.failure c.give_up.new.requests.items c.give_up.result c.copy_if-copy.result
+    c.pass_request-passed.new.copy c.copy_if-copy.ensures c.pass_request-passed.ensures.copies c.give_up.ensures
     (c.in-Err.ensures.fails (decoder_for proxy.limits head.reads.framing)) refl refl ended.1
 
 pub returns-in-Err-await_answer-clause-turn : goal.returns-in-Err-await_answer-clause-turn
@@ -150,5 +151,6 @@ returns-in-Err-await_answer-clause-turn g c =
     gives_up_unanswered head c.continue_if.new.server told c.in_ok-continue_if.ensures.continued after
     c.new-client.result c.new-client.ensures c.args.answered ends.0 c.is_repeatable-repeats.result
     c.is_repeatable-repeats.ensures refl c.in-Err-await_answer.failure gives.new.requests.items gives.result
+    c.copy_if-copy.result c.pass_request-passed.new.copy c.copy_if-copy.ensures c.pass_request-passed.ensures.copies
     gives.ensures c.pass_request-passed.new.client c.pass_request-passed.new.server (c.in_default.ensures.passes d)
     (c.in_default.ensures.same d) ends.1

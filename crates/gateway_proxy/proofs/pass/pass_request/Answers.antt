@@ -1,6 +1,7 @@
 use Rattle.std.proofs.Common.{ap}
 use Rattle.http1.specs.Client as Asking
 use Rattle.http1.specs.Encoder.{encoder_for}
+use Rattle.gateway_relay.proofs.RelayLemmas.{copies_none}
 use Rattle.gateway_proxy.proofs.PassLemmas.{request_fails, request_passes, request_same}
 use Rattle.gateway_proxy.proofs.pass.pass_request.Goals as goal
 
@@ -18,6 +19,10 @@ returns-clause-fails g c d reading =
     let pass = c.pass_content in
     request_fails begins c.args.proxy.now.gateway d c.args.input.now.items pass.new.input.items _ _ _ pass.result
     (pass.ensures.fails d (encoder_for begins.plan.framing) reading (ap Asking.writing begins.next))
+
+pub returns-in_err-begin_request-clause-copies : goal.returns-in_err-begin_request-clause-copies
+returns-in_err-begin_request-clause-copies g c =
+    copies_none c.args.copy.now (g.R.Read.remaining c.args.reader.now)
 
 pub returns-clause-same : goal.returns-clause-same
 returns-clause-same g c d reading =

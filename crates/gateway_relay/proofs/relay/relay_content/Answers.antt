@@ -3,10 +3,11 @@ use Rattle.std.proofs.lemmas.Result.{err_from_is_err_and}
 use Rattle.bytes.specs.Filled.{Filled}
 use Rattle.http1.specs.ServerTrace.{headers_at}
 use Rattle.gateway_relay.{specs.Content.map_of, proofs.RelayLemmas.{above, counts_all, counts_begin, counts_piece}}
-use Rattle.gateway_relay.proofs.RelayLemmas.{counts_read, some_more, content_fails, end_found, found, nothing_more}
-use Rattle.gateway_relay.proofs.RelayLemmas.{on_ok, passing_as, passing_begins, passing_piece, passing_received}
-use Rattle.gateway_relay.proofs.RelayLemmas.{passing_sent, passing_waits, piece_fails, receive_fails, relays_closed}
-use Rattle.gateway_relay.proofs.RelayLemmas.{relays_ended, relays_failed, relays_unsent, trailers_fail}
+use Rattle.gateway_relay.proofs.RelayLemmas.{copies_as, copies_more, copies_none, counts_read, some_more, content_fails}
+use Rattle.gateway_relay.proofs.RelayLemmas.{end_found, found, nothing_more, on_ok, passing_as, passing_begins}
+use Rattle.gateway_relay.proofs.RelayLemmas.{passing_piece, passing_received, passing_sent, passing_waits, piece_fails}
+use Rattle.gateway_relay.proofs.RelayLemmas.{receive_fails, relays_closed, relays_ended, relays_failed, relays_unsent}
+use Rattle.gateway_relay.proofs.RelayLemmas.{trailers_fail}
 use Rattle.gateway_relay.proofs.relay.relay_content.Goals as goal
 
 pub loop-turn-init : goal.loop-turn-init
@@ -18,6 +19,7 @@ loop-turn-init g c = record {
   );
   asked = λ d e reading writing. refl;
   kept = refl;
+  copies = copies_none c.args.copy.now (g.R.Read.remaining c.args.reader.now);
 }
 
 pub returns-in-Err-clause-relays : goal.returns-in-Err-clause-relays
@@ -47,17 +49,27 @@ returns-in_err-send-in-NeedMore-clause-relays g c d e reading writing =
     relays_unsent (passing_waits p f.0 _ _ f.1 f.2) _ s.0 s.1 _ _ _ _ _ (y.1 ∙ ap Err y.2)
     c.in_err-send-in-NeedMore.ensures.err (sym c.as_slice-in-NeedMore.ensures ∙ s.2) s.3 c.advance.ensures.items
 
-pub returns-in_err-receive-in-NeedMore-clause-relays : goal.returns-in_err-receive-in-NeedMore-clause-relays
-returns-in_err-receive-in-NeedMore-clause-relays g c d e reading writing =
+pub returns-in_err-receive_copied-in-NeedMore-clause-relays :
+    goal.returns-in_err-receive_copied-in-NeedMore-clause-relays
+returns-in_err-receive_copied-in-NeedMore-clause-relays g c d e reading writing =
     let s = c.in_ok-send-in-NeedMore.ensures.sends in
     let old = (c.loop-turn.invariant.passing d e reading writing).0 in
     let f = found old _ _ _ _ _ c.in-Ok.ensures.ok c.as_slice.ensures c.in-NeedMore.is in
     let p = passing_sent (passing_waits old f.0 _ _ f.1 f.2) s.0 s.1 _ (sym c.as_slice-in-NeedMore.ensures
     ∙ s.2) s.3 s.4 in
-    let y = err_from_is_err_and _ c.from_residual-in_err-receive-in-NeedMore.ensures.1 in
-    relays_failed p _ _ _ _ _ _ (y.1 ∙ ap Err y.2) c.in_err-receive-in-NeedMore.ensures.err.1
-    (receive_fails p _ _ _ c.in_err-receive-in-NeedMore.ensures.reason)
-    (c.in_err-receive-in-NeedMore.ensures.err.0 ∙ c.advance.ensures.items)
+    let y = err_from_is_err_and _ c.from_residual-in_err-receive_copied-in-NeedMore.ensures.1 in
+    relays_failed p _ _ _ _ _ _ (y.1 ∙ ap Err y.2) c.in_err-receive_copied-in-NeedMore.ensures.err.1
+    (receive_fails p _ _ _ c.in_err-receive_copied-in-NeedMore.ensures.reason)
+    (c.in_err-receive_copied-in-NeedMore.ensures.err.0 ∙ c.advance.ensures.items)
+
+pub returns-in_err-receive_copied-in-NeedMore-clause-copies :
+    goal.returns-in_err-receive_copied-in-NeedMore-clause-copies
+returns-in_err-receive_copied-in-NeedMore-clause-copies g c =
+    copies_more _ _ _ _ _ _ c.loop-turn.invariant.copies c.in_err-receive_copied-in-NeedMore.ensures.copies
+
+pub returns-then-branch-eq0-clause-copies : goal.returns-then-branch-eq0-clause-copies
+returns-then-branch-eq0-clause-copies g c =
+    copies_more _ _ _ _ _ _ c.loop-turn.invariant.copies c.in_ok-receive_copied-in-NeedMore.ensures.copies
 
 pub returns-then-branch-eq0-clause-relays : goal.returns-then-branch-eq0-clause-relays
 unfolding passing_received passing_sent passing_waits
@@ -65,12 +77,12 @@ returns-then-branch-eq0-clause-relays g c d e reading writing =
     let p = (c.loop-turn.invariant.passing d e reading writing).0 in
     let f = found p _ _ _ _ _ c.in-Ok.ensures.ok c.as_slice.ensures c.in-NeedMore.is in
     let s = c.in_ok-send-in-NeedMore.ensures.sends in
-    let got = c.in_ok-receive-in-NeedMore.ensures.ok in
+    let got = c.in_ok-receive_copied-in-NeedMore.ensures.ok in
     let sent = passing_sent (passing_waits p f.0 _ _ f.1 f.2) s.0 s.1 _ (sym c.as_slice-in-NeedMore.ensures
     ∙ s.2) s.3 s.4 in
     let now = passing_received sent got.0 _ _ (got.2 ∙ ap (λ (t : List ℕ). t ++ got.0) c.advance.ensures.items) got.3 in
     let count = c.if-branch-eq0.true in
-    let at_end = c.in_ok-receive-in-NeedMore.ensures.end (ap Ok count) in
+    let at_end = c.in_ok-receive_copied-in-NeedMore.ensures.end (ap Ok count) in
     relays_closed p now _ f.2 got.0 (nothing_more got.0 (got.1 ∙ count)) (sym (append_assoc _ p.taken got.0))
     (got.2 ∙ ap (λ (t : List ℕ). t ++ got.0) c.advance.ensures.items) _ at_end _ refl c.end_of_input.ensures.fields
     c.end_of_input.ensures.read (c.end_of_input.ensures.until_close now.last now.is_reading)
@@ -133,10 +145,10 @@ loop-turn-preserved g c = record {
                   (ap (λ (b : Filled). b.items) w.output-is),
               counts_piece _ _ p.taken _ counted _ _ (above _ _ f.2) f.3.within input,
             )
-        | goal.in-NeedMore+in_ok-send-in-NeedMore+in_ok-receive-in-NeedMore+else-branch-eq0 w ↦
+        | goal.in-NeedMore+in_ok-send-in-NeedMore+in_ok-receive_copied-in-NeedMore+else-branch-eq0 w ↦
             let f = found p _ _ _ _ _ c.in-Ok.ensures.ok c.as_slice.ensures w.in-NeedMore.is in
             let s = w.in_ok-send-in-NeedMore.ensures.sends in
-            let got = w.in_ok-receive-in-NeedMore.ensures.ok in
+            let got = w.in_ok-receive_copied-in-NeedMore.ensures.ok in
             let sent = passing_sent (passing_waits p f.0 _ _ f.1 f.2) s.0 s.1 _
             (sym w.as_slice-in-NeedMore.ensures ∙ s.2) s.3 s.4 in
             let read = got.2 ∙ ap (λ (t : List ℕ). t ++ got.0) w.advance.ensures.items in
@@ -155,8 +167,15 @@ loop-turn-preserved g c = record {
   kept = elim c.match-found.branch [
     | goal.in-Data+in_ok-pass_piece-in-Data w ↦
         ap g.T.ContentSink.kept w.sink-is ∙ w.pass_piece.ensures.kept ∙ c.loop-turn.invariant.kept
-    | goal.in-NeedMore+in_ok-send-in-NeedMore+in_ok-receive-in-NeedMore+else-branch-eq0 w ↦
+    | goal.in-NeedMore+in_ok-send-in-NeedMore+in_ok-receive_copied-in-NeedMore+else-branch-eq0 w ↦
         ap g.T.ContentSink.kept w.sink-is ∙ c.loop-turn.invariant.kept
+  ];
+  copies = elim c.match-found.branch [
+    | goal.in-Data+in_ok-pass_piece-in-Data w ↦
+        copies_as _ _ _ _ c.loop-turn.invariant.copies _ _ w.copy-is (ap g.R.Read.remaining w.reader-is)
+    | goal.in-NeedMore+in_ok-send-in-NeedMore+in_ok-receive_copied-in-NeedMore+else-branch-eq0 w ↦
+        copies_as _ _ _ _ (copies_more _ _ _ _ _ _ c.loop-turn.invariant.copies
+        w.in_ok-receive_copied-in-NeedMore.ensures.copies) _ _ w.copy-is (ap g.R.Read.remaining w.reader-is)
   ];
 }
 

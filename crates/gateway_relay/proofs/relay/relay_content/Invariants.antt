@@ -1,6 +1,6 @@
 use Rattle.std.proofs.Common.{◌≡◌, ◌+◌, ◌≤◌, ◌++◌, length}
 use Rattle.http1.specs.{declared.decode.Decoder.Decoder, declared.encode.Encoder.Encoder}
-use Rattle.gateway_relay.proofs.RelayLemmas.{Passing}
+use Rattle.gateway_relay.{specs.Failures.Copies, proofs.RelayLemmas.Passing}
 use Rattle.http1.specs.declared.conn.Reading.TheVariants as Reads
 use Rattle.http1.specs.declared.conn.Writing.TheVariants as Writes
 use Rattle.gateway_relay.proofs.relay.relay_content.Given as goal
@@ -18,4 +18,5 @@ invariant-loop-turn g l = record {
       → g.T.ContentSink.writing l.initial.sink ≡ Writes.Body e
       → g.S.ContentSource.asked l.source ≡ g.S.ContentSource.asked l.initial.source;
   kept : g.T.ContentSink.kept l.sink ≡ g.T.ContentSink.kept l.initial.sink;
+  copies : Copies l.initial.copy l.copy (g.R.Read.remaining l.initial.reader) (g.R.Read.remaining l.reader);
 }
