@@ -1,6 +1,7 @@
 -- What steps, reads and writes do to a connection.
 use Rattle.std.proofs.Common.{◌≡◌, ◌≢◌, ◌⊎◌, ℕ, ◌==◌, Bool, true, false, List, [], ◌∷◌, ◌++◌, length, take, drop}
-use Rattle.std.proofs.Common.{if◌then◌else◌, Option, Some, None, Result, Ok, Err, OnOk, OnErr, IsTrue, IfSome, is_some}
+use Rattle.std.proofs.Common.{if◌then◌else◌, Option, Some, None, Result, Ok, Err, OnOk, OnErr, IsTrue, IfNone, is_some}
+use Rattle.std.proofs.Common.{◌+◌, ◌<◌, take_all}
 use Rattle.std.proofs.Common.{refl, sym, ap, ◌∙◌, subst, append_assoc, append-nil, inl, inr, arith, length-append, ◌≤◌}
 use Rattle.std.{proofs.lemmas.Bool.{cond-false, eqb-true}, proofs.lemmas.List.{nil_from_length, take-append-drop}}
 use Rattle.std.specs.Io.KnownBytes.{Appends, Consumes, Keeps as StaysKnown}
@@ -26,13 +27,14 @@ use Rattle.server_connection.{specs.Connection.{IsReached, IsSentLiterally, Turn
 use Rattle.server_connection.{specs.Connection.IsReached.moved, specs.Literal.{IsLater, IsLiteral, SendsCalls}}
 use Rattle.server_connection.specs.Machine.{Account, Begins, Ends, GoesOn, HandsOut, HasAnswered, HasAborted, Asks}
 use Rattle.server_connection.specs.Machine.{CutsOff, Drops, Empties, GivesUp, HasPlanned, IsLaid, Offers, Stays}
-use Rattle.server_connection.specs.Machine.{IsSending, Keeps, Opens, PutsNothing, PutsRefusal, Refuses, account}
+use Rattle.server_connection.specs.Machine.{IsNextRange, IsSending, Keeps, Opens, PutsNothing, PutsRefusal, Refuses}
 use Rattle.server_connection.specs.Machine.{KeepsRest, KeepsState, Leads, Past, Runs, RunsAt, Sends, SendsOn, TakesIn}
 use Rattle.server_connection.specs.Machine.{Moves, core, core_asking, head_now, history_of, new_past, past_after, view}
-use Rattle.server_connection.{specs.Machine.with_calls, specs.declared.machine.Phase.Phase}
+use Rattle.server_connection.{specs.Machine.{account, sends_left, with_calls, work}, specs.Pieces.Shortens}
+use Rattle.server_connection.specs.declared.machine.Phase.{Phase}
 use Rattle.server_connection.specs.declared.machine.Phase.TheVariants.{Receiving, Asking, Responding}
 use Rattle.server_connection.{specs.Pieces.{Advances, Gives, rest_of}, specs.Plan.{Answers, Plans, sent_pieces}}
-use Rattle.server_connection.{proofs.LiteralLemmas.{laid_more, rest_same}, proofs.PieceLemmas.sends_range}
+use Rattle.server_connection.{proofs.LiteralLemmas.{laid_more, rest_same}, proofs.PieceLemmas.{sends_range_at, sends_short}}
 use Rattle.server_connection.{proofs.PopLemmas.{IsPopped, rest_from}, proofs.SendLemmas.{Chain-push, answers, call}}
 use Rattle.server_connection.proofs.SendLemmas.{closes_after, cuts, hands_on, laid_closed, laid_open, moves, stays_open}
 
@@ -107,6 +109,34 @@ emptied : (k : Core) → k.history.state ≡ Closing (Refused BodyTooLarge) → 
 emptied k is x =
     subst (λ s. HoldsAt s (with_history k (record (k.history) { unread = [] }))) (sym is)
     (served_emptied k.config k.history is (subst (λ s. HoldsAt s k) is x))
+
+-- ---- less is left to do
+
+most_left : (b : Phase) (state : State) (pieces : ℕ) → sends_left b state pieces ≤ 1 + pieces
+most_left Responding Open pieces = omega arith
+most_left Responding (Closing why) pieces = omega arith
+most_left Responding Upgraded pieces = omega arith
+most_left Responding Aborted pieces = omega arith
+most_left Receiving state pieces = omega arith
+most_left Asking state pieces = omega arith
+
+-- the response ended, the connection was cut off, or a piece was sent
+pub sends_less : (old new : Machine) → old.phase ≡ Responding → old.state ≡ Open → new.input.items ≡ old.input.items
+    → (sends_left new.phase new.state (length new.left.items) ≡ 0) ⊎ (length new.left.items < length old.left.items)
+    → work new < work old
+sends_less old new is is_open input less =
+    let before : sends_left old.phase old.state (length old.left.items) ≡ 1 + length old.left.items =
+    λ i. sends_left (is i) (is_open i) (length old.left.items) in
+    elim less [
+      | inl none ↦ omega (arith, before, none, ap length input)
+      | inr fewer ↦ omega (
+        arith,
+        before,
+        fewer,
+        ap length input,
+        most_left new.phase new.state (length new.left.items),
+      )
+    ]
 
 -- ---- a step of sending
 
@@ -502,9 +532,9 @@ take_front : (front back : List ℕ) → take (length front) (front ++ back) ≡
 take_front [] back = refl
 take_front (x ∷ front) back = ap (λ (t : List ℕ). x ∷ t) (take_front front back)
 
-pub if_some : (r : Option (Unit {0})) (X : Type 0) → IfSome r (λ _. X) → is_some r ≡ true → X
-if_some (Some u) X x is = x
-if_some None X x is = absurd (cc)
+pub if_none : {A X : Type 0} (r : Option A) → IfNone r X → is_some r ≡ false → X
+if_none None x is = x
+if_none (Some a) x is = absurd (cc)
 
 -- all before the request that waits is served
 served_asking : (k : Core) → HasRequest k → IsServed k.config k.history
@@ -1002,60 +1032,52 @@ module _ {H : Type 0} (plans : Plans H) (gives : H → Gives) where
             subst (IsSending plans gives first z.0 h) (sym viewed) over,
           )
 
-  -- what is offered, where bytes wait to be written,
-  pub offers_bytes : (m : Machine) (h : H) (bytes : List ℕ) (count : ℕ) → m.output.items ≢ [] → length bytes ≡ count
-      → Offers (gives h) m bytes → (take count m.output.items ≡ bytes) × (count ≤ length m.output.items)
-  offers_bytes m h bytes count some long offers =
+  -- the first of the bytes that wait to be written are offered,
+  pub offers_bytes : (m : Machine) (h : H) (bytes : List ℕ) (count : ℕ) → length bytes ≡ count
+      → count ≤ length m.output.items → Offers (gives h) m bytes → take count m.output.items ≡ bytes
+  offers_bytes m h bytes count long within offers =
       elim offers [
-        | inl waits ↦ (
-          ap (λ n. take n m.output.items) (sym long) ∙ ap (take (length bytes)) waits.1 ∙ take_front bytes waits.0,
-          omega (arith, long, ap length waits.1, length-append bytes waits.0),
-        )
-        | inr range ↦ absurd (some range.0)
+        | inl waits ↦
+            ap (λ n. take n m.output.items) (sym long) ∙ ap (take (length bytes)) waits.1 ∙ take_front bytes waits.0
+        | inr range ↦
+            let none = ap length range.0 in
+            take_all count m.output.items (omega (arith, none)) ∙ range.0
+            ∙ sym (nil_from_length bytes (omega (arith, long, within, none)))
       ]
 
-  -- or where none do,
-  abbrev OffersRange : Machine → H → List ℕ → Type 0
+  -- or, where they are not so many, those of a range,
+  abbrev pub OffersRange : Machine → H → List ℕ → Type 0
   OffersRange m h bytes =
-      (m.output.items ≡ []) × (m.state ≡ Open) × (m.phase ≡ Responding) × (extent : Extent) × (after : List Piece)
-      × (m.left.items ≡ Range extent ∷ after) × (length bytes ≤ extent.len) × gives h extent.start bytes
+      (m.output.items ≡ []) × (extent : Extent) × IsNextRange m extent × (length bytes ≤ extent.len)
+      × gives h extent.start bytes
 
-  offers_range : (m : Machine) (h : H) (bytes : List ℕ) → m.output.items ≡ [] → Offers (gives h) m bytes
-      → OffersRange m h bytes
-  offers_range m h bytes none offers =
+  pub offers_range : (m : Machine) (h : H) (bytes : List ℕ) → ¬ (length bytes ≤ length m.output.items)
+      → Offers (gives h) m bytes → OffersRange m h bytes
+  offers_range m h bytes beyond offers =
       elim offers [
-        | inl waits ↦ absurd (waits.2 none)
+        | inl waits ↦ absurd (beyond (omega (arith, ap length waits.1, length-append bytes waits.0)))
         | inr range ↦ range
       ]
 
   advances_offered : (m : Machine) (h : H) (bytes : List ℕ) (x : OffersRange m h bytes)
-      → Advances (gives h) m.left.items bytes (Range (rest_of x.3 (length bytes)) ∷ x.4)
+      → Advances (gives h) m.left.items bytes (Range (rest_of x.1 (length bytes)) ∷ x.2.2)
   advances_offered m h bytes x =
-      subst (λ t. Advances (gives h) t bytes (Range (rest_of x.3 (length bytes)) ∷ x.4)) (sym x.5)
-      (sends_range (gives h) x.3 bytes x.4 x.6 x.7)
+      sends_range_at (gives h) bytes x.2.3 x.3 x.4
 
   -- and handed out before the connection is cut off,
-  pub offered_cut : {old mid new : Machine} (h : H) (bytes : List ℕ) → old.output.items ≡ []
-      → Offers (gives h) old bytes → IsPopped old mid → CutsOff mid new → Moves plans gives old h [] bytes new h
-  offered_cut {old} {mid} {new} h bytes none offers popped cut =
-      let x = offers_range old h bytes none offers in
+  pub offered_cut : {old mid new : Machine} (h : H) (bytes : List ℕ) → OffersRange old h bytes → IsPopped old mid
+      → CutsOff mid new → Moves plans gives old h [] bytes new h
+  offered_cut {old} {mid} {new} h bytes x popped cut =
       let y = subst (λ (m : Machine). CutsOff m new) popped cut in
-      moves_cut h bytes _ x.1 x.2 none (advances_offered old h bytes x)
+      moves_cut h bytes _ x.2.0 x.2.1 x.0 (advances_offered old h bytes x)
       (record { rest = rest_from old mid new y.rest; phase = y.phase; state = y.state; output = y.output })
 
   -- or kept in part
-  pub offered_range : {old new : Machine} (h : H) (bytes : List ℕ) (count : ℕ) → length bytes ≡ count
-      → old.output.items ≡ [] → Offers (gives h) old bytes → new ≡ record old { left = new.left }
-      → (extent : Extent) (popped : List Piece) → old.left.items ≡ Range extent ∷ popped
-      → new.left.items ≡ Range (rest_of extent count) ∷ popped → Moves plans gives old h [] bytes new h
-  offered_range {old} {new} h bytes count long none offers same extent popped front left =
-      let x = offers_range old h bytes none offers in
-      let both : Range x.3 ∷ x.4 ≡ Range extent ∷ popped = sym x.5 ∙ front in
-      let extent_is : x.3 ≡ extent = cc in
-      let popped_is : x.4 ≡ popped = cc in
-      let met : Range (rest_of x.3 (length bytes)) ∷ x.4 ≡ new.left.items =
-      (λ i. Range (rest_of (extent_is i) (long i)) ∷ popped_is i) ∙ sym left in
-      moves_range h bytes x.1 x.2 none
+  pub offered_range : {old new : Machine} (h : H) (bytes : List ℕ) → OffersRange old h bytes
+      → new ≡ record old { left = new.left } → Shortens old.left.items new.left.items (length bytes)
+      → Moves plans gives old h [] bytes new h
+  offered_range {old} {new} h bytes x same short =
+      moves_range h bytes x.2.0 x.2.1 x.0
       (record {
         config = ap (λ (m : Machine). m.config) same;
         ended = ap (λ (m : Machine). m.ended) same;
@@ -1066,8 +1088,8 @@ module _ {H : Type 0} (plans : Plans H) (gives : H → Gives) where
         tail = ap (λ (m : Machine). m.tail.items) same;
       })
       (ap (λ (m : Machine). m.phase) same)
-      (subst (λ t. Advances (gives h) old.left.items bytes t) met (advances_offered old h bytes x))
-      (ap (λ (m : Machine). m.output.items) same ∙ none) (ap (λ (m : Machine). m.state) same)
+      (sends_short (gives h) bytes x.2.3 short x.4)
+      (ap (λ (m : Machine). m.output.items) same ∙ x.0) (ap (λ (m : Machine). m.state) same)
 
   -- bytes are received
   pub moves_in : {old new : Machine} (h : H) (bytes : List ℕ) → old.phase ≡ Receiving → TakesIn old new bytes

@@ -52,15 +52,15 @@ pub record Exchanged {H : Type 0} (plans : Plans H) (gives : H → Gives) (confi
   pub ended : HasEnded plans gives config last now history is_whole
   pub literal : IsSentLiterally plans gives config first last now history is_whole
 
--- what each event says of the connection
+-- what each event says of the connection: at most one is true of it
 abbrev pub IsSaid : Machine → Event → Type 0
 IsSaid m Says.NeedsInput = (m.state ≡ Open) × (m.phase ≡ Receiving) × (m.output.items ≡ [])
 IsSaid m Says.Request = (m.state ≡ Open) × (m.phase ≡ Asking)
 IsSaid m Says.Output =
-    (m.output.items ≢ []) ⊎ ((m.output.items ≡ []) × (extent : Extent) × IsNextRange m extent)
+    (¬ ((m.state ≡ Open) × (m.phase ≡ Asking)))
+    × ((m.output.items ≢ []) ⊎ ((m.output.items ≡ []) × (extent : Extent) × IsNextRange m extent))
 IsSaid m (Says.Closed why) = (m.state ≡ Closing why) × (m.output.items ≡ [])
-IsSaid m Says.Aborted = (m.state ≢ Open) × (m.output.items ≡ [])
-IsSaid m Says.Busy = ⊤
+IsSaid m Says.Aborted = (m.state ≢ Open) × (¬ (IsClosing m.state)) × (m.output.items ≡ [])
 
 -- A history of calls on a connection that began in a state of the application. It led to this one, these bytes were
 -- received in it, and these were handed out.

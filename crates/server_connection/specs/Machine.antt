@@ -1,5 +1,5 @@
 -- What holds of a connection between its steps.
-use Rattle.std.specs.Prelude.{◌≡◌, ◌≢◌, ℕ, ◌≤◌, ◌⊎◌, Bool, true, false, List, [], ◌∷◌, ◌++◌, length, drop, Option, Some}
+use Rattle.std.specs.Prelude.{◌≡◌, ◌≢◌, ℕ, ◌+◌, ◌<◌, ◌≤◌, ◌⊎◌, Bool, true, false, List, [], ◌∷◌, ◌++◌, length, drop, Option, Some}
 use Rattle.std.specs.Prelude.{None, if◌then◌else◌, ◌==◌}
 use Rattle.http.{specs.declared.request.Parts.Parts, specs.declared.request.Request.Request, specs.Request.body_of}
 use Rattle.http.specs.Request.{head_of, with_body}
@@ -18,7 +18,8 @@ use Rattle.server_connection.specs.declared.machine.Phase.TheVariants.{Receiving
 use Rattle.server_connection.{specs.declared.piece.Extent.Extent, specs.declared.piece.Piece.Piece}
 use Rattle.server_connection.{specs.declared.piece.Piece.TheVariants.Range, specs.declared.plan.Plan.Plan}
 use Rattle.server_connection.{specs.Encoding.Frames, specs.Literal.{IsLiteral, SendsCalls}, specs.Pieces.Gives}
-use Rattle.server_connection.{specs.Pieces.{Advances, rest_of}, specs.Plan.{Plans, Answers, sent_pieces}}
+use Rattle.server_connection.{specs.Pieces.{Advances, CanShorten, Shortens, rest_of}, specs.Plan.{Plans, Answers}}
+use Rattle.server_connection.specs.Plan.{sent_pieces}
 
 -- what a connection has received and sent, and the exchanges that it has completed
 pub record Past : Type 0 where
@@ -326,6 +327,23 @@ pub record HandsOut (old new : Machine) (count : ℕ) : Type 0 where
   pub input : new.input.items ≡ old.input.items
   pub output : new.output.items ≡ drop count old.output.items
 
+-- this range is to be sent next, once the output is: it is the first of the pieces that are left, and isn't empty
+abbrev pub IsNextRange : Machine → Extent → Type 0
+IsNextRange m extent =
+    (m.state ≡ Open) × (m.phase ≡ Responding) × (after : List Piece) × (m.left.items ≡ Range extent ∷ after)
+    × (0 < extent.len)
+
+-- no range is to be sent next
+abbrev pub HasNoRange : Machine → Type 0
+HasNoRange m = (extent : Extent) → ¬ (IsNextRange m extent)
+
+-- So many bytes of the range that is next were handed out, where no others wait, it is so long, and they end below
+-- 2^64.
+abbrev pub HandsOutRange : Machine → Machine → ℕ → Type 0
+HandsOutRange old new count =
+    (extent : Extent) → IsNextRange old extent → old.output.items ≡ [] → 0 < count → CanShorten old.left.items count
+    → (new ≡ record old { left = new.left }) × Shortens old.left.items new.left.items count
+
 -- these bytes were read, or the end of the input was found
 pub record TakesIn (old new : Machine) (bytes : List ℕ) : Type 0 where
   pub rest : KeepsState old new
@@ -364,17 +382,32 @@ abbrev pub Drops : Machine → Machine → List ℕ → Type 0
 Drops old new bytes = ((new ≡ old) × (bytes ≡ [])) ⊎ DropsContent old new bytes
 
 -- The connection offers these bytes next: the first of those that wait to be written; or, if none wait, bytes that
--- what is open gives where the range at the front of the pieces begins.
+-- what is open gives where the range that is next begins.
 abbrev pub Offers : Gives → Machine → List ℕ → Type 0
 Offers gives m bytes =
-    ((more : List ℕ) × (m.output.items ≡ bytes ++ more) × (m.output.items ≢ []))
-    ⊎ ((m.output.items ≡ []) × (m.state ≡ Open) × (m.phase ≡ Responding) × (extent : Extent) × (after : List Piece)
-    × (m.left.items ≡ Range extent ∷ after) × (length bytes ≤ extent.len) × gives extent.start bytes)
+    ((more : List ℕ) × (m.output.items ≡ bytes ++ more))
+    ⊎ ((m.output.items ≡ []) × (extent : Extent) × IsNextRange m extent × (length bytes ≤ extent.len)
+    × gives extent.start bytes)
 
--- this range is to be sent next, once the output is
-abbrev pub IsNextRange : Machine → Extent → Type 0
-IsNextRange m extent =
-    (m.state ≡ Open) × (m.phase ≡ Responding) × (after : List Piece) × (m.left.items ≡ Range extent ∷ after)
+-- it offers so many bytes
+abbrev pub OffersCount : Machine → ℕ → Type 0
+OffersCount m count =
+    (count ≤ length m.output.items)
+    ⊎ ((m.output.items ≡ []) × (extent : Extent) × IsNextRange m extent × (count ≤ extent.len))
+
+-- no step is left: while a response is sent, something is offered
+abbrev pub HasStopped : Machine → Type 0
+HasStopped m =
+    m.state ≡ Open → m.phase ≡ Responding → m.output.items ≡ [] → (extent : Extent) × IsNextRange m extent
+
+-- the pieces and the end of a response that is being sent
+abbrev pub sends_left : Phase → State → ℕ → ℕ
+sends_left Responding Open pieces = 1 + pieces
+sends_left phase state pieces = 0
+
+-- how much the connection has to do without its host: less after each step
+abbrev pub work : Machine → ℕ
+work m = length m.input.items + sends_left m.phase m.state (length m.left.items)
 
 -- the past after these bytes were received and handed out
 abbrev pub past_after : Past → List ℕ → List ℕ → List Call → Past

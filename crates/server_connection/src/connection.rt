@@ -1,8 +1,9 @@
 //! A connection, as its host has it.
-ghost use Rattle.std.specs.Prelude.{◌≡◌, ◌↔◌, ℕ, [], List, length, true, IfSome, OnErr, OnOk, IsTrue};
+ghost use Rattle.std.specs.Prelude.{◌≡◌, ◌↔◌, ◌≤◌, ℕ, [], List, length, true, IfNone, IfSome, OnErr, OnOk, IsTrue};
 ghost use Rattle.http_server.specs.declared.state.Config.{Config};
-ghost use Rattle.server_connection.specs.Connection.{Exchanged, HasRested, IsReached, IsSaid};
-ghost use Rattle.server_connection.specs.Machine.{IsNextRange, Moves, Offers};
+ghost use Rattle.server_connection.specs.Connection.{Exchanged, HasRested, IsClosing, IsReached, IsSaid};
+ghost use Rattle.server_connection.specs.Machine.{HandsOut, HandsOutRange, HasAborted, HasNoRange, HasStopped};
+ghost use Rattle.server_connection.specs.Machine.{IsNextRange, Moves, Offers, OffersCount};
 
 use crate::application::Application;
 use crate::machine::{Machine, Phase};
@@ -28,8 +29,6 @@ pub enum Event {
     Closed(Reason),
     /// Memory ran out, or a response can't be sent to its end: close.
     Aborted,
-    /// Ask again.
-    Busy,
 }
 
 /// One connection of a server. Ask `next` what it wants, do so, and ask again.
@@ -83,16 +82,12 @@ impl Connection {
             → HasRested A.plans A.gives first self.new.machine now received sent }
     {
         let mut spans = [EMPTY_HEADER_SPAN; MAX_HEADERS];
-        // A loop is proved to end, so this one counts its turns.
-        for _ in 0..u64::MAX {
-            if !self.machine.step::<A>(&mut spans) {
-                return self.event();
-            }
-        }
-        Event::Busy
+        while self.machine.step::<A>(&mut spans) {}
+        self.event()
     }
 
     fn event(&self) -> Event
+        requires { HasStopped self.now.machine }
         ensures { IsSaid self.now.machine result }
     {
         let machine = &self.machine;
@@ -103,24 +98,10 @@ impl Connection {
             return Event::Output;
         }
         match machine.state {
-            State::Open => self.open_event(),
+            State::Open if self.is_receiving() => Event::NeedsInput,
+            State::Open => Event::Output,
             State::Closing(why) => Event::Closed(why),
             _ => Event::Aborted,
-        }
-    }
-
-    fn open_event(&self) -> Event
-        requires state { self.now.machine.state ≡ State.Open }
-        requires output { self.now.machine.output.items ≡ [] }
-        ensures { IsSaid self.now.machine result }
-    {
-        match self.machine.phase {
-            Phase::Receiving => Event::NeedsInput,
-            Phase::Asking => Event::Request,
-            Phase::Responding => match self.machine.range() {
-                Some(_) => Event::Output,
-                None => Event::Busy,
-            },
         }
     }
 
@@ -147,29 +128,24 @@ impl Connection {
         self.machine.output.as_slice()
     }
 
-    /// What is to be written next, if there is no output: bytes of what the application has open.
+    /// What is to be written next, if there is no output: bytes of what the application has open. `None` if a response
+    /// isn't being sent, or none of its bytes are to be read.
     pub fn range(&self) -> Option<Extent>
-        ensures { IfSome result (λ extent. IsNextRange self.now.machine extent) }
+        ensures some { IfSome result (λ extent. IsNextRange self.now.machine extent) }
+        ensures none { IfNone result (HasNoRange self.now.machine) }
     {
         self.machine.range()
     }
 
-    /// How many bytes it offers to be written next.
-    pub fn offered(&self) -> u64 {
-        let output = &self.machine.output;
-        if !output.is_empty() {
-            return output.len() as u64;
-        }
-        match self.machine.range() {
-            Some(extent) => extent.len,
-            None => 0,
-        }
-    }
-
-    /// Says that so many of the bytes that it offers were written. If it offered fewer, it is aborted.
+    /// Says that so many of the bytes that it offers were written: of the output, or, if there is none, of the range. It
+    /// is aborted if it offers fewer, or if they are of a range and end at 2^64 or later.
     pub fn sent<A: Application>(&mut self, count: usize)
-        ensures { (now : A) (bytes : List ℕ) → length bytes ≡ count → Offers (A.gives now) self.old.machine bytes
+        ensures moves { (now : A) (bytes : List ℕ) → length bytes ≡ count → Offers (A.gives now) self.old.machine bytes
             → Moves A.plans A.gives self.old.machine now [] bytes self.new.machine now }
+        ensures output { count ≤ length self.old.machine.output.items
+            → HandsOut self.old.machine self.new.machine count }
+        ensures range { HandsOutRange self.old.machine self.new.machine count }
+        ensures over { ¬ (OffersCount self.old.machine count) → HasAborted self.new.machine }
     {
         self.machine.hand_out::<A>(count);
     }
@@ -192,7 +168,8 @@ impl Connection {
     ///
     /// This is the theorem of the crate: whatever the history of calls, what was handed out answers what was received.
     pub fn is_done<A: Application>(&self) -> bool
-        ensures { (config : Config) (first now : A) (received sent : List ℕ)
+        ensures done { IsTrue result ↔ (IsClosing self.now.machine.state × (self.now.machine.output.items ≡ [])) }
+        ensures exchanged { (config : Config) (first now : A) (received sent : List ℕ)
             → IsReached A.plans A.gives config first self.now.machine now received sent
             → Exchanged A.plans A.gives config first now received sent result }
     {

@@ -21,4 +21,5 @@ pub use crate::connection::{Connection, Event};
 pub use crate::handler::Handler;
 pub use crate::piece::{Extent, Piece};
 pub use crate::plan::Plan;
+pub use crate::refusal::rejection_status;
 pub use crate::serve::serve_exchanges;

@@ -1,6 +1,6 @@
 //! The steps of a connection, without input and output.
 ghost use Rattle.std.specs.Prelude.{◌≡◌, ◌≢◌, ℕ, false, true, ◌<◌, ◌≤◌, ◌⊎◌, ◌↔◌, [], ◌∷◌, ◌++◌, List, length};
-ghost use Rattle.std.specs.Prelude.{take, IfOk, IfSome, OnErr, OnOk, IsTrue, IsFalse};
+ghost use Rattle.std.specs.Prelude.{take, IfNone, IfOk, IfSome, OnErr, OnOk, IsTrue, IsFalse, ◌+◌};
 ghost use Rattle.std.specs.Io.KnownBytes.{Appends, Consumes, IsAtEnd, Keeps as StaysKnown};
 ghost use Rattle.httparse.specs.Spans.{IsRequestWithin};
 ghost use Rattle.http1.specs.Framing.{method_kind};
@@ -13,7 +13,8 @@ ghost use Rattle.http_server.specs.Machine.{Holds, IsStarved, HasHead, HasPiece,
 ghost use Rattle.server_connection.specs.Machine.{core, history_of, Past, Keeps, KeepsRest, Puts, SendsOn, CutsOff};
 ghost use Rattle.server_connection.specs.Machine.{Finishes, HandsOut, Leads, Moves, Offers, Runs, Starts, Stays};
 ghost use Rattle.server_connection.specs.Machine.{TakesIn, GoesOn, Opens, Refuses, IsNextRange, Asks, Drops, GivesUp};
-ghost use Rattle.server_connection.specs.Pieces.{rest_of};
+ghost use Rattle.server_connection.specs.Machine.{HandsOutRange, HasAborted, HasNoRange, HasStopped, OffersCount, work};
+ghost use Rattle.server_connection.specs.Pieces.{CanShorten, Shortens};
 
 use crate::application::Application;
 use crate::encode::encode;
@@ -202,16 +203,20 @@ impl Machine {
         Ok(count)
     }
 
-    /// Says that so many of the bytes that it offers were handed out. The connection is aborted if it offered fewer.
+    /// Says that so many of the bytes that it offers were handed out.
     pub(crate) fn hand_out<A: Application>(&mut self, count: usize)
-        ensures { (now : A) (bytes : List ℕ) → length bytes ≡ count → Offers (A.gives now) self.old bytes
+        ensures moves { (now : A) (bytes : List ℕ) → length bytes ≡ count → Offers (A.gives now) self.old bytes
             → Moves A.plans A.gives self.old now [] bytes self.new now }
+        ensures output { count ≤ length self.old.output.items → HandsOut self.old self.new count }
+        ensures range { HandsOutRange self.old self.new count }
+        ensures over { ¬ (OffersCount self.old count) → HasAborted self.new }
     {
-        if self.output.is_empty() {
-            return self.hand_out_range::<A>(count);
+        if count <= self.output.len() {
+            return self.hand_out_bytes(count);
         }
-        let most = self.output.len();
-        self.hand_out_bytes(count.min(most));
+        if !self.output.is_empty() || self.range().is_none() || !shorten(&mut self.left, count) {
+            self.abort();
+        }
     }
 
     fn hand_out_bytes(&mut self, count: usize)
@@ -224,20 +229,6 @@ impl Machine {
         }
     }
 
-    fn hand_out_range<A: Application>(&mut self, count: usize)
-        ensures { (now : A) (bytes : List ℕ) → length bytes ≡ count → self.old.output.items ≡ []
-            → Offers (A.gives now) self.old bytes
-            → Moves A.plans A.gives self.old now [] bytes self.new now }
-    {
-        let Some(Piece::Range(extent)) = self.left.pop_front() else {
-            self.abort();
-            return;
-        };
-        if keep_rest(extent, count, &mut self.left).is_none() {
-            self.abort();
-        }
-    }
-
     /// Takes a step that needs no input, no output and no plan. Returns whether there may be another one.
     pub(crate) fn step<A: Application>(&mut self, spans: &mut [HeaderSpan]) -> bool
         requires { length spans.old ≡ MAX_HEADERS }
@@ -245,6 +236,8 @@ impl Machine {
         ensures rests { IsFalse result → self.new.phase ≡ Phase.Receiving
             → (now first : A) (p : Past) → Runs A.plans A.gives first self.old now p
             → Runs A.plans A.gives first self.new now p × Rests self.new.config (history_of self.new p) }
+        ensures works { IsTrue result → work self.new < work self.old }
+        ensures stops { IsFalse result → HasStopped self.new }
         ensures spans { length spans.new ≡ length spans.old }
     {
         if !self.is_open() || self.output.len() > self.config.max_pending {
@@ -265,6 +258,8 @@ impl Machine {
         ensures stays { (now : A) → Stays A.plans A.gives self.old now self.new }
         ensures rests { IsFalse result → self.new.phase ≡ Phase.Receiving
             → (p : Past) → Holds (core self.old p) → Rests self.new.config (history_of self.new p) }
+        ensures phase { self.new.phase ≢ Phase.Responding }
+        ensures works { IsTrue result → length self.new.input.items < length self.old.input.items }
         ensures spans { length spans.new ≡ length spans.old }
     {
         if self.missing() > 0 {
@@ -306,9 +301,10 @@ impl Machine {
         requires state { self.old.state ≡ State.Open }
         requires phase { self.old.phase ≡ Phase.Responding }
         ensures leads { (now : A) → Leads A.plans A.gives self.old now self.new now }
-        ensures stops { IsFalse result → self.new.phase ≡ Phase.Responding }
+        ensures works { IsTrue result → work self.new < work self.old }
+        ensures stops { IsFalse result → HasStopped self.new × (self.new.phase ≡ Phase.Responding) }
     {
-        if self.range().is_some() {
+        if let Some(_) = self.range() {
             return false;
         }
         self.send::<A>();
@@ -323,7 +319,8 @@ impl Machine {
 
     /// The range that is to be sent next, once the output is.
     pub(crate) fn range(&self) -> Option<Extent>
-        ensures { IfSome result (λ extent. IsNextRange self.now extent) }
+        ensures some { IfSome result (λ extent. IsNextRange self.now extent) }
+        ensures none { IfNone result (HasNoRange self.now) }
     {
         if !self.is_open() || !matches!(self.phase, Phase::Responding) {
             return None;
@@ -336,7 +333,10 @@ impl Machine {
 
     /// The same, unless much output waits already.
     pub(crate) fn range_to_read(&self) -> Option<Extent>
-        ensures { IfSome result (λ extent. IsNextRange self.now extent) }
+        ensures some { IfSome result (λ extent. IsNextRange self.now extent
+            × (length self.now.output.items ≤ self.now.config.max_pending)) }
+        ensures none { IfNone result (HasNoRange self.now
+            ⊎ (self.now.config.max_pending < length self.now.output.items)) }
     {
         if self.output.len() > self.config.max_pending {
             return None;
@@ -363,6 +363,7 @@ impl Machine {
 
     fn wait(&mut self) -> bool
         ensures keeps { Keeps self.old self.new }
+        ensures stops { IsFalse result }
         ensures puts { GoesOn self.old self.new }
         ensures reaches { (p : Past) → IsStarved (core self.old p) → Holds (core self.new p) }
         ensures rests { (p : Past) → IsStarved (core self.old p)
@@ -385,6 +386,7 @@ impl Machine {
             → Opens self.old.input.items self.old self.new }
         ensures reaches { (p : Past) → HasHead (core self.old p) spans.now head.now
             → Holds (core self.new p) }
+        ensures works { IsTrue result → length self.new.input.items + head.now.len ≡ length self.old.input.items }
         ensures stops { IsFalse result → self.new.state ≢ State.Open }
     {
         if self.server.has_codings() {
@@ -426,6 +428,7 @@ impl Machine {
         ensures keeps { Keeps self.old self.new }
         ensures puts { GoesOn self.old self.new }
         ensures reaches { (p : Past) → HasPiece (core self.old p) piece → Holds (core self.new p) }
+        ensures works { IsTrue result → length self.new.input.items < length self.old.input.items }
         ensures stops { IsFalse result → self.new.state ≢ State.Open }
     {
         if piece.end - piece.start > self.config.max_body_len.saturating_sub(self.body.len()) {
@@ -525,11 +528,7 @@ impl Machine {
         ensures { (now : A) (extent : Extent) → IsNextRange self.old extent → A.gives now extent.start bytes.now
             → SendsOn (A.gives now) self.old self.new }
     {
-        let Some(Piece::Range(extent)) = self.left.pop_front() else {
-            self.abort();
-            return;
-        };
-        if keep_rest(extent, bytes.len(), &mut self.left).is_none() {
+        if !shorten(&mut self.left, bytes.len()) {
             self.abort();
             return;
         }
@@ -545,7 +544,8 @@ impl Machine {
 
     // Sends the first of the pieces that are left, or what follows them. It is no range, or an empty one.
     fn send<A: Application>(&mut self)
-        ensures { (now : A) → SendsOn (A.gives now) self.old self.new }
+        ensures sends { (now : A) → SendsOn (A.gives now) self.old self.new }
+        ensures works { self.old.state ≡ State.Open → self.old.phase ≡ Phase.Responding → work self.new < work self.old }
     {
         match self.left.pop_front() {
             None => self.finish(),
@@ -590,18 +590,22 @@ impl Machine {
     }
 }
 
-// Puts the part of a range that was not sent before the other pieces. `None` when out of memory, if the range ends
-// before, or begins at 2^64 or later.
-fn keep_rest(extent: Extent, count: usize, left: &mut VecDeque<Piece>) -> Option<()>
-    ensures fits { IfSome result (λ _. count ≤ extent.len) }
-    ensures left { IfSome result (λ _. left.new.items ≡ Piece.Range (rest_of extent count) ∷ left.old.items) }
+// Takes so many bytes off the range at the front. Returns false if there is none, or none that is so long, or if they end
+// at 2^64 or later.
+fn shorten(left: &mut VecDeque<Piece>, count: usize) -> bool
+    ensures shortens { IsTrue result → Shortens left.old.items left.new.items count }
+    ensures fails { IsFalse result → ¬ (CanShorten left.old.items count) }
 {
-    let len = extent.len.checked_sub(count as u64)?;
-    let start = extent.start.checked_add(count as u64)?;
-    match left.push_front(Piece::Range(Extent { start, len })) {
-        Ok(()) => Some(()),
-        Err(_) => None,
-    }
+    let Some(Piece::Range(extent)) = left.pop_front() else {
+        return false;
+    };
+    let Some(start) = extent.start.checked_add(count as u64) else {
+        return false;
+    };
+    let Some(len) = extent.len.checked_sub(count as u64) else {
+        return false;
+    };
+    left.push_front(Piece::Range(Extent { start, len })).is_ok()
 }
 
 fn set_body(request: &mut Request<Bytes>, body: Bytes)

@@ -8,7 +8,7 @@ use crate::handler::Handler;
 use crate::machine::Phase;
 use crate::piece::Extent;
 use crate::plan::Plan;
-use crate::refusal::refusal_code;
+use crate::refusal::rejection_status;
 use http_server::{Config, Reason, State};
 use std::alloc::Global;
 use std::hash::RandomState;
@@ -73,7 +73,6 @@ fn turn<H: Handler, R: Read, W: Write>(
             connection.machine.read_from(reader)?;
             Ok(false)
         }
-        Event::Busy => Ok(false),
         Event::Closed(_) | Event::Aborted => {
             writer.flush()?;
             Ok(!connection.machine.drop_content(reader))
@@ -95,10 +94,8 @@ fn next<H: Handler>(connection: &mut Connection, handler: &H) -> Event
 }
 
 fn note<H: Handler>(handler: &H, state: State) {
-    if let State::Closing(Reason::Refused(why)) = state
-        && let Some(status) = refusal_code(why)
-    {
-        handler.note_rejection(status);
+    if let State::Closing(Reason::Refused(why)) = state {
+        handler.note_rejection(rejection_status(why));
     }
 }
 

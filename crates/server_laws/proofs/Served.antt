@@ -207,7 +207,7 @@ module _ (present : ℕ) (site : Resource) (v : Vec Representation) (file : File
     denied (Some (denials.TooManyRequests seconds)) t is = omega (arith, is)
     denied (Some (denials.Unavailable seconds)) t is = omega (arith, is)
 
-    no_other : (reason : Reason) → is_admitted reason ≡ false → applies here asked reason ≡ true
+    no_other : (reason : Reason) → is_admitted reason ≡ false → applies present here asked reason ≡ true
         → status_for 404 reason (Some (code_of state.Current asked.denied reason)) ≢ 200
     no_other Admitted admits t is = cc admits
     no_other Moved admits t is = cc t
@@ -215,7 +215,7 @@ module _ (present : ℕ) (site : Resource) (v : Vec Representation) (file : File
     no_other reason admits t is = omega (arith, is)
 
     by_reason : (admitted : Bool) (reason : Reason) → is_admitted reason ≡ admitted → (status : Option ℕ) (sent : Sends)
-        (own : List Field) → applies here asked reason ≡ true
+        (own : List Field) → applies present here asked reason ≡ true
         → GivesIf admitted present here asked reason status sent own → status_for 404 reason status ≡ 200
         → (reason ≡ Admitted) × IsFull present file asked.fields site.boundary sent own
     by_reason true Admitted admits status sent own t g is = (refl, goes_full status sent own g is)

@@ -241,9 +241,9 @@ pub fn answers_are_sendable()
         (plan_size response) (plan_fields response) ≡ None }
 {}
 
-/// Theorem: a connection that receives that GET alone, and ends without an error, has sent literally
-/// the head of a 200 with exactly these fields in this order, and the file's content. A client reads
-/// it, whole, as that response.
+/// Theorem: a connection of such a server that receives that GET alone, and ends without an error, has
+/// sent literally the head of a 200 with exactly these fields in this order, and the content of the
+/// file, which has no date. A client reads it, whole, as that response.
 pub fn get_is_answered_by_the_file()
     ensures { (config : Config) (settings : Settings) (first now : FileService Memory) (sent : List ℕ)
         → 35 ≤ config.limits.max_head_len → IsSiteOf settings first.site → HasNoOptions settings

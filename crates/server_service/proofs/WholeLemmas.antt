@@ -206,27 +206,27 @@ module _ (site : Resource) (divider : List ℕ) (is_site : IsSite divider site) 
   never : (b : Bool) (reason : Reason) → b ≡ true → b ≡ false → reason ≡ Admitted
   never b reason t f = absurd (cc (t, f))
 
-  admitted : (reason : Reason) → applies file asked reason ≡ true → reason ≡ Admitted
-  admitted InvalidHost t = never _ InvalidHost t (ap not host)
-  admitted Misdirected t = never _ Misdirected t own_host
-  admitted Preflight t = never _ Preflight t (no_options (is_some site.cors))
-  admitted Denied t = never _ Denied t refl
-  admitted UnknownMethod t = never _ UnknownMethod t refl
-  admitted MethodNotAllowed t = never _ MethodNotAllowed t (ap (λ (r : Option MethodRule). not (is_some r)) rule)
-  admitted Options t = never _ Options t refl
-  admitted UnmetExpectation t = never _ UnmetExpectation t (ap not expects)
-  admitted PartialContent t = never _ PartialContent t refl
-  admitted Moved t = never _ Moved t refl
-  admitted Gone t = never _ Gone t refl
-  admitted NotFound t = never _ NotFound t refl
-  admitted LengthRequired t =
+  admitted : (present : ℕ) (reason : Reason) → applies present file asked reason ≡ true → reason ≡ Admitted
+  admitted present InvalidHost t = never _ InvalidHost t (ap not host)
+  admitted present Misdirected t = never _ Misdirected t own_host
+  admitted present Preflight t = never _ Preflight t (no_options (is_some site.cors))
+  admitted present Denied t = never _ Denied t refl
+  admitted present UnknownMethod t = never _ UnknownMethod t refl
+  admitted present MethodNotAllowed t = never _ MethodNotAllowed t (ap (λ (r : Option MethodRule). not (is_some r)) rule)
+  admitted present Options t = never _ Options t refl
+  admitted present UnmetExpectation t = never _ UnmetExpectation t (ap not expects)
+  admitted present PartialContent t = never _ PartialContent t refl
+  admitted present Moved t = never _ Moved t refl
+  admitted present Gone t = never _ Gone t refl
+  admitted present NotFound t = never _ NotFound t refl
+  admitted present LengthRequired t =
       never _ LengthRequired t (ap (λ (b : Bool). b && is_unsized Absent) is_site.needs_length)
-  admitted ContentTooLarge t = never _ ContentTooLarge t (ap (λ (l : Option ℕ). exceeds l Absent) is_site.limit)
-  admitted UnsupportedMediaType t = never _ UnsupportedMediaType t refl
-  admitted UnsupportedCoding t = never _ UnsupportedCoding t refl
-  admitted NotAcceptable t = never _ NotAcceptable t acceptable
-  admitted PreconditionRequired t = never _ PreconditionRequired t refl
-  admitted Admitted t = refl
+  admitted present ContentTooLarge t = never _ ContentTooLarge t (ap (λ (l : Option ℕ). exceeds l Absent) is_site.limit)
+  admitted present UnsupportedMediaType t = never _ UnsupportedMediaType t refl
+  admitted present UnsupportedCoding t = never _ UnsupportedCoding t refl
+  admitted present NotAcceptable t = never _ NotAcceptable t acceptable
+  admitted present PreconditionRequired t = never _ PreconditionRequired t refl
+  admitted present Admitted t = refl
 
   -- ---- the answer
 
@@ -284,7 +284,7 @@ module _ (site : Resource) (divider : List ℕ) (is_site : IsSite divider site) 
     answer_whole : (answer : Answer) → IsAnswer present file asked answer
         → IsWhole own answer.reason answer.status answer.sends
     answer_whole answer h =
-        let reason = admitted answer.reason h.first.is in
+        let reason = admitted present answer.reason h.first.is in
         let gives : GivesIf true present file asked Admitted answer.status answer.sends h.own =
         subst (λ (r : Reason). GivesIf (is_admitted r) present file asked r answer.status answer.sends h.own) reason
         h.gives in

@@ -54,6 +54,7 @@ impl Site {
                     is_strict: false,
                 },
                 boundary,
+                has_strong_dates: false,
                 needs_length: false,
                 limit: None,
                 cors,

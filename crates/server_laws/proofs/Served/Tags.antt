@@ -24,9 +24,9 @@ unfolding rule_for
 missing_as_get state.Absent rules = refl
 missing_as_get s rules = refl
 
-module _ (resource : Resource) (protocol : Protocol) (authority : Option Line) (fields : LineMap) where
+module _ (present : ℕ) (resource : Resource) (protocol : Protocol) (authority : Option Line) (fields : LineMap) where
   abbrev applies_to : List ℕ → Reason → Bool
-  applies_to method = applies resource (reading protocol authority method fields)
+  applies_to method = applies present resource (reading protocol authority method fields)
 
   head_as_get : (reason : Reason) → applies_to (codes "HEAD") reason ≡ applies_to (codes "GET") reason
   unfolding rule_for is_unacceptable
@@ -163,8 +163,8 @@ module _ (site : Resource) (st : State) (v w : Vec Representation) (now later : 
       rw (same_length, none)
 
   -- what doesn't keep the first from being performed doesn't keep the second from it
-  still : (reason : Reason) → applies first (reading protocol authority get f) reason ≡ false
-      → applies second (reading protocol authority get g) reason ≡ false
+  still : (reason : Reason) → applies now first (reading protocol authority get f) reason ≡ false
+      → applies later second (reading protocol authority get g) reason ≡ false
   still InvalidHost e = rw (← same.host) e
   still Misdirected e = rw (← same.host) e
   still UnmetExpectation e = rw (← same.expect) e
@@ -178,13 +178,13 @@ module _ (site : Resource) (st : State) (v w : Vec Representation) (now later : 
   still reason e = e
 
   pub first_again : (method again : List ℕ) → IsGetOrHead method → IsGetOrHead again
-      → IsFirst (applies first (reading protocol authority method f)) Admitted
-      → IsFirst (applies second (reading protocol authority again g)) Admitted
+      → IsFirst (applies now first (reading protocol authority method f)) Admitted
+      → IsFirst (applies later second (reading protocol authority again g)) Admitted
   first_again method again read read_again h = record {
     is = refl;
     none_before = λ other before.
-        read_as_get second protocol authority g again read_again other
-        ∙ still other (sym (read_as_get first protocol authority f method read other) ∙ h.none_before other before);
+        read_as_get later second protocol authority g again read_again other
+        ∙ still other (sym (read_as_get now first protocol authority f method read other) ∙ h.none_before other before);
   }
 
   pub selected_again : (place : Option ℕ) → IsSelected first f place → IsSelected second g place
@@ -580,7 +580,7 @@ module _ (present : ℕ) (resource : Resource) (asked : Asked) where
   pub record IsTagged (tag : Line) (sent : Sends) : Type 0 where
     pub place : Option ℕ
     pub selected : IsSelected resource asked.fields place
-    pub first : IsFirst (applies resource asked) Admitted
+    pub first : IsFirst (applies present resource asked) Admitted
     pub kept : StateIsKept present asked.fields (seen_at place)
     pub tagged : tag_lines (seen_at place) ≡ tag ∷ []
     pub plan : Plan
@@ -712,13 +712,13 @@ module _ (present : ℕ) (resource : Resource) (asked : Asked) where
     other_status target len limits plan passes p = λ e. omega (arith, e)
 
     module _ (answer : Answer) (a : IsAnswer present resource asked answer)
-        (first : IsFirst (applies resource asked) Admitted) (place : Option ℕ)
+        (first : IsFirst (applies present resource asked) Admitted) (place : Option ℕ)
         (selected : IsSelected resource asked.fields place) where
       abbrev here : Option Representation
       here = at_place resource.representations.items place
 
       pub reason_is : answer.reason ≡ Admitted
-      reason_is = only_admitted (applies resource asked) answer.reason first a.first
+      reason_is = only_admitted (applies present resource asked) answer.reason first a.first
 
       -- the answer by the preconditions on what is selected
       goes_on : GoesOn present resource asked place here answer.status answer.sends a.own
@@ -999,7 +999,7 @@ module _ (now later : Option ℕ) (left more : ℕ) (site : Site) (look other : 
           accept_encoding = kept_field (codes "accept-encoding") coding.0;
         }
 
-    first_there : IsFirst (applies after asked_again) Admitted
+    first_there : IsFirst (applies (clock later gs) after asked_again) Admitted
     first_there =
         first_again site.resource st v w (clock now fs) (clock later gs) fs gs x.described.are y.described.are
         alike.labels
@@ -1283,21 +1283,22 @@ module _ (resource : Resource) (asked : Asked) (policy : Policy) (has : resource
     (asks : IsPreflightFor sent asked.method asked.fields)
     (host : has_host asked.protocol (asked.fields (codes "host")) ≡ true)
     (own : is_misdirected resource asked ≡ false) where
-  asks_leave : applies resource asked Preflight ≡ true
-  asks_leave = simp (has, asks.options, asks.origin, asks.asked)
+  asks_leave : (present : ℕ) → applies present resource asked Preflight ≡ true
+  asks_leave present = simp (has, asks.options, asks.origin, asks.asked)
 
   no_other : (b : Bool) (reason : Reason) → b ≡ true → b ≡ false → reason ≡ Preflight
   no_other b reason t f = absurd (cc (t, f))
 
-  preflight_first : (reason : Reason) → IsFirst (applies resource asked) reason → reason ≡ Preflight
-  preflight_first InvalidHost h = no_other _ InvalidHost h.is (ap not host)
-  preflight_first Misdirected h = no_other _ Misdirected h.is own
-  preflight_first Preflight h = refl
-  preflight_first reason h = no_other _ reason asks_leave (h.none_before Preflight (omega arith))
+  preflight_first : (present : ℕ) (reason : Reason) → IsFirst (applies present resource asked) reason
+      → reason ≡ Preflight
+  preflight_first present InvalidHost h = no_other _ InvalidHost h.is (ap not host)
+  preflight_first present Misdirected h = no_other _ Misdirected h.is own
+  preflight_first present Preflight h = refl
+  preflight_first present reason h = no_other _ reason (asks_leave present) (h.none_before Preflight (omega arith))
 
   stops : (asked_at : ℕ) (answer : Answer) (a : IsAnswer asked_at resource asked answer)
       → Stops resource asked Preflight answer.status answer.sends a.own
-  stops asked_at answer a = rw (preflight_first answer.reason a.first) at a.gives
+  stops asked_at answer a = rw (preflight_first asked_at answer.reason a.first) at a.gives
 
   -- no answer is that to a HEAD
   decided : (asked_at : ℕ) (divider : List ℕ) (files : List File) (answer : Answer)
@@ -1306,7 +1307,7 @@ module _ (resource : Resource) (asked : Asked) (policy : Policy) (has : resource
       × Stops resource asked Preflight answer.status answer.sends a.own
   decided asked_at divider files answer x =
       elim x [
-        | inl h ↦ (h.1, preflight_first answer.reason h.1.first, stops asked_at answer h.1)
+        | inl h ↦ (h.1, preflight_first asked_at answer.reason h.1.first, stops asked_at answer h.1)
         | inr h ↦
             let one : sends_several h.0.sends ≡ false = ap sends_several (stops asked_at h.0 h.2).sends in
             absurd (h.1 (λ several. absurd (cc (one, several))))

@@ -59,7 +59,7 @@ returns-then-branch g c =
       run.3,
       subst
           (Exchanged g.H.Handler.plans g.H.Handler.gives c.args.config first c.turn.new.handler run.0 run.1)
-          (sym c.ending.ensures) (c.is_done.ensures c.args.config first c.turn.new.handler run.0 run.1 run.4),
+          (sym c.ending.ensures) (c.is_done.ensures.exchanged c.args.config first c.turn.new.handler run.0 run.1 run.4),
     )
 
 pub returns : goal.returns

@@ -713,7 +713,7 @@ no_connect rules own alone get =
 module _ (present : ℕ) (resource : Resource) (own_rule : MethodRule) (alone : resource.rules.items ≡ own_rule ∷ [])
     (get : own_rule.method ≡ codes "GET") where
   -- CONNECT is refused
-  free_of : (request : Asked) (reason : Reason) → IsFirst (applies resource request) reason → is_open reason ≡ true
+  free_of : (request : Asked) (reason : Reason) → IsFirst (applies present resource request) reason → is_open reason ≡ true
       → is_connect (method_kind request.method) ≡ false
   free_of request Admitted first is =
       elim (cases_Bool (is_connect (method_kind request.method))) [
@@ -847,7 +847,7 @@ module _ (present : ℕ) (resource : Resource) (own_rule : MethodRule) (alone : 
           going g.place status sent own on.response on.answered on.has_status on.sends on.has_fields tagged
 
     by_reason : (admitted : Bool) (reason : Reason) → is_admitted reason ≡ admitted → (status : Option ℕ) (sent : Sends)
-        (own : List Field) → applies resource request reason ≡ true
+        (own : List Field) → applies present resource request reason ≡ true
         → (is_open reason ≡ true → is_connect method ≡ false)
         → GivesIf admitted present resource request reason status sent own → is_bare_tag (tag_sent files sent) ≡ true
         → Accepts (status_for absent reason status) sent own
@@ -858,9 +858,9 @@ module _ (present : ℕ) (resource : Resource) (own_rule : MethodRule) (alone : 
         ap (list_all is_plain) g.has_fields ∙ sides_plain _ (reason_side resource request reason) in
         elim
         (reason_explained absent missing resource.state request.denied reason is
-        (λ moved. sym (ap (applies resource request) moved) ∙ t)
+        (λ moved. sym (ap (applies present resource request) moved) ∙ t)
         (λ denied.
-        let applied : is_some request.denied ≡ true = sym (ap (applies resource request) denied) ∙ t in
+        let applied : is_some request.denied ≡ true = sym (ap (applies present resource request) denied) ∙ t in
         cc (ap is_some admits_it, applied))) [
           | inl offer ↦
               let code : status_for absent reason status ≡ 204 =
@@ -949,7 +949,7 @@ module _ (limits : Limits) (head : RequestHead) (framing : Framing) (now : Optio
       x.found.status missing representations_are sender asked admitted x.answer h free bare_policy x.carries.tagged
 
   -- the request of a first reason that isn't a refusal
-  frees : (reason : Reason) → IsFirst (applies x.resource x.asked) reason → is_open reason ≡ true
+  frees : (reason : Reason) → IsFirst (applies present x.resource x.asked) reason → is_open reason ≡ true
       → is_connect sender ≡ false
   frees reason first goes =
       ap is_connect asked_kind
