@@ -1,8 +1,11 @@
 -- What calls make of a cache, one after the other.
 use Rattle.std.proofs.Common.{◌≡◌, ℕ, List, [], ◌∷◌, ◌++◌, map, Option, Some, None, refl, sym, ap, subst, inl, inr, ◌∙◌}
+use Rattle.std.{proofs.Common.{Result, Ok}, specs.declared.alloc.AllocError.AllocError}
 use Rattle.cache_store.{specs.History.{Call, History, Run}, specs.History.Call.Removed, specs.Kept.contents_of}
 use Rattle.cache_pass.specs.Effects.{DoAll, Does, Kept, Settings, kept_of, removals, settings_of}
-use Rattle.cache_pass.specs.Steps.{HasEnded}
+use Rattle.cache_rules.specs.declared.storing.Reception.{Reception}
+use Rattle.cache_rules.specs.declared.storing.Reception.TheVariants.{Complete, Incomplete}
+use Rattle.cache_pass.specs.Steps.{HasEnded, unkept}
 use Rattle.cache_pass.specs.Worlds.{Acts, Deed, IsStep, Log, Reaches, World, asked_in, asks_of, calls_of}
 use Rattle.cache_pass.{specs.Worlds.Deed.{Begins, Comes, Fails, Ends, Apart}, specs.Worlds.Event.Calls}
 use Rattle.cache_pass.{specs.declared.cache.Cache.Cache, specs.declared.pass.Pass.Pass, specs.declared.pass.Phase.Phase}
@@ -10,6 +13,11 @@ use Rattle.cache_pass.specs.declared.pass.Phase.TheVariants.{Began, Asking, Pass
 
 pub none-some : {X : Type 0} {x : X} → None ≡ Some x → ⊥
 none-some {X = X} {x = x} h = cc
+
+-- no number is none, and none is another
+pub some-unkept : (number : ℕ) (reception : Reception) → Ok (Some number) ≡ unkept reception → ⊥
+some-unkept number Complete same = cc
+some-unkept number Incomplete same = cc
 
 module _ (settings : Settings) where
   pub do-both : (later earlier : History) (old between new : Kept) → DoAll settings earlier old between
@@ -78,7 +86,7 @@ module _ (old : Pass) (before : Cache) (new : Pass) (after : Cache) (calls : His
   abbrev Done : History → Type 0
   Done made = DoAll (settings_of before) made (kept_of before) (kept_of after)
 
-  by-ended : (content : List ℕ) (reception : _) (now : ℕ) (number : Option ℕ)
+  by-ended : (content : List ℕ) (reception : _) (now : ℕ) (number : Result (Option ℕ) AllocError)
       → (h : HasEnded old before content reception now new after number) → Done h.calls
   by-ended content reception now number h = elim h.closed [
     | inl (complete, (came, received, inl (past, none, same, unnamed))) ↦ subst Done (sym none) same

@@ -1,6 +1,7 @@
 -- What is stored was asked since its target was last removed.
 use Rattle.std.proofs.Common.{◌≡◌, ◌⊎◌, ℕ, ◌≤◌, List, [], ◌∷◌, ◌++◌, map, Option, Some, None, refl, sym, ap, true}
 use Rattle.std.{proofs.Common.{false, subst, inl, inr, ◌∙◌, arith}, specs.Prelude.⊤, proofs.lemmas.Option.same_Some}
+use Rattle.std.{proofs.Common.{Result, Ok, Err}, specs.declared.alloc.AllocError.AllocError}
 use Rattle.http_header.{specs.FieldValue.FieldValue, specs.HeaderMap.Entries}
 use Rattle.url.specs.Parts.{serialize}
 use Rattle.cache_rules.specs.declared.storing.Reception.{Reception}
@@ -147,7 +148,7 @@ module _ (pass : ℕ) (old : Pass) (before : Cache) (new : Pass) (after : Cache)
       subst (λ (t : List ℕ). IsCurrent pass t log) same
       ((d.dated pass asked.clock (own ∙ is)).1 (key_of old) fine)
 
-  come-guarded : (status : ℕ) (response : Entries FieldValue) (now : ℕ) (given : Next)
+  come-guarded : (status : ℕ) (response : Entries FieldValue) (now : ℕ) (given : Result Next AllocError)
       → (h : HasCome old before status response now new after given) → Guarded h.calls
   come-guarded status response now given h = elim h.answer [
     | inl (validates, outdated, none, asks) ↦ subst Guarded (sym none) tt
@@ -160,7 +161,7 @@ module _ (pass : ℕ) (old : Pass) (before : Cache) (new : Pass) (after : Cache)
     | inr (inr (inr (other, unfailed, inr (safe, none), is))) ↦ subst Guarded (sym none) tt
   ]
 
-  ended-guarded : (content : List ℕ) (reception : Reception) (now : ℕ) (number : Option ℕ)
+  ended-guarded : (content : List ℕ) (reception : Reception) (now : ℕ) (number : Result (Option ℕ) AllocError)
       → (h : HasEnded old before content reception now new after number) → Guarded h.calls
   ended-guarded content reception now number h = elim h.closed [
     | inl (complete, (came, received, inl (past, none, same, unnamed))) ↦ subst Guarded (sym none) tt
@@ -209,24 +210,27 @@ module _ (pass : ℕ) (noted clock : ℕ) where
   asked-clock : (old : Phase) (asked : Asked) → asked.clock ≡ noted → HasClock pass noted clock old (Asking asked)
   asked-clock old asked now is = inl (refl, sym (same_Some asked.clock clock is) ∙ now)
 
-  first-clock : (old : Phase) (given : First) (now : ℕ) → HasClock pass noted clock old (phase_first given now noted)
-  first-clock old (first.Reply reply) now = ended-clock old
-  first-clock old (first.ReplyAndValidate reply) now = ended-clock old
-  first-clock old first.Ask now =
+  first-clock : (old : Phase) (given : Result First AllocError) (now : ℕ)
+      → HasClock pass noted clock old (phase_first given now noted)
+  first-clock old (Ok (first.Reply reply)) now = ended-clock old
+  first-clock old (Ok (first.ReplyAndValidate reply)) now = ended-clock old
+  first-clock old (Ok first.Ask) now =
       asked-clock old (record { requested = now; clock = noted; validates = false }) refl
-  first-clock old (first.Validate fields) now =
+  first-clock old (Ok (first.Validate fields)) now =
       asked-clock old (record { requested = now; clock = noted; validates = true }) refl
-  first-clock old first.Unavailable now = ended-clock old
+  first-clock old (Ok first.Unavailable) now = ended-clock old
+  first-clock old (Err error) now = ended-clock old
 
-  next-clock : (old : Phase) (given : Next) (asked : Asked) (status : ℕ) (response : Entries FieldValue) (now : ℕ)
-      → clock_of old ≡ Some asked.clock
+  next-clock : (old : Phase) (given : Result Next AllocError) (asked : Asked) (status : ℕ)
+      (response : Entries FieldValue) (now : ℕ) → clock_of old ≡ Some asked.clock
       → HasClock pass noted clock old (phase_after given asked status response now noted)
-  next-clock old (next.Reply reply) asked status response now was = ended-clock old
-  next-clock old (next.Once fresh answer) asked status response now was = ended-clock old
-  next-clock old next.Ask asked status response now was =
+  next-clock old (Ok (next.Reply reply)) asked status response now was = ended-clock old
+  next-clock old (Ok (next.Once fresh answer)) asked status response now was = ended-clock old
+  next-clock old (Ok next.Ask) asked status response now was =
       asked-clock old (record { requested = now; clock = noted; validates = false }) refl
-  next-clock old (next.PassOn true) asked status response now was = λ is. inr (refl, was ∙ is)
-  next-clock old (next.PassOn false) asked status response now was = ended-clock old
+  next-clock old (Ok (next.PassOn true)) asked status response now was = λ is. inr (refl, was ∙ is)
+  next-clock old (Ok (next.PassOn false)) asked status response now was = ended-clock old
+  next-clock old (Err error) asked status response now was = ended-clock old
 
   step-clock : (old : Pass) (before : Cache) (new : Pass) (after : Cache) (calls : History) (deed : Deed)
       → after.removals.clock ≡ noted → IsStep deed old before new after calls

@@ -1,11 +1,12 @@
 -- What is stored of a response that passed on.
 use Rattle.std.proofs.Common.{◌≡◌, ◌⊎◌, ℕ, Bool, true, false, ◌∷◌, Option, Some, None, List, refl, subst, inl, inr}
-use Rattle.std.specs.Bool.{MatchBool}
+use Rattle.std.{proofs.Common.{Result, Ok, Err}, specs.Bool.MatchBool, specs.declared.alloc.AllocError.AllocError}
 use Rattle.cache_rules.specs.declared.storing.Reception.TheVariants.{Complete}
 use Rattle.cache_rules.specs.declared.stored.StoredResponse.{StoredResponse}
-use Rattle.cache_store.{specs.Changes.{IsInserted, IsStoredAs, IsToStore}, specs.History.{History, Step}}
-use Rattle.cache_store.specs.History.Call.{Arrived}
-use Rattle.cache_pass.{specs.Effects.{DoAll, Kept, Settings}, specs.Keeping.{AreDescribing, IsKept, IsNumbered, IsPast}}
+use Rattle.cache_store.specs.Changes.{FitsAlone, IsInserted, IsStoredAs, IsTooLarge, IsTooSmallToStore, IsToStore}
+use Rattle.cache_store.{specs.Contents.size_at, specs.History.{History, Step}, specs.History.Call.Arrived}
+use Rattle.cache_pass.specs.{Effects.{DoAll, Kept, Settings}, Keeping.{AreDescribing, IsKept, IsLeft, IsNumbered}}
+use Rattle.cache_pass.specs.Keeping.{IsPast}
 
 pub past-or-late : (Past Late : Type 0) (late : Bool) → ¬ Past → MatchBool late Late (¬ Late)
     → MatchBool late (Past ⊎ Late) (¬ (Past ⊎ Late))
@@ -25,14 +26,20 @@ module _ (settings later : Settings) (same : later ≡ settings) (key : List ℕ
       (stored : StoredResponse) × IsToStore s.policy came Complete × IsStoredAs came stored
       × (stored.number ≡ number) × IsInserted s.limits key stored described.contents new.contents
 
-  number-kept : (number : Option ℕ) → ((n : ℕ) → number ≡ Some n → Stores later n)
-      → IsNumbered settings key came described new number
-  number-kept None named = tt
-  number-kept (Some n) named = subst (λ (s : Settings). Stores s n) same (named n refl)
+  abbrev Unfit : Settings → Type 0
+  Unfit s =
+      ((¬ (IsToStore s.policy came Complete)) ⊎ IsTooLarge s.limits key came)
+      × (new.contents ≡ described.contents)
 
-  all-kept : (number : Option ℕ) → IsNumbered settings key came described new number
+  abbrev Fit : Settings → Type 0
+  Fit s = IsToStore s.policy came Complete × FitsAlone s.limits 1 (size_at key came)
+
+  abbrev Answer : Type 0
+  Answer = Result (Option ℕ) AllocError
+
+  keeps-as : (number : Answer) → IsNumbered settings key came described new number
       → (calls : History) × IsKept settings key came clock old new calls number
-  all-kept number named = (
+  keeps-as number named = (
     Arrived key came Complete ∷ before,
     inr (
       fine,
@@ -52,9 +59,19 @@ module _ (settings later : Settings) (same : later ≡ settings) (key : List ℕ
     ),
   )
 
-  pub keeps : (number : Option ℕ) → ((n : ℕ) → number ≡ Some n → Stores later n)
-      → (calls : History) × IsKept settings key came clock old new calls number
-  keeps number named = all-kept number (number-kept number named)
+  number-kept : (number : Option ℕ) → ((n : ℕ) → number ≡ Some n → Stores later n) → (number ≡ None → Unfit later)
+      → IsNumbered settings key came described new (Ok number)
+  number-kept None named unfit = inl (subst Unfit same (unfit refl))
+  number-kept (Some n) named unfit = subst (λ (s : Settings). Stores s n) same (named n refl)
 
-  pub keeps-none : (calls : History) × IsKept settings key came clock old new calls None
-  keeps-none = all-kept None tt
+  pub keeps : (number : Option ℕ) → ((n : ℕ) → number ≡ Some n → Stores later n) → (number ≡ None → Unfit later)
+      → (calls : History) × IsKept settings key came clock old new calls (Ok number)
+  keeps number named unfit = keeps-as (Ok number) (number-kept number named unfit)
+
+  pub keeps-full : IsTooSmallToStore came → IsLeft settings key came described new
+      → (calls : History) × IsKept settings key came clock old new calls (Ok None)
+  keeps-full small left = keeps-as (Ok None) (inr (small, left))
+
+  pub keeps-none : (error : AllocError) → Fit later → IsLeft settings key came described new
+      → (calls : History) × IsKept settings key came clock old new calls (Err error)
+  keeps-none error fit left = let fits = subst Fit same fit in keeps-as (Err error) (fits.0, fits.1, left)

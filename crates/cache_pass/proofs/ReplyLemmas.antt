@@ -1,6 +1,7 @@
 -- What replies show.
 use Rattle.std.proofs.Common.{◌≡◌, ◌⊎◌, ℕ, List, Option, Some, None, refl, sym, subst, inl, inr, ◌∙◌}
-use Rattle.std.{proofs.lemmas.Option.same_Some, specs.Prelude.{IsSomeAnd, MatchOption}}
+use Rattle.std.{proofs.Common.{Result, Ok, Err}, proofs.lemmas.Option.same_Some}
+use Rattle.std.{specs.Prelude.{IfOk, IsSomeAnd, MatchOption}, specs.declared.alloc.AllocError.AllocError}
 use Rattle.headers.{specs.LineMap.LineMap, specs.declared.Encoded.Encoded}
 use Rattle.cache_policy.{specs.Requests.Request, specs.declared.decision.Decision.Decision}
 use Rattle.cache_policy.specs.declared.decision.Decision.TheVariants as decisions
@@ -11,14 +12,19 @@ use Rattle.cache_store.{specs.Lookups.IsFound, specs.Numbers.numbered, specs.dec
 use Rattle.cache_store.specs.declared.lookup.Lookup.TheVariants as lookup
 use Rattle.cache_store.proofs.NumberLemmas.{Has-numbered}
 use Rattle.cache_pass.{proofs.CallLemmas.none-some, specs.Answers.IsShownAfter, specs.Effects.{Kept, Settings}}
-use Rattle.cache_pass.specs.Replies.{IsAlone, IsFirst, IsNoneOnError, IsReplyTo, IsShown, IsShownOnError, MayFallBack}
-use Rattle.cache_pass.{specs.Replies.number_on_error, specs.declared.replying.First.First}
+use Rattle.cache_pass.specs.Replies.{IsAlone, IsFirst, IsNoneOnError, IsOnError, IsReplyTo, IsShown, number_on_error}
+use Rattle.cache_pass.specs.declared.replying.First.{First}
 use Rattle.cache_pass.specs.declared.replying.First.TheVariants as first
 use Rattle.cache_pass.specs.declared.replying.Reply.{Reply}
 
 some-and : {X : Type 0} (o : Option X) (P : X → Type 0) → IsSomeAnd o P → (x : X) × (o ≡ Some x) × P x
 some-and None P none = absurd none
 some-and (Some x) P is = (x, refl, is)
+
+-- what is shown isn't missing
+pub not-shown : {X P : Type 0} {o : Option X} {x : X} → o ≡ Some x → (o ≡ None) ⊎ P → P
+not-shown shown (inl none) = absurd (none-some (sym none ∙ shown))
+not-shown shown (inr other) = other
 
 module _ (settings : Settings) (request : Request) (now : ℕ) (responses : List StoredResponse) where
   -- the reply by a number: the request is evaluated, and the response with the number is shown
@@ -63,20 +69,24 @@ module _ (settings : Settings) (request : Request) (now : ℕ) (responses : List
   abbrev Fields : Type 0
   Fields = HasFields settings.policy settings.guess request now responses
 
-  serve-fields : (number : ℕ) (field : Encoded) → Answers (lookup.Serve number field) → Fields
+  pub serve-fields : (number : ℕ) (field : Encoded) → Answers (lookup.Serve number field) → Fields
   serve-fields number field (inl is) = (decisions.Serve, is.place, is.found, λ same. (cc))
   serve-fields number field (inr is) = (decisions.ServeStale, is.place, is.found, λ same. (cc))
 
-  meanwhile-fields : (number : ℕ) (field : Encoded) → Answers (lookup.ServeAndRevalidate number field) → Fields
+  pub meanwhile-fields : (number : ℕ) (field : Encoded) → Answers (lookup.ServeAndRevalidate number field) → Fields
   meanwhile-fields number field is = (decisions.ServeAndRevalidate, is.place, is.found, λ same. (cc))
 
-  alone-first : (given : First) → IsAlone request given → MayFallBack settings request now responses
-      → IsFirst settings request now responses given
-  alone-first (first.Reply reply) none may = absurd none
-  alone-first (first.ReplyAndValidate reply) none may = absurd none
-  alone-first first.Ask is may = (is, may)
-  alone-first (first.Validate fields) none may = absurd none
-  alone-first first.Unavailable is may = inr (is, may)
+  -- no reply by a number: none is found by it, or the request isn't evaluated
+  abbrev IsNoReply : ℕ → Type 0
+  IsNoReply number = (numbered number responses ≡ None) ⊎ (¬ (IsForCache request))
+
+  alone-first : (number : ℕ) (decision : Decision) → IsFoundBy number decision → IsNoReply number → (given : First)
+      → IsAlone request given → IsFirst settings request now responses given
+  alone-first number decision by missing (first.Reply reply) none = absurd none
+  alone-first number decision by missing (first.ReplyAndValidate reply) none = absurd none
+  alone-first number decision by missing first.Ask is = (is, inr (not-shown by.shown missing))
+  alone-first number decision by missing (first.Validate fields) none = absurd none
+  alone-first number decision by missing first.Unavailable is = inr (is, inr (not-shown by.shown missing))
 
   pub serve-shows : (number : ℕ) (field : Encoded) → Answers (lookup.Serve number field) → (reply : Reply)
       → Replies number reply → IsFirst settings request now responses (first.Reply reply)
@@ -89,17 +99,21 @@ module _ (settings : Settings) (request : Request) (now : ℕ) (responses : List
       → (reply : Reply) → Replies number reply → IsFirst settings request now responses (first.ReplyAndValidate reply)
   meanwhile-shows number field is = shows number decisions.ServeAndRevalidate (by-meanwhile number field is)
 
-  pub serve-alone : (number : ℕ) (field : Encoded) → Answers (lookup.Serve number field) → (given : First)
-      → IsAlone request given → IsFirst settings request now responses given
-  serve-alone number field is given alone = alone-first given alone (inr (inr (serve-fields number field is)))
+  pub serve-alone : (number : ℕ) (field : Encoded) → Answers (lookup.Serve number field) → IsNoReply number
+      → (given : First) → IsAlone request given → IsFirst settings request now responses given
+  serve-alone number field is none given alone = elim (by-serve number field is) [
+    | inl by ↦ alone-first number decisions.Serve by none given alone
+    | inr by ↦ alone-first number decisions.ServeStale by none given alone
+  ]
 
   pub meanwhile-alone : (number : ℕ) (field : Encoded) → Answers (lookup.ServeAndRevalidate number field)
-      → (given : First) → IsAlone request given → IsFirst settings request now responses given
-  meanwhile-alone number field is given alone = alone-first given alone (inr (inr (meanwhile-fields number field is)))
+      → IsNoReply number → (given : First) → IsAlone request given → IsFirst settings request now responses given
+  meanwhile-alone number field is =
+      alone-first number decisions.ServeAndRevalidate (by-meanwhile number field is)
 
   -- ---- if the origin fails
 
-  pub error-fields : (found : Lookup) → Answers found → (number : ℕ) → number_on_error found ≡ Some number → Fields
+  error-fields : (found : Lookup) → Answers found → (number : ℕ) → number_on_error found ≡ Some number → Fields
   error-fields (lookup.Serve other field) is number same = serve-fields other field is
   error-fields (lookup.ServeAndRevalidate other field) is number same = meanwhile-fields other field is
   error-fields (lookup.ValidateOrServe other fields) is number same =
@@ -147,14 +161,14 @@ module _ (settings : Settings) (request : Request) (now : ℕ) (responses : List
   error-found lookup.Forward is number same = absurd (none-some same)
 
   pub error-reply : (found : Lookup) → Answers found → (number : ℕ) → number_on_error found ≡ Some number
-      → (reply : Option Reply)
-      → MatchOption reply ((numbered number responses ≡ None) ⊎ (¬ (IsForCache request))) (Replies number)
-      → MatchOption reply (IsNoneOnError settings request now responses) (IsShownOnError settings request now responses)
-  error-reply found answers number same None (inl none) =
-      absurd (none-some (sym none ∙ (error-found found answers number same).1.shown))
-  error-reply found answers number same None (inr other) = inr (inl other)
-  error-reply found answers number same (Some reply) replies =
+      → (reply : Result (Option Reply) AllocError)
+      → IfOk reply (λ shown. MatchOption shown (IsNoReply number) (Replies number))
+      → IsOnError settings request now responses reply
+  error-reply found answers number same (Ok None) missing =
+      inr (inl (not-shown (error-found found answers number same).1.shown missing))
+  error-reply found answers number same (Ok (Some reply)) replies =
       let is = error-found found answers number same in (is.0, shows number is.0 is.1 reply replies, is.2)
+  error-reply found answers number same (Err error) lost = error-fields found answers number same
 
 -- ---- after a 304
 

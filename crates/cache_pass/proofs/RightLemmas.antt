@@ -1,16 +1,17 @@
 -- What a step answers is right.
 use Rattle.std.proofs.Common.{◌≡◌, ℕ, List, [], ◌∷◌, ◌++◌, Option, Some, None, refl, sym, ap, subst, inl, inr, ◌∙◌}
 use Rattle.std.{proofs.Common.{true, length, slice_get, arith}, proofs.lemmas.Slice.Eq.bytes_eq-Decides}
-use Rattle.std.specs.Prelude.{IsSomeAnd}
+use Rattle.std.{proofs.Common.{Result, Ok, Err}, specs.Prelude.IsSomeAnd, specs.declared.alloc.AllocError.AllocError}
 use Rattle.http_header.{specs.FieldValue.FieldValue, specs.HeaderMap.Entries}
-use Rattle.headers.specs.LineMap.{lines_at}
+use Rattle.headers.specs.LineMap.{LineMap, lines_at}
+use Rattle.cache_policy.specs.Requests.{Request}
 use Rattle.cache_policy.specs.declared.decision.Decision.{Decision}
 use Rattle.cache_policy.specs.declared.decision.Decision.TheVariants as decisions
 use Rattle.cache_rules.{specs.Conditions.IsStoredAnswer, specs.Selection.IsCandidate}
 use Rattle.cache_rules.specs.declared.conditions.StoredAnswer.{StoredAnswer}
 use Rattle.cache_rules.{specs.declared.stored.StoredResponse.StoredResponse, specs.Freshening.IsFreshened}
 use Rattle.cache_rules.{specs.declared.freshening.Exchange.Exchange, specs.declared.storing.Reception.Reception}
-use Rattle.cache_store.{specs.Changes.IsLetGo, specs.Contents.{Contents, responses_at, without}, specs.History.History}
+use Rattle.cache_store.{specs.Changes.{IsLetGo, IsRestored}, specs.Contents.{Contents, responses_at, without}, specs.History.History}
 use Rattle.cache_store.{specs.History.IsJustified, specs.Kept.contents_of, specs.Numbers.numbered}
 use Rattle.cache_store.proofs.HistoryLemmas.{Has-slice_get, HasUnder-responses_at, run-justified}
 use Rattle.cache_store.{proofs.LawLemmas.stored-may-be, proofs.NumberLemmas.{Has-numbered, distinct-at, numbered-at}}
@@ -25,7 +26,8 @@ use Rattle.cache_pass.specs.declared.replying.First.{First}
 use Rattle.cache_pass.specs.declared.replying.First.TheVariants as first
 use Rattle.cache_pass.{specs.declared.replying.Reply.Reply, specs.declared.revalidating.Next.Next}
 use Rattle.cache_pass.specs.declared.revalidating.Next.TheVariants as next
-use Rattle.cache_pass.proofs.CallLemmas.{HasRun, acts-run, none-some, reached}
+use Rattle.cache_rules.specs.declared.storing.Reception.TheVariants.{Incomplete}
+use Rattle.cache_pass.proofs.CallLemmas.{HasRun, acts-run, reached, some-unkept}
 
 module _ (settings : Settings) (world : World) (ran : HasRun settings world) (pass : Pass) (now : ℕ) (reply : Reply)
   where
@@ -125,6 +127,14 @@ last-named cache target left fresh rest put =
     (distinct-at cache.store.next target (contents_of cache.store) cache.store.counted.numbered)
     (subst (λ (l : List StoredResponse). slice_get l (length left) ≡ Some fresh) (sym same) (slice-last left fresh))
 
+pub restored-named : (settings : Settings) (cache : Cache) (key : List ℕ) (request : Request) (update : LineMap)
+    (exchange : Exchange) (old : Contents) (number : ℕ)
+    → (is : IsRestored settings.policy key request update exchange old (contents_of cache.store) number)
+    → numbered number (stored_at key cache) ≡ Some is.fresh
+restored-named settings cache key request update exchange old number is =
+    subst (λ (n : ℕ). numbered n (stored_at key cache) ≡ Some is.fresh) (sym is.at)
+    (last-named cache key is.left is.fresh (without key old) is.put)
+
 -- ---- a step
 
 module _ (settings : Settings) (before world : World) (pass : Pass) (new : Pass) (was_run : HasRun settings before)
@@ -132,24 +142,26 @@ module _ (settings : Settings) (before world : World) (pass : Pass) (new : Pass)
   abbrev Right : Deed → Type 0
   Right = IsRight settings before world pass
 
-  begun-right : (now : ℕ) (given : First) → HasBegun pass before.cache now new world.cache given
+  begun-right : (now : ℕ) (given : Result First AllocError) → HasBegun pass before.cache now new world.cache given
       → Right (Begins now given)
-  begun-right now (first.Reply reply) h = elim (subst (λ (s : Settings). IsFirst s (request_of_pass pass) now
+  begun-right now (Ok (first.Reply reply)) h = elim (subst (λ (s : Settings). IsFirst s (request_of_pass pass) now
       (stored_at (key_of pass) world.cache) (first.Reply reply)) are h.answer) [
         | inl s ↦ right-serve settings world ran pass now reply s
         | inr s ↦ right-stale settings world ran pass now reply s
       ]
-  begun-right now (first.ReplyAndValidate reply) h = right-meanwhile settings world ran pass now reply
+  begun-right now (Ok (first.ReplyAndValidate reply)) h = right-meanwhile settings world ran pass now reply
       (subst (λ (s : Settings). IsFirst s (request_of_pass pass) now (stored_at (key_of pass) world.cache)
       (first.ReplyAndValidate reply)) are h.answer)
-  begun-right now first.Ask h = tt
-  begun-right now (first.Validate fields) h = tt
-  begun-right now first.Unavailable h = tt
+  begun-right now (Ok first.Ask) h = tt
+  begun-right now (Ok (first.Validate fields)) h = tt
+  begun-right now (Ok first.Unavailable) h = tt
+  begun-right now (Err error) h = tt
 
-  failed-right : (now : ℕ) (found : Option Reply) → HasFailed pass before.cache now new world.cache found
-      → Right (Fails now found)
-  failed-right now None h = tt
-  failed-right now (Some reply) h = right-error settings world ran pass now reply
+  failed-right : (now : ℕ) (found : Result (Option Reply) AllocError)
+      → HasFailed pass before.cache now new world.cache found → Right (Fails now found)
+  failed-right now (Ok None) h = tt
+  failed-right now (Err error) h = tt
+  failed-right now (Ok (Some reply)) h = right-error settings world ran pass now reply
       (subst (λ (s : Settings). IsShownOnError s (request_of_pass pass) now (stored_at (key_of pass) world.cache) reply)
       are h.answer)
 
@@ -165,9 +177,8 @@ module _ (settings : Settings) (before world : World) (pass : Pass) (new : Pass)
     validated-right reply is =
         let fresh = is.restored.fresh in
         let named : numbered reply.number (stored_at (key_of pass) world.cache) ≡ Some fresh =
-        subst (λ (n : ℕ). numbered n (stored_at (key_of pass) world.cache) ≡ Some fresh) (sym is.restored.at)
-        (last-named world.cache (key_of pass) is.restored.left fresh
-        (without (key_of pass) (contents_of before.cache.store)) is.restored.put) in
+        restored-named settings world.cache (key_of pass) (request_of_pass pass) (lines_at response) made
+        (contents_of before.cache.store) reply.number is.restored in
         let shown : IsReplyTo (request_of_pass pass) now fresh reply =
         subst (λ (o : Option StoredResponse). IsSomeAnd o
         (λ stored. IsReplyTo (request_of_pass pass) now stored reply)) named is.replies in (
@@ -195,37 +206,40 @@ module _ (settings : Settings) (before world : World) (pass : Pass) (new : Pass)
           answered,
         )
 
-    abbrev Nexts : History → Next → Settings → Type 0
+    abbrev Nexts : History → Result Next AllocError → Settings → Type 0
     Nexts calls given s = IsNext s (key_of pass) (request_of_pass pass) asked status (lines_at response) now
         (kept_of before.cache) (kept_of world.cache) calls given
 
-    next-right : (calls : History) (given : Next) → Nexts calls given settings → Right (Comes status response now given)
-    next-right calls (next.Reply reply) (inl (validates, outdated, none, asks)) = absurd (cc)
-    next-right calls (next.Reply reply) (inr (inl (validates, fine, one, is))) =
+    next-right : (calls : History) (given : Result Next AllocError) → Nexts calls given settings
+        → Right (Comes status response now given)
+    next-right calls (Ok (next.Reply reply)) (inl (validates, outdated, none, asks)) = absurd (cc)
+    next-right calls (Ok (next.Reply reply)) (inr (inl (validates, fine, one, is))) =
         inl (validates.1, (asked, asking, validated-right reply is))
-    next-right calls (next.Reply reply) (inr (inr (inl (other, failed, one, is)))) =
+    next-right calls (Ok (next.Reply reply)) (inr (inr (inl (other, failed, one, is)))) =
         inr (failed, right-error settings world ran pass now reply is)
-    next-right calls (next.Reply reply) (inr (inr (inr (other, unfailed, removed, is)))) = absurd is
-    next-right calls (next.Once fresh answer) (inl (validates, outdated, none, asks)) = absurd (cc)
-    next-right calls (next.Once fresh answer) (inr (inl (validates, fine, one, is))) =
+    next-right calls (Ok (next.Reply reply)) (inr (inr (inr (other, unfailed, removed, is)))) = absurd is
+    next-right calls (Ok (next.Once fresh answer)) (inl (validates, outdated, none, asks)) = absurd (cc)
+    next-right calls (Ok (next.Once fresh answer)) (inr (inl (validates, fine, one, is))) =
         (validates.1, (asked, asking, once-right fresh answer is.0 is.1))
-    next-right calls (next.Once fresh answer) (inr (inr (inl (other, failed, one, is)))) = absurd is
-    next-right calls (next.Once fresh answer) (inr (inr (inr (other, unfailed, removed, is)))) = absurd is
-    next-right calls next.Ask is = tt
-    next-right calls (next.PassOn kept) is = tt
+    next-right calls (Ok (next.Once fresh answer)) (inr (inr (inl (other, failed, one, is)))) = absurd is
+    next-right calls (Ok (next.Once fresh answer)) (inr (inr (inr (other, unfailed, removed, is)))) = absurd is
+    next-right calls (Ok next.Ask) is = tt
+    next-right calls (Ok (next.PassOn kept)) is = tt
+    next-right calls (Err error) is = tt
 
-  come-right : (status : ℕ) (response : Entries FieldValue) (now : ℕ) (given : Next)
+  come-right : (status : ℕ) (response : Entries FieldValue) (now : ℕ) (given : Result Next AllocError)
       → HasCome pass before.cache status response now new world.cache given → Right (Comes status response now given)
   come-right status response now given h = next-right status response now h.asked h.asking h.calls given
       (subst (λ (s : Settings). IsNext s (key_of pass) (request_of_pass pass) h.asked status (lines_at response) now
       (kept_of before.cache) (kept_of world.cache) h.calls given) are h.answer)
 
-  ended-right : (content : List ℕ) (reception : Reception) (now : ℕ) (number : Option ℕ)
+  ended-right : (content : List ℕ) (reception : Reception) (now : ℕ) (number : Result (Option ℕ) AllocError)
       → HasEnded pass before.cache content reception now new world.cache number
       → Right (Ends content reception now number)
-  ended-right content reception now None h = tt
-  ended-right content reception now (Some number) h = elim h.closed [
-    | inl (complete, (came, received, inl (past, none, same, unnamed))) ↦ absurd (none-some (sym unnamed))
+  ended-right content reception now (Ok None) h = tt
+  ended-right content reception now (Err error) h = tt
+  ended-right content reception now (Ok (Some number)) h = elim h.closed [
+    | inl (complete, (came, received, inl (past, none, same, unnamed))) ↦ absurd (some-unkept number Incomplete unnamed)
     | inl (complete, (came, received, inr (timely, storing))) ↦
         let named = storing.named in
         record {
@@ -241,7 +255,7 @@ module _ (settings : Settings) (before world : World) (pass : Pass) (new : Pass)
               (last-named world.cache (key_of pass) named.4.kept named.0 named.4.rest named.4.put);
           latest = λ late. timely (inr late);
         }
-    | inr (same, none, unnamed) ↦ absurd (none-some (sym unnamed))
+    | inr (same, none, unnamed) ↦ absurd (some-unkept number reception unnamed)
   ]
 
   step-right : (calls : History) (deed : Deed) → IsStep deed pass before.cache new world.cache calls → Right deed

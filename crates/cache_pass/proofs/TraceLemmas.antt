@@ -1,5 +1,6 @@
 -- What a response that isn't stored leaves.
-use Rattle.std.proofs.Common.{◌≡◌, ℕ, true, false, refl, subst, inl, inr, ◌∙◌}
+use Rattle.std.proofs.Common.{◌≡◌, ℕ, true, false, refl, subst, inl, inr, ◌∙◌, Result, Ok, Err}
+use Rattle.std.specs.declared.alloc.AllocError.{AllocError}
 use Rattle.http_header.{specs.FieldValue.FieldValue, specs.HeaderMap.Entries}
 use Rattle.headers.specs.LineMap.{lines_at}
 use Rattle.cache_policy.specs.Requests.{IsSafe}
@@ -14,16 +15,17 @@ use Rattle.cache_pass.specs.declared.revalidating.Next.TheVariants as next
 module _ (old : Pass) (before : Cache) (status : ℕ) (response : Entries FieldValue) (now : ℕ) (new : Pass)
     (after : Cache)
     (unwanted : ¬ (IsWanted (settings_of before).policy (request_of_pass old) status (lines_at response))) where
-  passed-ended : (given : Next)
+  passed-ended : (given : Result Next AllocError)
       → IsPassedOn (settings_of before) (key_of old) (request_of_pass old) status (lines_at response) given
       → (asked : Asked) (clock : ℕ) → phase_after given asked status response now clock ≡ Ended
-  passed-ended (next.Reply reply) none asked clock = absurd none
-  passed-ended (next.Once fresh answer) none asked clock = absurd none
-  passed-ended next.Ask none asked clock = absurd none
-  passed-ended (next.PassOn true) wanted asked clock = absurd (unwanted wanted)
-  passed-ended (next.PassOn false) isnt asked clock = refl
+  passed-ended (Ok (next.Reply reply)) none asked clock = absurd none
+  passed-ended (Ok (next.Once fresh answer)) none asked clock = absurd none
+  passed-ended (Ok next.Ask) none asked clock = absurd none
+  passed-ended (Ok (next.PassOn true)) wanted asked clock = absurd (unwanted wanted)
+  passed-ended (Ok (next.PassOn false)) isnt asked clock = refl
+  passed-ended (Err error) none asked clock = absurd none
 
-  pub leaves-nothing : (given : Next) → (h : HasCome old before status response now new after given)
+  pub leaves-nothing : (given : Result Next AllocError) → (h : HasCome old before status response now new after given)
       → IsSafe old.method → ¬ (IsFailure status) → ¬ (status ≡ 304)
       → (kept_of after ≡ kept_of before) × (new.phase ≡ Ended)
   leaves-nothing given h safe fine other = elim h.answer [

@@ -1,13 +1,13 @@
 -- Runs that differ only in what the origin answered, where that isn't to be stored.
-use Rattle.std.proofs.Common.{◌≡◌, ◌⊎◌, ◌↔◌, ℕ, List, [], ◌∷◌, ◌++◌, map, true, false, refl, sym, ap, subst, inl, inr}
-use Rattle.std.proofs.Common.{◌∙◌}
+use Rattle.std.proofs.Common.{◌≡◌, ◌↔◌, ℕ, List, [], ◌∷◌, ◌++◌, map, true, false, refl, sym, ap, subst, inl, inr}
+use Rattle.std.{proofs.Common.{◌∙◌, Result, Ok, Err}, specs.declared.alloc.AllocError.AllocError}
 use Rattle.http_header.{specs.FieldValue.FieldValue, specs.HeaderMap.Entries}
 use Rattle.headers.specs.LineMap.{lines_at}
 use Rattle.cache_policy.specs.Requests.{Request}
 use Rattle.cache_rules.specs.Errors.{IsFailure}
 use Rattle.cache_store.specs.History.{History}
 use Rattle.cache_pass.specs.{Effects.{Kept, Settings, kept_of, settings_of}, Origin.{IsFailing, IsNext, IsPassedOn}}
-use Rattle.cache_pass.{specs.Passes.{IsSameRequest, key_of, phase_after, request_of_pass}, specs.Steps.HasCome}
+use Rattle.cache_pass.{specs.Passes.{IsSameRequest, key_of, phase_after, request_of_pass}}
 use Rattle.cache_pass.specs.{Unstored.{AreAlike, AreUnstored, IsUnstored}, Worlds.{Acts, Deed, IsStep, Log, Reaches}}
 use Rattle.cache_pass.{specs.Worlds.{World, asked_in}, specs.Worlds.Deed.{Begins, Comes, Fails, Ends, Apart}}
 use Rattle.cache_pass.specs.Worlds.Event.{Calls}
@@ -22,23 +22,26 @@ module _ (settings : Settings) (key : List ℕ) (request : Request) (now : ℕ) 
     (response other : Entries FieldValue) (isnt : IsUnstored settings request status (lines_at response))
     (other_isnt : IsUnstored settings request other_status (lines_at other))
     (failures : IsFailure status ↔ IsFailure other_status) where
-  passed-too : (given : Next) → IsPassedOn settings key request status (lines_at response) given
+  passed-too : (given : Result Next AllocError)
+      → IsPassedOn settings key request status (lines_at response) given
       → IsPassedOn settings key request other_status (lines_at other) given
-  passed-too (next.Reply reply) none = absurd none
-  passed-too (next.Once fresh answer) none = absurd none
-  passed-too next.Ask none = absurd none
-  passed-too (next.PassOn true) wanted = absurd (isnt.unwanted wanted)
-  passed-too (next.PassOn false) unwanted = other_isnt.unwanted
+  passed-too (Ok (next.Reply reply)) none = absurd none
+  passed-too (Ok (next.Once fresh answer)) none = absurd none
+  passed-too (Ok next.Ask) none = absurd none
+  passed-too (Ok (next.PassOn true)) wanted = absurd (isnt.unwanted wanted)
+  passed-too (Ok (next.PassOn false)) unwanted = other_isnt.unwanted
+  passed-too (Err error) none = absurd none
 
-  failing-too : (after : Kept) (given : Next)
+  failing-too : (after : Kept) (given : Result Next AllocError)
       → IsFailing settings key request status (lines_at response) now after given
       → IsFailing settings key request other_status (lines_at other) now after given
-  failing-too after (next.Reply reply) is = is
-  failing-too after (next.Once fresh answer) none = absurd none
-  failing-too after next.Ask none = absurd none
-  failing-too after (next.PassOn kept) is = passed-too (next.PassOn kept) is
+  failing-too after (Ok (next.Reply reply)) is = is
+  failing-too after (Ok (next.Once fresh answer)) none = absurd none
+  failing-too after (Ok next.Ask) none = absurd none
+  failing-too after (Ok (next.PassOn kept)) is = (is.0, passed-too (Ok (next.PassOn kept)) is.1)
+  failing-too after (Err error) is = is
 
-  next-too : (asked : Asked) (before after : Kept) (calls : History) (given : Next)
+  next-too : (asked : Asked) (before after : Kept) (calls : History) (given : Result Next AllocError)
       → IsNext settings key request asked status (lines_at response) now before after calls given
       → IsNext settings key request asked other_status (lines_at other) now before after calls given
   next-too asked before after calls given is = elim is [
@@ -60,24 +63,26 @@ module _ (settings : Settings) (key : List ℕ) (request : Request) (now : ℕ) 
   ]
 
   -- how far the pass is then
-  passed-phase : (asked : Asked) (clock : ℕ) (given : Next)
+  passed-phase : (asked : Asked) (clock : ℕ) (given : Result Next AllocError)
       → IsPassedOn settings key request status (lines_at response) given
       → phase_after given asked status response now clock ≡ phase_after given asked other_status other now clock
-  passed-phase asked clock (next.Reply reply) none = absurd none
-  passed-phase asked clock (next.Once fresh answer) none = absurd none
-  passed-phase asked clock next.Ask none = absurd none
-  passed-phase asked clock (next.PassOn true) wanted = absurd (isnt.unwanted wanted)
-  passed-phase asked clock (next.PassOn false) unwanted = refl
+  passed-phase asked clock (Ok (next.Reply reply)) none = absurd none
+  passed-phase asked clock (Ok (next.Once fresh answer)) none = absurd none
+  passed-phase asked clock (Ok next.Ask) none = absurd none
+  passed-phase asked clock (Ok (next.PassOn true)) wanted = absurd (isnt.unwanted wanted)
+  passed-phase asked clock (Ok (next.PassOn false)) unwanted = refl
+  passed-phase asked clock (Err error) none = absurd none
 
-  failing-phase : (asked : Asked) (clock : ℕ) (after : Kept) (given : Next)
+  failing-phase : (asked : Asked) (clock : ℕ) (after : Kept) (given : Result Next AllocError)
       → IsFailing settings key request status (lines_at response) now after given
       → phase_after given asked status response now clock ≡ phase_after given asked other_status other now clock
-  failing-phase asked clock after (next.Reply reply) is = refl
-  failing-phase asked clock after (next.Once fresh answer) none = absurd none
-  failing-phase asked clock after next.Ask none = absurd none
-  failing-phase asked clock after (next.PassOn kept) is = passed-phase asked clock (next.PassOn kept) is
+  failing-phase asked clock after (Ok (next.Reply reply)) is = refl
+  failing-phase asked clock after (Ok (next.Once fresh answer)) none = absurd none
+  failing-phase asked clock after (Ok next.Ask) none = absurd none
+  failing-phase asked clock after (Ok (next.PassOn kept)) is = passed-phase asked clock (Ok (next.PassOn kept)) is.1
+  failing-phase asked clock after (Err error) is = refl
 
-  next-phase : (asked : Asked) (clock : ℕ) (before after : Kept) (calls : History) (given : Next)
+  next-phase : (asked : Asked) (clock : ℕ) (before after : Kept) (calls : History) (given : Result Next AllocError)
       → IsNext settings key request asked status (lines_at response) now before after calls given
       → phase_after given asked status response now clock ≡ phase_after given asked other_status other now clock
   next-phase asked clock before after calls given is = elim is [

@@ -1,12 +1,14 @@
 -- What is stored of a response that passed on (RFC 9111, sections 3, 4.3.5 and 4.4).
-use Rattle.std.specs.Prelude.{◌≡◌, ◌⊎◌, ◌<◌, ⊤, ℕ, List, [], ◌∷◌, Option, Some, None, codes}
+use Rattle.std.specs.Prelude.{◌≡◌, ◌⊎◌, ◌<◌, ℕ, List, [], ◌∷◌, Option, Some, None, Result, Ok, Err, codes}
+use Rattle.std.specs.declared.alloc.AllocError.{AllocError}
 use Rattle.headers.{specs.LineMap.LineMap, specs.Typed.HasLine}
 use Rattle.cache_policy.{specs.Policies.Policy, specs.Requests.Request, specs.declared.Kind.TheVariants.Shared}
 use Rattle.cache_rules.{specs.Selection.{IsAt, IsCandidate, IsSomewhere}, specs.Storing.IsStored}
 use Rattle.cache_rules.specs.Stored.{fields_of_stored, made_at, request_of_stored}
 use Rattle.cache_rules.specs.declared.storing.Reception.TheVariants.{Complete}
 use Rattle.cache_rules.specs.declared.stored.StoredResponse.{StoredResponse}
-use Rattle.cache_store.{specs.Changes.{IsInserted, IsStoredAs, IsToStore}, specs.Contents.responses_at}
+use Rattle.cache_store.specs.Changes.{FitsAlone, IsFront, IsInserted, IsStoredAs, IsTooLarge, IsTooSmallToStore}
+use Rattle.cache_store.{specs.Changes.IsToStore, specs.Contents.{responses_at, size_at, without}}
 use Rattle.cache_store.specs.History.{History}
 use Rattle.cache_store.{specs.History.Call.{Arrived, Described}, specs.Parts.Combining.exchange_of}
 use Rattle.cache_pass.{specs.Effects.{DoAll, Does, Kept, Settings}, specs.Removals.IsOutdated}
@@ -23,8 +25,8 @@ pub record IsNewer (came stored : StoredResponse) : Type 0 where
   pub later : (made_at came < made_at stored)
       ⊎ ((made_at came ≡ made_at stored) × (came.requested < stored.requested))
 
--- A newer one is stored that its request matches. It isn't stored then, since a cache uses the most recent of those that
--- match (section 4).
+-- A newer one is stored that its request matches. It isn't stored then, since a cache uses the most recent of those
+-- that match (section 4).
 abbrev pub IsLate : List StoredResponse → StoredResponse → Type 0
 IsLate responses came = IsSomewhere (IsAt (IsNewer came) responses)
 
@@ -44,15 +46,25 @@ module _ (settings : Settings) (key : List ℕ) (came : StoredResponse) where
       × (calls ≡ Described key (request_of_stored came) (fields_of_stored came) (exchange_of came) ∷ []))
       ⊎ ((¬ (IsDescription came)) × (calls ≡ []))
 
-  -- it is stored under this number, if under any
-  abbrev pub IsNumbered : Kept → Kept → Option ℕ → Type 0
-  IsNumbered old new None = ⊤
-  IsNumbered old new (Some number) =
+  -- nothing is stored that wasn't: an error leaves all, or some other targets
+  abbrev pub IsLeft : Kept → Kept → Type 0
+  IsLeft old new = (new.contents ≡ old.contents) ⊎ IsFront (without key old.contents) new.contents
+
+  -- It is stored under the number. Or it may not be, or is larger than the limits, and nothing changes. Or nothing is
+  -- added: its map has no room for the fields that change, or memory runs out for what is to be stored.
+  abbrev pub IsNumbered : Kept → Kept → Result (Option ℕ) AllocError → Type 0
+  IsNumbered old new (Ok (Some number)) =
       (stored : StoredResponse) × IsToStore settings.policy came Complete × IsStoredAs came stored
       × (stored.number ≡ number) × IsInserted settings.limits key stored old.contents new.contents
+  IsNumbered old new (Ok None) =
+      (((¬ (IsToStore settings.policy came Complete)) ⊎ IsTooLarge settings.limits key came)
+      × (new.contents ≡ old.contents))
+      ⊎ (IsTooSmallToStore came × IsLeft old new)
+  IsNumbered old new (Err error) =
+      IsToStore settings.policy came Complete × FitsAlone settings.limits 1 (size_at key came) × IsLeft old new
 
   -- the calls by which it is stored, if it may be
-  pub record IsStoring (calls : History) (old new : Kept) (number : Option ℕ) : Type 0 where
+  pub record IsStoring (calls : History) (old new : Kept) (number : Result (Option ℕ) AllocError) : Type 0 where
     pub before : History
     pub describing : AreDescribing before
     pub described : Kept
@@ -62,7 +74,7 @@ module _ (settings : Settings) (key : List ℕ) (came : StoredResponse) where
     pub all : calls ≡ Arrived key came Complete ∷ before
 
   -- If it comes too late, nothing happens; else it is stored, if it may be.
-  abbrev pub IsKept : ℕ → Kept → Kept → History → Option ℕ → Type 0
+  abbrev pub IsKept : ℕ → Kept → Kept → History → Result (Option ℕ) AllocError → Type 0
   IsKept clock old new calls number =
-      (IsPast key came clock old × (calls ≡ []) × (new ≡ old) × (number ≡ None))
+      (IsPast key came clock old × (calls ≡ []) × (new ≡ old) × (number ≡ Ok None))
       ⊎ ((¬ (IsPast key came clock old)) × IsStoring calls old new number)

@@ -1,5 +1,6 @@
 -- What a cache does with a response of the origin (RFC 9111, sections 4.3 and 4.4; RFC 5861, section 4).
-use Rattle.std.{specs.Prelude.{◌≡◌, ◌⊎◌, ℕ, List, [], ◌∷◌, map, true}, specs.Bool.MatchBool}
+use Rattle.std.specs.Prelude.{◌≡◌, ◌⊎◌, ℕ, List, [], ◌∷◌, map, true, Some, None, Result, Ok, Err}
+use Rattle.std.{specs.Bool.MatchBool, specs.declared.alloc.AllocError.AllocError}
 use Rattle.url.specs.Parts.{Parts, serialize}
 use Rattle.headers.specs.LineMap.{LineMap}
 use Rattle.cache_policy.specs.Requests.{Request}
@@ -8,9 +9,9 @@ use Rattle.cache_rules.specs.declared.freshening.Exchange.{Exchange}
 use Rattle.cache_store.{specs.Contents.responses_at, specs.History.History, specs.History.Call.{Looked, Validated}}
 use Rattle.cache_store.specs.Named.{AreNamed}
 use Rattle.cache_pass.{specs.Answers.IsRevalidated, specs.Effects.{Kept, Settings, removals}, specs.Keeping.IsWanted}
-use Rattle.cache_pass.{specs.Removals.IsOutdated, specs.Replies.IsShownOnError, specs.declared.pass.Asked.Asked}
+use Rattle.cache_pass.{specs.Removals.IsOutdated, specs.Replies.IsOnError, specs.declared.pass.Asked.Asked}
 use Rattle.cache_pass.{specs.declared.revalidating.Next.Next, specs.declared.revalidating.Next.TheVariants.Reply}
-use Rattle.cache_pass.specs.declared.revalidating.Next.TheVariants.{Once, Ask, PassOn}
+use Rattle.cache_pass.specs.declared.revalidating.Next.TheVariants.{Ask, PassOn}
 
 -- the response is to a request that validates, and says that what is stored is still good
 abbrev pub IsValidation : Asked → ℕ → Type 0
@@ -28,30 +29,32 @@ IsInvalidation key method status response calls =
 module _ (settings : Settings) (key : List ℕ) where
   module _ (request : Request) where
     -- the response passes on, and is kept if it is to be stored
-    abbrev pub IsPassedOn : ℕ → LineMap → Next → Type 0
-    IsPassedOn status response (Reply reply) = ⊥
-    IsPassedOn status response (Once fresh answer) = ⊥
-    IsPassedOn status response Ask = ⊥
-    IsPassedOn status response (PassOn kept) =
+    abbrev pub IsPassedOn : ℕ → LineMap → Result Next AllocError → Type 0
+    IsPassedOn status response (Ok (PassOn kept)) =
         MatchBool kept (IsWanted settings.policy request status response)
         (¬ (IsWanted settings.policy request status response))
+    IsPassedOn status response other = ⊥
 
-    -- A response that says that the origin failed is replaced by what may be served now, or passes on.
-    abbrev pub IsFailing : ℕ → LineMap → ℕ → Kept → Next → Type 0
-    IsFailing status response now new (Reply reply) =
-        IsShownOnError settings request now (responses_at key new.contents) reply
-    IsFailing status response now new (Once fresh answer) = ⊥
-    IsFailing status response now new Ask = ⊥
-    IsFailing status response now new (PassOn kept) = IsPassedOn status response (PassOn kept)
+    -- A response that says that the origin failed is replaced by what may be served now, or passes on if nothing may
+    -- be.
+    abbrev pub IsFailing : ℕ → LineMap → ℕ → Kept → Result Next AllocError → Type 0
+    IsFailing status response now new (Ok (Reply reply)) =
+        IsOnError settings request now (responses_at key new.contents) (Ok (Some reply))
+    IsFailing status response now new (Ok (PassOn kept)) =
+        IsOnError settings request now (responses_at key new.contents) (Ok None)
+        × IsPassedOn status response (Ok (PassOn kept))
+    IsFailing status response now new (Err error) =
+        IsOnError settings request now (responses_at key new.contents) (Err error)
+    IsFailing status response now new other = ⊥
 
     module _ (asked : Asked) (status : ℕ) (response : LineMap) (now : ℕ) (old new : Kept) where
       abbrev pub exchange : Exchange
       exchange = record { requested = asked.requested; received = now }
 
       -- which facts give each answer, and by which calls of the store
-      abbrev pub IsNext : History → Next → Type 0
+      abbrev pub IsNext : History → Result Next AllocError → Type 0
       IsNext calls next =
-          (IsValidation asked status × IsOutdated old.removals key asked.clock × (calls ≡ []) × (next ≡ Ask))
+          (IsValidation asked status × IsOutdated old.removals key asked.clock × (calls ≡ []) × (next ≡ Ok Ask))
           ⊎ (IsValidation asked status × (¬ (IsOutdated old.removals key asked.clock))
           × (calls ≡ Validated key request response exchange ∷ [])
           × IsRevalidated settings key request response exchange old new next)

@@ -1,5 +1,6 @@
 -- What a pass is of, and how far it comes.
-use Rattle.std.specs.Prelude.{◌≡◌, ℕ, List, ⊤, Option, Some, None, true, false, string_bytes}
+use Rattle.std.specs.Prelude.{◌≡◌, ℕ, List, ⊤, Option, Some, None, Result, Ok, true, false, string_bytes}
+use Rattle.std.specs.declared.alloc.AllocError.{AllocError}
 use Rattle.http_header.{specs.FieldValue.FieldValue, specs.HeaderMap.Entries}
 use Rattle.headers.specs.LineMap.{lines_at}
 use Rattle.cache_policy.specs.Requests.{Request}
@@ -45,21 +46,18 @@ IsNotPassing (Passing asked status response) = ⊥
 IsNotPassing Ended = ⊤
 
 -- how far the pass is after its first step, at this time and when the clock shows this
-abbrev pub phase_first : First → ℕ → ℕ → Phase
-phase_first (first.Reply reply) now clock = Ended
-phase_first (first.ReplyAndValidate reply) now clock = Ended
-phase_first first.Ask now clock = Asking (record { requested = now; clock = clock; validates = false })
-phase_first (first.Validate fields) now clock = Asking (record { requested = now; clock = clock; validates = true })
-phase_first first.Unavailable now clock = Ended
+abbrev pub phase_first : Result First AllocError → ℕ → ℕ → Phase
+phase_first (Ok first.Ask) now clock = Asking (record { requested = now; clock = clock; validates = false })
+phase_first (Ok (first.Validate fields)) now clock =
+    Asking (record { requested = now; clock = clock; validates = true })
+phase_first other now clock = Ended
 
 -- how far it is after the origin has answered with this status and these fields
-abbrev pub phase_after : Next → Asked → ℕ → Entries FieldValue → ℕ → ℕ → Phase
-phase_after (next.Reply reply) asked status response now clock = Ended
-phase_after (next.Once fresh answer) asked status response now clock = Ended
-phase_after next.Ask asked status response now clock =
+abbrev pub phase_after : Result Next AllocError → Asked → ℕ → Entries FieldValue → ℕ → ℕ → Phase
+phase_after (Ok next.Ask) asked status response now clock =
     Asking (record { requested = now; clock = clock; validates = false })
-phase_after (next.PassOn true) asked status response now clock = Passing asked status response
-phase_after (next.PassOn false) asked status response now clock = Ended
+phase_after (Ok (next.PassOn true)) asked status response now clock = Passing asked status response
+phase_after other asked status response now clock = Ended
 
 -- the response to the pass's request as it came
 pub record IsReceived (pass : Pass) (requested status : ℕ) (response : Entries FieldValue) (content : List ℕ) (now : ℕ)

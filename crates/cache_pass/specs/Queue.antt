@@ -1,6 +1,7 @@
 -- Requests for which the origin is asked now: others for the same may wait for one of them (RFC 9111, section 4).
-use Rattle.std.specs.Prelude.{◌≡◌, ◌==◌, ℕ, ◌+◌, ◌&&◌, Bool, List, [], ◌∷◌, ◌++◌, Option, Some, None, bytes_eq}
-use Rattle.std.specs.Prelude.{IsSome, filter, find, is_some, nat_le, nat_lt, not, option_map, string_bytes}
+use Rattle.std.specs.Prelude.{◌≡◌, ◌==◌, ℕ, ◌+◌, ◌-◌, ◌^◌, ◌<◌, ◌&&◌, Bool, List, [], ◌∷◌, ◌++◌, Option, Some, None}
+use Rattle.std.specs.Prelude.{IsSome, filter, find, is_some, nat_le, nat_lt, not, option_map, string_bytes, bytes_eq}
+use Rattle.std.{specs.Prelude.{Result, Ok, Err}, specs.declared.alloc.AllocError.AllocError}
 use Rattle.cache_store.specs.Parts.Answering.{IsForWhole}
 use Rattle.cache_pass.{specs.Passes.{asked_of, request_of_pass}, specs.declared.pass.Pass.Pass}
 use Rattle.cache_pass.{specs.declared.queue.Entry.Entry, specs.declared.queue.Queue.Queue}
@@ -31,6 +32,10 @@ number_ahead queue key now =
 abbrev pub is_open : Queue → (number now : ℕ) → Bool
 is_open queue number now = is_some (find (is_named queue.limit now number) queue.entries.items)
 
+-- others may wait for one more request: for some seconds, and there is a number for it
+abbrev pub MayEnter : Queue → Type 0
+MayEnter queue = (0 < queue.limit) × (queue.next < 2 ^ 64 - 1)
+
 -- the request with this number has left
 pub record HasLeft (number : ℕ) (old new : Queue) : Type 0 where
   pub limit : new.limit ≡ old.limit
@@ -44,6 +49,7 @@ module _ (key : List ℕ) (now : ℕ) (old new : Queue) where
 
   -- the request has entered behind them, under the next number
   pub record HasEntered (number : ℕ) : Type 0 where
+    pub may : MayEnter old
     pub limit : new.limit ≡ old.limit
     pub number_is : number ≡ old.next
     pub next : new.next ≡ old.next + 1
@@ -53,12 +59,14 @@ module _ (key : List ℕ) (now : ℕ) (old new : Queue) where
     pub asked : entry.asked ≡ now
     pub all : new.entries.items ≡ still_open ++ entry ∷ []
 
-  -- it hasn't: nobody may wait, or there is no memory
+  -- it hasn't
   pub record IsOutside : Type 0 where
     pub limit : new.limit ≡ old.limit
     pub next : new.next ≡ old.next
     pub all : new.entries.items ≡ still_open
 
-  abbrev pub Enters : Option ℕ → Type 0
-  Enters (Some number) = HasEntered number
-  Enters None = IsOutside
+  -- it enters if others may wait for it, unless memory runs out
+  abbrev pub Enters : Result (Option ℕ) AllocError → Type 0
+  Enters (Ok (Some number)) = HasEntered number
+  Enters (Ok None) = (¬ (MayEnter old)) × IsOutside
+  Enters (Err error) = MayEnter old × IsOutside

@@ -1,5 +1,6 @@
 -- When targets were last removed (RFC 9111, section 4.4).
-use Rattle.std.{specs.Prelude.{◌≡◌, ◌⊎◌, ℕ, ◌+◌, ◌*◌, ◌-◌, ◌%◌, ◌^◌, ◌<◌, ◌≤◌, List, [], ◌∷◌}, specs.List.slice_index}
+use Rattle.std.specs.Prelude.{◌≡◌, ◌⊎◌, ℕ, ◌+◌, ◌*◌, ◌-◌, ◌%◌, ◌^◌, ◌<◌, ◌≤◌, min, List, [], ◌∷◌}
+use Rattle.std.specs.List.{slice_index}
 use Rattle.cache_pass.specs.declared.removals.Removals.{Removals}
 
 -- the group of a target, if that of what is before these bytes is known
@@ -18,8 +19,18 @@ last_of removals target = slice_index removals.last.items (group_of target)
 abbrev pub IsOutdated : Removals → List ℕ → ℕ → Type 0
 IsOutdated removals target asked = (asked < last_of removals target) ⊎ (last_of removals target ≡ 2 ^ 64 - 1)
 
--- A removal of the target is noted: what was asked for it before is outdated from now on.
+-- no removal was noted, so nothing is outdated
+pub record HasNone (removals : Removals) : Type 0 where
+  pub clock : removals.clock ≡ 0
+  pub current : (target : List ℕ) (asked : ℕ) → ¬ (IsOutdated removals target asked)
+
+-- A removal of the target is noted: what was asked for it before is outdated from now on. Nothing else is that wasn't,
+-- but what was asked before for another target of the group, or if the clock stops.
 pub record IsNoted (target : List ℕ) (old new : Removals) : Type 0 where
+  pub clock : new.clock ≡ min (old.clock + 1) (2 ^ 64 - 1)
   pub rises : old.clock ≤ new.clock
   pub outdates : (asked : ℕ) → asked ≤ old.clock → IsOutdated new target asked
   pub stays : (other : List ℕ) (asked : ℕ) → IsOutdated old other asked → IsOutdated new other asked
+  pub others : (other : List ℕ) (asked : ℕ) → IsOutdated new other asked
+      → IsOutdated old other asked
+      ⊎ ((group_of other ≡ group_of target) × ((asked < new.clock) ⊎ (new.clock ≡ 2 ^ 64 - 1)))

@@ -1,5 +1,6 @@
 -- What a request gets of a cache (RFC 9111, section 4; RFC 5861).
-use Rattle.std.specs.Prelude.{◌≡◌, ◌⊎◌, ℕ, List, Option, Some, None, true}
+use Rattle.std.specs.Prelude.{◌≡◌, ◌⊎◌, ℕ, List, Option, Some, None, Result, Ok, Err, true}
+use Rattle.std.specs.declared.alloc.AllocError.{AllocError}
 use Rattle.headers.specs.LineMap.{field_of, fields_of}
 use Rattle.cache_policy.{specs.Decisions.AnswersUnstored, specs.Requests.Request}
 use Rattle.cache_policy.specs.declared.decision.Decision.{Decision}
@@ -46,18 +47,16 @@ module _ (settings : Settings) (request : Request) (now : ℕ) (responses : List
     pub evaluated : IsForCache request
     pub replies : IsReplyTo request now found.selected.response reply
 
-  -- The request is as one that nothing is stored for: nothing is; or it has a condition that applies to an origin
-  -- server alone; or memory ran out for the answer by what is stored.
-  abbrev pub MayFallBack : Type 0
-  MayFallBack =
-      IsUnmatched settings.policy settings.guess request now responses ⊎ (¬ (IsForCache request))
-      ⊎ HasFields settings.policy settings.guess request now responses
+  -- The request is as one that nothing is stored for: nothing is, or it has a condition that applies to an origin
+  -- server alone.
+  abbrev pub IsAsUnmatched : Type 0
+  IsAsUnmatched = IsUnmatched settings.policy settings.guess request now responses ⊎ (¬ (IsForCache request))
 
   -- which facts give each answer
   abbrev pub IsFirst : First → Type 0
   IsFirst (Replies reply) = IsShown decisions.Serve reply ⊎ IsShown decisions.ServeStale reply
   IsFirst (ReplyAndValidate reply) = IsShown decisions.ServeAndRevalidate reply
-  IsFirst Ask = AnswersUnstored request decisions.Fetch × MayFallBack
+  IsFirst Ask = AnswersUnstored request decisions.Fetch × IsAsUnmatched
   IsFirst (Validate fields) =
       IsForCache request
       × ((number : ℕ)
@@ -67,7 +66,12 @@ module _ (settings : Settings) (request : Request) (now : ℕ) (responses : List
       (fields_of fields.items)))
   IsFirst Unavailable =
       ((place : ℕ) × IsFound settings.policy settings.guess request now responses decisions.Unavailable place)
-      ⊎ (AnswersUnstored request decisions.Unavailable × MayFallBack)
+      ⊎ (AnswersUnstored request decisions.Unavailable × IsAsUnmatched)
+
+  -- the same, unless memory runs out: only for an answer by what is stored
+  abbrev pub IsFirstOf : Result First AllocError → Type 0
+  IsFirstOf (Ok first) = IsFirst first
+  IsFirstOf (Err error) = HasFields settings.policy settings.guess request now responses
 
   -- The origin failed. The response that is selected for the request now may be served: as it is, or since the origin
   -- failed (RFC 5861, section 4).
@@ -85,3 +89,9 @@ module _ (settings : Settings) (request : Request) (now : ℕ) (responses : List
       ⊎ ((place : ℕ)
       × (IsFound settings.policy settings.guess request now responses decisions.Revalidate place
       ⊎ IsFound settings.policy settings.guess request now responses decisions.Unavailable place))
+
+  -- what is served on an error, if something may be, unless memory runs out
+  abbrev pub IsOnError : Result (Option Reply) AllocError → Type 0
+  IsOnError (Ok (Some reply)) = IsShownOnError reply
+  IsOnError (Ok None) = IsNoneOnError
+  IsOnError (Err error) = HasFields settings.policy settings.guess request now responses

@@ -1,5 +1,5 @@
 -- What may be sent to a client (RFC 9111, section 4; RFC 5861).
-use Rattle.std.specs.Prelude.{◌≡◌, ◌⊎◌, ⊤, ℕ, List, Some, None, true}
+use Rattle.std.specs.Prelude.{◌≡◌, ◌⊎◌, ⊤, ℕ, List, Some, Ok, true}
 use Rattle.http_header.{specs.FieldValue.FieldValue, specs.HeaderMap.Entries}
 use Rattle.headers.specs.LineMap.{LineMap, lines_at}
 use Rattle.cache_policy.{specs.Decisions.{IsGoodEnough, MayServeOnError}, specs.Policies.{MayStoreUnder, asks, tells}}
@@ -12,7 +12,7 @@ use Rattle.cache_store.{specs.Changes.IsStoredAs, specs.History.IsJustified, spe
 use Rattle.cache_store.specs.Lookups.{IsFreshFor, freshness_of}
 use Rattle.cache_pass.{specs.Effects.{Settings, stored_at}, specs.Keeping.IsLate, specs.Passes.{IsReceived, asked_of}}
 use Rattle.cache_pass.{specs.Passes.{key_of, request_of_pass}, specs.Replies.IsReplyTo, specs.Worlds.{Deed, World}}
-use Rattle.cache_pass.{specs.Worlds.calls_of, specs.Worlds.Deed.{Begins, Comes, Fails, Ends, Apart}}
+use Rattle.cache_pass.{specs.Worlds.calls_of, specs.Worlds.Deed.{Begins, Comes, Fails, Ends}}
 use Rattle.cache_pass.{specs.declared.cache.Cache.Cache, specs.declared.pass.Asked.Asked, specs.declared.pass.Pass.Pass}
 use Rattle.cache_pass.specs.declared.pass.Phase.TheVariants.{Passing}
 use Rattle.cache_pass.specs.declared.replying.First.TheVariants as first
@@ -82,31 +82,25 @@ pub record IsLatest (pass : Pass) (before after : Cache) (content : List ℕ) (n
   pub named : numbered number (stored_at (key_of pass) after) ≡ Some stored
   pub latest : ¬ (IsLate (stored_at (key_of pass) before) came)
 
--- What a step answers is right for the pass. Nothing is said of an answer that names no stored response.
+-- What a step answers is right for the pass. Nothing is said of an answer that names no stored response: its step says
+-- when it comes.
 abbrev pub IsRight : Settings → World → World → Pass → Deed → Type 0
-IsRight settings before world pass (Begins now (first.Reply reply)) = IsRightReply settings world pass now reply
-IsRight settings before world pass (Begins now (first.ReplyAndValidate reply)) =
+IsRight settings before world pass (Begins now (Ok (first.Reply reply))) = IsRightReply settings world pass now reply
+IsRight settings before world pass (Begins now (Ok (first.ReplyAndValidate reply))) =
     IsRightReply settings world pass now reply
-IsRight settings before world pass (Begins now first.Ask) = ⊤
-IsRight settings before world pass (Begins now (first.Validate fields)) = ⊤
-IsRight settings before world pass (Begins now first.Unavailable) = ⊤
-IsRight settings before world pass (Comes status response now (next.Reply reply)) =
+IsRight settings before world pass (Comes status response now (Ok (next.Reply reply))) =
     ((status ≡ 304)
     × ((asked : Asked) × (asked_of pass.phase ≡ Some asked)
     × IsRightValidated settings world pass now (lines_at response) asked reply))
     ⊎ (IsFailure status × IsRightOnError settings world pass now reply)
-IsRight settings before world pass (Comes status response now (next.Once fresh answer)) =
+IsRight settings before world pass (Comes status response now (Ok (next.Once fresh answer))) =
     (status ≡ 304)
     × ((asked : Asked) × (asked_of pass.phase ≡ Some asked)
     × ((old : StoredResponse) × IsJustified settings.policy (key_of pass) (calls_of before.log) old
     × IsCandidate (request_of_pass pass) old
     × IsFreshened old (lines_at response) (record { requested = asked.requested; received = now }) fresh
     × IsStoredAnswer now (request_of_pass pass) fresh true answer))
-IsRight settings before world pass (Comes status response now next.Ask) = ⊤
-IsRight settings before world pass (Comes status response now (next.PassOn kept)) = ⊤
-IsRight settings before world pass (Fails now (Some reply)) = IsRightOnError settings world pass now reply
-IsRight settings before world pass (Fails now None) = ⊤
-IsRight settings before world pass (Ends content reception now (Some number)) =
+IsRight settings before world pass (Fails now (Ok (Some reply))) = IsRightOnError settings world pass now reply
+IsRight settings before world pass (Ends content reception now (Ok (Some number))) =
     IsLatest pass before.cache world.cache content now number
-IsRight settings before world pass (Ends content reception now None) = ⊤
-IsRight settings before world pass (Apart call) = ⊤
+IsRight settings before world pass other = ⊤

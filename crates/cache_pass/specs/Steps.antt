@@ -1,32 +1,38 @@
 -- The steps of a pass: what each answers, how far the pass is then, and what becomes of the cache.
-use Rattle.std.specs.Prelude.{◌≡◌, ◌⊎◌, ℕ, List, [], Option, Some, None, MatchOption}
+use Rattle.std.specs.Prelude.{◌≡◌, ◌⊎◌, ℕ, List, [], Option, Some, None, Result, Ok, Err, alloc_error}
+use Rattle.std.specs.declared.alloc.AllocError.{AllocError}
 use Rattle.http_header.{specs.FieldValue.FieldValue, specs.HeaderMap.Entries}
 use Rattle.headers.specs.LineMap.{lines_at}
 use Rattle.cache_rules.specs.declared.storing.Reception.{Reception}
-use Rattle.cache_rules.specs.declared.storing.Reception.TheVariants.{Complete}
+use Rattle.cache_rules.specs.declared.storing.Reception.TheVariants.{Complete, Incomplete}
 use Rattle.cache_rules.specs.declared.stored.StoredResponse.{StoredResponse}
-use Rattle.cache_store.{specs.History.History, specs.History.Call.Looked, specs.Lookups.HasFields}
+use Rattle.cache_store.{specs.History.History, specs.History.Call.Looked}
 use Rattle.cache_pass.{specs.Effects.{DoAll, Does, kept_of, settings_of, stored_at}, specs.Keeping.IsKept}
 use Rattle.cache_pass.{specs.Origin.IsNext, specs.Passes.{IsReceived, IsSameRequest, asked_of, key_of, phase_after}}
-use Rattle.cache_pass.{specs.Passes.{phase_first, request_of_pass}, specs.Replies.{IsFirst, IsNoneOnError}}
-use Rattle.cache_pass.{specs.Replies.IsShownOnError, specs.declared.cache.Cache.Cache, specs.declared.pass.Asked.Asked}
+use Rattle.cache_pass.{specs.Passes.{phase_first, request_of_pass}, specs.Replies.{IsFirstOf, IsOnError}}
+use Rattle.cache_pass.{specs.declared.cache.Cache.Cache, specs.declared.pass.Asked.Asked}
 use Rattle.cache_pass.{specs.declared.pass.Pass.Pass, specs.declared.pass.Phase.TheVariants.{Began, Passing, Ended}}
 use Rattle.cache_pass.{specs.declared.replying.First.First, specs.declared.replying.Reply.Reply}
 use Rattle.cache_pass.specs.declared.revalidating.Next.{Next}
 
+-- what is answered of a response that isn't kept: it didn't come whole, or memory ran out for it
+abbrev pub unkept : Reception → Result (Option ℕ) AllocError
+unkept Complete = Err alloc_error
+unkept Incomplete = Ok None
+
 module _ (old : Pass) (before : Cache) where
   -- what `begin` does at this time
-  pub record HasBegun (now : ℕ) (new : Pass) (after : Cache) (first : First) : Type 0 where
+  pub record HasBegun (now : ℕ) (new : Pass) (after : Cache) (first : Result First AllocError) : Type 0 where
     pub began : old.phase ≡ Began
-    pub answer : IsFirst (settings_of before) (request_of_pass old) now (stored_at (key_of old) after) first
+    pub answer : IsFirstOf (settings_of before) (request_of_pass old) now (stored_at (key_of old) after) first
     pub does : Does (settings_of before) (Looked (key_of old)) (kept_of before) (kept_of after)
     pub settings : settings_of after ≡ settings_of before
     pub same : IsSameRequest old new
     pub phase : new.phase ≡ phase_first first now after.removals.clock
 
   -- what `came` does at this time with a response of this status and these fields
-  pub record HasCome (status : ℕ) (response : Entries FieldValue) (now : ℕ) (new : Pass) (after : Cache) (next : Next)
-      : Type 0 where
+  pub record HasCome (status : ℕ) (response : Entries FieldValue) (now : ℕ) (new : Pass) (after : Cache)
+      (next : Result Next AllocError) : Type 0 where
     pub asked : Asked
     pub asking : asked_of old.phase ≡ Some asked
     pub calls : History
@@ -37,33 +43,29 @@ module _ (old : Pass) (before : Cache) where
     pub same : IsSameRequest old new
     pub phase : new.phase ≡ phase_after next asked status response now after.removals.clock
 
-  -- what `failed` does at this time; none is served too if memory ran out for the answer
-  pub record HasFailed (now : ℕ) (new : Pass) (after : Cache) (found : Option Reply) : Type 0 where
-    pub asked : Asked
-    pub asking : asked_of old.phase ≡ Some asked
-    pub answer : MatchOption found
-        (IsNoneOnError (settings_of before) (request_of_pass old) now (stored_at (key_of old) after)
-        ⊎ HasFields (settings_of before).policy before.guess (request_of_pass old) now
-        (stored_at (key_of old) after))
-        (IsShownOnError (settings_of before) (request_of_pass old) now (stored_at (key_of old) after))
-    pub does : Does (settings_of before) (Looked (key_of old)) (kept_of before) (kept_of after)
-    pub settings : settings_of after ≡ settings_of before
-    pub same : IsSameRequest old new
-    pub phase : new.phase ≡ Ended
+  -- what `failed` does at this time
+  pub record HasFailed (now : ℕ) (new : Pass) (after : Cache) (found : Result (Option Reply) AllocError) : Type 0
+    where
+      pub asked : Asked
+      pub asking : asked_of old.phase ≡ Some asked
+      pub answer : IsOnError (settings_of before) (request_of_pass old) now (stored_at (key_of old) after) found
+      pub does : Does (settings_of before) (Looked (key_of old)) (kept_of before) (kept_of after)
+      pub settings : settings_of after ≡ settings_of before
+      pub same : IsSameRequest old new
+      pub phase : new.phase ≡ Ended
 
-  -- What becomes of the response that passed on: all of it came and it is kept, or nothing happens, since it didn't, or
-  -- since memory ran out.
-  abbrev pub IsClosed : Asked → ℕ → Entries FieldValue → List ℕ → Reception → ℕ → Cache → History → Option ℕ
-      → Type 0
+  -- what becomes of the response that passed on: all of it came and it is kept, or nothing happens
+  abbrev pub IsClosed : Asked → ℕ → Entries FieldValue → List ℕ → Reception → ℕ → Cache → History
+      → Result (Option ℕ) AllocError → Type 0
   IsClosed asked status response content reception now after calls number =
       ((reception ≡ Complete)
       × ((came : StoredResponse) × IsReceived old asked.requested status response content now came
       × IsKept (settings_of before) (key_of old) came asked.clock (kept_of before) (kept_of after) calls number))
-      ⊎ ((kept_of after ≡ kept_of before) × (calls ≡ []) × (number ≡ None))
+      ⊎ ((kept_of after ≡ kept_of before) × (calls ≡ []) × (number ≡ unkept reception))
 
   -- what `ended` does at this time with this content
   pub record HasEnded (content : List ℕ) (reception : Reception) (now : ℕ) (new : Pass) (after : Cache)
-      (number : Option ℕ) : Type 0 where
+      (number : Result (Option ℕ) AllocError) : Type 0 where
     pub asked : Asked
     pub status : ℕ
     pub response : Entries FieldValue

@@ -1,5 +1,6 @@
 -- Runs that differ only in what the origin answered, where that isn't to be stored.
-use Rattle.std.specs.Prelude.{◌≡◌, ◌≢◌, ◌⊎◌, ◌↔◌, ⊤, ℕ, List, [], ◌∷◌}
+use Rattle.std.specs.Prelude.{◌≡◌, ◌≢◌, ◌⊎◌, ◌↔◌, ⊤, ℕ, List, [], ◌∷◌, Result}
+use Rattle.std.specs.declared.alloc.AllocError.{AllocError}
 use Rattle.http_header.{specs.FieldValue.FieldValue, specs.HeaderMap.Entries}
 use Rattle.headers.specs.LineMap.{LineMap, lines_at}
 use Rattle.cache_policy.specs.{Requests.IsSafe, Requests.Request}
@@ -19,7 +20,7 @@ module _ (settings : Settings) where
   -- says that the origin failed, so does the other.
   pub record AreUnstored (request : Request) (one other : Deed) : Type 0 where
     pub now : ℕ
-    pub next : Next
+    pub next : Result Next AllocError
     pub status : ℕ
     pub response : Entries FieldValue
     pub comes : one ≡ Comes status response now next

@@ -1,5 +1,6 @@
 -- Passes over one cache, whose steps interleave.
-use Rattle.std.specs.Prelude.{◌≡◌, ◌⊎◌, ⊤, ℕ, List, [], ◌∷◌, ◌++◌, map, Option}
+use Rattle.std.specs.Prelude.{◌≡◌, ◌⊎◌, ⊤, ℕ, List, [], ◌∷◌, ◌++◌, map, Option, Result}
+use Rattle.std.specs.declared.alloc.AllocError.{AllocError}
 use Rattle.http_header.{specs.FieldValue.FieldValue, specs.HeaderMap.Entries}
 use Rattle.cache_rules.specs.declared.storing.Reception.{Reception}
 use Rattle.cache_store.{specs.History.{Call, History, Removes}, specs.History.Call.{Looked, Arrived, Validated}}
@@ -58,12 +59,12 @@ pub record World : Type 0 where
   pub passes : ℕ → Pass
   pub log : Log
 
--- a step of a pass, and what it answered, or a call by no pass
+-- a step of a pass, and what it answered unless memory ran out, or a call by no pass
 pub data Deed : Type 0 where
-  Begins : ℕ → First → Deed
-  Comes : ℕ → Entries FieldValue → ℕ → Next → Deed
-  Fails : ℕ → Option Reply → Deed
-  Ends : List ℕ → Reception → ℕ → Option ℕ → Deed
+  Begins : ℕ → Result First AllocError → Deed
+  Comes : ℕ → Entries FieldValue → ℕ → Result Next AllocError → Deed
+  Fails : ℕ → Result (Option Reply) AllocError → Deed
+  Ends : List ℕ → Reception → ℕ → Result (Option ℕ) AllocError → Deed
   Apart : Call → Deed
 
 -- the call stores and updates nothing: it looks up or removes

@@ -15,7 +15,7 @@ use cache_rules::{Exchange, invalidates, serves_on_error};
 use cache_store::named_targets;
 use headers::HeaderMap;
 use http::{Method, StatusCode};
-use std::alloc::Global;
+use std::alloc::{AllocError, Global};
 use url::Url;
 
 // Whether a response says that what a request asked about is still good.
@@ -69,15 +69,15 @@ impl Cache {
         status: StatusCode,
         response: &HeaderMap,
         now: u64,
-    ) -> Next
+    ) -> Result<Next, AllocError>
         ensures next { IsFailing (settings_of self.old) key.now (request_of request.now) status (lines_at response.now)
             now (kept_of self.new) result }
         ensures does { Does (settings_of self.old) (Looked key.now) (kept_of self.old) (kept_of self.new) }
         ensures settings { settings_of self.new ≡ settings_of self.old }
     {
-        match self.on_error(alloc, key, request, now) {
-            Ok(Some(reply)) => Next::Reply(reply),
-            _ => Next::PassOn(self.is_wanted(request, status, response)),
+        match self.on_error(alloc, key, request, now)? {
+            Some(reply) => Ok(Next::Reply(reply)),
+            None => Ok(Next::PassOn(self.is_wanted(request, status, response))),
         }
     }
 
@@ -91,7 +91,7 @@ impl Cache {
         status: StatusCode,
         response: &HeaderMap,
         now: u64,
-    ) -> Next
+    ) -> Result<Next, AllocError>
         ensures next { (calls : History) × IsNext (settings_of self.old) key.now (request_of request.now) asked status
             (lines_at response.now) now (kept_of self.old) (kept_of self.new) calls result
             × DoAll (settings_of self.old) calls (kept_of self.old) (kept_of self.new) }
@@ -99,7 +99,7 @@ impl Cache {
     {
         if is_validation(asked, status) {
             if self.removals.is_outdated(key, asked.clock) {
-                return Next::Ask;
+                return Ok(Next::Ask);
             }
             let exchange = Exchange {
                 requested: asked.requested,
@@ -111,6 +111,6 @@ impl Cache {
             return self.failing(alloc, key, request, status, response, now);
         }
         self.invalidate(alloc, key, request.method, status, response);
-        Next::PassOn(self.is_wanted(request, status, response))
+        Ok(Next::PassOn(self.is_wanted(request, status, response)))
     }
 }

@@ -1,7 +1,7 @@
 //! A store, and what it remembers of removals.
 ghost use Rattle.std.specs.Prelude.{◌≡◌, IfOk};
 ghost use Rattle.cache_store.specs.History.Call.{Removed};
-ghost use Rattle.cache_pass.specs.Effects.{Does, kept_of, settings_of};
+ghost use Rattle.cache_pass.specs.{Effects.{Does, kept_of, settings_of}, Removals.HasNone};
 
 use crate::removals::Removals;
 use cache_store::Store;
@@ -21,6 +21,7 @@ impl Cache {
     pub fn new(alloc: Global, store: Store, guess: u64) -> Result<Cache, AllocError>
         ensures store { IfOk result (λ cache. cache.store ≡ store) }
         ensures guess { IfOk result (λ cache. cache.guess ≡ guess) }
+        ensures removals { IfOk result (λ cache. HasNone cache.removals) }
     {
         Ok(Cache {
             removals: Removals::new(alloc)?,

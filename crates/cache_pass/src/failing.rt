@@ -1,9 +1,9 @@
 //! What a request gets if the origin fails.
-ghost use Rattle.std.specs.Prelude.{◌≡◌, IfOk, MatchOption, OnErr};
+ghost use Rattle.std.specs.Prelude.{◌≡◌};
 ghost use Rattle.cache_policy.specs.Requests.{request_of};
-ghost use Rattle.cache_store.{specs.History.Call.Looked, specs.Lookups.HasFields};
-ghost use Rattle.cache_pass.{specs.Effects.{Does, kept_of, settings_of, stored_at}, specs.Replies.IsNoneOnError};
-ghost use Rattle.cache_pass.specs.Replies.{IsShownOnError, number_on_error};
+ghost use Rattle.cache_store.specs.History.Call.{Looked};
+ghost use Rattle.cache_pass.specs.Effects.{Does, kept_of, settings_of, stored_at};
+ghost use Rattle.cache_pass.specs.Replies.{IsOnError, number_on_error};
 
 use crate::cache::Cache;
 use crate::replying::Reply;
@@ -32,11 +32,8 @@ impl Cache {
         request: &RequestHead<'_>,
         now: u64,
     ) -> Result<Option<Reply>, AllocError>
-        ensures answer { IfOk result (λ found. MatchOption found
-            (IsNoneOnError (settings_of self.old) (request_of request.now) now (stored_at key.now self.new))
-            (IsShownOnError (settings_of self.old) (request_of request.now) now (stored_at key.now self.new))) }
-        ensures memory { OnErr result (HasFields (settings_of self.old).policy self.old.guess (request_of request.now)
-            now (stored_at key.now self.new)) }
+        ensures answer { IsOnError (settings_of self.old) (request_of request.now) now (stored_at key.now self.new)
+            result }
         ensures does { Does (settings_of self.old) (Looked key.now) (kept_of self.old) (kept_of self.new) }
         ensures settings { settings_of self.new ≡ settings_of self.old }
     {

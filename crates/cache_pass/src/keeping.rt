@@ -10,12 +10,12 @@ ghost use Rattle.cache_pass.specs.Keeping.{IsLate, IsNewer, IsPast, IsWanted};
 use crate::cache::Cache;
 use cache_policy::{Kind, RequestHead, date, matches};
 use cache_rules::{Exchange, Reception, StoredResponse, is_stored};
-use headers::HeaderMap;
+use headers::{HeaderMap, InsertError};
 use http::{Method, StatusCode};
 use http_header::{DATE, SET_COOKIE};
 use rfc_fields::has_line;
 use rfc_values::Timestamp;
-use std::alloc::Global;
+use std::alloc::{AllocError, Global};
 
 // When a response was made: its Date, or when it came if it has none that is valid.
 fn made_at(response: &StoredResponse) -> Timestamp
@@ -103,18 +103,19 @@ impl Cache {
         key: &str,
         came: StoredResponse,
         clock: u64,
-    ) -> Option<u64>
+    ) -> Result<Option<u64>, AllocError>
         ensures kept { (calls : History)
             × IsKept (settings_of self.old) key.now came clock (kept_of self.old) (kept_of self.new) calls result }
         ensures settings { settings_of self.new ≡ settings_of self.old }
     {
         if self.is_past(key, &came, clock) {
-            return None;
+            return Ok(None);
         }
         self.describe(alloc, key, &came);
         match self.store.store(alloc, key, came, Reception::Complete) {
-            Ok(number) => number,
-            Err(_) => None,
+            Ok(number) => Ok(number),
+            Err(InsertError::Full) => Ok(None),
+            Err(InsertError::Memory) => Err(AllocError),
         }
     }
 }

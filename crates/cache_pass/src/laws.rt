@@ -1,5 +1,5 @@
 //! Theorems about every run of passes over one cache. To cite one in a proof, call it.
-ghost use Rattle.std.specs.Prelude.{◌≡◌, ℕ, List};
+ghost use Rattle.std.{specs.Prelude.{◌≡◌, ℕ, List, Result}, specs.declared.alloc.AllocError.AllocError};
 ghost use Rattle.http_header.{specs.FieldValue.FieldValue, specs.HeaderMap.Entries};
 ghost use Rattle.headers.specs.LineMap.{lines_at};
 ghost use Rattle.cache_policy.specs.Requests.{IsSafe};
@@ -36,7 +36,7 @@ pub fn what_is_stored_was_asked_since_the_last_removal()
 /// neither that the origin failed nor that what is stored is still good.
 pub fn what_is_not_stored_leaves_nothing()
     ensures { (old : Pass) (before : Cache) (status : ℕ) (response : Entries FieldValue) (now : ℕ) (new : Pass)
-        (after : Cache) (next : Next)
+        (after : Cache) (next : Result Next AllocError)
         → HasCome old before status response now new after next
         → ¬ (IsWanted (settings_of before).policy (request_of_pass old) status (lines_at response))
         → IsSafe old.method → ¬ (IsFailure status) → ¬ (status ≡ 304)

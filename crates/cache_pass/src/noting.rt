@@ -1,6 +1,6 @@
 //! When targets were removed.
-ghost use Rattle.std.{specs.Prelude.{◌≡◌, ◌≢◌, ℕ, List, ◌+◌, ◌<◌, min, IfOk}, specs.Bool.MatchBool};
-ghost use Rattle.cache_pass.specs.Removals.{IsNoted, IsOutdated, group_of, last_of};
+ghost use Rattle.std.{specs.Prelude.{◌≡◌, ◌≢◌, ℕ, List, ◌<◌, IfOk}, specs.Bool.MatchBool};
+ghost use Rattle.cache_pass.specs.Removals.{HasNone, IsNoted, IsOutdated, group_of, last_of};
 
 use crate::removals::Removals;
 use std::alloc::{AllocError, Global};
@@ -24,7 +24,7 @@ fn group_of(target: &str) -> usize
 impl Removals {
     /// None so far.
     pub fn new(alloc: Global) -> Result<Removals, AllocError>
-        ensures { IfOk result (λ removals. removals.clock ≡ 0) }
+        ensures { IfOk result HasNone }
     {
         Ok(Removals {
             clock: 0,
@@ -50,7 +50,6 @@ impl Removals {
     /// Notes that a target is removed.
     pub fn note(&mut self, target: &str)
         ensures noted { IsNoted target.now self.old self.new }
-        ensures clock { self.new.clock ≡ min (self.old.clock + 1) u64.MAX }
         ensures others { (other : List ℕ) → group_of other ≢ group_of target.now
             → last_of self.new other ≡ last_of self.old other }
     {

@@ -11,7 +11,7 @@ use cache_policy::RequestHead;
 use http::Method;
 use http_header::RANGE;
 use rfc_fields::has_line;
-use std::alloc::Global;
+use std::alloc::{AllocError, Global};
 
 /// A request for which the origin is asked.
 #[derive(Debug, Drop)]
@@ -92,6 +92,7 @@ impl Queue {
     pub fn new(alloc: Global, limit: u64) -> Queue
         ensures limit { result.limit ≡ limit }
         ensures empty { result.entries.items ≡ [] }
+        ensures next { result.next ≡ 0 }
     {
         Queue {
             limit,
@@ -123,17 +124,15 @@ impl Queue {
     }
 
     /// Enters a request for which the origin is asked, and returns its number. Those that asked too long ago leave.
-    /// `None` if nobody may wait, or without memory: then nobody waits for it.
-    pub fn enter(&mut self, alloc: Global, key: &str, now: u64) -> Option<u64>
+    /// `None` if nobody may wait: for no second, or if 2^64 - 1 numbers were given. Out of memory it doesn't enter.
+    pub fn enter(&mut self, alloc: Global, key: &str, now: u64) -> Result<Option<u64>, AllocError>
         ensures { Enters key.now now self.old self.new result }
     {
         keep_within(&mut self.entries, self.limit, now);
         if self.limit == 0 || self.next == u64::MAX {
-            return None;
+            return Ok(None);
         }
-        let Ok(key) = String::from_str(alloc, key) else {
-            return None;
-        };
+        let key = String::from_str(alloc, key)?;
         let number = self.next;
         let entry = Entry {
             number,
@@ -141,10 +140,10 @@ impl Queue {
             asked: now,
         };
         if !push_entry(&mut self.entries, entry) {
-            return None;
+            return Err(AllocError);
         }
         self.next = number + 1;
-        Some(number)
+        Ok(Some(number))
     }
 
     /// The request with this number leaves: nobody waits for it any more.

@@ -3,7 +3,7 @@ ghost use Rattle.std.specs.Prelude.{◌≡◌, ◌⊎◌, None, IfOk, IsSomeAnd,
 ghost use Rattle.cache_policy.specs.Requests.{request_of};
 ghost use Rattle.cache_rules.specs.Conditions.{IsForCache};
 ghost use Rattle.cache_store.{specs.History.Call.Looked, specs.Numbers.numbered};
-ghost use Rattle.cache_pass.{specs.Effects.{Does, kept_of, settings_of, stored_at}, specs.Replies.{IsAlone, IsFirst}};
+ghost use Rattle.cache_pass.{specs.Effects.{Does, kept_of, settings_of, stored_at}, specs.Replies.{IsAlone, IsFirstOf}};
 ghost use Rattle.cache_pass.specs.Replies.{IsReplyTo};
 
 use crate::cache::Cache;
@@ -98,8 +98,8 @@ impl Cache {
         key: &str,
         request: &RequestHead<'_>,
         now: u64,
-    ) -> First
-        ensures first { IsFirst (settings_of self.old) (request_of request.now) now (stored_at key.now self.new)
+    ) -> Result<First, AllocError>
+        ensures first { IsFirstOf (settings_of self.old) (request_of request.now) now (stored_at key.now self.new)
             result }
         ensures does { Does (settings_of self.old) (Looked key.now) (kept_of self.old) (kept_of self.new) }
         ensures settings { settings_of self.new ≡ settings_of self.old }
@@ -108,21 +108,23 @@ impl Cache {
             now,
             longest_guess: self.guess,
         };
-        match self.store.lookup_guessing(alloc, key, request, times) {
-            Ok(Lookup::Serve(number, _)) => match self.reply(alloc, key, request, number, now) {
-                Ok(Some(reply)) => First::Reply(reply),
-                _ => unstored(request),
-            },
-            Ok(Lookup::ServeAndRevalidate(number, _)) => {
-                match self.reply(alloc, key, request, number, now) {
-                    Ok(Some(reply)) => First::ReplyAndValidate(reply),
-                    _ => unstored(request),
+        match self.store.lookup_guessing(alloc, key, request, times)? {
+            Lookup::Serve(number, _) => {
+                match self.reply(alloc, key, request, number, now)? {
+                    Some(reply) => Ok(First::Reply(reply)),
+                    None => Ok(unstored(request)),
                 }
             }
-            Ok(Lookup::Validate(_, fields)) | Ok(Lookup::ValidateOrServe(_, fields))
-                if is_for_cache(request) => { First::Validate(fields) }
-            Ok(Lookup::Unavailable) => First::Unavailable,
-            _ => unstored(request),
+            Lookup::ServeAndRevalidate(number, _) => {
+                match self.reply(alloc, key, request, number, now)? {
+                    Some(reply) => Ok(First::ReplyAndValidate(reply)),
+                    None => Ok(unstored(request)),
+                }
+            }
+            Lookup::Validate(_, fields) | Lookup::ValidateOrServe(_, fields)
+                if is_for_cache(request) => { Ok(First::Validate(fields)) }
+            Lookup::Unavailable => Ok(First::Unavailable),
+            _ => Ok(unstored(request)),
         }
     }
 }

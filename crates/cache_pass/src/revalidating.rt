@@ -11,7 +11,7 @@ use cache_policy::RequestHead;
 use cache_rules::{Exchange, StoredAnswer, StoredResponse, answer_conditions};
 use cache_store::Refreshed;
 use headers::HeaderMap;
-use std::alloc::Global;
+use std::alloc::{AllocError, Global};
 
 /// What is done with a request after the origin has answered it.
 #[derive(Debug, Drop)]
@@ -36,7 +36,7 @@ impl Cache {
         request: &RequestHead<'_>,
         update: &HeaderMap,
         exchange: Exchange,
-    ) -> Next
+    ) -> Result<Next, AllocError>
         ensures next { IsRevalidated (settings_of self.old) key.now (request_of request.now) (lines_at update.now)
             exchange (kept_of self.old) (kept_of self.new) result }
         ensures does { Does (settings_of self.old)
@@ -46,17 +46,18 @@ impl Cache {
     {
         let now = exchange.received;
         match self.store.freshen(alloc, key, request, update, exchange) {
-            Ok(Refreshed::Stored(number)) => match self.reply(alloc, key, request, number, now) {
-                Ok(Some(reply)) => Next::Reply(reply),
-                _ => Next::Ask,
-            },
-            Ok(Refreshed::Once(fresh)) => {
-                match answer_conditions(alloc, request, &fresh, now, true) {
-                    Ok(answer) => Next::Once(fresh, answer),
-                    Err(_) => Next::Ask,
+            Ok(Refreshed::Stored(number)) => {
+                match self.reply(alloc, key, request, number, now)? {
+                    Some(reply) => Ok(Next::Reply(reply)),
+                    None => Ok(Next::Ask),
                 }
             }
-            _ => Next::Ask,
+            Ok(Refreshed::Once(fresh)) => {
+                let answer = answer_conditions(alloc, request, &fresh, now, true)?;
+                Ok(Next::Once(fresh, answer))
+            }
+            Ok(Refreshed::Absent) | Ok(Refreshed::Unchanged) => Ok(Next::Ask),
+            Err(_) => Ok(Next::Ask),
         }
     }
 }

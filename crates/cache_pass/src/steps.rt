@@ -29,16 +29,16 @@ pub enum OutOfOrder {
 }
 
 // How far a pass is after its first step.
-fn phase_first(first: &First, now: u64, clock: u64) -> Phase
+fn phase_first(first: &Result<First, AllocError>, now: u64, clock: u64) -> Phase
     ensures { result ≡ phase_first first.now now clock }
 {
     match first {
-        First::Ask => Phase::Asking(Asked {
+        Ok(First::Ask) => Phase::Asking(Asked {
             requested: now,
             clock,
             validates: false,
         }),
-        First::Validate(_) => Phase::Asking(Asked {
+        Ok(First::Validate(_)) => Phase::Asking(Asked {
             requested: now,
             clock,
             validates: true,
@@ -49,7 +49,7 @@ fn phase_first(first: &First, now: u64, clock: u64) -> Phase
 
 // How far a pass is after the origin has answered.
 fn phase_after(
-    next: &Next,
+    next: &Result<Next, AllocError>,
     asked: Asked,
     status: StatusCode,
     response: HeaderMap,
@@ -59,12 +59,12 @@ fn phase_after(
     ensures { result ≡ phase_after next.now asked status response now clock }
 {
     match next {
-        Next::Ask => Phase::Asking(Asked {
+        Ok(Next::Ask) => Phase::Asking(Asked {
             requested: now,
             clock,
             validates: false,
         }),
-        Next::PassOn(true) => Phase::Passing(asked, status, response),
+        Ok(Next::PassOn(true)) => Phase::Passing(asked, status, response),
         _ => Phase::Ended,
     }
 }
@@ -114,8 +114,13 @@ impl Pass {
     }
 
     /// Decides what is done with the request (RFC 9111, section 4). `now` is the present, in seconds since
-    /// 1970. Without memory for an answer by what is stored, the request is as one that nothing is stored for.
-    pub fn begin(&mut self, cache: &mut Cache, alloc: Global, now: u64) -> Result<First, OutOfOrder>
+    /// 1970. If memory runs out for an answer by what is stored, the pass has ended: forward the request as it is.
+    pub fn begin(
+        &mut self,
+        cache: &mut Cache,
+        alloc: Global,
+        now: u64,
+    ) -> Result<Result<First, AllocError>, OutOfOrder>
         ensures ok { IfOk result (HasBegun self.old cache.old now self.new cache.new) }
         ensures err { IfErr result (λ error. (error ≡ OutOfOrder.Begin) × (self.old.phase ≢ Began)
             × IsUnchanged self.old cache.old self.new cache.new) }
@@ -128,7 +133,9 @@ impl Pass {
         Ok(first)
     }
 
-    /// Decides what is done with the status and the fields of the origin's response.
+    /// Decides what is done with the status and the fields of the origin's response. If memory runs out for an answer
+    /// by what is stored, the pass has ended: pass the response on; if it is a 304 to a request that validates, forward
+    /// the request again.
     pub fn came(
         &mut self,
         cache: &mut Cache,
@@ -136,7 +143,7 @@ impl Pass {
         status: StatusCode,
         response: HeaderMap,
         now: u64,
-    ) -> Result<Next, OutOfOrder>
+    ) -> Result<Result<Next, AllocError>, OutOfOrder>
         ensures ok { IfOk result (HasCome self.old cache.old status response now self.new cache.new) }
         ensures err { IfErr result (λ error. (error ≡ OutOfOrder.Came) × (asked_of self.old.phase ≡ None)
             × IsUnchanged self.old cache.old self.new cache.new) }
@@ -158,13 +165,13 @@ impl Pass {
     }
 
     /// Decides what the client gets if no response of the origin comes: a stored one, if that may be served now
-    /// (RFC 5861, section 4). `None`, if none may be: send 502 or 504.
+    /// (RFC 5861, section 4). `None`, if none may be, or out of memory: send 502 or 504.
     pub fn failed(
         &mut self,
         cache: &mut Cache,
         alloc: Global,
         now: u64,
-    ) -> Result<Option<Reply>, OutOfOrder>
+    ) -> Result<Result<Option<Reply>, AllocError>, OutOfOrder>
         ensures ok { IfOk result (HasFailed self.old cache.old now self.new cache.new) }
         ensures err { IfErr result (λ error. (error ≡ OutOfOrder.Failed) × (asked_of self.old.phase ≡ None)
             × IsUnchanged self.old cache.old self.new cache.new) }
@@ -174,15 +181,12 @@ impl Pass {
         };
         let found = cache.on_error(alloc, self.key.as_str(), &self.head(), now);
         self.phase = Phase::Ended;
-        match found {
-            Ok(reply) => Ok(reply),
-            Err(AllocError) => Ok(None),
-        }
+        Ok(found)
     }
 
     /// Stores the response that passed on with its content, if all of it came, if it may be stored, and unless
-    /// its target was removed since it was asked (RFC 9111, sections 3 and 4.4). The result is its number.
-    /// Without memory it isn't stored.
+    /// its target was removed since it was asked (RFC 9111, sections 3 and 4.4). The result is its number. `None` if it
+    /// isn't stored, also if a newer one is; nor is it if memory runs out.
     pub fn ended(
         &mut self,
         cache: &mut Cache,
@@ -190,7 +194,7 @@ impl Pass {
         content: Bytes,
         reception: Reception,
         now: u64,
-    ) -> Result<Option<u64>, OutOfOrder>
+    ) -> Result<Result<Option<u64>, AllocError>, OutOfOrder>
         ensures ok { IfOk result (HasEnded self.old cache.old content reception now self.new cache.new) }
         ensures err { IfErr result (λ error. (error ≡ OutOfOrder.Ended) × IsNotPassing self.old.phase
             × IsUnchanged self.old cache.old self.new cache.new) }
@@ -198,11 +202,11 @@ impl Pass {
         match replace(&mut self.phase, Phase::Ended) {
             Phase::Passing(asked, status, response) => {
                 let Reception::Complete = reception else {
-                    return Ok(None);
+                    return Ok(Ok(None));
                 };
                 match self.received(asked.requested, status, response, content, now) {
                     Ok(came) => Ok(cache.keep(alloc, self.key.as_str(), came, asked.clock)),
-                    Err(AllocError) => Ok(None),
+                    Err(AllocError) => Ok(Err(AllocError)),
                 }
             }
             other => {

@@ -1,0 +1,22 @@
+-- What is remembered before the first removal.
+use Rattle.std.proofs.Common.{◌≡◌, ◌∙◌, ℕ, List, zero, suc, replicate, refl, ap, inl, inr, arith}
+use Rattle.std.specs.List.{slice_index}
+use Rattle.cache_pass.{specs.Removals.{HasNone, group_of, last_of}, specs.declared.removals.Removals.Removals}
+
+zero-at : (n i : ℕ) → slice_index (replicate n 0) i ≡ 0
+zero-at zero i = refl
+zero-at (suc n) zero = refl
+zero-at (suc n) (suc i) = zero-at n i
+
+pub none-noted : (removals : Removals) → removals.clock ≡ 0 → removals.last.items ≡ replicate 1024 0
+    → HasNone removals
+none-noted removals clock all = record {
+  clock = clock;
+  current = λ target asked out.
+      let last : last_of removals target ≡ 0 =
+      ap (λ (l : List ℕ). slice_index l (group_of target)) all ∙ zero-at 1024 (group_of target) in
+      elim out [
+        | inl later ↦ absurd (omega (arith, later, last))
+        | inr stopped ↦ absurd (omega (arith, stopped, last))
+      ];
+}
