@@ -79,6 +79,32 @@ struct typed_headers_keys {
     uint64_t second;
 };
 
+/* A text: bytes, and how many they are. */
+struct typed_headers_text {
+    const uint8_t *bytes;
+    size_t length;
+};
+
+/* A request. */
+struct typed_headers_request {
+    /* Its method. */
+    struct typed_headers_text method;
+    /* Its header section. */
+    struct typed_headers_text section;
+};
+
+/* A request, or the response to one. */
+struct typed_headers_message {
+    /* The method of the request. */
+    struct typed_headers_text method;
+    /* The message's own header section. */
+    struct typed_headers_text section;
+    /* The status of a response, or 0 of a request. */
+    uint16_t status;
+    /* The message's own version: 10 for HTTP/1.0, or 11. */
+    uint8_t version;
+};
+
 /* What a server knows of the target of a request, beside its entity tag. */
 struct typed_headers_target {
     /* When its current representation was last modified, in seconds since the start of 1970. */
@@ -138,12 +164,6 @@ struct typed_headers_content_range {
     uint8_t has_length;
 };
 
-/* A text: bytes, and how many they are. */
-struct typed_headers_text {
-    const uint8_t *bytes;
-    size_t length;
-};
-
 /*
  * What a server allows requests from other origins. Each text has one value a line, as the lines of a field: the line
  * `*` alone stands for any value, and the empty text for none.
@@ -192,6 +212,16 @@ struct typed_headers_moments {
     uint64_t response;
     /* The present. */
     uint64_t now;
+};
+
+/* A stored response. */
+struct typed_headers_stored {
+    /* The method of the request that it answered. */
+    struct typed_headers_text method;
+    /* The header section of that request. */
+    struct typed_headers_text request;
+    /* The header section of the response. */
+    struct typed_headers_text response;
 };
 
 /* What a cache does with a request that a stored response could answer. */
@@ -339,6 +369,25 @@ struct typed_headers_quality {
     uint8_t is_acceptable;
 };
 
+/* What a server takes of opening handshakes. */
+struct typed_headers_websocket_rules {
+    /* Its own subprotocols, one a line, the most wanted first: the first that the request asks for is taken. */
+    struct typed_headers_text protocols;
+    /* The origins whose scripts may open a connection, one a line, as browsers send them, or the line `*` for any. A
+       request without Origin is no script's, and is let in. */
+    struct typed_headers_text origins;
+};
+
+/* A client's opening handshake, and the response to it. */
+struct typed_headers_websocket_exchange {
+    /* The header section that the client sent. */
+    struct typed_headers_text sent;
+    /* The header section of the response. */
+    struct typed_headers_text response;
+    /* The status of the response. */
+    uint16_t status;
+};
+
 /* What a server answers to an opening handshake. */
 struct typed_headers_handshake {
     /* The status: 101, 400, 403 or 426. */
@@ -419,8 +468,9 @@ struct typed_headers_resource {
     /* Those of `methods` that are performed if there is no current representation, as PUT (section 9.3.4). Any other is
        answered by 404. */
     struct typed_headers_text creating;
-    /* Those of `methods` whose requests must name what they may replace: by entity tags in If-Match, or by `*` in
-       If-None-Match (RFC 6585, section 3). Any other request is answered by 428. GET and HEAD need none. */
+    /* Those of `methods` whose requests must name what they may replace: by entity tags in If-Match, by `*` in
+       If-None-Match, or if `has_strong_dates` by a date in If-Unmodified-Since (RFC 6585, section 3). Any other request
+       is answered by 428. GET and HEAD need none. */
     struct typed_headers_text guarded;
     /* The media types that each of `methods` takes, as the line of Accept that a 415 has. Nothing said: any. */
     struct typed_headers_text accept;
@@ -461,6 +511,9 @@ struct typed_headers_resource {
     bool has_cors;
     /* Whether `implemented` counts. Since 2.0. */
     bool has_implemented;
+    /* Whether each change of a representation gives it a later date, so that its dates are strong validators (section
+       8.8.2.2). An old date isn't enough: two changes may have come in its second. Since 2.0. */
+    bool has_strong_dates;
 };
 
 /* What a server knows of a representation of a resource, beside its lines there. */
@@ -479,8 +532,12 @@ struct typed_headers_representation {
     bool is_date_strong;
 };
 
-/* What a server knows of a request, beside its method, its target and its fields. */
+/* What a server knows of a request, beside its fields. */
 struct typed_headers_resource_request {
+    /* Its method. */
+    struct typed_headers_text method;
+    /* The target of its request line, or empty. The host of one in absolute-form counts, else that of Host. */
+    struct typed_headers_text target;
     /* When it is answered, in seconds since the start of 1970. */
     uint64_t present;
     /* How many bytes its content has, if `has_content` and `has_length`. */
@@ -832,12 +889,25 @@ enum typed_headers_event {
     /* Write what `typed_headers_connection_output` gives, or, if that is empty, `typed_headers_connection_range`; then
        call `typed_headers_connection_sent`. */
     TYPED_HEADERS_OUTPUT = 2,
-    /* Ask again. */
-    TYPED_HEADERS_BUSY = 3,
     /* All was sent: close. */
-    TYPED_HEADERS_CLOSED_CONNECTION = 4,
+    TYPED_HEADERS_CLOSED_CONNECTION = 3,
     /* There was no memory, or a response can't be sent to its end: close. */
-    TYPED_HEADERS_ABORTED = 5
+    TYPED_HEADERS_ABORTED = 4
+};
+
+/* What a service of files does. */
+struct typed_headers_files_options {
+    /* What Cache-Control says of the answers that a cache may use again, 200, 206 and 304, or empty if they shall have
+       none. */
+    struct typed_headers_text cache_control;
+    /* The hosts that are served, one a line, in any case and at any port, or empty for all. A request for another one
+       is answered by 421. */
+    struct typed_headers_text hosts;
+    /* What stands between several parts of a response. Take digits that nobody can foresee, so that no file can be made
+       to hold them. */
+    struct typed_headers_text boundary;
+    /* Whether a client may get the precompressed copy of a file, by its Accept-Encoding. */
+    bool negotiates;
 };
 
 /* A service of the files below a folder, which opens none: a handle as the ones above. */
@@ -994,9 +1064,9 @@ uint8_t typed_headers_format_etag(bool is_weak, const uint8_t *opaque, size_t op
  * Refused: the method is no token, a line of the section before the first empty one is no field, `etag` is no entity
  * tag, or the date lies past the year 9999. Too large: the section has more names than a map has room for (24,576).
  */
-uint8_t typed_headers_evaluate(const uint8_t *method, size_t method_length, const uint8_t *section,
-                               size_t section_length, const struct typed_headers_keys *keys, const uint8_t *etag,
-                               size_t etag_length, const struct typed_headers_target *target, uint16_t *answer);
+uint8_t typed_headers_evaluate(const struct typed_headers_request *request, const struct typed_headers_keys *keys,
+                               const uint8_t *etag, size_t etag_length, const struct typed_headers_target *target,
+                               uint16_t *answer);
 
 /*
  * Which part of the target's representation, of `length` bytes, a request selects (RFC 9110, sections 13.2.2 and 14.2):
@@ -1009,11 +1079,10 @@ uint8_t typed_headers_evaluate(const uint8_t *method, size_t method_length, cons
  * Absent: the target has no representation. Refused and too large: as for `typed_headers_evaluate`. Memory: Range
  * applies.
  */
-uint8_t typed_headers_select(const uint8_t *method, size_t method_length, const uint8_t *section,
-                             size_t section_length, const struct typed_headers_keys *keys, const uint8_t *etag,
-                             size_t etag_length, const struct typed_headers_target *target, uint64_t length,
-                             uint16_t *answer, struct typed_headers_bytes_range *room, size_t room_length,
-                             size_t *written);
+uint8_t typed_headers_select(const struct typed_headers_request *request, const struct typed_headers_keys *keys,
+                             const uint8_t *etag, size_t etag_length, const struct typed_headers_target *target,
+                             uint64_t length, uint16_t *answer, struct typed_headers_bytes_range *room,
+                             size_t room_length, size_t *written);
 
 /*
  * The response to a GET or a HEAD of the target's current representation, by its preconditions and its ranges, and to
@@ -1033,9 +1102,8 @@ uint8_t typed_headers_select(const uint8_t *method, size_t method_length, const 
  * tag, the date lies past the year 9999, the media type is no line, or the boundary is none. Too large: the section has
  * more names than a map has room for (24,576). Memory: the media type isn't empty, or the boundary is one.
  */
-uint8_t typed_headers_respond(const uint8_t *method, size_t method_length, const uint8_t *section,
-                              size_t section_length, const struct typed_headers_keys *keys, const uint8_t *etag,
-                              size_t etag_length, const struct typed_headers_target *target,
+uint8_t typed_headers_respond(const struct typed_headers_request *request, const struct typed_headers_keys *keys,
+                              const uint8_t *etag, size_t etag_length, const struct typed_headers_target *target,
                               const struct typed_headers_content *content, const uint8_t *boundary,
                               size_t boundary_length, struct typed_headers_response *response,
                               struct typed_headers_bytes_range *parts, size_t parts_length, size_t *parts_written,
@@ -1083,19 +1151,16 @@ uint8_t typed_headers_websocket_accept(const uint8_t *lines, size_t lines_length
 
 /*
  * What a server answers to a client's opening handshake (RFC 6455, sections 4.2.1 and 4.2.2). `version` is that of the
- * request: 10 for HTTP/1.0, 11, 20 or 30. `protocols` has the server's own subprotocols, one a line, the most wanted
- * first: the first that the request asks for is taken. `origins` has the origins whose scripts may open a connection,
- * one a line, as browsers send them, or the line `*` for any; a request without Origin is no script's, and is let in.
+ * request: 10 for HTTP/1.0, 11, 20 or 30.
  *
  * The text is the lines of the answer, each `name: value` and a LF. sec-websocket-protocol and sec-websocket-extensions
- * are to be taken off a 101 first. Refused: the method is no token, the version is another number, a line of a text
- * can't be one, no browser sends one of the origins, or a line of the section before its first empty one is no field.
- * Memory: the answer has lines.
+ * are to be taken off a 101 first. Refused: the method is no token, the version is another number, a line of the rules
+ * is no field value, no browser sends one of the origins, or a line of the section before its first empty one is no
+ * field. Memory: the answer has lines.
  */
-uint8_t typed_headers_websocket_respond(const uint8_t *method, size_t method_length, uint8_t version,
-                                        const uint8_t *section, size_t section_length,
-                                        const struct typed_headers_keys *keys, const uint8_t *protocols,
-                                        size_t protocols_length, const uint8_t *origins, size_t origins_length,
+uint8_t typed_headers_websocket_respond(const struct typed_headers_request *request, uint8_t version,
+                                        const struct typed_headers_keys *keys,
+                                        const struct typed_headers_websocket_rules *rules,
                                         struct typed_headers_handshake *handshake, uint8_t *room, size_t room_length,
                                         size_t *written);
 
@@ -1108,18 +1173,16 @@ uint8_t typed_headers_websocket_request(const uint8_t *nonce, size_t nonce_lengt
                                         size_t *written);
 
 /*
- * What a client that sent the section `sent` finds in a response (RFC 6455, section 4.1): `*flaw` is one of
+ * What a client finds in the response to its opening handshake (RFC 6455, section 4.1): `*flaw` is one of
  * `typed_headers_flaw`. Refused: the status is no number from 100 to 999, or a line of a section before its first empty
  * one is no field.
  */
-uint8_t typed_headers_websocket_check(const uint8_t *sent, size_t sent_length, uint16_t status,
-                                      const uint8_t *response, size_t response_length,
+uint8_t typed_headers_websocket_check(const struct typed_headers_websocket_exchange *exchange,
                                       const struct typed_headers_keys *keys, uint8_t *flaw);
 
 /*
- * What a server with these rules answers a request from another origin (Fetch standard, "CORS protocol"). `request` and
- * `response` are header sections: the request's, and that of the response as its handler left it, of which the field
- * Vary counts.
+ * What a server with these rules answers a request from another origin (Fetch standard, "CORS protocol"). `response` is
+ * the header section of the response as its handler left it, of which the field Vary counts.
  *
  * The text is the lines of the answer, each `name: value` and a LF, names in lower case. Six fields are the rules'
  * alone, and are to be taken off the response first: access-control-allow-origin, -allow-credentials, -expose-headers,
@@ -1132,11 +1195,11 @@ uint8_t typed_headers_websocket_check(const uint8_t *sent, size_t sent_length, u
  * has room for (24,576). Memory: nothing is rejected. Whether rules are refused shows with the method GET and two empty
  * sections.
  */
-uint8_t typed_headers_cors_answer(const struct typed_headers_cors_rules *rules, const uint8_t *method,
-                                  size_t method_length, const uint8_t *request, size_t request_length,
-                                  const uint8_t *response, size_t response_length,
-                                  const struct typed_headers_keys *keys, struct typed_headers_cors_facts *facts,
-                                  uint8_t *room, size_t room_length, size_t *written);
+uint8_t typed_headers_cors_answer(const struct typed_headers_cors_rules *rules,
+                                  const struct typed_headers_request *request, const uint8_t *response,
+                                  size_t response_length, const struct typed_headers_keys *keys,
+                                  struct typed_headers_cors_facts *facts, uint8_t *room, size_t room_length,
+                                  size_t *written);
 
 /*
  * Which of a list of origins, one a line, is the first that no browser sends (HTML standard, "ASCII serialization of an
@@ -1148,8 +1211,7 @@ uint8_t typed_headers_unsent_origin(const uint8_t *origins, size_t origins_lengt
 /*
  * The whole answer of a resource to a request (RFC 9110, sections 7.4 to 15): by its host, a denial, its method, its
  * content, negotiation, preconditions, ranges, and the rules for other origins. `representations` are the current ones,
- * the most wanted first. `rules` count if `resource->has_cors`. `target` is that of the request line: if it is in
- * absolute-form, its host counts, else that of Host; it may be empty. `denial` of zeros denies nothing. There may be no
+ * the most wanted first. `rules` count if `resource->has_cors`. `denial` of zeros denies nothing. There may be no
  * representation to show though the state is current, if the server makes them only as it performs GET.
  *
  * The text is the lines of the answer, each `name: value` and a LF, names in lower case. They are all that the response
@@ -1167,8 +1229,7 @@ uint8_t typed_headers_unsent_origin(const uint8_t *origins, size_t origins_lengt
 uint8_t typed_headers_resource_answer(const struct typed_headers_resource *resource,
                                       const struct typed_headers_representation *representations,
                                       size_t representations_length, const struct typed_headers_cors_rules *rules,
-                                      const struct typed_headers_resource_request *request, const uint8_t *method,
-                                      size_t method_length, const uint8_t *target, size_t target_length,
+                                      const struct typed_headers_resource_request *request,
                                       const struct typed_headers_denial *denial, const uint8_t *section,
                                       size_t section_length, const struct typed_headers_keys *keys,
                                       struct typed_headers_resource_facts *facts,
@@ -1182,10 +1243,9 @@ uint8_t typed_headers_resource_answer(const struct typed_headers_resource *resou
  * Refused: the method is no token, the status is no number from 100 to 999, or a line of a section before its first
  * empty one is no field. Too large, here and below: a section has more names than a map has room for (24,576).
  */
-uint8_t typed_headers_may_store(const uint8_t *method, size_t method_length, const uint8_t *request,
-                                size_t request_length, uint16_t status, const uint8_t *response,
-                                size_t response_length, const struct typed_headers_keys *keys, bool is_shared,
-                                uint8_t *answer);
+uint8_t typed_headers_may_store(const struct typed_headers_request *request, uint16_t status,
+                                const uint8_t *response, size_t response_length,
+                                const struct typed_headers_keys *keys, bool is_shared, uint8_t *answer);
 
 /*
  * For how many seconds a response is fresh by what its origin says (RFC 9111, section 4.2.1): `s-maxage` in a shared
@@ -1219,15 +1279,12 @@ uint8_t typed_headers_current_age(const uint8_t *response, size_t response_lengt
 
 /*
  * What a cache does with a request, by a response that it has stored to the same URI (RFC 9111, section 4, and RFC
- * 5861): `*decision` is one of `typed_headers_decision`. `stored_method` and `stored` are the method and the section of
- * the request that the response answered. A request whose method isn't safe is always to be fetched. Refused: a method
- * is no token, or a line of a section before its first empty one is no field.
+ * 5861): `*decision` is one of `typed_headers_decision`. A request whose method isn't safe is always to be fetched.
+ * Refused: a method is no token, or a line of a section before its first empty one is no field.
  */
-uint8_t typed_headers_decide(const uint8_t *stored_method, size_t stored_method_length, const uint8_t *stored,
-                             size_t stored_length, const uint8_t *method, size_t method_length,
-                             const uint8_t *request, size_t request_length, const uint8_t *response,
-                             size_t response_length, const struct typed_headers_keys *keys,
-                             const struct typed_headers_moments *moments, bool is_shared, uint8_t *decision);
+uint8_t typed_headers_decide(const struct typed_headers_stored *stored, const struct typed_headers_request *request,
+                             const struct typed_headers_keys *keys, const struct typed_headers_moments *moments,
+                             bool is_shared, uint8_t *decision);
 
 /*
  * The fields by which the origin is asked whether a stored response is still good (RFC 9111, section 4.3.1): its entity
@@ -1284,40 +1341,37 @@ uint8_t typed_headers_cache_remove(struct typed_headers_cache *cache, const uint
  * token.
  */
 uint8_t typed_headers_forward_request(const struct typed_headers_gateway *gateway,
-                                      const struct typed_headers_hop *hop, const uint8_t *method,
-                                      size_t method_length, uint8_t version, const uint8_t *authority,
-                                      size_t authority_length, const uint8_t *section, size_t section_length,
+                                      const struct typed_headers_hop *hop,
+                                      const struct typed_headers_request *request, uint8_t version,
+                                      const uint8_t *authority, size_t authority_length,
                                       const struct typed_headers_keys *keys,
                                       struct typed_headers_request_outcome *outcome, uint8_t *room,
                                       size_t room_length, size_t *written);
 
 /*
  * What a gateway does with a response, and the lines that it sends to the client (RFC 9110, sections 6.6.1, 7.6 and
- * 15.2; RFC 9112, section 6.3). `version` is that of the response; `method` and `client_version` are those of the
- * client's request. `received` is when the response came, in seconds since the start of 1970: the date of one that has
- * none. The text is as above, without a Connection of the gateway's own. `*outcome` is given also if it doesn't fit.
+ * 15.2; RFC 9112, section 6.3). `client_version` is that of the client's request. `received` is when the response came,
+ * in seconds since the start of 1970: the date of one that has none. The text is as above, without a Connection of the
+ * gateway's own. `*outcome` is given also if it doesn't fit.
  *
  * Refused: the gateway's name or the method is no token, a protected name is no field name, the status is no number
  * from 100 to 999, a version is another number, the date lies past the year 9999, or a line of the section before its
  * first empty one is no field. Memory: the gateway's name is a token.
  */
-uint8_t typed_headers_forward_response(const struct typed_headers_gateway *gateway, uint16_t status, uint8_t version,
-                                       const uint8_t *section, size_t section_length,
-                                       const struct typed_headers_keys *keys, const uint8_t *method,
-                                       size_t method_length, uint8_t client_version, uint64_t received,
-                                       struct typed_headers_response_outcome *outcome, uint8_t *room,
-                                       size_t room_length, size_t *written);
+uint8_t typed_headers_forward_response(const struct typed_headers_gateway *gateway,
+                                       const struct typed_headers_message *response,
+                                       const struct typed_headers_keys *keys, uint8_t client_version,
+                                       uint64_t received, struct typed_headers_response_outcome *outcome,
+                                       uint8_t *room, size_t room_length, size_t *written);
 
 /*
- * How the content of a message is delimited (RFC 9112, section 6.3). `status` is that of a response, or 0 if the
- * message is a request. `method` is that of the request, and `version` that of the message: 10 for HTTP/1.0, or 11.
- * What recipients are known to delimit in different ways is rejected.
+ * How the content of a message is delimited (RFC 9112, section 6.3). What recipients are known to delimit in different
+ * ways is rejected.
  *
  * Refused: the method is no token, the status is neither 0 nor a number from 100 to 999, the version is another number,
  * or a line of the section before its first empty one is no field.
  */
-uint8_t typed_headers_framing(const uint8_t *method, size_t method_length, uint16_t status, uint8_t version,
-                              const uint8_t *section, size_t section_length, const struct typed_headers_keys *keys,
+uint8_t typed_headers_framing(const struct typed_headers_message *message, const struct typed_headers_keys *keys,
                               struct typed_headers_framing_outcome *outcome);
 
 /* ---- Typed values of fields, since version 2.0 ---- */
@@ -1531,8 +1585,7 @@ uint8_t typed_headers_resource_handle_new(struct typed_headers_resource_handle *
 uint8_t typed_headers_resource_handle_answer(struct typed_headers_resource_handle *handle,
                                              struct typed_headers_section *fields,
                                              const struct typed_headers_resource_request *request,
-                                             const uint8_t *method, size_t method_length, const uint8_t *target,
-                                             size_t target_length, const struct typed_headers_denial *denial,
+                                             const struct typed_headers_denial *denial,
                                              struct typed_headers_resource_facts *facts,
                                              struct typed_headers_bytes_range *parts, size_t parts_length,
                                              size_t *parts_written, uint8_t *room, size_t room_length,
@@ -1736,8 +1789,8 @@ uint8_t typed_headers_pass_received(struct typed_headers_pass *pass, const uint8
 /*
  * Stores the response that passed on, with the pieces of its content, if all of them came and it may be stored (RFC
  * 9111, section 3), and unless its target was removed since the origin was asked: `*number` is its number, which the
- * cache gives no other response, or 0 if it isn't stored. Without memory for that it isn't stored. Absent: the cache or
- * the pass is closed, or no response passes on that is to be stored. Nothing changes then.
+ * cache gives no other response, or 0 if it isn't stored. Absent: the cache or the pass is closed, or no response
+ * passes on that is to be stored; nothing changes then. Memory: all of it came. Then it isn't stored.
  */
 uint8_t typed_headers_pass_ended(struct typed_headers_cache *cache, struct typed_headers_pass *pass,
                                  bool is_complete, uint64_t now, uint64_t *number);
@@ -1748,20 +1801,13 @@ uint8_t typed_headers_pass_ended(struct typed_headers_cache *cache, struct typed
 uint8_t typed_headers_files_free(struct typed_headers_files *files);
 
 /*
- * Opens the handle of a service of files below a folder. It serves many connections, one call at a time.
- * `cache_control` is what Cache-Control says of the answers that a cache may use again, 200, 206 and 304, or empty if
- * they shall have none. `hosts` are the hosts that are served, in any case and at any port, or empty for all; a request
- * for another one is answered by 421. With `negotiates` a client may get the precompressed copy of a file, by its
- * Accept-Encoding. `boundary` stands between several parts of a response: take digits that nobody can foresee, so that
- * no file can be made to hold them. Entity tags are hashed with the keys, so that they don't show what they are made
- * of: take the same for all that serve the folder.
+ * Opens the handle of a service of files below a folder. It serves many connections, one call at a time. Entity tags
+ * are hashed with the keys, so that they don't show what they are made of: take the same for all that serve the folder.
  *
- * Refused: the handle is open, `cache_control` is no field value, or the boundary is none (RFC 2046, section 5.1.1).
- * Memory: the handle is closed.
+ * Refused: the handle is open, `cache_control` or a line of `hosts` is no field value, or the boundary is none (RFC
+ * 2046, section 5.1.1). Memory: the handle is closed.
  */
-uint8_t typed_headers_files_new(struct typed_headers_files *files, const uint8_t *cache_control,
-                                size_t cache_control_length, const uint8_t *hosts, size_t hosts_length,
-                                bool negotiates, const uint8_t *boundary, size_t boundary_length,
+uint8_t typed_headers_files_new(struct typed_headers_files *files, const struct typed_headers_files_options *options,
                                 const struct typed_headers_keys *keys);
 
 /*

@@ -224,7 +224,12 @@ static bool ends(const char *bytes, bool is_complete, uint64_t now, bool is_stor
     bool comes_whole = receives(first) == TYPED_HEADERS_DONE;
     comes_whole &= receives("") == TYPED_HEADERS_DONE;
     comes_whole &= receives(bytes + strlen(first)) == TYPED_HEADERS_DONE;
-    want(CALL(typed_headers_pass_ended(&cache, pass, is_complete, now, &number)) == TYPED_HEADERS_DONE, "an end");
+    CALL(typed_headers_pass_ended(&cache, pass, is_complete, now, &number));
+    if (status_of_call == TYPED_HEADERS_NO_MEMORY) {
+        want(comes_whole && is_complete && number == ROOM, "an end without memory");
+        return false;
+    }
+    want(status_of_call == TYPED_HEADERS_DONE, "an end");
     want(comes_whole || number == 0, "content that didn't come whole");
     return (number != 0) == is_stored;
 }

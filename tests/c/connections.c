@@ -55,6 +55,8 @@ static void wrong_times(void) {
     assert(typed_headers_connection_new(&c, 100, &keys) == TYPED_HEADERS_DONE);
     assert(typed_headers_connection_new(&c, 100, &keys) == TYPED_HEADERS_REFUSED);
     assert(next(&c) == TYPED_HEADERS_NEEDS_INPUT);
+    assert(typed_headers_connection_sent(&c, 0) == TYPED_HEADERS_DONE && next(&c) == TYPED_HEADERS_NEEDS_INPUT);
+    assert(typed_headers_connection_sent(&c, 1) == TYPED_HEADERS_REFUSED);
     assert(typed_headers_connection_respond(&c) == TYPED_HEADERS_REFUSED);
     assert(typed_headers_connection_path(&c, room, sizeof room, &written) == TYPED_HEADERS_REFUSED);
     assert(typed_headers_connection_field(&c, TEXT("a"), room, 1, &written) == TYPED_HEADERS_REFUSED);
@@ -155,7 +157,6 @@ static size_t exchange(const uint8_t *bytes, size_t length, unsigned most, uint8
             count += written;
             assert(typed_headers_connection_sent(&c, written) == TYPED_HEADERS_DONE);
             break;
-        case TYPED_HEADERS_BUSY: break;
         default:
             assert(typed_headers_connection_free(&c) == TYPED_HEADERS_DONE);
             return count;

@@ -64,10 +64,13 @@ int main(void) {
     const char *text;
     assert(typed_headers_files_path(&files, &connection, NULL, 0, room, 8, &written) == TYPED_HEADERS_ABSENT);
     assert(typed_headers_files_plan(&files, &connection, NULL, 0, NOW, false, &written) == TYPED_HEADERS_ABSENT);
-    assert(typed_headers_files_new(&files, TEXT("a\n"), NULL, 0, true, TEXT("b"), &keys) == TYPED_HEADERS_REFUSED);
-    assert(typed_headers_files_new(&files, NULL, 0, NULL, 0, true, NULL, 0, &keys) == TYPED_HEADERS_REFUSED);
-    assert(typed_headers_files_new(&files, TEXT("no-cache"), TEXT("a.example"), true, TEXT("b"), &keys) == 0);
-    assert(typed_headers_files_new(&files, NULL, 0, NULL, 0, true, TEXT("b"), &keys) == TYPED_HEADERS_REFUSED);
+    struct typed_headers_files_options options = {{TEXT("a\n")}, {NULL, 0}, {TEXT("b")}, true};
+    assert(typed_headers_files_new(&files, &options, &keys) == TYPED_HEADERS_REFUSED);
+    options = (struct typed_headers_files_options){.negotiates = true};
+    assert(typed_headers_files_new(&files, &options, &keys) == TYPED_HEADERS_REFUSED);
+    options = (struct typed_headers_files_options){{TEXT("no-cache")}, {TEXT("a.example")}, {TEXT("b")}, true};
+    assert(typed_headers_files_new(&files, &options, &keys) == 0);
+    assert(typed_headers_files_new(&files, &options, &keys) == TYPED_HEADERS_REFUSED);
     assert(typed_headers_files_path(&files, &connection, NULL, 0, room, 8, &written) == TYPED_HEADERS_ABSENT);
     assert(typed_headers_connection_new(&connection, 100, &keys) == TYPED_HEADERS_DONE);
     assert(typed_headers_files_path(&files, &connection, NULL, 0, room, 8, &written) == TYPED_HEADERS_REFUSED);

@@ -11,58 +11,58 @@
 
 enum { FIRST_ROOM = 64, MOST_SECTION = 1 << 24 };
 
-static uint8_t handled_evaluate(const uint8_t *method, size_t method_length, const uint8_t *section,
-                                size_t section_length, const struct typed_headers_keys *keys, const uint8_t *etag,
-                                size_t etag_length, const struct typed_headers_target *target, uint16_t *answer) {
+#define GIVEN(text) (text).bytes, (text).length
+
+static uint8_t handled_evaluate(const struct typed_headers_request *request, const struct typed_headers_keys *keys,
+                                const uint8_t *etag, size_t etag_length, const struct typed_headers_target *target,
+                                uint16_t *answer) {
     struct typed_headers_section fields = TYPED_HEADERS_CLOSED;
-    uint8_t status = typed_headers_section_new(&fields, section, section_length, keys);
+    uint8_t status = typed_headers_section_new(&fields, GIVEN(request->section), keys);
     if (status == TYPED_HEADERS_DONE) {
         uint16_t first;
-        typed_headers_section_evaluate(&fields, method, method_length, etag, etag_length, target, &first);
-        status = typed_headers_section_evaluate(&fields, method, method_length, etag, etag_length, target, answer);
+        typed_headers_section_evaluate(&fields, GIVEN(request->method), etag, etag_length, target, &first);
+        status = typed_headers_section_evaluate(&fields, GIVEN(request->method), etag, etag_length, target, answer);
     }
     typed_headers_section_free(&fields);
     return status;
 }
 
-static uint8_t handled_select(const uint8_t *method, size_t method_length, const uint8_t *section,
-                              size_t section_length, const struct typed_headers_keys *keys, const uint8_t *etag,
-                              size_t etag_length, const struct typed_headers_target *target, uint64_t length,
-                              uint16_t *answer, struct typed_headers_bytes_range *room, size_t room_length,
-                              size_t *written) {
+static uint8_t handled_select(const struct typed_headers_request *request, const struct typed_headers_keys *keys,
+                              const uint8_t *etag, size_t etag_length, const struct typed_headers_target *target,
+                              uint64_t length, uint16_t *answer, struct typed_headers_bytes_range *room,
+                              size_t room_length, size_t *written) {
     struct typed_headers_section fields = TYPED_HEADERS_CLOSED;
-    uint8_t status = typed_headers_section_new(&fields, section, section_length, keys);
+    uint8_t status = typed_headers_section_new(&fields, GIVEN(request->section), keys);
     if (status == TYPED_HEADERS_DONE) {
         struct typed_headers_bytes_range first_room[FIRST_ROOM];
         size_t first_written;
         uint16_t first;
-        typed_headers_section_select(&fields, method, method_length, etag, etag_length, target, length, &first,
+        typed_headers_section_select(&fields, GIVEN(request->method), etag, etag_length, target, length, &first,
                                      first_room, FIRST_ROOM, &first_written);
-        status = typed_headers_section_select(&fields, method, method_length, etag, etag_length, target, length, answer,
-                                              room, room_length, written);
+        status = typed_headers_section_select(&fields, GIVEN(request->method), etag, etag_length, target, length,
+                                              answer, room, room_length, written);
     }
     typed_headers_section_free(&fields);
     return status;
 }
 
-static uint8_t handled_respond(const uint8_t *method, size_t method_length, const uint8_t *section,
-                               size_t section_length, const struct typed_headers_keys *keys, const uint8_t *etag,
-                               size_t etag_length, const struct typed_headers_target *target,
+static uint8_t handled_respond(const struct typed_headers_request *request, const struct typed_headers_keys *keys,
+                               const uint8_t *etag, size_t etag_length, const struct typed_headers_target *target,
                                const struct typed_headers_content *content, const uint8_t *boundary,
                                size_t boundary_length, struct typed_headers_response *response,
                                struct typed_headers_bytes_range *parts, size_t parts_length, size_t *parts_written,
                                uint8_t *room, size_t room_length, size_t *written) {
     struct typed_headers_section fields = TYPED_HEADERS_CLOSED;
-    uint8_t status = typed_headers_section_new(&fields, section, section_length, keys);
+    uint8_t status = typed_headers_section_new(&fields, GIVEN(request->section), keys);
     if (status == TYPED_HEADERS_DONE) {
         struct typed_headers_bytes_range first_parts[FIRST_ROOM];
         uint8_t first_room[FIRST_ROOM];
         size_t first_count, first_written;
         struct typed_headers_response first;
-        typed_headers_section_respond(&fields, method, method_length, etag, etag_length, target, content, boundary,
+        typed_headers_section_respond(&fields, GIVEN(request->method), etag, etag_length, target, content, boundary,
                                       boundary_length, &first, first_parts, FIRST_ROOM, &first_count, first_room,
                                       FIRST_ROOM, &first_written);
-        status = typed_headers_section_respond(&fields, method, method_length, etag, etag_length, target, content,
+        status = typed_headers_section_respond(&fields, GIVEN(request->method), etag, etag_length, target, content,
                                                boundary, boundary_length, response, parts, parts_length, parts_written,
                                                room, room_length, written);
     }
@@ -101,24 +101,24 @@ static bool has_blank_ends(const uint8_t *lines, size_t length) {
     return false;
 }
 
-static uint8_t handled_cors_answer(const struct typed_headers_cors_rules *rules, const uint8_t *method,
-                                   size_t method_length, const uint8_t *request, size_t request_length,
-                                   const uint8_t *response, size_t response_length,
-                                   const struct typed_headers_keys *keys, struct typed_headers_cors_facts *facts,
-                                   uint8_t *room, size_t room_length, size_t *written) {
+static uint8_t handled_cors_answer(const struct typed_headers_cors_rules *rules,
+                                   const struct typed_headers_request *request, const uint8_t *response,
+                                   size_t response_length, const struct typed_headers_keys *keys,
+                                   struct typed_headers_cors_facts *facts, uint8_t *room, size_t room_length,
+                                   size_t *written) {
     struct typed_headers_section fields = TYPED_HEADERS_CLOSED;
     struct typed_headers_cors_policy policy = TYPED_HEADERS_CLOSED;
     uint8_t status = typed_headers_cors_policy_new(&policy, rules);
     if (status == TYPED_HEADERS_DONE) {
-        status = typed_headers_section_new(&fields, request, request_length, keys);
+        status = typed_headers_section_new(&fields, GIVEN(request->section), keys);
     }
     if (status == TYPED_HEADERS_DONE) {
         struct typed_headers_cors_facts first;
         uint8_t first_room[FIRST_ROOM];
         size_t first_written;
-        typed_headers_cors_policy_answer(&policy, &fields, method, method_length, response, response_length, keys,
+        typed_headers_cors_policy_answer(&policy, &fields, GIVEN(request->method), response, response_length, keys,
                                          &first, first_room, FIRST_ROOM, &first_written);
-        status = typed_headers_cors_policy_answer(&policy, &fields, method, method_length, response, response_length,
+        status = typed_headers_cors_policy_answer(&policy, &fields, GIVEN(request->method), response, response_length,
                                                   keys, facts, room, room_length, written);
     }
     typed_headers_cors_policy_free(&policy);
@@ -129,8 +129,7 @@ static uint8_t handled_cors_answer(const struct typed_headers_cors_rules *rules,
 static uint8_t handled_resource_answer(const struct typed_headers_resource *resource,
                                        const struct typed_headers_representation *representations,
                                        size_t representations_length, const struct typed_headers_cors_rules *rules,
-                                       const struct typed_headers_resource_request *request, const uint8_t *method,
-                                       size_t method_length, const uint8_t *target, size_t target_length,
+                                       const struct typed_headers_resource_request *request,
                                        const struct typed_headers_denial *denial, const uint8_t *section,
                                        size_t section_length, const struct typed_headers_keys *keys,
                                        struct typed_headers_resource_facts *facts,
@@ -148,12 +147,10 @@ static uint8_t handled_resource_answer(const struct typed_headers_resource *reso
         struct typed_headers_bytes_range first_parts[FIRST_ROOM];
         uint8_t first_room[FIRST_ROOM];
         size_t first_count, first_written;
-        typed_headers_resource_handle_answer(&handle, &fields, request, method, method_length, target, target_length,
-                                             denial, &first, first_parts, FIRST_ROOM, &first_count, first_room,
-                                             FIRST_ROOM, &first_written);
-        status = typed_headers_resource_handle_answer(&handle, &fields, request, method, method_length, target,
-                                                      target_length, denial, facts, parts, parts_length, parts_written,
-                                                      room, room_length, written);
+        typed_headers_resource_handle_answer(&handle, &fields, request, denial, &first, first_parts, FIRST_ROOM,
+                                             &first_count, first_room, FIRST_ROOM, &first_written);
+        status = typed_headers_resource_handle_answer(&handle, &fields, request, denial, facts, parts, parts_length,
+                                                      parts_written, room, room_length, written);
     }
     typed_headers_section_free(&fields);
     typed_headers_resource_handle_free(&handle);

@@ -15,7 +15,8 @@ enum { ROUNDS = 2000, ROOM = 512 };
 static const struct typed_headers_keys KEYS = {1, 2};
 static const struct typed_headers_target TARGET = {0, 1767225600, true, false, false};
 static const struct typed_headers_resource RESOURCE = {.methods = TEXT("GET"), .has_cors = true};
-static const struct typed_headers_resource_request REQUEST = {1767225600, 0, 11, false, true};
+static const struct typed_headers_resource_request REQUEST = {
+    .method = TEXT("POST"), .present = 1767225600, .version = 11, .has_length = true};
 static const struct typed_headers_denial NOT_DENIED;
 static const struct typed_headers_cors_rules RULES = {.origins = TEXT("https://a.example")};
 static const char SECTION[] = "Host: b.example\nOrigin: https://a.example\nIf-None-Match: \"a\"\nAccept: text/html\n";
@@ -44,8 +45,8 @@ static uint8_t answer(struct typed_headers_resource_handle *handle, struct typed
     struct typed_headers_resource_facts facts = {0, 0, 0, 0, 0};
     uint8_t room[ROOM];
     size_t count, written;
-    uint8_t status = typed_headers_resource_handle_answer(handle, fields, &REQUEST, BYTES("POST"), NULL, 0,
-                                                          &NOT_DENIED, &facts, NULL, 0, &count, room, ROOM, &written);
+    uint8_t status = typed_headers_resource_handle_answer(handle, fields, &REQUEST, &NOT_DENIED, &facts, NULL, 0,
+                                                          &count, room, ROOM, &written);
     *code = facts.status;
     return status;
 }

@@ -71,17 +71,12 @@ static struct area new_area(void) {
 }
 
 /* The bytes, up to the end of the area. */
-struct text {
-    const uint8_t *bytes;
-    size_t length;
-};
-
-static struct text put(struct area area, const char *bytes, size_t length) {
+static struct typed_headers_text put(struct area area, const char *bytes, size_t length) {
     if (is_null && !length) {
-        return (struct text){NULL, 0};
+        return (struct typed_headers_text){NULL, 0};
     }
     memcpy(area.end - length, bytes, length);
-    return (struct text){area.end - length, length};
+    return (struct typed_headers_text){area.end - length, length};
 }
 
 /* A row, its words as bytes. */
@@ -128,7 +123,7 @@ static size_t decode(char *word) {
 }
 
 /* The words from one on, each with a byte 10 after it. */
-static struct text lines(const struct row *row, size_t from) {
+static struct typed_headers_text lines(const struct row *row, size_t from) {
     static char joined[AREA];
     size_t length = 0;
     for (size_t i = from; i < row->count; i++) {
@@ -253,12 +248,14 @@ static void check(const struct row *row, call_fn *call, const void *arguments, u
 static const struct word NO_TEXT = {NULL, 0}, EMPTY = {"", 0};
 
 /* What a call refuses, by the lines that it is given. */
-static uint8_t refusal(struct text text) { return text.length ? TYPED_HEADERS_REFUSED : TYPED_HEADERS_ABSENT; }
+static uint8_t refusal(struct typed_headers_text text) {
+    return text.length ? TYPED_HEADERS_REFUSED : TYPED_HEADERS_ABSENT;
+}
 
 /* Calls that give a number. */
 struct number_call {
     uint8_t (*function)(const uint8_t *lines, size_t lines_length, uint64_t *number);
-    struct text lines;
+    struct typed_headers_text lines;
 };
 
 static uint8_t call_number(const void *arguments, uint64_t *number, uint8_t *room, size_t room_length,
@@ -287,7 +284,7 @@ static void check_number(const struct row *row, const char *type) {
 /* Calls that give bytes of lines. */
 struct bytes_call {
     uint8_t (*function)(const uint8_t *lines, size_t lines_length, uint8_t *room, size_t room_length, size_t *written);
-    struct text lines;
+    struct typed_headers_text lines;
 };
 
 static uint8_t call_bytes(const void *arguments, uint64_t *number, uint8_t *room, size_t room_length,
@@ -315,13 +312,13 @@ static const struct typed_headers_keys KEYS = {1, 2};
 /* The canonical text of a section. */
 static uint8_t call_canonical(const void *arguments, uint64_t *number, uint8_t *room, size_t room_length,
                               size_t *written) {
-    const struct text *section = arguments;
+    const struct typed_headers_text *section = arguments;
     (void)number;
     return typed_headers_canonical(section->bytes, section->length, &KEYS, room, room_length, written);
 }
 
 static void check_canonical(const struct row *row) {
-    struct text section = put(first_area, row->words[0].bytes, row->words[0].length);
+    struct typed_headers_text section = put(first_area, row->words[0].bytes, row->words[0].length);
     const char *outcomes[] = {"clean ", "some-refused ", "not-a-field "};
     const uint8_t statuses[] = {TYPED_HEADERS_DONE, TYPED_HEADERS_MARKED, TYPED_HEADERS_REFUSED};
     for (int i = 0; i < 3; i++) {
@@ -337,7 +334,7 @@ static void check_canonical(const struct row *row) {
 struct tags_call {
     uint8_t (*function)(const uint8_t *one, size_t one_length, const uint8_t *other, size_t other_length,
                         uint8_t *equal);
-    struct text one, other;
+    struct typed_headers_text one, other;
 };
 
 static uint8_t call_tags(const void *arguments, uint64_t *number, uint8_t *room, size_t room_length,
@@ -374,7 +371,7 @@ static void check_tag(const struct row *row) {
 /* The directives of `cache-control`, as the answers of its getters are written. */
 static uint8_t call_cache_control(const void *arguments, uint64_t *number, uint8_t *room, size_t room_length,
                                   size_t *written) {
-    const struct text *text = arguments;
+    const struct typed_headers_text *text = arguments;
     struct typed_headers_cache_directives given;
     memset(&given, FILL, sizeof given);
     (void)number;
@@ -407,7 +404,7 @@ static uint8_t call_cache_control(const void *arguments, uint64_t *number, uint8
 }
 
 static void check_cache_control(const struct row *row) {
-    struct text text = lines(row, 0);
+    struct typed_headers_text text = lines(row, 0);
     if (!text.length || is_answer(row, "(refused)")) {
         check(row, call_cache_control, &text, refusal(text), NO_NUMBER, NO_TEXT);
         return;
@@ -422,7 +419,7 @@ static void check_cache_control(const struct row *row) {
 
 /* The canonical lines of a field. */
 struct field_call {
-    struct text name, lines;
+    struct typed_headers_text name, lines;
 };
 
 static uint8_t call_field(const void *arguments, uint64_t *number, uint8_t *room, size_t room_length,
@@ -549,7 +546,7 @@ static void check_format_length(const struct row *row) {
 
 struct tag_call {
     bool is_weak;
-    struct text opaque;
+    struct typed_headers_text opaque;
 };
 
 static uint8_t call_format_tag(const void *arguments, uint64_t *number, uint8_t *room, size_t room_length,
@@ -581,7 +578,7 @@ static void check_format_tag(const struct row *row) {
 
 /* The ranges for a length, whose bytes are those of the room. */
 struct ranges_call {
-    struct text lines;
+    struct typed_headers_text lines;
     uint64_t length;
 };
 
@@ -657,7 +654,8 @@ static void check_accept(const struct row *row) {
 
 /* A request to a target. */
 struct request_call {
-    struct text method, section, etag;
+    struct typed_headers_request request;
+    struct typed_headers_text etag;
     struct typed_headers_target target;
     uint64_t length;
 };
@@ -668,8 +666,7 @@ static uint8_t call_evaluate(const void *arguments, uint64_t *number, uint8_t *r
     uint16_t answer = FILL;
     (void)room, (void)room_length, (void)written;
     uint8_t status = (is_handled ? handled_evaluate : typed_headers_evaluate)(
-        call->method.bytes, call->method.length, call->section.bytes, call->section.length, &KEYS, call->etag.bytes,
-        call->etag.length, &call->target, &answer);
+        &call->request, &KEYS, call->etag.bytes, call->etag.length, &call->target, &answer);
     if (answer != FILL) {
         *number = answer;
     }
@@ -682,8 +679,8 @@ static uint8_t call_select(const void *arguments, uint64_t *number, uint8_t *roo
     struct range_room ranges = range_room(room, room_length);
     uint16_t answer = FILL;
     uint8_t status = (is_handled ? handled_select : typed_headers_select)(
-        call->method.bytes, call->method.length, call->section.bytes, call->section.length, &KEYS, call->etag.bytes,
-        call->etag.length, &call->target, call->length, &answer, ranges.start, ranges.count, written);
+        &call->request, &KEYS, call->etag.bytes, call->etag.length, &call->target, call->length, &answer, ranges.start,
+        ranges.count, written);
     if (answer != FILL) {
         *number = answer;
     }
@@ -694,7 +691,7 @@ static uint8_t call_select(const void *arguments, uint64_t *number, uint8_t *roo
 static bool is_name(const struct word *word) { return word->length > 2 && word->bytes[0] == '('; }
 
 /* `(NAME) LINE.. (/)` as a header section in an area, which ends with the row at the latest. The place after it. */
-static size_t read_section(const struct row *row, size_t i, struct area area, struct text *text) {
+static size_t read_section(const struct row *row, size_t i, struct area area, struct typed_headers_text *text) {
     static char section[AREA];
     size_t length = 0;
     struct word name = {"", 0};
@@ -744,9 +741,9 @@ static struct row *answer_words(const struct row *row) {
 
 /* `METHOD (NAME) LINE.. (/)` from a word on: the place after it. */
 static size_t read_request(const struct row *row, size_t i, struct request_call *call) {
-    call->method = put(third_area, row->words[i].bytes, row->words[i].length);
+    call->request.method = put(third_area, row->words[i].bytes, row->words[i].length);
     call->etag = put(second_area, "", 0);
-    return read_section(row, i + 1, first_area, &call->section);
+    return read_section(row, i + 1, first_area, &call->request.section);
 }
 
 /* `TAG SECOND KIND` of a representation. */
@@ -801,7 +798,8 @@ static void check_select(const struct row *row) {
 /* A request from another origin. */
 struct cors_call {
     struct typed_headers_cors_rules rules;
-    struct text method, request, response;
+    struct typed_headers_request request;
+    struct typed_headers_text response;
 };
 
 static uint8_t call_cors(const void *arguments, uint64_t *number, uint8_t *room, size_t room_length,
@@ -809,8 +807,8 @@ static uint8_t call_cors(const void *arguments, uint64_t *number, uint8_t *room,
     const struct cors_call *call = arguments;
     struct typed_headers_cors_facts facts = {FILL, FILL};
     uint8_t status = (is_handled ? handled_cors_answer : typed_headers_cors_answer)(
-        &call->rules, call->method.bytes, call->method.length, call->request.bytes, call->request.length,
-        call->response.bytes, call->response.length, &KEYS, &facts, room, room_length, written);
+        &call->rules, &call->request, call->response.bytes, call->response.length, &KEYS, &facts, room, room_length,
+        written);
     if (facts.kind != FILL || facts.is_allowed != FILL) {
         *number = facts.kind * 256 + facts.is_allowed;
     }
@@ -830,8 +828,7 @@ static size_t read_rules(const struct row *row, struct typed_headers_cors_rules 
         if (strstr(any, name)) {
             length = sprintf(list, "*\n");
         }
-        struct text text = put(rule_areas[i], list, length);
-        *texts[i] = (struct typed_headers_text){text.bytes, text.length};
+        *texts[i] = put(rule_areas[i], list, length);
     }
     rules->credentials = field_lines(row, 0, "credentials", "%.*s\n", list);
     rules->has_max_age = field_lines(row, 0, "max-age", "%.*s", number);
@@ -858,8 +855,7 @@ static uint8_t call_unsent(const void *arguments, uint64_t *number, uint8_t *roo
 /* That no origin of this list is one that no browser sends, or that it is no list. */
 static void check_origins(const struct row *row, const char *origins, uint8_t status) {
     struct cors_call call = {0};
-    struct text text = put(first_area, origins, strlen(origins));
-    call.rules.origins = (struct typed_headers_text){text.bytes, text.length};
+    call.rules.origins = put(first_area, origins, strlen(origins));
     check(row, call_unsent, &call, status, NO_NUMBER, NO_TEXT);
 }
 
@@ -867,8 +863,7 @@ static void check_origins(const struct row *row, const char *origins, uint8_t st
 static void check_rules(const struct row *row) {
     static const char unsent[] = "UnsentOrigin ";
     struct cors_call call = {0};
-    call.method = put(third_area, "GET", 3);
-    call.request = put(first_area, "", 0);
+    call.request = (struct typed_headers_request){put(third_area, "GET", 3), put(first_area, "", 0)};
     call.response = put(second_area, "", 0);
     read_rules(row, &call.rules);
     if (strncmp(row->answer, unsent, strlen(unsent)) == 0) {
@@ -896,8 +891,8 @@ static void check_cors(const struct row *row) {
     static char wanted[AREA], vary[AREA];
     struct cors_call call = {0};
     size_t i = read_rules(row, &call.rules), length = 0;
-    call.method = put(third_area, row->words[i].bytes, row->words[i].length);
-    const size_t response = read_section(row, i + 1, first_area, &call.request);
+    call.request.method = put(third_area, row->words[i].bytes, row->words[i].length);
+    const size_t response = read_section(row, i + 1, first_area, &call.request.section);
     read_section(row, response, second_area, &call.response);
     if (is_answer(row, "(refused)")) {
         check(row, call_cors, &call, TYPED_HEADERS_REFUSED, NO_NUMBER, NO_TEXT);
@@ -923,7 +918,9 @@ static void check_cors(const struct row *row) {
 
 /* What a cache may do with a response. */
 struct cache_call {
-    struct text stored_method, stored, method, request, response;
+    struct typed_headers_stored stored;
+    struct typed_headers_request request;
+    struct typed_headers_text response;
     uint16_t status;
     bool is_shared;
     struct typed_headers_moments moments;
@@ -945,9 +942,8 @@ static uint8_t call_may_store(const void *arguments, uint64_t *number, uint8_t *
     const struct cache_call *call = arguments;
     uint8_t answer = FILL;
     (void)room, (void)room_length, (void)written;
-    uint8_t status = typed_headers_may_store(call->method.bytes, call->method.length, call->request.bytes,
-                                             call->request.length, call->status, call->response.bytes,
-                                             call->response.length, &KEYS, call->is_shared, &answer);
+    uint8_t status = typed_headers_may_store(&call->request, call->status, call->response.bytes, call->response.length,
+                                             &KEYS, call->is_shared, &answer);
     if (answer != FILL) {
         *number = answer;
     }
@@ -957,8 +953,8 @@ static uint8_t call_may_store(const void *arguments, uint64_t *number, uint8_t *
 /* `may_store KIND METHOD STATUS REQUEST (/) RESPONSE` */
 static void check_may_store(const struct row *row) {
     struct cache_call call = {.is_shared = read_kind(row), .status = (uint16_t)read_number(row, 2)};
-    call.method = put(third_area, row->words[1].bytes, row->words[1].length);
-    read_section(row, read_section(row, 3, first_area, &call.request), second_area, &call.response);
+    call.request.method = put(third_area, row->words[1].bytes, row->words[1].length);
+    read_section(row, read_section(row, 3, first_area, &call.request.section), second_area, &call.response);
     check(row, call_may_store, &call, TYPED_HEADERS_DONE, is_answer(row, "true"), NO_TEXT);
     call.status = 99;
     check(row, call_may_store, &call, TYPED_HEADERS_REFUSED, NO_NUMBER, NO_TEXT);
@@ -1026,18 +1022,16 @@ static uint8_t call_decide(const void *arguments, uint64_t *number, uint8_t *roo
     const struct cache_call *call = arguments;
     uint8_t decision = FILL;
     (void)room, (void)room_length, (void)written;
-    uint8_t status = typed_headers_decide(call->stored_method.bytes, call->stored_method.length, call->stored.bytes,
-                                          call->stored.length, call->method.bytes, call->method.length,
-                                          call->request.bytes, call->request.length, call->response.bytes,
-                                          call->response.length, &KEYS, &call->moments, call->is_shared, &decision);
+    uint8_t status =
+        typed_headers_decide(&call->stored, &call->request, &KEYS, &call->moments, call->is_shared, &decision);
     if (decision != FILL) {
         *number = decision;
     }
     return status;
 }
 
-static struct text read_text(const struct row *row, size_t i) {
-    return (struct text){(const uint8_t *)row->words[i].bytes, row->words[i].length};
+static struct typed_headers_text read_text(const struct row *row, size_t i) {
+    return (struct typed_headers_text){(const uint8_t *)row->words[i].bytes, row->words[i].length};
 }
 
 /* `decide KIND REQUESTED RECEIVED NOW METHOD STORED (/) METHOD REQUEST (/) RESPONSE` */
@@ -1046,11 +1040,11 @@ static void check_decide(const struct row *row) {
                                       "RevalidateOrServe", "Unavailable", "Fetch"};
     struct cache_call call = {.is_shared = read_kind(row)};
     read_moments(row, 1, &call.moments);
-    call.stored_method = read_text(row, 4);
-    const size_t method = read_section(row, 5, third_area, &call.stored);
-    call.method = read_text(row, method);
-    const size_t response = read_section(row, method + 1, first_area, &call.request);
-    read_section(row, response, second_area, &call.response);
+    call.stored.method = read_text(row, 4);
+    const size_t method = read_section(row, 5, third_area, &call.stored.request);
+    call.request.method = read_text(row, method);
+    const size_t response = read_section(row, method + 1, first_area, &call.request.section);
+    read_section(row, response, second_area, &call.stored.response);
     for (uint64_t i = 0; i < 7; i++) {
         if (is_answer(row, decisions[i])) {
             check(row, call_decide, &call, TYPED_HEADERS_DONE, i, NO_TEXT);
@@ -1065,9 +1059,8 @@ static uint8_t call_unstored(const void *arguments, uint64_t *number, uint8_t *r
                              size_t *written) {
     static const struct typed_headers_cache_options options = {1, 1, 1, 0, true};
     const struct cache_call *call = arguments;
-    const struct typed_headers_cache_request request = {{(const uint8_t *)"/", 1},
-                                                        {call->method.bytes, call->method.length},
-                                                        {call->request.bytes, call->request.length}};
+    const struct typed_headers_cache_request request = {{(const uint8_t *)"/", 1}, call->request.method,
+                                                        call->request.section};
     struct typed_headers_cache cache = TYPED_HEADERS_CLOSED_CACHE;
     struct typed_headers_pass pass = TYPED_HEADERS_CLOSED_PASS;
     struct typed_headers_pass_facts facts = {.action = FILL};
@@ -1088,8 +1081,8 @@ static uint8_t call_unstored(const void *arguments, uint64_t *number, uint8_t *r
 
 /* `decide_unstored METHOD REQUEST` */
 static void check_unstored(const struct row *row) {
-    struct cache_call call = {.method = put(third_area, row->words[0].bytes, row->words[0].length)};
-    read_section(row, 1, first_area, &call.request);
+    struct cache_call call = {.request.method = put(third_area, row->words[0].bytes, row->words[0].length)};
+    read_section(row, 1, first_area, &call.request.section);
     const uint64_t wanted = is_answer(row, "Fetch") ? TYPED_HEADERS_ASK : TYPED_HEADERS_SEND_504;
     check(row, call_unstored, &call, TYPED_HEADERS_DONE, wanted, EMPTY);
 }
@@ -1106,7 +1099,7 @@ static uint8_t call_validators(const void *arguments, uint64_t *number, uint8_t 
 static void check_validators(const struct row *row) {
     static char wanted[AREA];
     struct cache_call call = {.moments.response = read_number(row, 0)};
-    read_section(row, read_section(row, 1, first_area, &call.request), second_area, &call.response);
+    read_section(row, read_section(row, 1, first_area, &call.request.section), second_area, &call.response);
     const struct row *answer = answer_words(row);
     size_t length = field_lines(answer, 0, "if-none-match", "if-none-match: %.*s\n", wanted);
     length += field_lines(answer, 0, "if-modified-since", "if-modified-since: %.*s\n", wanted + length);
@@ -1114,7 +1107,7 @@ static void check_validators(const struct row *row) {
 }
 
 /* The lines of one field of the words from the first on, up to `(/)`, in an area. */
-static struct text read_lines(const struct row *row, const char *name, struct area area) {
+static struct typed_headers_text read_lines(const struct row *row, const char *name, struct area area) {
     static char text[AREA];
     return put(area, text, field_lines(row, 0, name, "%.*s\n", text));
 }
@@ -1134,7 +1127,7 @@ struct offers_call {
                       size_t *place);
     uint8_t (*rate)(const uint8_t *lines, size_t lines_length, const uint8_t *offer, size_t offer_length,
                     struct typed_headers_quality *quality);
-    struct text lines, offers;
+    struct typed_headers_text lines, offers;
     /* The name of the field, and the call by a handle, if there is one. */
     const char *name;
     uint8_t (*choose_of)(struct typed_headers_section *fields, const uint8_t *offers, size_t offers_length,
@@ -1231,9 +1224,9 @@ static void check_offers(const struct row *row, const char *dimension, const cha
 
 /* The whole response, with the parts that the last call sent. */
 struct response_call {
-    struct request_call request;
+    struct request_call asked;
     struct typed_headers_content content;
-    struct text boundary;
+    struct typed_headers_text boundary;
     size_t most_parts;
 };
 
@@ -1244,14 +1237,13 @@ static size_t sent_count;
 static uint8_t call_respond(const void *arguments, uint64_t *number, uint8_t *room, size_t room_length,
                             size_t *written) {
     const struct response_call *call = arguments;
-    const struct request_call *request = &call->request;
+    const struct request_call *asked = &call->asked;
     struct typed_headers_response response = {FILL, FILL};
     sent_count = NOT_WRITTEN;
     uint8_t status = (is_handled ? handled_respond : typed_headers_respond)(
-        request->method.bytes, request->method.length, request->section.bytes, request->section.length, &KEYS,
-        request->etag.bytes, request->etag.length, &request->target, &call->content, call->boundary.bytes,
-        call->boundary.length, &response, call->most_parts ? sent_parts : NULL, call->most_parts, &sent_count, room,
-        room_length, written);
+        &asked->request, &KEYS, asked->etag.bytes, asked->etag.length, &asked->target, &call->content,
+        call->boundary.bytes, call->boundary.length, &response, call->most_parts ? sent_parts : NULL, call->most_parts,
+        &sent_count, room, room_length, written);
     if (response.status != FILL || response.keeps_encoding != FILL) {
         *number = response.status * 2 + response.keeps_encoding;
     } else if (sent_count != NOT_WRITTEN) {
@@ -1266,11 +1258,11 @@ static void check_respond(const struct row *row, bool sends_ranges) {
                                   "content-range", "content-length", "content-type"};
     static char wanted[AREA], lines[AREA];
     struct response_call call = {.most_parts = MOST_PARTS, .boundary = put(rule_areas[0], "THIS_STRING_SEPARATES", 21)};
-    size_t i = read_request(row, 0, &call.request), length = 0;
+    size_t i = read_request(row, 0, &call.asked), length = 0;
     if (is_word(&row->words[i], "missing")) {
         i++;
     } else {
-        read_target(&row->words[i], &call.request);
+        read_target(&row->words[i], &call.asked);
         i += 3;
     }
     call.content.sends_ranges = sends_ranges;
@@ -1279,8 +1271,7 @@ static void check_respond(const struct row *row, bool sends_ranges) {
         call.content.length = read_number(row, i);
     }
     if (!is_word(&row->words[i + 1], "(none)")) {
-        struct text type = put(rule_areas[1], row->words[i + 1].bytes, row->words[i + 1].length);
-        call.content.media_type = (struct typed_headers_text){type.bytes, type.length};
+        call.content.media_type = put(rule_areas[1], row->words[i + 1].bytes, row->words[i + 1].length);
     }
     if (is_answer(row, "(none)")) {
         check(row, call_respond, &call, TYPED_HEADERS_DONE, 1, (struct word){wanted, 0});
@@ -1300,11 +1291,10 @@ static void check_respond(const struct row *row, bool sends_ranges) {
     make(call_respond, &call, length, 0);
     size_t count = 0;
     uint16_t code = 0;
-    if (status == 206 && call.request.section.length) {
-        const struct request_call *request = &call.request;
-        typed_headers_select(request->method.bytes, request->method.length, request->section.bytes,
-                             request->section.length, &KEYS, request->etag.bytes, request->etag.length,
-                             &request->target, call.content.length, &code, selected_parts, MOST_PARTS, &count);
+    if (status == 206 && call.asked.request.section.length) {
+        const struct request_call *asked = &call.asked;
+        typed_headers_select(&asked->request, &KEYS, asked->etag.bytes, asked->etag.length, &asked->target,
+                             call.content.length, &code, selected_parts, MOST_PARTS, &count);
     }
     if (sent_count != count || memcmp(sent_parts, selected_parts, count * sizeof *sent_parts) != 0) {
         complain(row, "other parts");
@@ -1330,10 +1320,10 @@ static void check_boundary(const struct row *row) {
     static char wanted[512];
     struct response_call call = {.most_parts = MOST_PARTS, .content = {.length = 8000, .has_length = true}};
     call.content.sends_ranges = true;
-    call.request.method = put(third_area, "GET", 3);
-    call.request.section = put(first_area, section, sizeof section - 1);
-    call.request.etag = put(second_area, "\"a\"", 3);
-    call.request.target.exists = true;
+    call.asked.request.method = put(third_area, "GET", 3);
+    call.asked.request.section = put(first_area, section, sizeof section - 1);
+    call.asked.etag = put(second_area, "\"a\"", 3);
+    call.asked.target.exists = true;
     call.boundary = put(rule_areas[0], row->words[0].bytes, row->words[0].length);
     if (is_answer(row, "(refused)")) {
         check(row, call_respond, &call, TYPED_HEADERS_REFUSED, NO_NUMBER, NO_TEXT);
@@ -1347,7 +1337,8 @@ static void check_boundary(const struct row *row) {
 
 /* A server's end of an opening handshake. */
 struct handshake_call {
-    struct text method, request, protocols, origins;
+    struct typed_headers_request request;
+    struct typed_headers_websocket_rules rules;
     uint8_t version;
 };
 
@@ -1355,10 +1346,8 @@ static uint8_t call_handshake(const void *arguments, uint64_t *number, uint8_t *
                               size_t *written) {
     const struct handshake_call *call = arguments;
     struct typed_headers_handshake handshake = {FILL, FILL};
-    uint8_t status = typed_headers_websocket_respond(
-        call->method.bytes, call->method.length, call->version, call->request.bytes, call->request.length, &KEYS,
-        call->protocols.bytes, call->protocols.length, call->origins.bytes, call->origins.length, &handshake, room,
-        room_length, written);
+    uint8_t status = typed_headers_websocket_respond(&call->request, call->version, &KEYS, &call->rules, &handshake,
+                                                     room, room_length, written);
     if (handshake.status != FILL || handshake.fault != FILL) {
         *number = handshake.status * 16 + handshake.fault;
     }
@@ -1366,7 +1355,7 @@ static uint8_t call_handshake(const void *arguments, uint64_t *number, uint8_t *
 }
 
 /* The values of a word, with commas between, one a line. */
-static struct text comma_lines(const struct word *word, struct area area) {
+static struct typed_headers_text comma_lines(const struct word *word, struct area area) {
     static char text[AREA];
     for (size_t i = 0; i < word->length; i++) {
         text[i] = word->bytes[i] == ',' ? '\n' : word->bytes[i];
@@ -1395,18 +1384,18 @@ static void check_handshake(const struct row *row) {
     static const char *const names[] = {"upgrade", "connection", "sec-websocket-accept", "sec-websocket-protocol",
                                         "sec-websocket-version"};
     static char wanted[AREA];
-    struct handshake_call call = {.protocols = put(rule_areas[0], "", 0), .origins = put(rule_areas[1], "*", 1)};
+    struct handshake_call call = {.rules = {put(rule_areas[0], "", 0), put(rule_areas[1], "*", 1)}};
     size_t i = 0, length = 0;
     if (strcmp(row->call, "accept_with") == 0 || strcmp(row->call, "accept_over") == 0) {
-        call.protocols = comma_lines(&row->words[i++], rule_areas[0]);
+        call.rules.protocols = comma_lines(&row->words[i++], rule_areas[0]);
     } else if (strcmp(row->call, "accept_from") == 0) {
-        call.origins = comma_lines(&row->words[i++], rule_areas[1]);
+        call.rules.origins = comma_lines(&row->words[i++], rule_areas[1]);
     } else if (strcmp(row->call, "accept") != 0) {
         return;
     }
-    call.method = put(third_area, row->words[i].bytes, row->words[i].length);
+    call.request.method = put(third_area, row->words[i].bytes, row->words[i].length);
     call.version = numbers[place_of(&row->words[i + 1], versions, 5)];
-    read_section(row, i + 2, first_area, &call.request);
+    read_section(row, i + 2, first_area, &call.request.section);
     if (is_answer(row, "(refused)")) {
         check(row, call_handshake, &call, TYPED_HEADERS_REFUSED, NO_NUMBER, NO_TEXT);
         return;
@@ -1443,18 +1432,11 @@ static void check_offer(const struct row *row) {
 }
 
 /* A client's end. */
-struct check_call {
-    struct text sent, response;
-    uint16_t status;
-};
-
 static uint8_t call_check(const void *arguments, uint64_t *number, uint8_t *room, size_t room_length,
                           size_t *written) {
-    const struct check_call *call = arguments;
     uint8_t flaw = FILL;
     (void)room, (void)room_length, (void)written;
-    uint8_t status = typed_headers_websocket_check(call->sent.bytes, call->sent.length, call->status,
-                                                   call->response.bytes, call->response.length, &KEYS, &flaw);
+    uint8_t status = typed_headers_websocket_check(arguments, &KEYS, &flaw);
     if (flaw != FILL) {
         *number = flaw;
     }
@@ -1465,7 +1447,7 @@ static uint8_t call_check(const void *arguments, uint64_t *number, uint8_t *room
 static void check_opened(const struct row *row) {
     static const char *const flaws[] = {"NotSwitched",         "NoUpgrade",        "NoConnection",   "WrongAccept",
                                         "MalformedExtensions", "UnaskedExtension", "UnaskedProtocol"};
-    struct check_call call;
+    struct typed_headers_websocket_exchange call;
     const size_t i = read_section(row, 0, first_area, &call.sent);
     call.status = (uint16_t)read_number(row, i);
     read_section(row, i + 1, second_area, &call.response);
@@ -1496,7 +1478,10 @@ static const struct resource_of RESOURCES[] = {
     {"inbox", {"", "POST", "", "", "", "", "", "", "", "", "", ""}, 0, false, false, false},
     {"feed", {"", "POST", "", "", "application/json", "gzip", "", "", "", "", "", ""}, 0, false, false, false},
     {"archive",
-     {"", "GET\nDELETE", "", "", "", "", "", "text/plain\ntext/plain", "\nen", "\ngzip", "", ""},
+     {"", "GET\nDELETE\nPUT", "", "PUT", "", "", "", "text/plain\ntext/plain", "\nen", "\ngzip", "", ""},
+     2, false, false, true},
+    {"diary",
+     {"", "PUT", "", "PUT", "", "", "", "text/plain\ntext/plain", "\nen", "\ngzip", "", ""},
      2, false, false, true},
 };
 enum { RESOURCE_TEXTS = 13, LOCATION = 6, ETAGS = 10, BOUNDARY = 11, IMPLEMENTED = 12 };
@@ -1509,7 +1494,7 @@ struct resource_call {
     struct typed_headers_cors_rules rules;
     struct typed_headers_resource_request request;
     struct typed_headers_denial denial;
-    struct text method, target, section;
+    struct typed_headers_text section;
 };
 
 static uint8_t call_resource(const void *arguments, uint64_t *number, uint8_t *room, size_t room_length,
@@ -1521,8 +1506,7 @@ static uint8_t call_resource(const void *arguments, uint64_t *number, uint8_t *r
     sent_count = NOT_WRITTEN;
     uint8_t status = (is_handled ? handled_resource_answer : typed_headers_resource_answer)(
         &call->resource, call->count ? call->representations : NULL, call->count, &call->rules, &call->request,
-        call->method.bytes, call->method.length, call->target.bytes, call->target.length, &call->denial,
-        call->section.bytes, call->section.length, &KEYS, &facts, call->most_parts ? sent_parts : NULL,
+        &call->denial, call->section.bytes, call->section.length, &KEYS, &facts, call->most_parts ? sent_parts : NULL,
         call->most_parts, &sent_count, room, room_length, written);
     if (facts.status != before.status || facts.place != before.place || facts.sends != before.sends) {
         *number = (((facts.status * 32ull + facts.reason) * 8 + facts.sends) * 2 + facts.has_place) * 8 + facts.place;
@@ -1539,8 +1523,7 @@ static void put_part(struct resource_call *call, int place, const char *bytes, s
         &call->resource.location,    &call->resource.media_types, &call->resource.languages,
         &call->resource.codings,     &call->resource.etags,    &call->resource.boundary,
         &call->resource.implemented};
-    struct text text = put(resource_areas[place], bytes, length);
-    *texts[place] = (struct typed_headers_text){text.bytes, text.length};
+    *texts[place] = put(resource_areas[place], bytes, length);
 }
 
 static void put_resource(struct resource_call *call, const struct resource_of *resource) {
@@ -1559,11 +1542,11 @@ static void put_resource(struct resource_call *call, const struct resource_of *r
     call->resource.by_media_type = true;
     call->resource.by_language = call->resource.by_coding = !resource->is_note;
     call->resource.is_strict = resource->is_strict;
+    call->resource.has_strong_dates = strcmp(resource->name, "diary") == 0;
     call->resource.limit = 100;
     call->resource.needs_length = call->resource.has_limit = call->resource.has_cors = resource->is_note;
     if (resource->is_note) {
-        struct text origins = put(rule_areas[0], "https://app.example", 19);
-        call->rules.origins = (struct typed_headers_text){origins.bytes, origins.length};
+        call->rules.origins = put(rule_areas[0], "https://app.example", 19);
     }
 }
 
@@ -1601,12 +1584,10 @@ static void check_refused_resource(const struct row *row, const struct resource_
     check(row, call_resource, &call, TYPED_HEADERS_REFUSED, NO_NUMBER, NO_TEXT);
     call.denial.status = 401;
     check(row, call_resource, &call, TYPED_HEADERS_REFUSED, NO_NUMBER, NO_TEXT);
-    struct text text = put(wrong_area, "Basic\n", 6);
-    call.denial.challenge = (struct typed_headers_text){text.bytes, text.length};
+    call.denial.challenge = put(wrong_area, "Basic\n", 6);
     check(row, call_resource, &call, TYPED_HEADERS_REFUSED, NO_NUMBER, NO_TEXT);
     call = *given;
-    text = put(wrong_area, "GET\nP T", 7);
-    call.resource.implemented = (struct typed_headers_text){text.bytes, text.length};
+    call.resource.implemented = put(wrong_area, "GET\nP T", 7);
     call.resource.has_implemented = true;
     check(row, call_resource, &call, TYPED_HEADERS_REFUSED, NO_NUMBER, NO_TEXT);
     call = *given;
@@ -1616,7 +1597,7 @@ static void check_refused_resource(const struct row *row, const struct resource_
     call.request.version = 9;
     check(row, call_resource, &call, TYPED_HEADERS_REFUSED, NO_NUMBER, NO_TEXT);
     call = *given;
-    call.target = put(second_area, "HTTPS:///x", 10);
+    call.request.target = put(second_area, "HTTPS:///x", 10);
     check(row, call_resource, &call, TYPED_HEADERS_REFUSED, NO_NUMBER, NO_TEXT);
     call = *given;
     put_part(&call, BOUNDARY, "\xC3\xA4", 2);
@@ -1649,8 +1630,7 @@ static size_t read_server(const struct row *row, struct resource_call *call) {
     }
     call->denial.status = (uint16_t)read_number(row, 0);
     if (!is_word(&row->words[1], "(none)")) {
-        struct text challenge = put(challenge_area, row->words[1].bytes, row->words[1].length);
-        call->denial.challenge = (struct typed_headers_text){challenge.bytes, challenge.length};
+        call->denial.challenge = put(challenge_area, row->words[1].bytes, row->words[1].length);
     }
     call->denial.has_retry_after = !is_word(&row->words[2], "(none)");
     call->denial.retry_after = call->denial.has_retry_after ? read_number(row, 2) : 0;
@@ -1684,11 +1664,11 @@ static void check_resource(const struct row *row) {
         i++;
     }
     call.request.version = is_word(&row->words[i], "1.0") ? 10 : 11;
-    call.method = put(third_area, row->words[i + 1].bytes, row->words[i + 1].length);
+    call.request.method = put(third_area, row->words[i + 1].bytes, row->words[i + 1].length);
     const struct word *host = &row->words[i + 2];
     size_t target = is_word(host, "(none)") ? sprintf(authority, "/x")
                                             : sprintf(authority, "Http://%.*s?x", (int)host->length, host->bytes);
-    call.target = put(second_area, authority, target);
+    call.request.target = put(second_area, authority, target);
     call.request.has_content = !is_word(&row->words[i + 3], "none");
     call.request.has_length = !is_word(&row->words[i + 3], "unsized");
     call.request.length = call.request.has_content && call.request.has_length ? read_number(row, i + 3) : 0;
@@ -1725,10 +1705,10 @@ static void check_resource(const struct row *row) {
 struct gateway_call {
     struct typed_headers_gateway gateway;
     struct typed_headers_hop hop;
-    struct text method, authority, section;
+    struct typed_headers_message message;
+    struct typed_headers_text authority;
     uint64_t received;
-    uint16_t status;
-    uint8_t version, client_version;
+    uint8_t client_version;
 };
 
 static const char *const REASONS[] = {"LengthAndCoding", "InvalidLength", "UnknownCoding",      "LastCodingNotChunked",
@@ -1758,9 +1738,10 @@ static uint8_t call_forward_request(const void *arguments, uint64_t *number, uin
                                     size_t *written) {
     const struct gateway_call *call = arguments;
     struct typed_headers_request_outcome outcome = {.action = FILL};
+    const struct typed_headers_request request = {call->message.method, call->message.section};
     uint8_t status = typed_headers_forward_request(
-        &call->gateway, &call->hop, call->method.bytes, call->method.length, call->version, call->authority.bytes,
-        call->authority.length, call->section.bytes, call->section.length, &KEYS, &outcome, room, room_length, written);
+        &call->gateway, &call->hop, &request, call->message.version, call->authority.bytes, call->authority.length,
+        &KEYS, &outcome, room, room_length, written);
     if (outcome.action != FILL) {
         *number = number_of_request(outcome);
     }
@@ -1771,10 +1752,8 @@ static uint8_t call_forward_response(const void *arguments, uint64_t *number, ui
                                      size_t *written) {
     const struct gateway_call *call = arguments;
     struct typed_headers_response_outcome outcome = {.action = FILL};
-    uint8_t status = typed_headers_forward_response(
-        &call->gateway, call->status, call->version, call->section.bytes, call->section.length, &KEYS,
-        call->method.bytes, call->method.length, call->client_version, call->received, &outcome, room, room_length,
-        written);
+    uint8_t status = typed_headers_forward_response(&call->gateway, &call->message, &KEYS, call->client_version,
+                                                    call->received, &outcome, room, room_length, written);
     if (outcome.action != FILL) {
         *number = number_of_response(outcome);
     }
@@ -1786,29 +1765,23 @@ static uint8_t call_framing(const void *arguments, uint64_t *number, uint8_t *ro
     const struct gateway_call *call = arguments;
     struct typed_headers_framing_outcome outcome = {.reason = FILL};
     (void)room, (void)room_length, (void)written;
-    uint8_t status = typed_headers_framing(call->method.bytes, call->method.length, call->status, call->version,
-                                           call->section.bytes, call->section.length, &KEYS, &outcome);
+    uint8_t status = typed_headers_framing(&call->message, &KEYS, &outcome);
     if (outcome.reason != FILL) {
         *number = number_of_framed(outcome);
     }
     return status;
 }
 
-static struct typed_headers_text put_text(struct area area, const char *bytes, size_t length) {
-    struct text text = put(area, bytes, length);
-    return (struct typed_headers_text){text.bytes, text.length};
-}
-
 /* The gateway `gw`, which protects X-Client, with nothing known but a server of HTTP/1.1. */
 static struct gateway_call new_gateway_call(void) {
-    struct gateway_call call = {.version = 11, .client_version = 11, .hop.server_version = 11};
-    call.gateway.name = put_text(rule_areas[0], "gw", 2);
-    call.gateway.protected_fields = put_text(rule_areas[1], "X-Client\n", 9);
+    struct gateway_call call = {.message.version = 11, .client_version = 11, .hop.server_version = 11};
+    call.gateway.name = put(rule_areas[0], "gw", 2);
+    call.gateway.protected_fields = put(rule_areas[1], "X-Client\n", 9);
     call.gateway.consumes_credentials = true;
-    call.hop.client = put_text(rule_areas[2], "", 0);
-    call.hop.interface_node = put_text(rule_areas[3], "", 0);
+    call.hop.client = put(rule_areas[2], "", 0);
+    call.hop.interface_node = put(rule_areas[3], "", 0);
     call.authority = put(second_area, "", 0);
-    call.method = put(third_area, "GET", 3);
+    call.message.method = put(third_area, "GET", 3);
     return call;
 }
 
@@ -1817,10 +1790,10 @@ static uint8_t read_version(const struct word *word) { return is_word(word, "1.0
 /* `NAME consumed|relayed|underscores VERSION` */
 static struct gateway_call read_gateway(const struct row *row) {
     struct gateway_call call = new_gateway_call();
-    call.gateway.name = put_text(rule_areas[0], row->words[0].bytes, row->words[0].length);
+    call.gateway.name = put(rule_areas[0], row->words[0].bytes, row->words[0].length);
     call.gateway.passes_underscores = is_word(&row->words[1], "underscores");
     call.gateway.consumes_credentials = call.gateway.passes_underscores || is_word(&row->words[1], "consumed");
-    call.version = read_version(&row->words[2]);
+    call.message.version = read_version(&row->words[2]);
     return call;
 }
 
@@ -1863,27 +1836,27 @@ static void check_framing(const struct row *row, const struct gateway_call *call
         const struct word reason = answer_word(row, 1);
         outcome.reason = (uint8_t)place_of(&reason, REASONS, FRAMING_REASONS);
         const struct word status = answer_word(row, 2);
-        outcome.status = (uint16_t)(call->status ? 502 : strtoul(status.bytes, NULL, 10));
+        outcome.status = (uint16_t)(call->message.status ? 502 : strtoul(status.bytes, NULL, 10));
         if (!outcome.reason) {
             return;
         }
     }
     check(row, call_framing, call, TYPED_HEADERS_DONE, number_of_framed(outcome), NO_TEXT);
     struct gateway_call other = *call;
-    other.status = 99;
+    other.message.status = 99;
     check(row, call_framing, &other, TYPED_HEADERS_REFUSED, NO_NUMBER, NO_TEXT);
     other = *call;
-    other.version = 20;
+    other.message.version = 20;
     check(row, call_framing, &other, TYPED_HEADERS_REFUSED, NO_NUMBER, NO_TEXT);
 }
 
 /* A call that nothing fits: each part that can't be read makes it refuse all. */
 static void check_refused_gateway(const struct row *row, call_fn *function, const struct gateway_call *call) {
     struct gateway_call others[4] = {*call, *call, *call, *call};
-    others[0].gateway.name = put_text(rule_areas[0], "a b", 3);
+    others[0].gateway.name = put(rule_areas[0], "a b", 3);
     others[1].gateway.protected_fields = (struct typed_headers_text){(const uint8_t *)"a b", 3};
-    others[2].version = 9;
-    others[3].method = (struct text){(const uint8_t *)"(", 1};
+    others[2].message.version = 9;
+    others[3].message.method = (struct typed_headers_text){(const uint8_t *)"(", 1};
     for (int i = 1; i < 4; i++) {
         others[i].gateway.name = (struct typed_headers_text){(const uint8_t *)"gw", 2};
     }
@@ -1897,11 +1870,11 @@ static void check_forwarded_request(const struct row *row) {
     struct gateway_call call = read_gateway(row);
     struct typed_headers_request_outcome outcome = {0};
     struct word text = EMPTY;
-    call.method = put(third_area, row->words[3].bytes, row->words[3].length);
+    call.message.method = put(third_area, row->words[3].bytes, row->words[3].length);
     if (!is_word(&row->words[4], "(none)")) {
         call.authority = put(second_area, row->words[4].bytes, row->words[4].length);
     }
-    read_section(row, 5, first_area, &call.section);
+    read_section(row, 5, first_area, &call.message.section);
     const struct row *answer = answer_words(row);
     const bool is_sent = is_word(&answer->words[0], "forward");
     if (is_sent || is_word(&answer->words[0], "respond")) {
@@ -1924,11 +1897,11 @@ static void check_forwarded_response(const struct row *row) {
     struct gateway_call call = read_gateway(row);
     struct typed_headers_response_outcome outcome = {0};
     struct word text = EMPTY;
-    call.status = (uint16_t)read_number(row, 3);
-    call.method = put(third_area, row->words[4].bytes, row->words[4].length);
+    call.message.status = (uint16_t)read_number(row, 3);
+    call.message.method = put(third_area, row->words[4].bytes, row->words[4].length);
     call.client_version = read_version(&row->words[5]);
     call.received = read_number(row, 6);
-    read_section(row, 7, first_area, &call.section);
+    read_section(row, 7, first_area, &call.message.section);
     const struct row *answer = answer_words(row);
     if (is_word(&answer->words[0], "forward")) {
         outcome.received = read_framing(&answer->words[1], 0);
@@ -1957,7 +1930,7 @@ static void check_forwarded_response(const struct row *row) {
 static void check_sent(const struct row *row, struct gateway_call *call, const char *section,
                        struct typed_headers_request_outcome outcome, const char *sent) {
     static char wanted[AREA];
-    call->section = put(first_area, section, strlen(section));
+    call->message.section = put(first_area, section, strlen(section));
     const size_t length = (size_t)sprintf(wanted, "%s", sent);
     check(row, call_forward_request, call, TYPED_HEADERS_DONE, number_of_request(outcome),
           (struct word){wanted, length});
@@ -1968,9 +1941,9 @@ static void check_expectation(const struct row *row) {
     static char section[AREA], sent[AREA], framing[64], fields[4096];
     struct gateway_call call = new_gateway_call();
     struct typed_headers_request_outcome outcome = {.sends_continue = answer_is(row, 0, "Answered")};
-    call.version = read_version(&row->words[0]);
+    call.message.version = read_version(&row->words[0]);
     call.hop.server_version = read_version(&row->words[1]);
-    call.method = put(third_area, "PUT", 3);
+    call.message.method = put(third_area, "PUT", 3);
     framing[0] = 0;
     if (is_word(&row->words[2], "chunked")) {
         outcome.framing.kind = TYPED_HEADERS_CHUNKED;
@@ -1983,7 +1956,7 @@ static void check_expectation(const struct row *row) {
     if (answer_is(row, 0, "Forwarded")) {
         field_lines(row, 3, "expect", "expect: %.*s\n", fields + length);
     }
-    sprintf(sent, "host: a\n%svia: %s gw\n%s", fields, call.version == 10 ? "1.0" : "1.1", framing);
+    sprintf(sent, "host: a\n%svia: %s gw\n%s", fields, call.message.version == 10 ? "1.0" : "1.1", framing);
     length = field_lines(row, 3, "accept", "accept: %.*s\n", fields);
     field_lines(row, 3, "expect", "expect: %.*s\n", fields + length);
     sprintf(section, "host: a\n%s%s", framing, fields);
@@ -2009,7 +1982,7 @@ static void check_connection(const struct row *row) {
 static bool read_node(const struct row *row, size_t i, struct area area, struct typed_headers_text *name,
                       uint16_t *port) {
     const bool is_known = !is_word(&row->words[i], "unknown"), has_port = !is_word(&row->words[i + 1], "(none)");
-    *name = is_known ? put_text(area, row->words[i].bytes, row->words[i].length) : put_text(area, "", 0);
+    *name = is_known ? put(area, row->words[i].bytes, row->words[i].length) : put(area, "", 0);
     *port = has_port && row->words[i + 1].bytes[0] != '_' ? (uint16_t)read_number(row, i + 1) : 0;
     return has_port == (*port != 0);
 }
@@ -2034,9 +2007,9 @@ static void check_forwarding(const struct row *row) {
     if (is_target) {
         call.authority = put(second_area, host->bytes, host->length);
     }
-    read_section(row, 9, first_area, &call.section);
-    sprintf(section, "Host: %.*s\r\n%.*s", (int)line.length, line.bytes, (int)call.section.length,
-            (const char *)call.section.bytes);
+    read_section(row, 9, first_area, &call.message.section);
+    sprintf(section, "Host: %.*s\r\n%.*s", (int)line.length, line.bytes, (int)call.message.section.length,
+            (const char *)call.message.section.bytes);
     const struct word lines = all_lines(answer_words(row), 0);
     const char *form = is_target ? "via: 1.1 gw\nhost: %.*s\n%.*s" : "host: %.*s\nvia: 1.1 gw\n%.*s";
     sprintf(sent, form, (int)told.length, told.bytes, (int)lines.length, lines.bytes);
@@ -2077,7 +2050,7 @@ static void check_gateway(const struct row *row) {
 /* Credentials: the length of the user name, and both texts. */
 static uint8_t call_basic(const void *arguments, uint64_t *number, uint8_t *room, size_t room_length,
                           size_t *written) {
-    const struct text *lines = arguments;
+    const struct typed_headers_text *lines = arguments;
     size_t user_length = NO_NUMBER;
     uint8_t status = typed_headers_basic(lines->bytes, lines->length, &user_length, room, room_length, written);
     *number = user_length;
@@ -2093,7 +2066,7 @@ static struct word both(const struct word *one, const struct word *other) {
 }
 
 static void check_basic(const struct row *row) {
-    struct text text = lines(row, 0);
+    struct typed_headers_text text = lines(row, 0);
     if (is_answer(row, "(refused)")) {
         check(row, call_basic, &text, refusal(text), NO_NUMBER, NO_TEXT);
         return;
@@ -2113,7 +2086,7 @@ static void check_bearer(const struct row *row) {
 
 /* A call over the words of a row: one word, and the lines that the others are. */
 struct word_call {
-    struct text lines, word;
+    struct typed_headers_text lines, word;
     bool any_case;
 };
 
@@ -2172,7 +2145,7 @@ static uint64_t number_of_port(struct typed_headers_port port) { return port.num
 
 static uint8_t call_host(const void *arguments, uint64_t *number, uint8_t *room, size_t room_length,
                          size_t *written) {
-    const struct text *lines = arguments;
+    const struct typed_headers_text *lines = arguments;
     struct typed_headers_port port = {FILL, FILL};
     uint8_t status = typed_headers_host(lines->bytes, lines->length, &port, room, room_length, written);
     if (port.is_set != FILL) {
@@ -2206,7 +2179,7 @@ static bool has_whole_port(const struct word *text, struct word start, const str
 }
 
 static void check_host(const struct row *row) {
-    struct text text = lines(row, 0);
+    struct typed_headers_text text = lines(row, 0);
     if (is_answer(row, "(refused)")) {
         check(row, call_host, &text, refusal(text), NO_NUMBER, NO_TEXT);
         return;
@@ -2225,7 +2198,7 @@ static uint64_t number_of_origin(struct typed_headers_origin_parts parts) {
 
 static uint8_t call_origin(const void *arguments, uint64_t *number, uint8_t *room, size_t room_length,
                            size_t *written) {
-    const struct text *lines = arguments;
+    const struct typed_headers_text *lines = arguments;
     struct typed_headers_origin_parts parts = {0, {FILL, FILL}, FILL};
     uint8_t status = typed_headers_origin(lines->bytes, lines->length, &parts, room, room_length, written);
     if (parts.is_null != FILL) {
@@ -2245,7 +2218,7 @@ static bool is_whole_origin(const struct word *text, const struct word *scheme, 
 }
 
 static void check_origin(const struct row *row) {
-    struct text text = lines(row, 0);
+    struct typed_headers_text text = lines(row, 0);
     if (is_answer(row, "(refused)")) {
         check(row, call_origin, &text, refusal(text), NO_NUMBER, NO_TEXT);
         return;
@@ -2260,7 +2233,7 @@ static void check_origin(const struct row *row) {
     if (!parts.is_null && !parts.port.is_set) {
         static char bytes[AREA];
         int length = snprintf(bytes, sizeof bytes, "%s:65536", answer[1].bytes);
-        struct text other = put(first_area, bytes, (size_t)length);
+        struct typed_headers_text other = put(first_area, bytes, (size_t)length);
         check(row, call_origin, &other, TYPED_HEADERS_REFUSED, NO_NUMBER, NO_TEXT);
     }
 }
@@ -2281,7 +2254,7 @@ static uint8_t shown(uint8_t status, const void *given, size_t size, const char 
 
 static uint8_t call_security(const void *arguments, uint64_t *number, uint8_t *room, size_t room_length,
                              size_t *written) {
-    const struct text *lines = arguments;
+    const struct typed_headers_text *lines = arguments;
     struct typed_headers_transport_security given;
     char text[64] = "";
     (void)number;
@@ -2294,7 +2267,7 @@ static uint8_t call_security(const void *arguments, uint64_t *number, uint8_t *r
 
 static uint8_t call_retry_after(const void *arguments, uint64_t *number, uint8_t *room, size_t room_length,
                                 size_t *written) {
-    const struct text *lines = arguments;
+    const struct typed_headers_text *lines = arguments;
     struct typed_headers_retry_time given;
     char text[64] = "";
     (void)number;
@@ -2307,7 +2280,7 @@ static uint8_t call_retry_after(const void *arguments, uint64_t *number, uint8_t
 
 static uint8_t call_content_range(const void *arguments, uint64_t *number, uint8_t *room, size_t room_length,
                                   size_t *written) {
-    const struct text *lines = arguments;
+    const struct typed_headers_text *lines = arguments;
     struct typed_headers_content_range given;
     char text[128] = "";
     (void)number;
@@ -2327,7 +2300,7 @@ static uint8_t call_content_range(const void *arguments, uint64_t *number, uint8
 
 static uint8_t call_stale(const void *arguments, uint64_t *number, uint8_t *room, size_t room_length,
                           size_t *written) {
-    const struct text *lines = arguments;
+    const struct typed_headers_text *lines = arguments;
     struct typed_headers_stale_directives given;
     char text[64] = "", first[32] = "(none)", second[32] = "(none)";
     (void)number;
@@ -2345,7 +2318,7 @@ static uint8_t call_stale(const void *arguments, uint64_t *number, uint8_t *room
 
 /* Checks a call that gives a struct, which is shown as this text. */
 static void check_shown(const struct row *row, call_fn *call, const char *wanted) {
-    struct text text = lines(row, 0);
+    struct typed_headers_text text = lines(row, 0);
     if (is_answer(row, "(refused)")) {
         check(row, call, &text, refusal(text), NO_NUMBER, NO_TEXT);
     } else {
@@ -2378,7 +2351,7 @@ static void check_retry_after(const struct row *row) {
 
 static uint8_t call_disposition(const void *arguments, uint64_t *number, uint8_t *room, size_t room_length,
                                 size_t *written) {
-    const struct text *lines = arguments;
+    const struct typed_headers_text *lines = arguments;
     uint8_t disposition = FILL;
     (void)room, (void)room_length, (void)written;
     uint8_t status = typed_headers_content_disposition(lines->bytes, lines->length, &disposition);
@@ -2389,7 +2362,7 @@ static uint8_t call_disposition(const void *arguments, uint64_t *number, uint8_t
 }
 
 static void check_disposition(const struct row *row) {
-    struct text text = lines(row, 0);
+    struct typed_headers_text text = lines(row, 0);
     if (is_answer(row, "(refused)")) {
         check(row, call_disposition, &text, refusal(text), NO_NUMBER, NO_TEXT);
         return;

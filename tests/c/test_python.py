@@ -331,7 +331,7 @@ RESOURCES = {
     "inbox": {"methods": ["POST"], **NEGOTIATED},
     "feed": {"methods": [headers.Method("POST", "application/json", "gzip")], **NEGOTIATED},
     "archive": {
-        "methods": ["GET", "DELETE"],
+        "methods": ["GET", "DELETE", headers.Method("PUT", needs_condition=True)],
         "representations": [
             headers.Representation("text/plain", 8000, last_modified=783459811),
             headers.Representation("text/plain", 8000, language="en", coding="gzip", last_modified=1798761600),
@@ -339,6 +339,7 @@ RESOURCES = {
         **NEGOTIATED,
     },
 }
+RESOURCES["diary"] = {**RESOURCES["archive"], "has_strong_dates": True}
 STATES = {"current": 0, "absent": 1, "gone": 2, "server": 3}
 
 

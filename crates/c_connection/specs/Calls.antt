@@ -1,17 +1,19 @@
 -- What the calls on a handle do to its connection.
-use Rattle.std.specs.Prelude.{◌≡◌, ◌≢◌, ◌⊎◌, ℕ, ◌<◌, List, [], ◌∷◌, ◌++◌, length, Option, Some, None, ⊤, codes, true}
-use Rattle.std.specs.Prelude.{Result, Ok, Err, take, min}
+use Rattle.std.specs.Prelude.{◌≡◌, ◌≢◌, ◌⊎◌, ℕ, ◌≤◌, List, [], ◌∷◌, ◌++◌, length, Option, Some, None, ⊤, codes, true}
+use Rattle.std.specs.Prelude.{Result, Ok, Err, false, take, min, slice_range}
 use Rattle.std.specs.Option.{option_map}
 use Rattle.http_header.{specs.FieldValue.FieldValue, specs.HeaderMap.get}
 use Rattle.http.{specs.declared.request.Request.Request, specs.declared.request.Parts.Parts, specs.Request.body_of}
-use Rattle.http.specs.Request.{head_of}
+use Rattle.http.{specs.Request.head_of, specs.StatusCode.code_digits}
 use Rattle.http_uri.specs.Uri.{uri_path, uri_query}
-use Rattle.http_server.specs.declared.state.Config.{Config}
+use Rattle.http_server.{specs.declared.state.Config.Config, specs.Refusal.refusal_text}
+use Rattle.http_server.specs.declared.state.Reason.TheVariants as reason
 use Rattle.server_connection.{specs.declared.piece.Extent.Extent, specs.declared.plan.Plan.Plan, specs.Plan.IsBlank}
 use Rattle.server_connection.specs.declared.connection.Event.{Event}
 use Rattle.server_connection.specs.declared.connection.Event.TheVariants as event
 use Rattle.server_connection.{specs.declared.machine.Phase.TheVariants.{Receiving, Asking}, specs.Connection.HasRested}
-use Rattle.server_connection.{specs.Connection.{IsReached, IsSaid}, specs.Machine.{IsNextRange, Moves, Offers}}
+use Rattle.server_connection.{specs.Connection.{IsReached, IsSaid}, specs.Machine.{HandsOut as HandsOutBytes}}
+use Rattle.server_connection.specs.Machine.{HandsOutRange, HasNoRange, IsNextRange, Moves, Offers, OffersCount}
 use Rattle.c_parts.{specs.Endings.{Writes, done}, specs.FieldText.IsNameOf, specs.declared.status.Failure.Failure}
 use Rattle.c_parts.specs.declared.status.Failure.TheVariants.{Refused, Memory, Absent}
 use Rattle.c_handles.{specs.Handles.{OnHeld, connection_in}, specs.declared.held.Held.Held}
@@ -41,67 +43,81 @@ abbrev pub HasMoved : List ℕ → List ℕ → HeldConnection → HeldConnectio
 HasMoved received sent old new =
     (now : Host) → Moves host_plans host_gives old.connection.machine now received sent new.connection.machine now
 
+-- the limits of a connection: requests have at most so long a content, and a head of at most 16 KiB
+abbrev pub HasLimits : ℕ → Config → Type 0
+HasLimits most config =
+    (config.max_body_len ≡ most) × (config.max_pending ≡ 65536) × (config.limits.max_head_len ≡ 16384)
+    × (config.limits.max_extensions_len ≡ 16384) × (config.limits.max_trailers_len ≡ 16384)
+
 -- A connection that has received nothing, and whose requests have at most so long a content; or no memory is left.
 abbrev pub IsConnectionHeld : ℕ → Result Held Failure → Type 0
 IsConnectionHeld most (Ok (held.Connection held)) =
-    (config : Config) × (config.max_body_len ≡ most)
+    (config : Config) × HasLimits most config
     × ((first : Host) → IsReached host_plans host_gives config first held.connection.machine first [] [])
-    × IsBlank held.plan
+    × IsBlank held.plan × (held.has_begun ≡ false) × (held.rejection ≡ 0)
 IsConnectionHeld most (Ok other) = ⊥
 IsConnectionHeld most (Err failure) = failure ≡ Memory
 
+-- only the connection itself is another one
+abbrev pub KeepsPlan : HeldConnection → HeldConnection → Type 0
+KeepsPlan old new = new ≡ record old { connection = new.connection }
+
 -- All of the bytes were received, or none if out of memory. If the connection wants no input nothing changes.
 abbrev pub Receives : List ℕ → HeldConnection → HeldConnection → Result (Unit {0}) Failure → Type 0
-Receives bytes old new (Ok tt) = HasMoved bytes [] old new × (new.plan ≡ old.plan)
-Receives bytes old new (Err Memory) = HasMoved [] [] old new × (new.plan ≡ old.plan)
+Receives bytes old new (Ok tt) =
+    HasMoved bytes [] old new × (new ≡ record old { connection = new.connection; has_begun = true })
+Receives bytes old new (Err Memory) = HasMoved [] [] old new × KeepsPlan old new
 Receives bytes old new (Err failure) =
     (failure ≡ Refused) × (new ≡ old) × ¬ (old.connection.machine.phase ≡ Receiving)
 
 -- The input ended. If the connection wants no input nothing changes.
 abbrev pub Finishes : HeldConnection → HeldConnection → Result (Unit {0}) Failure → Type 0
-Finishes old new (Ok tt) = HasMoved [] [] old new × (new.connection.machine.ended ≡ true) × (new.plan ≡ old.plan)
+Finishes old new (Ok tt) = HasMoved [] [] old new × (new.connection.machine.ended ≡ true) × KeepsPlan old new
 Finishes old new (Err failure) =
     (failure ≡ Refused) × (new ≡ old) × ¬ (old.connection.machine.phase ≡ Receiving)
 
--- The request that waits was answered by the plan. If none waits nothing changes.
+-- The request that waits was answered by the plan, and the next plan is blank. If none waits nothing changes.
 abbrev pub Responds : HeldConnection → HeldConnection → Result (Unit {0}) Failure → Type 0
 Responds old new (Ok tt) =
-    (before now : Host) → host_plans before old.connection.machine.request old.plan now
-    → Moves host_plans host_gives old.connection.machine before [] [] new.connection.machine now
+    ((before now : Host) → host_plans before old.connection.machine.request old.plan now
+    → Moves host_plans host_gives old.connection.machine before [] [] new.connection.machine now)
+    × (new ≡ record old { connection = new.connection; plan = new.plan; has_begun = false }) × IsBlank new.plan
 Responds old new (Err failure) =
     (failure ≡ Refused) × (new ≡ old) × ¬ (old.connection.machine.phase ≡ Asking)
 
--- where bytes wait to be written, these are all that it offers
-abbrev pub OffersAll : HeldConnection → ℕ → Type 0
-OffersAll held count =
-    held.connection.machine.output.items ≢ [] → count ≡ length held.connection.machine.output.items
-
--- So many bytes were handed out, if they are what the connection offered. If it offered fewer nothing changes: where
--- bytes wait to be written, they are fewer.
+-- So many of the bytes that the connection offers were handed out. If it offers fewer nothing changes.
 abbrev pub HandsOut : ℕ → HeldConnection → HeldConnection → Result (Unit {0}) Failure → Type 0
 HandsOut count old new (Ok tt) =
-    (now : Host) (bytes : List ℕ) → length bytes ≡ count → Offers (host_gives now) old.connection.machine bytes
-    → Moves host_plans host_gives old.connection.machine now [] bytes new.connection.machine now
+    ((now : Host) (bytes : List ℕ) → length bytes ≡ count → Offers (host_gives now) old.connection.machine bytes
+    → Moves host_plans host_gives old.connection.machine now [] bytes new.connection.machine now)
+    × (count ≤ length old.connection.machine.output.items
+    → HandsOutBytes old.connection.machine new.connection.machine count)
+    × HandsOutRange old.connection.machine new.connection.machine count
+    × OffersCount old.connection.machine count × KeepsPlan old new
 HandsOut count old new (Err failure) =
-    (failure ≡ Refused) × (new ≡ old)
-    × (old.connection.machine.output.items ≢ [] → length old.connection.machine.output.items < count)
+    (failure ≡ Refused) × (new ≡ old) × ¬ (OffersCount old.connection.machine count)
 
 -- the number of an event
 abbrev pub event_number : Event → ℕ
 event_number event.NeedsInput = 0
 event_number event.Request = 1
 event_number event.Output = 2
-event_number event.Busy = 3
-event_number (event.Closed why) = 4
-event_number event.Aborted = 5
+event_number (event.Closed why) = 3
+event_number event.Aborted = 4
+
+-- the status of the response by which a connection that says so rejects what it received, or 0
+abbrev pub IsRejectedBy : Event → ℕ → Type 0
+IsRejectedBy (event.Closed (reason.Refused why)) status = code_digits status ≡ slice_range (refusal_text why) 9 12
+IsRejectedBy other status = status ≡ 0
 
 -- The connection took steps, and says what it wants. Where it needs input, each whole request that was received is
 -- answered, and all of the answers were handed out.
 abbrev pub Wants : HeldConnection → HeldConnection → Result ℕ Failure → Type 0
 Wants old new (Ok number) =
     HasMoved [] [] old new
-    × (new.plan ≡ old.plan)
+    × (new ≡ record old { connection = new.connection; rejection = new.rejection })
     × (said : Event) × (number ≡ event_number said) × IsSaid new.connection.machine said
+    × IsRejectedBy said new.rejection
     × (said ≡ event.NeedsInput → (config : Config) (first now : Host) (received sent : List ℕ)
     → IsReached host_plans host_gives config first old.connection.machine now received sent
     → HasRested host_plans host_gives first new.connection.machine now received sent)
@@ -169,10 +185,10 @@ Shows text handle new_handle old new before written status =
     (new_handle ≡ handle)
     × Writes (λ bytes. bytes) (λ _. done) (OnHeld (IsText text) (connection_in handle)) old new before written status
 
--- the range that is to be handed out next
+-- the range that is to be handed out next; `Absent` if there is none
 abbrev pub IsRangeNext : HeldConnection → Result Extent Failure → Type 0
 IsRangeNext held (Ok extent) = IsNextRange held.connection.machine extent
-IsRangeNext held (Err failure) = failure ≡ Absent
+IsRangeNext held (Err failure) = (failure ≡ Absent) × HasNoRange held.connection.machine
 
 -- the status by which it rejected what it received
 abbrev pub IsRejection : HeldConnection → Result ℕ Failure → Type 0

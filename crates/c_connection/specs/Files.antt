@@ -6,18 +6,17 @@ use Rattle.server_service.specs.declared.settings.Settings.{Settings}
 use Rattle.c_files.specs.Opening.{AreSettings, IsNew, IsSettingsOf}
 use Rattle.c_files.{specs.Paths.IsPathFor, specs.Plans.PlansFor}
 use Rattle.c_files.{specs.declared.entry.Facts.Facts, specs.declared.held.HeldFiles.HeldFiles}
+use Rattle.c_files.specs.declared.settings.FilesOptions.{FilesOptions}
 use Rattle.c_handles.{specs.declared.held.Held.Held, specs.declared.held.HeldConnection.HeldConnection}
 use Rattle.c_handles.specs.declared.held.Held.TheVariants as held
 use Rattle.c_connection.specs.Plans.{KeepsConnection}
 
 -- a new service with these settings, or why there is none
-abbrev pub IsFilesHeld : (cache_control hosts : List ℕ) → Bool → (boundary : List ℕ) → HashKeys → Result Held Failure
-    → Type 0
-IsFilesHeld cache_control hosts negotiates boundary keys (Ok (held.Files files)) =
-    (settings : Settings) × AreSettings cache_control hosts negotiates boundary settings × IsNew settings keys files
-IsFilesHeld cache_control hosts negotiates boundary keys (Ok other) = ⊥
-IsFilesHeld cache_control hosts negotiates boundary keys (Err failure) =
-    IsSettingsOf cache_control hosts negotiates boundary (Err failure)
+abbrev pub IsFilesHeld : FilesOptions → HashKeys → Result Held Failure → Type 0
+IsFilesHeld given keys (Ok (held.Files files)) =
+    (settings : Settings) × AreSettings given settings × IsNew settings keys files
+IsFilesHeld given keys (Ok other) = ⊥
+IsFilesHeld given keys (Err failure) = IsSettingsOf given (Err failure)
 
 -- the path to open next; `Absent` if a handle has no such thing
 abbrev pub IsPathNext : List Facts → Option HeldFiles → Option HeldConnection → Result (List ℕ) Failure → Type 0

@@ -38,7 +38,7 @@ AddsPiece piece old new (Ok tt) =
     × (new.plan.pieces.items ≡ old.plan.pieces.items ++ piece ∷ [])
 AddsPiece piece old new (Err failure) =
     (failure ≡ Memory) × KeepsConnection old new × (new.plan.status ≡ old.plan.status)
-    × (new.plan.pieces.items ≡ old.plan.pieces.items)
+    × (new.plan.headers ≡ old.plan.headers) × (new.plan.pieces.items ≡ old.plan.pieces.items)
 
 -- the field value of these bytes
 abbrev pub IsValueOf : List ℕ → Result FieldValue Failure → Type 0

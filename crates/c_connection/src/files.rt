@@ -3,22 +3,15 @@ ghost use Rattle.std.{specs.Prelude.{◌≡◌, Some, string_bytes}, specs.Resul
 ghost use Rattle.c_handles.specs.Handles.{Opens, connection_in, files_in};
 ghost use Rattle.c_connection.specs.Files.{IsFilesHeld, IsPathNext, Plans};
 
-use c_files::{Facts, new_files, path_for, plan_response, settings_of};
+use c_files::{Facts, FilesOptions, new_files, path_for, plan_response, settings_of};
 use c_handles::{Handle, Held};
 use c_parts::{Failure, HashKeys};
 use std::alloc::Global;
 
-fn new_service(
-    alloc: Global,
-    cache_control: &[u8],
-    hosts: &[u8],
-    negotiates: bool,
-    boundary: &[u8],
-    keys: &HashKeys,
-) -> Result<Held, Failure>
-    ensures { IsFilesHeld cache_control.now hosts.now negotiates boundary.now keys.now result }
+fn new_service(alloc: Global, options: &FilesOptions<'_>, keys: &HashKeys) -> Result<Held, Failure>
+    ensures { IsFilesHeld options.now keys.now result }
 {
-    let settings = settings_of(alloc, cache_control, hosts, negotiates, boundary)?;
+    let settings = settings_of(alloc, options)?;
     match new_files(alloc, settings, keys) {
         Ok(files) => Ok(Held::Files(files)),
         Err(_) => Err(Failure::Memory),
@@ -29,16 +22,12 @@ fn new_service(
 pub fn open_files(
     alloc: Global,
     handle: &mut Handle,
-    cache_control: &[u8],
-    hosts: &[u8],
-    negotiates: bool,
-    boundary: &[u8],
+    options: &FilesOptions<'_>,
     keys: &HashKeys,
 ) -> Result<(), Failure>
-    ensures { Opens (IsFilesHeld cache_control.now hosts.now negotiates boundary.now keys.now)
-        handle.old.held handle.new.held result }
+    ensures { Opens (IsFilesHeld options.now keys.now) handle.old.held handle.new.held result }
 {
-    let made = new_service(alloc, cache_control, hosts, negotiates, boundary, keys);
+    let made = new_service(alloc, options, keys);
     c_handles::open(alloc, handle, made)
 }
 

@@ -1,15 +1,15 @@
 //! Calls that move a connection on.
 ghost use Rattle.std.specs.Prelude.{◌≡◌};
 ghost use Rattle.c_handles.specs.Handles.{Opens};
-ghost use Rattle.c_connection.specs.Calls.{Finishes, HandsOut, IsConnectionHeld, OffersAll, OnConnection, Receives};
+ghost use Rattle.c_connection.specs.Calls.{Finishes, HandsOut, IsConnectionHeld, IsRejectedBy, OnConnection, Receives};
 ghost use Rattle.c_connection.specs.Calls.{Responds, Wants, event_number};
 
 use crate::calling::change;
 use crate::host::Host;
 use c_handles::{Handle, Held, HeldConnection};
 use c_parts::{Failure, HashKeys};
-use http_server::{Config, Reason, Refusal};
-use server_connection::{Connection, Event, Plan};
+use http_server::{Config, Reason};
+use server_connection::{Connection, Event, Plan, rejection_status};
 use std::alloc::Global;
 use std::hash::RandomState;
 use std::mem::replace;
@@ -90,24 +90,17 @@ fn event_number(event: Event) -> u8
         Event::NeedsInput => 0,
         Event::Request => 1,
         Event::Output => 2,
-        Event::Busy => 3,
-        Event::Closed(_) => 4,
-        Event::Aborted => 5,
+        Event::Closed(_) => 3,
+        Event::Aborted => 4,
     }
 }
 
 // The status by which a connection that says so rejected what it received, or 0.
-fn rejection_by(event: Event) -> u16 {
+fn rejection_by(event: Event) -> u16
+    ensures { IsRejectedBy event result }
+{
     match event {
-        Event::Closed(Reason::Refused(why)) => match why {
-            Refusal::Unreadable(error) => error.status(),
-            Refusal::InvalidPart(http::Error::HeaderName | http::Error::MaxSizeReached) => 431,
-            Refusal::InvalidPart(http::Error::Uri(error)) if error.is_too_long() => 414,
-            Refusal::BodyTooLarge => 413,
-            Refusal::UnknownCoding => 501,
-            Refusal::InvalidResponse(_) => 500,
-            _ => 400,
-        },
+        Event::Closed(Reason::Refused(why)) => rejection_status(why).as_u16(),
         _ => 0,
     }
 }
@@ -146,27 +139,18 @@ pub fn respond(alloc: Global, handle: &mut Handle) -> Result<(), Failure>
     change(alloc, handle, |held| respond_in(alloc, held))
 }
 
-// How many bytes the connection offers to be written next.
-fn offered(held: &HeldConnection) -> u64
-    ensures { OffersAll held.now result }
-{
-    let output = held.connection.output();
-    if !output.is_empty() {
-        return output.len() as u64;
-    }
-    match held.connection.range() {
-        Some(extent) => extent.len,
-        None => 0,
-    }
-}
-
 fn sent_in(held: &mut HeldConnection, count: u64) -> Result<(), Failure>
     ensures { HandsOut count held.old held.new result }
 {
-    if count > offered(held) {
+    let connection = &mut held.connection;
+    let offered = match connection.range() {
+        Some(extent) if connection.output().is_empty() => extent.len,
+        _ => connection.output().len() as u64,
+    };
+    if count > offered {
         return Err(Failure::Refused);
     }
-    held.connection.sent::<Host>(count as usize);
+    connection.sent::<Host>(count as usize);
     Ok(())
 }
 

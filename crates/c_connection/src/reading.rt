@@ -141,15 +141,21 @@ pub fn write_text(
     status
 }
 
+fn range_in(held: &HeldConnection) -> Result<Extent, Failure>
+    ensures { IsRangeNext held.now result }
+{
+    match held.connection.range() {
+        Some(extent) => Ok(extent),
+        None => Err(Failure::Absent),
+    }
+}
+
 /// The range of what the host has open that is to be written once no bytes wait. `Absent` also if there is none.
 pub fn range_of(alloc: Global, handle: &mut Handle) -> Result<Extent, Failure>
     ensures same { handle.new.held ≡ handle.old.held }
     ensures range { OnHeld IsRangeNext (connection_in handle.old.held) result }
 {
-    ask(alloc, handle, |held| match held.connection.range() {
-        Some(extent) => Ok(extent),
-        None => Err(Failure::Absent),
-    })
+    ask(alloc, handle, |held| range_in(held))
 }
 
 /// The status by which the connection rejected what it received. `Absent` also if it rejected nothing.

@@ -8,7 +8,8 @@ use Rattle.decide_cors.specs.declared.kind.CorsKind.TheVariants.{Preflight, Plai
 use Rattle.decide_cors.specs.declared.policy.CorsAnswer.{CorsAnswer}
 use Rattle.c_decisions.{specs.Flags.flag_of, specs.FieldLines.fields_text, specs.Methods.IsMethodOf}
 use Rattle.c_decisions.{specs.Rules.{IsPolicyAnswer, IsPolicyFor}, specs.declared.cors.CorsFacts.CorsFacts}
-use Rattle.c_decisions.{specs.declared.cors.Shared.Shared, specs.declared.rules.Rules.Rules}
+use Rattle.c_decisions.{specs.declared.cors.Shared.Shared, specs.declared.request.RequestTexts.RequestTexts}
+use Rattle.c_decisions.specs.declared.rules.Rules.{Rules}
 use Rattle.c_parts.{specs.Endings.TellsAndWrites, specs.SectionMap.IsMapOf, specs.declared.status.Failure.Failure}
 use Rattle.c_parts.specs.declared.status.Failure.TheVariants.{Memory}
 
@@ -35,34 +36,37 @@ pub record IsSharedBy (policy : Policy) (method request response : List ℕ) (sh
   pub is_shown : IsShownAnswer answer shared
 
 -- the failure is that of reading the method or a section
-abbrev pub FailsAtMessage : (method request response : List ℕ) → Failure → Type 0
-FailsAtMessage method request response failure =
-    IsMethodOf method (Err failure) ⊎ (IsMapOf request (Err failure) ⊎ IsMapOf response (Err failure))
+abbrev pub FailsAtMessage : RequestTexts → (response : List ℕ) → Failure → Type 0
+FailsAtMessage request response failure =
+    IsMethodOf request.method.now (Err failure)
+    ⊎ (IsMapOf request.section.now (Err failure) ⊎ IsMapOf response (Err failure))
 
 -- the method and both sections can be read: a policy's answer to them has fields, which take memory
-pub record IsMessage (method request response : List ℕ) : Type 0 where
-  pub is_method : IsToken method
+pub record IsMessage (request : RequestTexts) (response : List ℕ) : Type 0 where
+  pub is_method : IsToken request.method.now
   pub asked : Entries FieldValue
-  pub is_asked : Holds request asked
+  pub is_asked : Holds request.section.now asked
   pub told : Entries FieldValue
   pub is_told : Holds response told
 
 -- the failure is that of reading the method or a section, or of allocating the answer
-abbrev pub FailsToShare : (method request response : List ℕ) → Failure → Type 0
-FailsToShare method request response failure =
-    FailsAtMessage method request response failure ⊎ ((failure ≡ Memory) × IsMessage method request response)
+abbrev pub FailsToShare : RequestTexts → (response : List ℕ) → Failure → Type 0
+FailsToShare request response failure =
+    FailsAtMessage request response failure ⊎ ((failure ≡ Memory) × IsMessage request response)
 
 -- the answer is that of the policy, or a failure
-abbrev pub SharesBy : Policy → (method request response : List ℕ) → Result Shared Failure → Type 0
-SharesBy policy method request response (Ok shared) = IsSharedBy policy method request response shared
-SharesBy policy method request response (Err failure) = FailsToShare method request response failure
+abbrev pub SharesBy : Policy → RequestTexts → (response : List ℕ) → Result Shared Failure → Type 0
+SharesBy policy request response (Ok shared) =
+    IsSharedBy policy request.method.now request.section.now response shared
+SharesBy policy request response (Err failure) = FailsToShare request response failure
 
 -- the same of the policy of the rules that were handed in
-abbrev pub Shares : Rules → (method request response : List ℕ) → Result Shared Failure → Type 0
-Shares given method request response (Ok shared) =
-    (policy : Policy) × IsPolicyFor given policy × IsSharedBy policy method request response shared
-Shares given method request response (Err failure) =
-    IsPolicyAnswer given (Err failure) ⊎ FailsToShare method request response failure
+abbrev pub Shares : Rules → RequestTexts → (response : List ℕ) → Result Shared Failure → Type 0
+Shares given request response (Ok shared) =
+    (policy : Policy) × IsPolicyFor given policy
+    × IsSharedBy policy request.method.now request.section.now response shared
+Shares given request response (Err failure) =
+    IsPolicyAnswer given (Err failure) ⊎ FailsToShare request response failure
 
 abbrev pub WritesShared : (Result Shared Failure → Type 0) → (facts new_facts : CorsFacts) → (old new : List ℕ)
     → (before written status : ℕ) → Type 0

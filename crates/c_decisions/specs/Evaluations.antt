@@ -7,7 +7,8 @@ use Rattle.decide_preconditions.{specs.Preconditions.Answers, specs.declared.pre
 use Rattle.decide_preconditions.specs.declared.precondition.Precondition.TheVariants.{Perform, NotModified, Failed}
 use Rattle.decide_preconditions.specs.declared.resource.Resource.{Resource}
 use Rattle.c_parts.{specs.SectionMap.IsMapOf, specs.declared.status.Failure.Failure}
-use Rattle.c_decisions.{specs.Methods.IsMethodOf, specs.Targets.IsResourceOf, specs.declared.target.Target.Target}
+use Rattle.c_decisions.{specs.Methods.IsMethodOf, specs.Targets.IsResourceOf}
+use Rattle.c_decisions.{specs.declared.request.RequestTexts.RequestTexts, specs.declared.target.Target.Target}
 
 abbrev pub code_of : Precondition → ℕ
 code_of Perform = 0
@@ -27,7 +28,8 @@ pub record IsEvaluated (method input etag : List ℕ) (target : Target) (code : 
   pub code_is : code ≡ code_of answer
 
 -- the answer is the code, or the failure of reading what was handed in
-abbrev pub Evaluates : (method input etag : List ℕ) → Target → Result ℕ Failure → Type 0
-Evaluates method input etag target (Ok code) = IsEvaluated method input etag target code
-Evaluates method input etag target (Err failure) =
-    IsMethodOf method (Err failure) ⊎ (IsResourceOf etag target (Err failure) ⊎ IsMapOf input (Err failure))
+abbrev pub Evaluates : RequestTexts → (etag : List ℕ) → Target → Result ℕ Failure → Type 0
+Evaluates request etag target (Ok code) = IsEvaluated request.method.now request.section.now etag target code
+Evaluates request etag target (Err failure) =
+    IsMethodOf request.method.now (Err failure)
+    ⊎ (IsResourceOf etag target (Err failure) ⊎ IsMapOf request.section.now (Err failure))

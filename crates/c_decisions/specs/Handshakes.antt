@@ -20,7 +20,9 @@ use Rattle.c_parts.{specs.FieldText.field_lines, specs.SectionMap.IsMapOf, specs
 use Rattle.c_parts.specs.declared.status.Failure.TheVariants.{Refused, Memory, Absent, TooLarge}
 use Rattle.c_decisions.{specs.FieldLines.fields_text, specs.Methods.IsMethodOf, specs.Star.is_any}
 use Rattle.c_decisions.{specs.StatusCodes.IsStatusOf, specs.Texts.{AreValuesOf, FailsAt}}
-use Rattle.c_decisions.specs.declared.handshake.Answered.{Answered}
+use Rattle.c_decisions.{specs.declared.handshake.Answered.Answered, specs.declared.request.RequestTexts.RequestTexts}
+use Rattle.c_decisions.specs.declared.handshake.HandshakeExchange.{HandshakeExchange}
+use Rattle.c_decisions.specs.declared.handshake.HandshakeRules.{HandshakeRules}
 
 -- ---- the server's end
 
@@ -77,19 +79,19 @@ pub record IsShownHandshake (answer : Answer) (shown : Answered) : Type 0 where
   pub text : shown.text.items ≡ fields_text (answer_fields answer)
 
 -- all is as it was handed in, and this is the server's answer
-pub record IsAnsweredHandshake (method : List ℕ) (number : ℕ) (input protocols origins : List ℕ) (shown : Answered)
+pub record IsAnsweredHandshake (request : RequestTexts) (number : ℕ) (rules : HandshakeRules) (shown : Answered)
     : Type 0 where
-  pub is_method : IsToken method
+  pub is_method : IsToken request.method.now
   pub version : Version
   pub is_version : version_of number ≡ Some version
   pub own : List FieldValue
-  pub are_own : AreValuesOf protocols own
+  pub are_own : AreValuesOf rules.protocols.now own
   pub allowed : OriginList
-  pub are_allowed : AreOriginsOf origins (Ok allowed)
-  pub request : Entries FieldValue
-  pub holds : Holds input request
+  pub are_allowed : AreOriginsOf rules.origins.now (Ok allowed)
+  pub fields : Entries FieldValue
+  pub holds : Holds request.section.now fields
   pub answer : Answer
-  pub answers : Answers method version (lines_at request) allowed own answer
+  pub answers : Answers request.method.now version (lines_at fields) allowed own answer
   pub is_shown : IsShownHandshake answer shown
 
 -- the handshake is accepted, or its answer has fields
@@ -99,29 +101,28 @@ HasFields method version request allowed own =
     ⊎ ((answer : Answer) × Answers method version request allowed own answer × (answer_fields answer ≢ []))
 
 -- all is as it was handed in, and the server's answer has fields, which take memory
-pub record IsAnsweredByFields (method : List ℕ) (number : ℕ) (input protocols origins : List ℕ) : Type 0 where
-  pub is_method : IsToken method
+pub record IsAnsweredByFields (request : RequestTexts) (number : ℕ) (rules : HandshakeRules) : Type 0 where
+  pub is_method : IsToken request.method.now
   pub version : Version
   pub is_version : version_of number ≡ Some version
   pub own : List FieldValue
-  pub are_own : AreValuesOf protocols own
+  pub are_own : AreValuesOf rules.protocols.now own
   pub allowed : OriginList
-  pub are_allowed : AreOriginsOf origins (Ok allowed)
-  pub request : Entries FieldValue
-  pub holds : Holds input request
-  pub has_fields : HasFields method version (lines_at request) allowed own
+  pub are_allowed : AreOriginsOf rules.origins.now (Ok allowed)
+  pub fields : Entries FieldValue
+  pub holds : Holds request.section.now fields
+  pub has_fields : HasFields request.method.now version (lines_at fields) allowed own
 
 -- the answer is the server's, or the failure of reading what was handed in; `Memory` also if the answer has fields
-abbrev pub AnswersHandshake : List ℕ → ℕ → (input protocols origins : List ℕ) → Result Answered Failure → Type 0
-AnswersHandshake method number input protocols origins (Ok shown) =
-    IsAnsweredHandshake method number input protocols origins shown
-AnswersHandshake method number input protocols origins (Err failure) =
-    IsMethodOf method (Err failure)
+abbrev pub AnswersHandshake : RequestTexts → ℕ → HandshakeRules → Result Answered Failure → Type 0
+AnswersHandshake request number rules (Ok shown) = IsAnsweredHandshake request number rules shown
+AnswersHandshake request number rules (Err failure) =
+    IsMethodOf request.method.now (Err failure)
     ⊎ (IsVersionOf number (Err failure)
-    ⊎ (FailsAt protocols failure
-    ⊎ (AreOriginsOf origins (Err failure)
-    ⊎ (IsMapOf input (Err failure)
-    ⊎ ((failure ≡ Memory) × IsAnsweredByFields method number input protocols origins)))))
+    ⊎ (FailsAt rules.protocols.now failure
+    ⊎ (AreOriginsOf rules.origins.now (Err failure)
+    ⊎ (IsMapOf request.section.now (Err failure)
+    ⊎ ((failure ≡ Memory) × IsAnsweredByFields request number rules)))))
 
 -- ---- the client's end
 
@@ -148,17 +149,17 @@ checked_number Open = 0
 checked_number (Fail flaw) = flaw_number flaw
 
 -- the status and the fields of both sections are those that were handed in, and this is what the client finds
-pub record IsChecked (sent : List ℕ) (status : ℕ) (response : List ℕ) (number : ℕ) : Type 0 where
+pub record IsChecked (exchange : HandshakeExchange) (number : ℕ) : Type 0 where
   pub asked : Entries FieldValue
-  pub is_asked : Holds sent asked
+  pub is_asked : Holds exchange.sent.now asked
   pub told : Entries FieldValue
-  pub is_told : Holds response told
+  pub is_told : Holds exchange.response.now told
   pub checked : Checked
-  pub checks : Checks (lines_at asked) status (lines_at told) checked
+  pub checks : Checks (lines_at asked) exchange.status (lines_at told) checked
   pub shown : number ≡ checked_number checked
 
-abbrev pub ChecksResponse : List ℕ → ℕ → List ℕ → Result ℕ Failure → Type 0
-ChecksResponse sent status response (Ok number) =
-    IsStatusOf status (Ok status) × IsChecked sent status response number
-ChecksResponse sent status response (Err failure) =
-    IsStatusOf status (Err failure) ⊎ (IsMapOf sent (Err failure) ⊎ IsMapOf response (Err failure))
+abbrev pub ChecksResponse : HandshakeExchange → Result ℕ Failure → Type 0
+ChecksResponse exchange (Ok number) = IsStatusOf exchange.status (Ok exchange.status) × IsChecked exchange number
+ChecksResponse exchange (Err failure) =
+    IsStatusOf exchange.status (Err failure)
+    ⊎ (IsMapOf exchange.sent.now (Err failure) ⊎ IsMapOf exchange.response.now (Err failure))

@@ -10,7 +10,7 @@ use Rattle.c_parts.{specs.SectionMap.IsMapOf, specs.declared.status.Failure.Fail
 use Rattle.c_decisions.{specs.Contents.{IsBoundaryOf, IsContentOf}, specs.FieldLines.fields_text, specs.Flags.flag_of}
 use Rattle.c_decisions.{specs.Methods.IsMethodOf, specs.Selection.range_of, specs.Targets.IsResourceOf}
 use Rattle.c_decisions.{specs.declared.content.ContentParts.ContentParts, specs.declared.response.Responded.Responded}
-use Rattle.c_decisions.specs.declared.target.Target.{Target}
+use Rattle.c_decisions.{specs.declared.request.RequestTexts.RequestTexts, specs.declared.target.Target.Target}
 
 -- the status of a response, its parts, and the field lines of its fields
 pub record IsShownResponse (is_known : Bool) (response : Response) (shown : Responded) : Type 0 where
@@ -47,11 +47,12 @@ pub record IsResponded (method input etag : List ℕ) (target : Target) (parts :
   pub is_shown : IsShownAnswer (is_known_by (lines_at request)) answer shown
 
 -- the answer is the response, or the failure of reading what was handed in
-abbrev pub Responds : (method input etag : List ℕ) → Target → ContentParts → List ℕ → Result Responded Failure → Type 0
-Responds method input etag target parts boundary (Ok shown) =
-    IsResponded method input etag target parts boundary shown
-Responds method input etag target parts boundary (Err failure) =
-    IsMethodOf method (Err failure)
+abbrev pub Responds : RequestTexts → (etag : List ℕ) → Target → ContentParts → (boundary : List ℕ)
+    → Result Responded Failure → Type 0
+Responds request etag target parts boundary (Ok shown) =
+    IsResponded request.method.now request.section.now etag target parts boundary shown
+Responds request etag target parts boundary (Err failure) =
+    IsMethodOf request.method.now (Err failure)
     ⊎ (IsResourceOf etag target (Err failure)
     ⊎ (IsContentOf parts (Err failure)
-    ⊎ (IsBoundaryOf boundary (Err failure) ⊎ IsMapOf input (Err failure))))
+    ⊎ (IsBoundaryOf boundary (Err failure) ⊎ IsMapOf request.section.now (Err failure))))

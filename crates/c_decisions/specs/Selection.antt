@@ -11,7 +11,8 @@ use Rattle.decide_preconditions.specs.declared.selection.Selection.{Selection}
 use Rattle.decide_preconditions.specs.declared.selection.Selection.TheVariants.{Whole, Parts, Unsatisfiable}
 use Rattle.c_parts.{specs.Endings.TellsAndWrites, specs.SectionMap.IsMapOf, specs.declared.status.Failure.Failure}
 use Rattle.c_parts.specs.declared.status.Failure.TheVariants.{Memory, Absent}
-use Rattle.c_decisions.{specs.Methods.IsMethodOf, specs.Targets.IsResourceOf, specs.declared.target.Target.Target}
+use Rattle.c_decisions.{specs.Methods.IsMethodOf, specs.Targets.IsResourceOf}
+use Rattle.c_decisions.{specs.declared.request.RequestTexts.RequestTexts, specs.declared.target.Target.Target}
 use Rattle.c_decisions.{specs.declared.selection.BytesRange.BytesRange, specs.declared.selection.Selected.Selected}
 
 abbrev pub range_of : Part → BytesRange
@@ -52,13 +53,15 @@ pub record HasRange (method input etag : List ℕ) (target : Target) (length : �
 
 -- The answer is the selection, or the failure of reading what was handed in. `Absent` only if the target has no
 -- representation, and `Memory` also if Range applies.
-abbrev pub Selects : (method input etag : List ℕ) → Target → ℕ → Result Selected Failure → Type 0
-Selects method input etag target length (Ok selected) = IsSelected method input etag target length selected
-Selects method input etag target length (Err Absent) = target.exists ≡ false
-Selects method input etag target length (Err failure) =
-    IsMethodOf method (Err failure)
+abbrev pub Selects : RequestTexts → (etag : List ℕ) → Target → ℕ → Result Selected Failure → Type 0
+Selects request etag target length (Ok selected) =
+    IsSelected request.method.now request.section.now etag target length selected
+Selects request etag target length (Err Absent) = target.exists ≡ false
+Selects request etag target length (Err failure) =
+    IsMethodOf request.method.now (Err failure)
     ⊎ (IsResourceOf etag target (Err failure)
-    ⊎ (IsMapOf input (Err failure) ⊎ ((failure ≡ Memory) × HasRange method input etag target length)))
+    ⊎ (IsMapOf request.section.now (Err failure)
+    ⊎ ((failure ≡ Memory) × HasRange request.method.now request.section.now etag target length)))
 
 -- a call that gives a selection has an answer of which P holds
 abbrev pub WritesSelection : (Result Selected Failure → Type 0) → (code new_code : ℕ) → (old new : List BytesRange)

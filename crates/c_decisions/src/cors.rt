@@ -5,6 +5,7 @@ ghost use Rattle.c_decisions.specs.Cors.{IsShownAnswer, Shares, SharesBy, kind_n
 use crate::field_lines::fields_text;
 use crate::flag::flag_of;
 use crate::method::read_method;
+use crate::request::RequestTexts;
 use crate::rules::{Rules, read_policy};
 use c_parts::{Failure, HashKeys, read_map};
 use decide_cors::{CorsAnswer, CorsKind, CorsPolicy, RequestHead};
@@ -32,36 +33,34 @@ pub struct Shared {
 pub fn answer_by_rules(
     alloc: Global,
     rules: &Rules<'_>,
-    method: &[u8],
-    request: &[u8],
+    request: &RequestTexts<'_>,
     response: &[u8],
     keys: &HashKeys,
 ) -> Result<Shared, Failure>
-    ensures { Shares rules.now method.now request.now response.now result }
+    ensures { Shares rules.now request.now response.now result }
 {
     let policy = read_policy(alloc, rules)?;
-    answer_by(alloc, &policy, method, request, response, keys)
+    answer_by(alloc, &policy, request, response, keys)
 }
 
 // The same of a policy, which is borrowed: dropped at each `?`, it would split the goals that follow.
 fn answer_by(
     alloc: Global,
     policy: &CorsPolicy,
-    method: &[u8],
-    request: &[u8],
+    request: &RequestTexts<'_>,
     response: &[u8],
     keys: &HashKeys,
 ) -> Result<Shared, Failure>
-    ensures { SharesBy policy.now method.now request.now response.now result }
+    ensures { SharesBy policy.now request.now response.now result }
 {
-    let method = read_method(alloc, method)?;
-    let request = read_map(alloc, request, keys)?;
+    let method = read_method(alloc, request.method)?;
+    let fields = read_map(alloc, request.section, keys)?;
     let response = read_map(alloc, response, keys)?;
-    let request = RequestHead {
+    let head = RequestHead {
         method: &method,
-        fields: &request,
+        fields: &fields,
     };
-    let answer = policy.answer(alloc, &request, &response)?;
+    let answer = policy.answer(alloc, &head, &response)?;
     Ok(show_shared(alloc, &answer)?)
 }
 

@@ -3,7 +3,8 @@ ghost use Rattle.std.specs.Prelude.{◌≡◌};
 ghost use Rattle.c_decisions.specs.Evaluations.{Evaluates, code_of};
 
 use crate::method::read_method;
-use crate::target::{MethodAndTarget, read_resource};
+use crate::request::RequestTexts;
+use crate::target::{Target, read_resource};
 use c_parts::{Failure, HashKeys, read_map};
 use decide_preconditions::{Precondition, RequestHead, evaluate};
 use std::alloc::Global;
@@ -12,20 +13,21 @@ use std::alloc::Global;
 /// performed, 304 or 412.
 pub fn evaluate_request(
     alloc: Global,
-    section: &[u8],
+    request: &RequestTexts<'_>,
     keys: &HashKeys,
-    asked: &MethodAndTarget<'_>,
+    etag: &[u8],
+    target: &Target,
 ) -> Result<u16, Failure>
-    ensures { Evaluates asked.now.method.now section.now asked.now.etag.now asked.now.target.now result }
+    ensures { Evaluates request.now etag.now target.now result }
 {
-    let method = read_method(alloc, asked.method)?;
-    let resource = read_resource(alloc, asked.etag, asked.target)?;
-    let request = read_map(alloc, section, keys)?;
+    let method = read_method(alloc, request.method)?;
+    let resource = read_resource(alloc, etag, target)?;
+    let fields = read_map(alloc, request.section, keys)?;
     let head = RequestHead {
         method: &method,
-        fields: &request,
+        fields: &fields,
     };
-    let answer = evaluate(&head, &resource, asked.target.present);
+    let answer = evaluate(&head, &resource, target.present);
     Ok(code_of(answer))
 }
 

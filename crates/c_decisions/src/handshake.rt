@@ -6,6 +6,7 @@ ghost use Rattle.c_decisions.specs.Handshakes.{IsShownHandshake, checked_number,
 
 use crate::field_lines::fields_text;
 use crate::method::read_method;
+use crate::request::RequestTexts;
 use crate::star::is_any;
 use crate::status_code::read_status;
 use crate::texts::values_of;
@@ -23,6 +24,28 @@ pub struct HandshakeFacts {
     pub status: u16,
     /// The rule that the request breaks, 1 to 9, if the status is 400; else 0.
     pub fault: u8,
+}
+
+/// What a server takes of opening handshakes, as C passes it in.
+#[repr(C)]
+#[derive(Clone, Copy)]
+pub struct HandshakeRules<'a> {
+    /// Its own subprotocols, one a line, the most wanted first.
+    pub protocols: &'a [u8],
+    /// The origins whose scripts may open a connection, one a line, or the line `*` for any.
+    pub origins: &'a [u8],
+}
+
+/// Both ends of an opening handshake, as a client knows them and C passes them in.
+#[repr(C)]
+#[derive(Clone, Copy)]
+pub struct HandshakeExchange<'a> {
+    /// The header section that the client sent.
+    pub sent: &'a [u8],
+    /// The header section of the response.
+    pub response: &'a [u8],
+    /// The status of the response.
+    pub status: u16,
 }
 
 /// A server's answer to an opening handshake, and its field lines.
@@ -61,25 +84,22 @@ fn origins_of(alloc: Global, text: &[u8]) -> Result<Origins, Failure>
     }
 }
 
-/// What a server with these subprotocols, one a line, and these origins answers to an opening
-/// handshake (RFC 6455, sections 4.2.1 and 4.2.2).
+/// What a server with these rules answers to an opening handshake (RFC 6455, sections 4.2.1 and 4.2.2).
 pub fn answer_handshake(
     alloc: Global,
-    method: &[u8],
+    request: &RequestTexts<'_>,
     version: u8,
-    section: &[u8],
     keys: &HashKeys,
-    protocols: &[u8],
-    origins: &[u8],
+    rules: &HandshakeRules<'_>,
 ) -> Result<Answered, Failure>
-    ensures { AnswersHandshake method.now version section.now protocols.now origins.now result }
+    ensures { AnswersHandshake request.now version rules.now result }
 {
-    let method = read_method(alloc, method)?;
+    let method = read_method(alloc, request.method)?;
     let version = version_of(version)?;
-    let own = values_of(alloc, protocols)?;
-    let origins = origins_of(alloc, origins)?;
-    let request = read_map(alloc, section, keys)?;
-    let answer = accept(alloc, &method, version, &request, own.as_slice(), &origins)?;
+    let own = values_of(alloc, rules.protocols)?;
+    let origins = origins_of(alloc, rules.origins)?;
+    let fields = read_map(alloc, request.section, keys)?;
+    let answer = accept(alloc, &method, version, &fields, own.as_slice(), &origins)?;
     Ok(show(alloc, &answer)?)
 }
 
@@ -137,16 +157,14 @@ pub fn offer_handshake(alloc: Global, nonce: &[u8]) -> Result<Vec<u8>, Failure>
 /// the connection is open, else the number of the rule that the response breaks, 1 to 7.
 pub fn check_response(
     alloc: Global,
-    sent: &[u8],
-    status: u16,
-    response: &[u8],
+    exchange: &HandshakeExchange<'_>,
     keys: &HashKeys,
 ) -> Result<u8, Failure>
-    ensures { ChecksResponse sent.now status response.now result }
+    ensures { ChecksResponse exchange.now result }
 {
-    let status = read_status(status)?;
-    let sent = read_map(alloc, sent, keys)?;
-    let response = read_map(alloc, response, keys)?;
+    let status = read_status(exchange.status)?;
+    let sent = read_map(alloc, exchange.sent, keys)?;
+    let response = read_map(alloc, exchange.response, keys)?;
     Ok(checked_number(check(&sent, status, &response)))
 }
 

@@ -13,6 +13,7 @@ mod method;
 mod numbers;
 mod origins;
 mod quality;
+mod request;
 mod response;
 mod rules;
 mod selection;
@@ -28,12 +29,14 @@ pub use crate::evaluation::{code_of, evaluate_request};
 pub use crate::field_lines::fields_text;
 pub use crate::flag::flag_of;
 pub use crate::handshake::{
-    Answered, HandshakeFacts, answer_handshake, check_response, offer_handshake,
+    Answered, HandshakeExchange, HandshakeFacts, HandshakeRules, answer_handshake, check_response,
+    offer_handshake,
 };
 pub use crate::method::read_method;
 pub use crate::numbers::known;
 pub use crate::origins::find_unsent;
 pub use crate::quality::{OfferQuality, rate};
+pub use crate::request::RequestTexts;
 pub use crate::response::{Responded, ResponseFacts, parts_sent, respond_to, show_response};
 pub use crate::rules::{Listed, Rules, read_line, read_policy};
 pub use crate::selection::{BytesRange, Selected, select_ranges, show_selection};

@@ -7,8 +7,9 @@ use crate::content::{ContentParts, boundary_of, content_of};
 use crate::field_lines::fields_text;
 use crate::flag::flag_of;
 use crate::method::read_method;
+use crate::request::RequestTexts;
 use crate::selection::{BytesRange, range_of, ranges_of};
-use crate::target::{MethodAndTarget, read_resource};
+use crate::target::{Target, read_resource};
 use c_parts::{Failure, HashKeys, read_map};
 use decide_preconditions::{Plan, RequestHead, Response, Sending, is_known_by, respond};
 use std::alloc::{AllocError, Global};
@@ -38,31 +39,31 @@ pub struct Responded {
 /// sections 13.2.2 and 14.2), within the usual limits.
 pub fn respond_to(
     alloc: Global,
-    section: &[u8],
+    request: &RequestTexts<'_>,
     keys: &HashKeys,
-    asked: &MethodAndTarget<'_>,
+    etag: &[u8],
+    target: &Target,
     content: &ContentParts<'_>,
     boundary: &[u8],
 ) -> Result<Responded, Failure>
-    ensures { Responds asked.now.method.now section.now asked.now.etag.now asked.now.target.now
-        content.entry.now boundary.now result }
+    ensures { Responds request.now etag.now target.now content.entry.now boundary.now result }
 {
-    let method = read_method(alloc, asked.method)?;
-    let resource = read_resource(alloc, asked.etag, asked.target)?;
+    let method = read_method(alloc, request.method)?;
+    let resource = read_resource(alloc, etag, target)?;
     let content = content_of(alloc, content)?;
     let boundary = boundary_of(alloc, boundary)?;
-    let request = read_map(alloc, section, keys)?;
+    let fields = read_map(alloc, request.section, keys)?;
     let head = RequestHead {
         method: &method,
-        fields: &request,
+        fields: &fields,
     };
     let sending = Sending {
-        present: asked.target.present,
+        present: target.present,
         content: &content,
         boundary: &boundary,
     };
     let answer = respond(alloc, &head, &resource, &sending)?;
-    Ok(show_response(alloc, answer, is_known_by(&request))?)
+    Ok(show_response(alloc, answer, is_known_by(&fields))?)
 }
 
 /// What an answer is, if there is one.

@@ -3,7 +3,8 @@ ghost use Rattle.std.specs.Prelude.{◌≡◌, IfOk, IsErr, map};
 ghost use Rattle.c_decisions.specs.Selection.{ArePartsOf, IsShown, Selects, range_of};
 
 use crate::method::read_method;
-use crate::target::{MethodAndTarget, read_resource};
+use crate::request::RequestTexts;
+use crate::target::{Target, read_resource};
 use c_parts::{Failure, HashKeys, read_map};
 use decide_preconditions::{
     Part, RangeFacts, RangeLimits, RequestHead, Resource, Selection, select,
@@ -29,25 +30,26 @@ pub struct Selected {
 /// 14.2): all of it (200), ranges of it (206) or none (416).
 pub fn select_ranges(
     alloc: Global,
-    section: &[u8],
+    request: &RequestTexts<'_>,
     keys: &HashKeys,
-    asked: &MethodAndTarget<'_>,
+    etag: &[u8],
+    target: &Target,
     length: u64,
 ) -> Result<Selected, Failure>
-    ensures { Selects asked.now.method.now section.now asked.now.etag.now asked.now.target.now length result }
+    ensures { Selects request.now etag.now target.now length result }
 {
-    let method = read_method(alloc, asked.method)?;
-    let Resource::Current(current) = read_resource(alloc, asked.etag, asked.target)? else {
+    let method = read_method(alloc, request.method)?;
+    let Resource::Current(current) = read_resource(alloc, etag, target)? else {
         return Err(Failure::Absent);
     };
-    let request = read_map(alloc, section, keys)?;
+    let fields = read_map(alloc, request.section, keys)?;
     let head = RequestHead {
         method: &method,
-        fields: &request,
+        fields: &fields,
     };
     let limits = RangeLimits::usual();
     let facts = RangeFacts {
-        present: asked.target.present,
+        present: target.present,
         len: length,
         limits,
     };

@@ -1,12 +1,12 @@
 -- How a service is made.
-use Rattle.std.specs.Prelude.{◌≡◌, ◌⊎◌, ℕ, Bool, false, List, [], Option, Some, None, Result, Ok, Err, ⊤, string_bytes}
+use Rattle.std.specs.Prelude.{◌≡◌, ◌⊎◌, ℕ, false, List, [], Option, Some, None, Result, Ok, Err, ⊤, string_bytes}
 use Rattle.decide_preconditions.specs.Boundaries.{is_boundary}
 use Rattle.c_parts.{specs.declared.keys.HashKeys.HashKeys, specs.declared.status.Failure.Failure}
 use Rattle.c_parts.specs.declared.status.Failure.TheVariants.{Refused, Memory, Absent, TooLarge}
 use Rattle.c_decisions.specs.Texts.{AreValuesOf, IsOptionalValue, IsValuesOf}
 use Rattle.server_service.{specs.SiteSettings.IsSiteOf, specs.declared.settings.Divider.Divider}
 use Rattle.server_service.specs.declared.settings.Settings.{Settings}
-use Rattle.c_files.specs.declared.held.HeldFiles.{HeldFiles}
+use Rattle.c_files.{specs.declared.held.HeldFiles.HeldFiles, specs.declared.settings.FilesOptions.FilesOptions}
 
 -- the boundary of these bytes; `Refused` only if they are none
 abbrev pub IsDividerOf : List ℕ → Result Divider Failure → Type 0
@@ -17,24 +17,23 @@ IsDividerOf text (Err Absent) = ⊥
 IsDividerOf text (Err TooLarge) = ⊥
 
 -- the settings that a caller hands in
-pub record AreSettings (caching names : List ℕ) (is_coded : Bool) (text : List ℕ) (settings : Settings) : Type 0 where
-  pub cache_control : IsOptionalValue caching (Ok settings.cache_control)
-  pub hosts : AreValuesOf names settings.hosts.items
-  pub negotiates : settings.negotiates ≡ is_coded
-  pub divider : string_bytes settings.divider.text ≡ text
+pub record AreSettings (given : FilesOptions) (settings : Settings) : Type 0 where
+  pub cache_control : IsOptionalValue given.cache_control.now (Ok settings.cache_control)
+  pub hosts : AreValuesOf given.hosts.now settings.hosts.items
+  pub negotiates : settings.negotiates ≡ given.negotiates
+  pub divider : string_bytes settings.divider.text ≡ given.boundary.now
   pub cors : settings.cors ≡ None
   pub pages : settings.pages.items ≡ []
 
 -- the settings, or one of them is none
-abbrev pub IsSettingsOf : (cache_control hosts : List ℕ) → Bool → (boundary : List ℕ) → Result Settings Failure
-    → Type 0
-IsSettingsOf cache_control hosts negotiates boundary (Ok settings) =
-    AreSettings cache_control hosts negotiates boundary settings
-IsSettingsOf cache_control hosts negotiates boundary (Err Refused) =
-    IsOptionalValue cache_control (Err Refused) ⊎ (IsValuesOf hosts (Err Refused) ⊎ (is_boundary boundary ≡ false))
-IsSettingsOf cache_control hosts negotiates boundary (Err Memory) = ⊤
-IsSettingsOf cache_control hosts negotiates boundary (Err Absent) = ⊥
-IsSettingsOf cache_control hosts negotiates boundary (Err TooLarge) = ⊥
+abbrev pub IsSettingsOf : FilesOptions → Result Settings Failure → Type 0
+IsSettingsOf given (Ok settings) = AreSettings given settings
+IsSettingsOf given (Err Refused) =
+    IsOptionalValue given.cache_control.now (Err Refused)
+    ⊎ (IsValuesOf given.hosts.now (Err Refused) ⊎ (is_boundary given.boundary.now ≡ false))
+IsSettingsOf given (Err Memory) = ⊤
+IsSettingsOf given (Err Absent) = ⊥
+IsSettingsOf given (Err TooLarge) = ⊥
 
 -- a service with these settings, whose tags are hashed with these keys
 abbrev pub IsNew : Settings → HashKeys → HeldFiles → Type 0

@@ -16,5 +16,5 @@ pub use crate::entry::Facts;
 pub use crate::held::HeldFiles;
 pub use crate::paths::path_for;
 pub use crate::planning::plan_response;
-pub use crate::settings::{new_files, settings_of};
+pub use crate::settings::{FilesOptions, new_files, settings_of};
 pub use crate::store::Found;

@@ -10,6 +10,20 @@ use headers::Refused;
 use server_service::{Divider, FileService, Settings, Site};
 use std::alloc::{AllocError, Global};
 
+/// What a service of files does, as C passes it in.
+#[repr(C)]
+#[derive(Clone, Copy)]
+pub struct FilesOptions<'a> {
+    /// What Cache-Control says of what a cache may use again, or empty.
+    pub cache_control: &'a [u8],
+    /// The hosts that are served, one a line, or empty for all.
+    pub hosts: &'a [u8],
+    /// The boundary between several parts of a response.
+    pub boundary: &'a [u8],
+    /// Whether a client may get the precompressed copy of a file.
+    pub negotiates: bool,
+}
+
 // The boundary of these bytes.
 fn divider_of(alloc: Global, text: &[u8]) -> Result<Divider, Failure>
     ensures { IsDividerOf text.now result }
@@ -26,21 +40,15 @@ fn divider_of(alloc: Global, text: &[u8]) -> Result<Divider, Failure>
 }
 
 /// The settings that a caller hands in. Rejected if one of them is none.
-pub fn settings_of(
-    alloc: Global,
-    cache_control: &[u8],
-    hosts: &[u8],
-    negotiates: bool,
-    boundary: &[u8],
-) -> Result<Settings, Failure>
-    ensures { IsSettingsOf cache_control.now hosts.now negotiates boundary.now result }
+pub fn settings_of(alloc: Global, options: &FilesOptions<'_>) -> Result<Settings, Failure>
+    ensures { IsSettingsOf options.now result }
 {
-    let cache_control = optional_value(alloc, cache_control)?;
-    let hosts = values_of(alloc, hosts)?;
-    let divider = divider_of(alloc, boundary)?;
+    let cache_control = optional_value(alloc, options.cache_control)?;
+    let hosts = values_of(alloc, options.hosts)?;
+    let divider = divider_of(alloc, options.boundary)?;
     Ok(Settings {
         cache_control,
-        negotiates,
+        negotiates: options.negotiates,
         hosts,
         cors: None,
         divider,

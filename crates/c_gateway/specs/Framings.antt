@@ -11,6 +11,7 @@ use Rattle.c_parts.{specs.SectionMap.IsMapOf, specs.declared.status.Failure.Fail
 use Rattle.c_decisions.{specs.Methods.IsMethodOf, specs.StatusCodes.IsStatusOf}
 use Rattle.c_gateway.{specs.Contents.{content_facts, no_content, request_content}, specs.Protocols.IsProtocolOf}
 use Rattle.c_gateway.{specs.Reasons.reason_number, specs.declared.framing.FramingFacts.FramingFacts}
+use Rattle.c_gateway.specs.declared.framing.MessageParts.{MessageParts}
 
 -- the status code of a response; 0 says that the message is a request
 abbrev pub IsCodeOf : ℕ → Result (Option ℕ) Failure → Type 0
@@ -48,21 +49,22 @@ framing_facts is_response (Err rejection) =
     record { content = no_content; status = rejection_status is_response rejection; reason = reason_number rejection }
 
 -- all is as it was handed in, and the content is delimited so
-pub record IsFramed (method : List ℕ) (status version : ℕ) (input : List ℕ) (facts : FramingFacts) : Type 0 where
-  pub is_method : IsToken method
+pub record IsFramed (message : MessageParts) (facts : FramingFacts) : Type 0 where
+  pub is_method : IsToken message.method.now
   pub code : Option ℕ
-  pub is_code : IsCodeOf status (Ok code)
+  pub is_code : IsCodeOf message.status (Ok code)
   pub protocol : Protocol
-  pub is_protocol : IsProtocolOf version (Ok protocol)
+  pub is_protocol : IsProtocolOf message.version (Ok protocol)
   pub fields : Entries FieldValue
-  pub holds : Holds input fields
+  pub holds : Holds message.section.now fields
   pub delimited : Result Content Rejection
-  pub is_delimited : IsDelimited protocol method code (lines_at fields) delimited
+  pub is_delimited : IsDelimited protocol message.method.now code (lines_at fields) delimited
   pub facts_are : facts ≡ framing_facts (is_some code) delimited
 
 -- the answer is how the content is delimited, or the failure of reading what was handed in
-abbrev pub Frames : (method : List ℕ) → (status version : ℕ) → (input : List ℕ) → Result FramingFacts Failure → Type 0
-Frames method status version input (Ok facts) = IsFramed method status version input facts
-Frames method status version input (Err failure) =
-    IsMethodOf method (Err failure)
-    ⊎ (IsCodeOf status (Err failure) ⊎ (IsProtocolOf version (Err failure) ⊎ IsMapOf input (Err failure)))
+abbrev pub Frames : MessageParts → Result FramingFacts Failure → Type 0
+Frames message (Ok facts) = IsFramed message facts
+Frames message (Err failure) =
+    IsMethodOf message.method.now (Err failure)
+    ⊎ (IsCodeOf message.status (Err failure)
+    ⊎ (IsProtocolOf message.version (Err failure) ⊎ IsMapOf message.section.now (Err failure)))

@@ -11,6 +11,7 @@ use Rattle.gateway_hops.{specs.Sent.IsHopOutcome, specs.declared.request.HopOutc
 use Rattle.gateway_hops.specs.declared.request.HopOutcome.TheVariants.{Send, RequireLength, Respond, Reject}
 use Rattle.c_parts.{specs.SectionMap.IsMapOf, specs.declared.status.Failure.Failure}
 use Rattle.c_decisions.{specs.Flags.flag_of, specs.Methods.IsMethodOf, specs.Texts.IsOptionalValue}
+use Rattle.c_decisions.specs.declared.request.RequestTexts.{RequestTexts}
 use Rattle.c_gateway.{specs.Contents.{content_facts, no_content, request_content}, specs.Gateways.IsGatewayOf}
 use Rattle.c_gateway.{specs.Hops.{AreNodesOf, hop_of}, specs.Lines.lines_text, specs.Protocols.IsProtocolOf}
 use Rattle.c_gateway.specs.Reasons.{length_required, reason_number}
@@ -76,8 +77,8 @@ pub record IsStepAt (gateway : Gateway) (options : HopOptions) (nodes : Nodes) (
   pub is_shown : IsShownRequest outcome step
 
 -- all is as it was handed in, and this is what the gateway does
-pub record IsPassedRequest (given : GatewayOptions) (options : HopOptions) (method : List ℕ) (version : ℕ)
-    (authority input : List ℕ) (step : RequestStep) : Type 0 where
+pub record IsPassedRequest (given : GatewayOptions) (options : HopOptions) (request : RequestTexts) (version : ℕ)
+    (authority : List ℕ) (step : RequestStep) : Type 0 where
   pub gateway : Gateway
   pub is_gateway : IsGatewayOf given (Ok gateway)
   pub nodes : Nodes
@@ -86,35 +87,34 @@ pub record IsPassedRequest (given : GatewayOptions) (options : HopOptions) (meth
   pub is_server : IsProtocolOf options.server_version (Ok server)
   pub protocol : Protocol
   pub is_protocol : IsProtocolOf version (Ok protocol)
-  pub is_method : IsToken method
+  pub is_method : IsToken request.method.now
   pub target : Option FieldValue
   pub is_target : IsOptionalValue authority (Ok target)
   pub fields : Entries FieldValue
-  pub holds : Holds input fields
+  pub holds : Holds request.section.now fields
   pub outcome : HopOutcome
   pub is_outcome : IsOutcomeAt gateway options nodes server
       (record {
         protocol = protocol;
-        method = method;
+        method = request.method.now;
         authority = option_map (λ value. value.bytes) target;
         fields = lines_at fields;
       }) outcome
   pub is_shown : IsShownRequest outcome step
 
 -- why something that was handed in can't be read
-abbrev pub FailsAtRequest : GatewayOptions → HopOptions → (method : List ℕ) → ℕ → (authority input : List ℕ) → Failure
-    → Type 0
-FailsAtRequest given options method version authority input failure =
+abbrev pub FailsAtRequest : GatewayOptions → HopOptions → RequestTexts → ℕ → (authority : List ℕ) → Failure → Type 0
+FailsAtRequest given options request version authority failure =
     IsGatewayOf given (Err failure)
     ⊎ (AreNodesOf options (Err failure)
     ⊎ (IsProtocolOf options.server_version (Err failure)
     ⊎ (IsProtocolOf version (Err failure)
-    ⊎ (IsMethodOf method (Err failure)
-    ⊎ (IsOptionalValue authority (Err failure) ⊎ IsMapOf input (Err failure))))))
+    ⊎ (IsMethodOf request.method.now (Err failure)
+    ⊎ (IsOptionalValue authority (Err failure) ⊎ IsMapOf request.section.now (Err failure))))))
 
-abbrev pub PassesRequest : GatewayOptions → HopOptions → (method : List ℕ) → ℕ → (authority input : List ℕ)
+abbrev pub PassesRequest : GatewayOptions → HopOptions → RequestTexts → ℕ → (authority : List ℕ)
     → Result RequestStep Failure → Type 0
-PassesRequest given options method version authority input (Ok step) =
-    IsPassedRequest given options method version authority input step
-PassesRequest given options method version authority input (Err failure) =
-    FailsAtRequest given options method version authority input failure
+PassesRequest given options request version authority (Ok step) =
+    IsPassedRequest given options request version authority step
+PassesRequest given options request version authority (Err failure) =
+    FailsAtRequest given options request version authority failure

@@ -12,7 +12,7 @@ use Rattle.c_decisions.{specs.Methods.IsMethodOf, specs.StatusCodes.IsStatusOf}
 use Rattle.c_gateway.{specs.Contents.{content_facts, no_content, sent_content}, specs.Dates.IsDateOf}
 use Rattle.c_gateway.{specs.Gateways.IsGatewayOf, specs.Lines.lines_text, specs.Protocols.IsProtocolOf}
 use Rattle.c_gateway.{specs.Reasons.reason_number, specs.declared.gateway.GatewayOptions.GatewayOptions}
-use Rattle.c_gateway.specs.declared.response.ResponseFacts.{ResponseFacts}
+use Rattle.c_gateway.{specs.declared.framing.MessageParts.MessageParts, specs.declared.response.ResponseFacts.ResponseFacts}
 use Rattle.c_gateway.specs.declared.response.ResponseStep.{ResponseStep}
 
 -- ---- what a caller is told
@@ -52,44 +52,43 @@ pub record IsStepAt (gateway : Gateway) (second : ℕ) (response : Response) (st
   pub is_shown : IsShownResponse outcome step
 
 -- all is as it was handed in, and this is what the gateway does
-pub record IsPassedResponse (given : GatewayOptions) (status version : ℕ) (input method : List ℕ)
-    (client_version second : ℕ) (step : ResponseStep) : Type 0 where
+pub record IsPassedResponse (given : GatewayOptions) (response : MessageParts) (client_version second : ℕ)
+    (step : ResponseStep) : Type 0 where
   pub gateway : Gateway
   pub is_gateway : IsGatewayOf given (Ok gateway)
-  pub is_status : IsStatusOf status (Ok status)
+  pub is_status : IsStatusOf response.status (Ok response.status)
   pub protocol : Protocol
-  pub is_protocol : IsProtocolOf version (Ok protocol)
-  pub is_method : IsToken method
+  pub is_protocol : IsProtocolOf response.version (Ok protocol)
+  pub is_method : IsToken response.method.now
   pub client : Protocol
   pub is_client : IsProtocolOf client_version (Ok client)
   pub is_date : IsDateOf second (Ok second)
   pub fields : Entries FieldValue
-  pub holds : Holds input fields
+  pub holds : Holds response.section.now fields
   pub outcome : ResponseOutcome
   pub is_outcome : IsResponseOutcome gateway second
       (record {
         protocol = protocol;
-        status = status;
+        status = response.status;
         fields = lines_at fields;
-        method = method;
+        method = response.method.now;
         client = client;
       }) outcome
   pub is_shown : IsShownResponse outcome step
 
 -- why something that was handed in can't be read
-abbrev pub FailsAtResponse : GatewayOptions → (status version : ℕ) → (input method : List ℕ)
-    → (client_version second : ℕ) → Failure → Type 0
-FailsAtResponse given status version input method client_version second failure =
+abbrev pub FailsAtResponse : GatewayOptions → MessageParts → (client_version second : ℕ) → Failure → Type 0
+FailsAtResponse given response client_version second failure =
     IsGatewayOf given (Err failure)
-    ⊎ (IsStatusOf status (Err failure)
-    ⊎ (IsProtocolOf version (Err failure)
-    ⊎ (IsMethodOf method (Err failure)
+    ⊎ (IsStatusOf response.status (Err failure)
+    ⊎ (IsProtocolOf response.version (Err failure)
+    ⊎ (IsMethodOf response.method.now (Err failure)
     ⊎ (IsProtocolOf client_version (Err failure)
-    ⊎ (IsDateOf second (Err failure) ⊎ IsMapOf input (Err failure))))))
+    ⊎ (IsDateOf second (Err failure) ⊎ IsMapOf response.section.now (Err failure))))))
 
-abbrev pub PassesResponse : GatewayOptions → (status version : ℕ) → (input method : List ℕ)
-    → (client_version second : ℕ) → Result ResponseStep Failure → Type 0
-PassesResponse given status version input method client_version second (Ok step) =
-    IsPassedResponse given status version input method client_version second step
-PassesResponse given status version input method client_version second (Err failure) =
-    FailsAtResponse given status version input method client_version second failure
+abbrev pub PassesResponse : GatewayOptions → MessageParts → (client_version second : ℕ)
+    → Result ResponseStep Failure → Type 0
+PassesResponse given response client_version second (Ok step) =
+    IsPassedResponse given response client_version second step
+PassesResponse given response client_version second (Err failure) =
+    FailsAtResponse given response client_version second failure

@@ -13,6 +13,20 @@ use headers::HeaderMap;
 use http::{Method, StatusCode};
 use std::alloc::Global;
 
+/// A request, or the response to one, as C passes it in.
+#[repr(C)]
+#[derive(Clone, Copy)]
+pub struct MessageParts<'a> {
+    /// The method of the request.
+    pub method: &'a [u8],
+    /// The message's own header section.
+    pub section: &'a [u8],
+    /// The status of a response, or 0 of a request.
+    pub status: u16,
+    /// The version in which the message was received: 10 or 11.
+    pub version: u8,
+}
+
 /// How the content of a message is delimited, or why it is rejected.
 #[repr(C)]
 #[derive(Clone, Copy)]
@@ -35,22 +49,18 @@ fn read_code(status: u16) -> Result<Option<StatusCode>, Failure>
     Ok(Some(read_status(status)?))
 }
 
-/// How the content of a message is delimited that was received in this version (RFC 9112, section
-/// 6.3). The status is that of a response, or 0 for a request; the method is that of the request.
+/// How the content of a message is delimited (RFC 9112, section 6.3).
 pub fn frame_message(
     alloc: Global,
-    method: &[u8],
-    status: u16,
-    version: u8,
-    section: &[u8],
+    message: &MessageParts<'_>,
     keys: &HashKeys,
 ) -> Result<FramingFacts, Failure>
-    ensures { Frames method.now status version section.now result }
+    ensures { Frames message.now result }
 {
-    let method = read_method(alloc, method)?;
-    let code = read_code(status)?;
-    let protocol = read_protocol(version)?;
-    let fields = read_map(alloc, section, keys)?;
+    let method = read_method(alloc, message.method)?;
+    let code = read_code(message.status)?;
+    let protocol = read_protocol(message.version)?;
+    let fields = read_map(alloc, message.section, keys)?;
     let delimited = delimited(protocol, &method, &code, &fields);
     Ok(framing_facts(code.is_some(), &delimited))
 }

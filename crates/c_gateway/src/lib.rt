@@ -16,7 +16,7 @@ mod request;
 mod response;
 
 pub use crate::content::ContentFacts;
-pub use crate::framing::{FramingFacts, frame_message};
+pub use crate::framing::{FramingFacts, MessageParts, frame_message};
 pub use crate::gateway::GatewayOptions;
 pub use crate::hop::HopOptions;
 pub use crate::request::{RequestFacts, RequestStep, pass_request};

@@ -10,7 +10,7 @@ use crate::hop::{HopOptions, Nodes, arrival_of, connection_of, forwarding_of, re
 use crate::lines::lines_text;
 use crate::protocol::read_protocol;
 use crate::reason::reason_number;
-use c_decisions::{flag_of, optional_value, read_method};
+use c_decisions::{RequestTexts, flag_of, optional_value, read_method};
 use c_parts::{Failure, HashKeys, read_map};
 use gateway_hops::{HopOutcome, send_request};
 use gateway_messages::{Expectation, Gateway, Protocol, RequestHead};
@@ -45,21 +45,20 @@ pub fn pass_request(
     alloc: Global,
     gateway: &GatewayOptions<'_>,
     hop: &HopOptions<'_>,
-    method: &[u8],
+    request: &RequestTexts<'_>,
     version: u8,
     authority: &[u8],
-    section: &[u8],
     keys: &HashKeys,
 ) -> Result<RequestStep, Failure>
-    ensures { PassesRequest gateway.entry.now hop.entry.now method.now version authority.now section.now result }
+    ensures { PassesRequest gateway.entry.now hop.entry.now request.now version authority.now result }
 {
     let server = read_protocol(hop.server_version)?;
     let protocol = read_protocol(version)?;
     let gateway = read_gateway(alloc, gateway)?;
     let nodes = read_nodes(alloc, hop)?;
-    let method = read_method(alloc, method)?;
+    let method = read_method(alloc, request.method)?;
     let authority = optional_value(alloc, authority)?;
-    let fields = read_map(alloc, section, keys)?;
+    let fields = read_map(alloc, request.section, keys)?;
     let head = RequestHead {
         protocol,
         method: &method,

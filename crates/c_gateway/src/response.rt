@@ -6,6 +6,7 @@ ghost use Rattle.c_gateway.specs.Responses.{forwarded_lines, response_facts, wit
 
 use crate::content::{ContentFacts, content_facts, sent_content};
 use crate::date::read_date;
+use crate::framing::MessageParts;
 use crate::gateway::{GatewayOptions, read_gateway};
 use crate::lines::lines_text;
 use crate::protocol::read_protocol;
@@ -39,28 +40,25 @@ pub struct ResponseStep {
     pub text: Vec<u8>,
 }
 
-/// What a gateway does with a response that it received in this version, at this second since 1970
-/// (RFC 9110, section 7.6). The method and the client's version are those of the request.
+/// What a gateway does with a response that it received at this second since 1970 (RFC 9110, section 7.6). The
+/// client's version is that of the request.
 pub fn pass_response(
     alloc: Global,
     gateway: &GatewayOptions<'_>,
-    status: u16,
-    version: u8,
-    section: &[u8],
+    response: &MessageParts<'_>,
     keys: &HashKeys,
-    method: &[u8],
     client_version: u8,
     received: u64,
 ) -> Result<ResponseStep, Failure>
-    ensures { PassesResponse gateway.entry.now status version section.now method.now client_version received result }
+    ensures { PassesResponse gateway.entry.now response.now client_version received result }
 {
-    let status = read_status(status)?;
-    let protocol = read_protocol(version)?;
+    let status = read_status(response.status)?;
+    let protocol = read_protocol(response.version)?;
     let client = read_protocol(client_version)?;
     let date = read_date(received)?;
     let gateway = read_gateway(alloc, gateway)?;
-    let method = read_method(alloc, method)?;
-    let fields = read_map(alloc, section, keys)?;
+    let method = read_method(alloc, response.method)?;
+    let fields = read_map(alloc, response.section, keys)?;
     let head = ResponseHead {
         protocol,
         status,

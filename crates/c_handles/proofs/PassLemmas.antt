@@ -1,6 +1,6 @@
 -- A pass that has begun, and for which memory ran out then.
 use Rattle.std.proofs.Common.{◌≡◌, ◌⊎◌, ◌∙◌, ℕ, List, Option, Some, None, Ok, Err, ap, inl, inr, refl, subst, sym}
-use Rattle.std.specs.Prelude.{string_bytes}
+use Rattle.std.{specs.Prelude.{Result, string_bytes}, specs.declared.alloc.AllocError.AllocError}
 use Rattle.cache_store.specs.History.Call.{Looked}
 use Rattle.cache_pass.{specs.Effects.{Does, kept_of, settings_of}, specs.Passes.key_of, specs.Queue.Enters}
 use Rattle.c_parts.specs.declared.status.Failure.TheVariants.{Memory}
@@ -15,15 +15,16 @@ use Rattle.c_handles.specs.declared.held.Held.TheVariants as held
 -- its target was looked up
 lost_begin : (request : CacheRequest) (now : ℕ) (old new : Shared) (stepped : Stepped) (facts : PassFacts)
     → IsBegun request now old new stepped facts → FailsBegin request now old new Memory
-lost_begin request now old new stepped facts begun = inr (refl, inr (looked begun.begins))
+lost_begin request now old new stepped facts begun =
+    inr (refl, (begun.fields, begun.is_request), inr (looked begun.begins))
   where
     entered : (place : Place) → key_of stepped.pass ≡ request.target.now
         → IsPlaced stepped.pass now old.queue new.queue place
         → (new.queue ≡ old.queue)
-        ⊎ ((number : Option ℕ) × Enters request.target.now now old.queue new.queue number)
+        ⊎ ((number : Result (Option ℕ) AllocError) × Enters request.target.now now old.queue new.queue number)
     entered place key (inl (apart, same, is)) = inl same
     entered place key (inr (collapses, (number, enters, is))) =
-        inr (number, subst (λ (target : List ℕ). Enters target now old.queue new.queue number) key enters)
+        inr (Ok number, subst (λ (target : List ℕ). Enters target now old.queue new.queue (Ok number)) key enters)
 
     looked : (IsAhead old.queue stepped.pass now None × IsStarted now old new begun.pass stepped facts)
         ⊎ (IsWaiting now old new begun.pass stepped × (facts ≡ waiting))

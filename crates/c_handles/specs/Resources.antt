@@ -4,9 +4,10 @@ use Rattle.http_header.{specs.FieldValue.FieldValue, specs.HeaderMap.Entries}
 use Rattle.decide_resource.specs.declared.resource.Resource.{Resource}
 use Rattle.c_parts.{specs.declared.status.Failure.Failure, specs.declared.status.Failure.TheVariants.{Memory, Absent}}
 use Rattle.c_decisions.specs.declared.rules.Rules.{Rules}
-use Rattle.c_resource.{specs.Answers.AnswersBy, specs.Requests.Asked, specs.Resources.IsResourceAnswer}
+use Rattle.c_resource.{specs.Answers.AnswersBy, specs.Resources.IsResourceAnswer}
 use Rattle.c_resource.specs.declared.answer.Answered.{Answered}
 use Rattle.c_resource.specs.declared.representation.RepresentationParts.{RepresentationParts}
+use Rattle.c_resource.{specs.declared.request.DenialParts.DenialParts, specs.declared.request.RequestParts.RequestParts}
 use Rattle.c_resource.specs.declared.resource.ResourceParts.{ResourceParts}
 use Rattle.c_handles.specs.declared.held.Held.{Held}
 use Rattle.c_handles.specs.declared.held.Held.TheVariants as held
@@ -19,7 +20,8 @@ IsResourceHeld given numbers rules (Err failure) =
     IsResourceAnswer given numbers rules (Err failure) ⊎ (failure ≡ Memory)
 
 -- the resource's answer to a request with these fields, of two handles: `Absent` if one has none
-abbrev pub AnswersBetween : Asked → Option Resource → Option (Entries FieldValue) → Result Answered Failure → Type 0
-AnswersBetween asked None fields answer = answer ≡ Err Absent
-AnswersBetween asked (Some resource) None answer = answer ≡ Err Absent
-AnswersBetween asked (Some resource) (Some fields) answer = AnswersBy asked fields resource answer
+abbrev pub AnswersBetween : RequestParts → DenialParts → Option Resource → Option (Entries FieldValue)
+    → Result Answered Failure → Type 0
+AnswersBetween asked denial None fields answer = answer ≡ Err Absent
+AnswersBetween asked denial (Some resource) None answer = answer ≡ Err Absent
+AnswersBetween asked denial (Some resource) (Some fields) answer = AnswersBy asked denial fields resource answer

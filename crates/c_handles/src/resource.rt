@@ -1,22 +1,22 @@
 //! What a resource answers a request.
 ghost use Rattle.std.specs.Prelude.{◌≡◌, Some};
-ghost use Rattle.c_resource.specs.Requests.{asked_by};
 ghost use Rattle.c_handles.{specs.Handles.{resource_in, section_in}, specs.Resources.AnswersBetween};
 
 use crate::handle::Handle;
 use crate::held::Held;
 use c_parts::Failure;
-use c_resource::{Answered, GivenRequest, answer_with};
+use c_resource::{Answered, DenialParts, RequestParts, answer_with};
 use std::alloc::Global;
 
 fn answer_in(
     alloc: Global,
     resource: &Held,
     fields: &Held,
-    request: &GivenRequest<'_>,
+    request: &RequestParts<'_>,
+    denial: &DenialParts<'_>,
 ) -> Result<Answered, Failure>
-    ensures { AnswersBetween (asked_by request.entry.now) (resource_in (Some resource.now))
-        (section_in (Some fields.now)) result }
+    ensures { AnswersBetween request.now denial.now (resource_in (Some resource.now)) (section_in (Some fields.now))
+        result }
 {
     let Held::Resource(resource) = resource else {
         return Err(Failure::Absent);
@@ -24,7 +24,7 @@ fn answer_in(
     let Held::Section(fields) = fields else {
         return Err(Failure::Absent);
     };
-    answer_with(alloc, resource, request, fields)
+    answer_with(alloc, resource, request, denial, fields)
 }
 
 /// The whole answer of a resource to a request with these fields (RFC 9110, sections 7.4 to 15).
@@ -32,11 +32,12 @@ pub fn answer_as_resource(
     alloc: Global,
     resource: &mut Handle,
     fields: &mut Handle,
-    request: &GivenRequest<'_>,
+    request: &RequestParts<'_>,
+    denial: &DenialParts<'_>,
 ) -> Result<Answered, Failure>
     ensures same_resource { resource.new.held ≡ resource.old.held }
     ensures same_fields { fields.new.held ≡ fields.old.held }
-    ensures answer { AnswersBetween (asked_by request.entry.now) (resource_in resource.old.held)
+    ensures answer { AnswersBetween request.now denial.now (resource_in resource.old.held)
         (section_in fields.old.held) result }
 {
     let Some(known) = resource.take(alloc) else {
@@ -46,7 +47,7 @@ pub fn answer_as_resource(
         resource.put(known);
         return Err(Failure::Absent);
     };
-    let answer = answer_in(alloc, &known, &parsed, request);
+    let answer = answer_in(alloc, &known, &parsed, request, denial);
     resource.put(known);
     fields.put(parsed);
     answer

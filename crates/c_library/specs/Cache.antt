@@ -13,9 +13,10 @@ use Rattle.cache_policy.specs.declared.decision.Decision.{Decision}
 use Rattle.cache_policy.specs.declared.decision.Decision.TheVariants as Decided
 use Rattle.cache_policy.{specs.declared.Kind.Kind, specs.declared.Kind.TheVariants.{Shared, Private}}
 use Rattle.c_decisions.{specs.FieldLines.fields_text, specs.Methods.IsMethodOf, specs.StatusCodes.IsStatusOf}
+use Rattle.c_decisions.specs.declared.request.RequestTexts.{RequestTexts}
 use Rattle.c_parts.{specs.SectionMap.IsMapOf, specs.declared.status.Failure.Failure}
 use Rattle.c_parts.specs.declared.status.Failure.TheVariants.{Absent}
-use Rattle.c_library.{specs.Tags.Tells, specs.declared.cache.Moments.Moments}
+use Rattle.c_library.{specs.Tags.Tells, specs.declared.cache.Moments.Moments, specs.declared.cache.StoredTexts.StoredTexts}
 
 abbrev pub times_of : Moments → Times
 times_of moments = record { request = moments.request; response = moments.response; now = moments.now }
@@ -30,23 +31,23 @@ request_with method fields = record { method = method; fields = lines_at fields 
 
 -- the method, the status and the fields of both sections are those that were handed in, and the number tells whether
 -- the response may be stored
-pub record IsStored (method request : List ℕ) (status : ℕ) (response : List ℕ) (is_shared : Bool) (number : ℕ)
+pub record IsStored (request : RequestTexts) (status : ℕ) (response : List ℕ) (is_shared : Bool) (number : ℕ)
     : Type 0 where
-  pub is_method : IsToken method
+  pub is_method : IsToken request.method.now
   pub is_status : IsStatusCode status
   pub asked : Entries FieldValue
-  pub is_asked : Holds request asked
+  pub is_asked : Holds request.section.now asked
   pub told : Entries FieldValue
   pub is_told : Holds response told
-  pub tells : Tells (MayStore (kind_of is_shared) (request_with method asked) status (lines_at told)) number
+  pub tells : Tells (MayStore (kind_of is_shared) (request_with request.method.now asked) status (lines_at told)) number
 
 -- the answer is the number, or the failure of reading what was handed in
-abbrev pub Stores : (method request : List ℕ) → ℕ → List ℕ → Bool → Result ℕ Failure → Type 0
-Stores method request status response is_shared (Ok number) =
-    IsStored method request status response is_shared number
-Stores method request status response is_shared (Err failure) =
-    IsMethodOf method (Err failure)
-    ⊎ (IsStatusOf status (Err failure) ⊎ (IsMapOf request (Err failure) ⊎ IsMapOf response (Err failure)))
+abbrev pub Stores : RequestTexts → ℕ → List ℕ → Bool → Result ℕ Failure → Type 0
+Stores request status response is_shared (Ok number) = IsStored request status response is_shared number
+Stores request status response is_shared (Err failure) =
+    IsMethodOf request.method.now (Err failure)
+    ⊎ (IsStatusOf status (Err failure)
+    ⊎ (IsMapOf request.section.now (Err failure) ⊎ IsMapOf response (Err failure)))
 
 -- the fields of the section have this lifetime
 pub record HasLife (response : List ℕ) (received : ℕ) (is_shared : Bool) (seconds : Option ℕ) : Type 0 where
@@ -95,30 +96,29 @@ decision_number Decided.Fetch = 6
 
 -- the methods and the fields of the three sections are those that were handed in, and this is the number of their
 -- decision
-pub record IsDecided (stored_method stored method request response : List ℕ) (moments : Moments) (is_shared : Bool)
+pub record IsDecided (stored : StoredTexts) (request : RequestTexts) (moments : Moments) (is_shared : Bool)
     (number : ℕ) : Type 0 where
-  pub is_stored_method : IsToken stored_method
-  pub is_method : IsToken method
+  pub is_stored_method : IsToken stored.method.now
+  pub is_method : IsToken request.method.now
   pub first : Entries FieldValue
-  pub is_first : Holds stored first
+  pub is_first : Holds stored.request.now first
   pub asked : Entries FieldValue
-  pub is_asked : Holds request asked
+  pub is_asked : Holds request.section.now asked
   pub told : Entries FieldValue
-  pub is_told : Holds response told
+  pub is_told : Holds stored.response.now told
   pub decision : Decision
-  pub decides : Decided_by.Decides (kind_of is_shared) (request_with stored_method first) (request_with method asked)
-      (lines_at told) (times_of moments) decision
+  pub decides : Decided_by.Decides (kind_of is_shared) (request_with stored.method.now first)
+      (request_with request.method.now asked) (lines_at told) (times_of moments) decision
   pub number_is : number ≡ decision_number decision
 
 -- the answer is the number, or the failure of reading a method or a section
-abbrev pub Decides : (stored_method stored method request response : List ℕ) → Moments → Bool
-    → Result ℕ Failure → Type 0
-Decides stored_method stored method request response moments is_shared (Ok number) =
-    IsDecided stored_method stored method request response moments is_shared number
-Decides stored_method stored method request response moments is_shared (Err failure) =
-    IsMethodOf stored_method (Err failure)
-    ⊎ (IsMethodOf method (Err failure)
-    ⊎ (IsMapOf stored (Err failure) ⊎ (IsMapOf request (Err failure) ⊎ IsMapOf response (Err failure))))
+abbrev pub Decides : StoredTexts → RequestTexts → Moments → Bool → Result ℕ Failure → Type 0
+Decides stored request moments is_shared (Ok number) = IsDecided stored request moments is_shared number
+Decides stored request moments is_shared (Err failure) =
+    IsMethodOf stored.method.now (Err failure)
+    ⊎ (IsMethodOf request.method.now (Err failure)
+    ⊎ (IsMapOf stored.request.now (Err failure)
+    ⊎ (IsMapOf request.section.now (Err failure) ⊎ IsMapOf stored.response.now (Err failure))))
 
 -- the text is that of the fields that validate the response, which came at a moment, or the section could not be read
 abbrev pub Validates : List ℕ → ℕ → Result (Vec ℕ) Failure → Type 0

@@ -5,7 +5,7 @@ ghost use Rattle.c_library.specs.Cache.{times_of};
 ghost use Rattle.c_parts.specs.Endings.{Gives, Writes, done};
 
 use crate::giving::give;
-use c_decisions::{fields_text, read_method, read_status};
+use c_decisions::{RequestTexts, fields_text, read_method, read_status};
 use c_parts::{DONE, Failure, HashKeys, copy_into, read_map};
 use cache_policy::{
     Decision, Kind, RequestHead, StoredHeads, Times, current_age, decide, heuristic_lifetime,
@@ -23,6 +23,18 @@ pub struct Moments {
     pub response: u64,
     /// The present.
     pub now: u64,
+}
+
+/// A stored response, as C passes it in.
+#[repr(C)]
+#[derive(Clone, Copy)]
+pub struct StoredTexts<'a> {
+    /// The method of the request that it answered.
+    pub method: &'a [u8],
+    /// The header section of that request.
+    pub request: &'a [u8],
+    /// The header section of the response.
+    pub response: &'a [u8],
 }
 
 fn times_of(moments: &Moments) -> Times
@@ -50,45 +62,40 @@ fn kind_of(is_shared: bool) -> Kind
 #[unsafe(no_mangle)]
 pub extern "C" fn typed_headers_may_store(
     alloc: Global,
-    method: &[u8],
-    request: &[u8],
+    request: &RequestTexts<'_>,
     status: u16,
     response: &[u8],
     keys: &HashKeys,
     is_shared: bool,
     answer: &mut u8,
 ) -> u8
-    ensures { Gives (Stores method.now request.now status response.now is_shared) answer.old answer.new result }
+    ensures { Gives (Stores request.now status response.now is_shared) answer.old answer.new result }
 {
-    match stores(alloc, method, request, status, response, keys, is_shared) {
-        Ok(number) => {
-            *answer = number;
-            DONE
-        }
-        Err(failure) => failure.status(),
-    }
+    give(
+        stores(alloc, request, status, response, keys, is_shared),
+        answer,
+    )
 }
 
 fn stores(
     alloc: Global,
-    method: &[u8],
-    request: &[u8],
+    request: &RequestTexts<'_>,
     status: u16,
     response: &[u8],
     keys: &HashKeys,
     is_shared: bool,
 ) -> Result<u8, Failure>
-    ensures { Stores method.now request.now status response.now is_shared result }
+    ensures { Stores request.now status response.now is_shared result }
 {
-    let method = read_method(alloc, method)?;
+    let method = read_method(alloc, request.method)?;
     let status = read_status(status)?;
-    let request = read_map(alloc, request, keys)?;
+    let fields = read_map(alloc, request.section, keys)?;
     let response = read_map(alloc, response, keys)?;
-    let request = RequestHead {
+    let head = RequestHead {
         method: &method,
-        fields: &request,
+        fields: &fields,
     };
-    if may_store(&request, status, &response, kind_of(is_shared)) {
+    if may_store(&head, status, &response, kind_of(is_shared)) {
         Ok(1)
     } else {
         Ok(0)
@@ -197,75 +204,52 @@ fn ages(alloc: Global, response: &[u8], keys: &HashKeys, moments: &Moments) -> R
 }
 
 /// Decides what a cache does with a request, by a stored response: gives the number of the decision
-/// (RFC 9111, section 4, and RFC 5861). `stored` is the request that the response answered, and
-/// `stored_method` its method.
+/// (RFC 9111, section 4, and RFC 5861).
 #[unsafe(no_mangle)]
 pub extern "C" fn typed_headers_decide(
     alloc: Global,
-    stored_method: &[u8],
-    stored: &[u8],
-    method: &[u8],
-    request: &[u8],
-    response: &[u8],
+    stored: &StoredTexts<'_>,
+    request: &RequestTexts<'_>,
     keys: &HashKeys,
     moments: &Moments,
     is_shared: bool,
     decision: &mut u8,
 ) -> u8
-    ensures { Gives
-        (Decides stored_method.now stored.now method.now request.now response.now moments.entry.now is_shared)
-        decision.old decision.new result }
+    ensures { Gives (Decides stored.now request.now moments.entry.now is_shared) decision.old decision.new result }
 {
-    match decides(
-        alloc,
-        stored_method,
-        stored,
-        method,
-        request,
-        response,
-        keys,
-        moments,
-        is_shared,
-    ) {
-        Ok(number) => {
-            *decision = number;
-            DONE
-        }
-        Err(failure) => failure.status(),
-    }
+    give(
+        decides(alloc, stored, request, keys, moments, is_shared),
+        decision,
+    )
 }
 
 fn decides(
     alloc: Global,
-    stored_method: &[u8],
-    stored: &[u8],
-    method: &[u8],
-    request: &[u8],
-    response: &[u8],
+    stored: &StoredTexts<'_>,
+    request: &RequestTexts<'_>,
     keys: &HashKeys,
     moments: &Moments,
     is_shared: bool,
 ) -> Result<u8, Failure>
-    ensures { Decides stored_method.now stored.now method.now request.now response.now moments.entry.now is_shared
-        result }
+    ensures { Decides stored.now request.now moments.entry.now is_shared result }
 {
-    let stored_method = read_method(alloc, stored_method)?;
-    let method = read_method(alloc, method)?;
-    let stored = read_map(alloc, stored, keys)?;
-    let request = read_map(alloc, request, keys)?;
-    let response = read_map(alloc, response, keys)?;
-    let stored = StoredHeads {
+    let stored_method = read_method(alloc, stored.method)?;
+    let method = read_method(alloc, request.method)?;
+    let stored_fields = read_map(alloc, stored.request, keys)?;
+    let fields = read_map(alloc, request.section, keys)?;
+    let response = read_map(alloc, stored.response, keys)?;
+    let heads = StoredHeads {
         request: RequestHead {
             method: &stored_method,
-            fields: &stored,
+            fields: &stored_fields,
         },
         response: &response,
     };
-    let request = RequestHead {
+    let head = RequestHead {
         method: &method,
-        fields: &request,
+        fields: &fields,
     };
-    let decision = decide(&stored, &request, times_of(moments), kind_of(is_shared));
+    let decision = decide(&heads, &head, times_of(moments), kind_of(is_shared));
     Ok(decision_number(decision))
 }
 

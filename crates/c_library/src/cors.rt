@@ -3,7 +3,7 @@ ghost use Rattle.c_parts.specs.Endings.{Gives};
 ghost use Rattle.c_decisions.specs.{Cors.{Shares, WritesShared}, Origins.FindsUnsent};
 
 use crate::giving::give;
-use c_decisions::{CorsFacts, Rules, answer_by_rules, find_unsent};
+use c_decisions::{CorsFacts, RequestTexts, Rules, answer_by_rules, find_unsent};
 use c_parts::{DONE, HashKeys, copy_into};
 use std::alloc::Global;
 
@@ -13,18 +13,17 @@ use std::alloc::Global;
 pub extern "C" fn typed_headers_cors_answer(
     alloc: Global,
     rules: &Rules<'_>,
-    method: &[u8],
-    request: &[u8],
+    request: &RequestTexts<'_>,
     response: &[u8],
     keys: &HashKeys,
     facts: &mut CorsFacts,
     room: &mut [u8],
     written: &mut usize,
 ) -> u8
-    ensures { WritesShared (Shares rules.now method.now request.now response.now)
+    ensures { WritesShared (Shares rules.now request.now response.now)
         facts.old facts.new room.old room.new written.old written.new result }
 {
-    match answer_by_rules(alloc, rules, method, request, response, keys) {
+    match answer_by_rules(alloc, rules, request, response, keys) {
         Ok(shared) => {
             *facts = shared.facts;
             copy_into(shared.text.as_slice(), DONE, room, written)

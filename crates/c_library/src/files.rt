@@ -8,7 +8,7 @@ ghost use Rattle.c_library.specs.CacheStore.{Ends};
 use crate::giving::give;
 use crate::store::ended;
 use c_connection::{next_path, open_files, plan_files};
-use c_files::Facts;
+use c_files::{Facts, FilesOptions};
 use c_handles::{Handle, close};
 use c_parts::{DONE, HashKeys, copy_into};
 use std::alloc::Global;
@@ -18,24 +18,12 @@ use std::alloc::Global;
 pub extern "C" fn typed_headers_files_new(
     alloc: Global,
     files: &mut Handle,
-    cache_control: &[u8],
-    hosts: &[u8],
-    negotiates: bool,
-    boundary: &[u8],
+    options: &FilesOptions<'_>,
     keys: &HashKeys,
 ) -> u8
-    ensures { Ends (Opens (IsFilesHeld cache_control.now hosts.now negotiates boundary.now keys.now)
-        files.old.held files.new.held) result }
+    ensures { Ends (Opens (IsFilesHeld options.now keys.now) files.old.held files.new.held) result }
 {
-    ended(open_files(
-        alloc,
-        files,
-        cache_control,
-        hosts,
-        negotiates,
-        boundary,
-        keys,
-    ))
+    ended(open_files(alloc, files, options, keys))
 }
 
 /// Closes a handle, and frees what it has.

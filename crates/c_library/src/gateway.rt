@@ -4,9 +4,10 @@ ghost use Rattle.c_library.specs.Gateways.{WritesRequest, WritesResponse};
 ghost use Rattle.c_gateway.{specs.Framings.Frames, specs.Requests.PassesRequest, specs.Responses.PassesResponse};
 
 use crate::giving::give;
+use c_decisions::RequestTexts;
 use c_gateway::{
-    FramingFacts, GatewayOptions, HopOptions, RequestFacts, ResponseFacts, frame_message,
-    pass_request, pass_response,
+    FramingFacts, GatewayOptions, HopOptions, MessageParts, RequestFacts, ResponseFacts,
+    frame_message, pass_request, pass_response,
 };
 use c_parts::{DONE, HashKeys, copy_into};
 use std::alloc::Global;
@@ -18,22 +19,19 @@ pub extern "C" fn typed_headers_forward_request(
     alloc: Global,
     gateway: &GatewayOptions<'_>,
     hop: &HopOptions<'_>,
-    method: &[u8],
+    request: &RequestTexts<'_>,
     version: u8,
     authority: &[u8],
-    section: &[u8],
     keys: &HashKeys,
     facts: &mut RequestFacts,
     room: &mut [u8],
     written: &mut usize,
 ) -> u8
     ensures { WritesRequest
-        (PassesRequest gateway.entry.now hop.entry.now method.now version authority.now section.now)
+        (PassesRequest gateway.now hop.now request.now version authority.now)
         facts.old facts.new room.old room.new written.old written.new result }
 {
-    match pass_request(
-        alloc, gateway, hop, method, version, authority, section, keys,
-    ) {
+    match pass_request(alloc, gateway, hop, request, version, authority, keys) {
         Ok(step) => {
             *facts = step.facts;
             copy_into(step.text.as_slice(), DONE, room, written)
@@ -48,11 +46,8 @@ pub extern "C" fn typed_headers_forward_request(
 pub extern "C" fn typed_headers_forward_response(
     alloc: Global,
     gateway: &GatewayOptions<'_>,
-    status: u16,
-    version: u8,
-    section: &[u8],
+    response: &MessageParts<'_>,
     keys: &HashKeys,
-    method: &[u8],
     client_version: u8,
     received: u64,
     facts: &mut ResponseFacts,
@@ -60,20 +55,10 @@ pub extern "C" fn typed_headers_forward_response(
     written: &mut usize,
 ) -> u8
     ensures { WritesResponse
-        (PassesResponse gateway.entry.now status version section.now method.now client_version received)
+        (PassesResponse gateway.now response.now client_version received)
         facts.old facts.new room.old room.new written.old written.new result }
 {
-    match pass_response(
-        alloc,
-        gateway,
-        status,
-        version,
-        section,
-        keys,
-        method,
-        client_version,
-        received,
-    ) {
+    match pass_response(alloc, gateway, response, keys, client_version, received) {
         Ok(step) => {
             *facts = step.facts;
             copy_into(step.text.as_slice(), DONE, room, written)
@@ -86,17 +71,11 @@ pub extern "C" fn typed_headers_forward_response(
 #[unsafe(no_mangle)]
 pub extern "C" fn typed_headers_framing(
     alloc: Global,
-    method: &[u8],
-    status: u16,
-    version: u8,
-    section: &[u8],
+    message: &MessageParts<'_>,
     keys: &HashKeys,
     facts: &mut FramingFacts,
 ) -> u8
-    ensures { Gives (Frames method.now status version section.now) facts.old facts.new result }
+    ensures { Gives (Frames message.now) facts.old facts.new result }
 {
-    give(
-        frame_message(alloc, method, status, version, section, keys),
-        facts,
-    )
+    give(frame_message(alloc, message, keys), facts)
 }

@@ -4,7 +4,10 @@ ghost use Rattle.c_library.specs.Handshake.{WritesHandshake, reads_accept};
 ghost use Rattle.c_decisions.specs.Handshakes.{AnswersHandshake, ChecksResponse, Offers};
 
 use crate::giving::give;
-use c_decisions::{HandshakeFacts, answer_handshake, check_response, offer_handshake};
+use c_decisions::{
+    HandshakeExchange, HandshakeFacts, HandshakeRules, RequestTexts, answer_handshake,
+    check_response, offer_handshake,
+};
 use c_parts::{DONE, Failure, HashKeys, copy_into, read_values};
 use std::alloc::Global;
 use websocket::handshake::server::accept_key;
@@ -47,20 +50,18 @@ fn read_accept(alloc: Global, lines: &[u8]) -> Result<[u8; 28], Failure>
 #[unsafe(no_mangle)]
 pub extern "C" fn typed_headers_websocket_respond(
     alloc: Global,
-    method: &[u8],
+    request: &RequestTexts<'_>,
     version: u8,
-    section: &[u8],
     keys: &HashKeys,
-    protocols: &[u8],
-    origins: &[u8],
+    rules: &HandshakeRules<'_>,
     facts: &mut HandshakeFacts,
     room: &mut [u8],
     written: &mut usize,
 ) -> u8
-    ensures { WritesHandshake (AnswersHandshake method.now version section.now protocols.now origins.now)
+    ensures { WritesHandshake (AnswersHandshake request.now version rules.now)
         facts.old facts.new room.old room.new written.old written.new result }
 {
-    match answer_handshake(alloc, method, version, section, keys, protocols, origins) {
+    match answer_handshake(alloc, request, version, keys, rules) {
         Ok(answered) => {
             *facts = answered.facts;
             copy_into(answered.text.as_slice(), DONE, room, written)
@@ -90,13 +91,11 @@ pub extern "C" fn typed_headers_websocket_request(
 #[unsafe(no_mangle)]
 pub extern "C" fn typed_headers_websocket_check(
     alloc: Global,
-    sent: &[u8],
-    status: u16,
-    response: &[u8],
+    exchange: &HandshakeExchange<'_>,
     keys: &HashKeys,
     flaw: &mut u8,
 ) -> u8
-    ensures { Gives (ChecksResponse sent.now status response.now) flaw.old flaw.new result }
+    ensures { Gives (ChecksResponse exchange.now) flaw.old flaw.new result }
 {
-    give(check_response(alloc, sent, status, response, keys), flaw)
+    give(check_response(alloc, exchange, keys), flaw)
 }

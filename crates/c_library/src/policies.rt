@@ -12,9 +12,7 @@ use c_handles::{
     Handle, answer_as_resource, answer_cross_origin, close, open_policy, open_resource,
 };
 use c_parts::{DONE, HashKeys, copy_into};
-use c_resource::{
-    AnswerFacts, DenialParts, GivenRequest, RepresentationParts, RequestParts, ResourceParts,
-};
+use c_resource::{AnswerFacts, DenialParts, RepresentationParts, RequestParts, ResourceParts};
 use std::alloc::Global;
 
 /// Opens a closed handle with the policy of these rules. Rejected also if the handle is open.
@@ -98,9 +96,7 @@ pub extern "C" fn typed_headers_resource_handle_answer(
     alloc: Global,
     handle: &mut Handle,
     fields: &mut Handle,
-    request: &RequestParts,
-    method: &[u8],
-    target: &[u8],
+    request: &RequestParts<'_>,
     denial: &DenialParts<'_>,
     facts: &mut AnswerFacts,
     parts: &mut [BytesRange],
@@ -111,19 +107,11 @@ pub extern "C" fn typed_headers_resource_handle_answer(
     ensures same_resource { handle.new.held ≡ handle.old.held }
     ensures same_fields { fields.new.held ≡ fields.old.held }
     ensures answer { WritesAnswer
-        (AnswersBetween
-        (record { parts = request.now; method = method.now; target = target.now; denial = denial.entry.now })
-        (resource_in handle.old.held) (section_in fields.old.held))
+        (AnswersBetween request.now denial.now (resource_in handle.old.held) (section_in fields.old.held))
         facts.old facts.new parts.old parts.new parts_written.old parts_written.new
         room.old room.new written.old written.new result }
 {
-    let asked = GivenRequest {
-        parts: request,
-        method,
-        target,
-        denial,
-    };
-    match answer_as_resource(alloc, handle, fields, &asked) {
+    match answer_as_resource(alloc, handle, fields, request, denial) {
         Ok(answered) => {
             *facts = answered.facts;
             let one = copy_into(answered.parts.as_slice(), DONE, parts, parts_written);

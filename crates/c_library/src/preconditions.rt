@@ -3,7 +3,7 @@ ghost use Rattle.c_parts.specs.Endings.{Gives};
 ghost use Rattle.c_decisions.specs.Evaluations.{Evaluates};
 
 use crate::giving::give;
-use c_decisions::{MethodAndTarget, Target, evaluate_request};
+use c_decisions::{RequestTexts, Target, evaluate_request};
 use c_parts::HashKeys;
 use std::alloc::Global;
 
@@ -12,19 +12,13 @@ use std::alloc::Global;
 #[unsafe(no_mangle)]
 pub extern "C" fn typed_headers_evaluate(
     alloc: Global,
-    method: &[u8],
-    section: &[u8],
+    request: &RequestTexts<'_>,
     keys: &HashKeys,
     etag: &[u8],
     target: &Target,
     answer: &mut u16,
 ) -> u8
-    ensures { Gives (Evaluates method.now section.now etag.now target.now) answer.old answer.new result }
+    ensures { Gives (Evaluates request.now etag.now target.now) answer.old answer.new result }
 {
-    let asked = MethodAndTarget {
-        method,
-        etag,
-        target,
-    };
-    give(evaluate_request(alloc, section, keys, &asked), answer)
+    give(evaluate_request(alloc, request, keys, etag, target), answer)
 }

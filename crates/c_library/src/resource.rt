@@ -6,8 +6,8 @@ use crate::response::worse;
 use c_decisions::{BytesRange, Rules};
 use c_parts::{DONE, HashKeys, copy_into};
 use c_resource::{
-    AnswerFacts, DenialParts, GivenRequest, GivenResource, RepresentationParts, RequestParts,
-    ResourceParts, answer_for,
+    AnswerFacts, DenialParts, GivenResource, RepresentationParts, RequestParts, ResourceParts,
+    answer_for,
 };
 use std::alloc::Global;
 
@@ -19,9 +19,7 @@ pub extern "C" fn typed_headers_resource_answer(
     resource: &ResourceParts<'_>,
     representations: &[RepresentationParts],
     rules: &Rules<'_>,
-    request: &RequestParts,
-    method: &[u8],
-    target: &[u8],
+    request: &RequestParts<'_>,
     denial: &DenialParts<'_>,
     section: &[u8],
     keys: &HashKeys,
@@ -32,9 +30,7 @@ pub extern "C" fn typed_headers_resource_answer(
     written: &mut usize,
 ) -> u8
     ensures { WritesAnswer
-        (Answers resource.entry.now representations.now rules.entry.now
-        (record { parts = request.now; method = method.now; target = target.now; denial = denial.entry.now })
-        section.now)
+        (Answers resource.now representations.now rules.now request.now denial.now section.now)
         facts.old facts.new parts.old parts.new parts_written.old parts_written.new
         room.old room.new written.old written.new result }
 {
@@ -43,13 +39,7 @@ pub extern "C" fn typed_headers_resource_answer(
         representations,
         rules,
     };
-    let asked = GivenRequest {
-        parts: request,
-        method,
-        target,
-        denial,
-    };
-    match answer_for(alloc, &given, &asked, section, keys) {
+    match answer_for(alloc, &given, request, denial, section, keys) {
         Ok(answered) => {
             *facts = answered.facts;
             let one = copy_into(answered.parts.as_slice(), DONE, parts, parts_written);

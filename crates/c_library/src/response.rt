@@ -3,7 +3,7 @@ ghost use Rattle.std.specs.Prelude.{◌≡◌};
 ghost use Rattle.c_library.specs.Responses.{WritesResponse, worse};
 ghost use Rattle.c_decisions.specs.Responses.{Responds};
 
-use c_decisions::{BytesRange, ContentParts, MethodAndTarget, ResponseFacts, Target, respond_to};
+use c_decisions::{BytesRange, ContentParts, RequestTexts, ResponseFacts, Target, respond_to};
 use c_parts::{DONE, HashKeys, copy_into};
 use std::alloc::Global;
 
@@ -12,8 +12,7 @@ use std::alloc::Global;
 #[unsafe(no_mangle)]
 pub extern "C" fn typed_headers_respond(
     alloc: Global,
-    method: &[u8],
-    section: &[u8],
+    request: &RequestTexts<'_>,
     keys: &HashKeys,
     etag: &[u8],
     target: &Target,
@@ -25,16 +24,11 @@ pub extern "C" fn typed_headers_respond(
     room: &mut [u8],
     written: &mut usize,
 ) -> u8
-    ensures { WritesResponse (Responds method.now section.now etag.now target.now content.entry.now boundary.now)
+    ensures { WritesResponse (Responds request.now etag.now target.now content.entry.now boundary.now)
         facts.old facts.new parts.old parts.new parts_written.old parts_written.new
         room.old room.new written.old written.new result }
 {
-    let asked = MethodAndTarget {
-        method,
-        etag,
-        target,
-    };
-    match respond_to(alloc, section, keys, &asked, content, boundary) {
+    match respond_to(alloc, request, keys, etag, target, content, boundary) {
         Ok(responded) => {
             *facts = responded.facts;
             let one = copy_into(responded.parts.as_slice(), DONE, parts, parts_written);

@@ -1,7 +1,7 @@
 //! Which part of a representation a request selects.
 ghost use Rattle.c_decisions.specs.Selection.{Selects, WritesSelection};
 
-use c_decisions::{BytesRange, MethodAndTarget, Target, select_ranges};
+use c_decisions::{BytesRange, RequestTexts, Target, select_ranges};
 use c_parts::{DONE, HashKeys, copy_into};
 use std::alloc::Global;
 
@@ -10,8 +10,7 @@ use std::alloc::Global;
 #[unsafe(no_mangle)]
 pub extern "C" fn typed_headers_select(
     alloc: Global,
-    method: &[u8],
-    section: &[u8],
+    request: &RequestTexts<'_>,
     keys: &HashKeys,
     etag: &[u8],
     target: &Target,
@@ -20,15 +19,10 @@ pub extern "C" fn typed_headers_select(
     room: &mut [BytesRange],
     written: &mut usize,
 ) -> u8
-    ensures { WritesSelection (Selects method.now section.now etag.now target.now length)
+    ensures { WritesSelection (Selects request.now etag.now target.now length)
         answer.old answer.new room.old room.new written.old written.new result }
 {
-    let asked = MethodAndTarget {
-        method,
-        etag,
-        target,
-    };
-    match select_ranges(alloc, section, keys, &asked, length) {
+    match select_ranges(alloc, request, keys, etag, target, length) {
         Ok(selected) => {
             *answer = selected.code;
             copy_into(selected.ranges.as_slice(), DONE, room, written)

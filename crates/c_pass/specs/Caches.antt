@@ -4,7 +4,7 @@ use Rattle.cache_policy.{specs.Policies.{Policy, plain}, specs.declared.Kind.Kin
 use Rattle.cache_policy.specs.declared.Kind.TheVariants.{Shared as SharedKind, Private}
 use Rattle.cache_store.{specs.History.Call.Removed, specs.Kept.{contents_of, policy_of_store}}
 use Rattle.cache_store.specs.declared.limits.Limits.{Limits}
-use Rattle.cache_pass.specs.Effects.{Does, kept_of, settings_of}
+use Rattle.cache_pass.specs.{Effects.{Does, kept_of, settings_of}, Removals.HasNone}
 use Rattle.c_parts.{specs.declared.keys.HashKeys.HashKeys, specs.declared.status.Failure.Failure}
 use Rattle.c_parts.specs.declared.status.Failure.TheVariants.{Refused, Memory, Absent, TooLarge}
 use Rattle.c_pass.{specs.Names.{AreNames, names_in}, specs.Reading.FailsText, specs.declared.held.Shared.Shared}
@@ -34,8 +34,10 @@ pub record IsNew (options : CacheOptions) (by : Policy) (wait : ℕ) (keys : Has
   pub policy : policy_of_store shared.cache.store ≡ by
   pub limits : shared.cache.store.limits ≡ limits_of options
   pub guess : shared.cache.guess ≡ options.guess
+  pub removals : HasNone shared.cache.removals
   pub limit : shared.queue.limit ≡ wait
   pub nobody : shared.queue.entries.items ≡ []
+  pub next : shared.queue.next ≡ 0
   pub keys_are : shared.keys ≡ keys
   pub most_is : shared.most ≡ options.bytes
 
@@ -47,7 +49,7 @@ IsMade P (Err failure) = failure ≡ Memory
 abbrev pub IsPlain : CacheOptions → HashKeys → Result Shared Failure → Type 0
 IsPlain options keys = IsMade (IsNew options (plain (kind_of options.is_shared)) 0 keys)
 
--- The same with extensions; `Refused` only if some line of theirs is no name of a field.
+-- The same with extensions; `Refused` only if some line of theirs is no name of a field. Memory may run out for any.
 abbrev pub IsExtended : CacheOptions → CacheExtensions → HashKeys → Result Shared Failure → Type 0
 IsExtended options extensions keys (Ok shared) =
     AreNames extensions.targets.now × IsNew options (extended options extensions) extensions.wait keys shared

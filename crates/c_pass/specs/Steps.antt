@@ -1,7 +1,8 @@
 -- The steps of passes, by what a caller hands in: each is the step of `cache_pass` and tells of it.
 use Rattle.std.specs.Prelude.{◌≡◌, ◌≢◌, ◌⊎◌, ◌+◌, ◌++◌, ◌&&◌, ◌<◌, ℕ, Bool, true, false, List, [], length, take, drop}
-use Rattle.std.specs.Prelude.{Option, Some, None, IsSomeAnd, Result, Ok, Err, if◌then◌else◌, is_some, nat_le}
-use Rattle.std.specs.Prelude.{option_map, unwrap_or}
+use Rattle.std.specs.Prelude.{Option, Some, None, IsSome, IsSomeAnd, Result, Ok, Err, IfOk, MatchResult, is_some}
+use Rattle.std.specs.Prelude.{alloc_error, if◌then◌else◌, nat_le, option_map, unwrap_or}
+use Rattle.std.specs.declared.alloc.AllocError.{AllocError}
 use Rattle.http.specs.StatusCode.{IsStatusCode}
 use Rattle.http_header.{specs.FieldValue.FieldValue, specs.HeaderMap.Entries}
 use Rattle.headers_section.specs.Section.{Holds}
@@ -10,16 +11,18 @@ use Rattle.cache_rules.specs.declared.storing.Reception.TheVariants.{Complete, I
 use Rattle.cache_store.specs.History.Call.{Looked}
 use Rattle.cache_pass.{specs.Effects.{Does, kept_of, settings_of, stored_at}, specs.declared.pass.Pass.Pass}
 use Rattle.cache_pass.specs.Passes.{IsNotPassing, IsSameRequest, asked_of, key_of, request_of_pass}
-use Rattle.cache_pass.{specs.Queue.{Enters, is_open}, specs.declared.pass.Phase.TheVariants.Began}
+use Rattle.cache_pass.{specs.Queue.{Enters, is_open}, specs.declared.queue.Queue.Queue}
+use Rattle.cache_pass.specs.declared.pass.Phase.TheVariants.{Began}
 use Rattle.cache_pass.{specs.Steps.{HasBegun, HasCome, HasEnded, HasFailed}, specs.declared.replying.First.First}
 use Rattle.cache_pass.{specs.declared.replying.Reply.Reply, specs.declared.revalidating.Next.Next}
 use Rattle.c_decisions.specs.StatusCodes.{IsStatusOf}
 use Rattle.c_parts.{specs.Endings.{IsWritten, done}, specs.SectionMap.IsMapOf, specs.declared.status.Failure.Failure}
 use Rattle.c_parts.specs.declared.status.Failure.TheVariants.{Memory, Absent}
 use Rattle.c_pass.specs.Outcomes.{failed_outcome, first_outcome, next_outcome}
-use Rattle.c_pass.{specs.Caches.IsSameBeside, specs.Waiting.{IsAhead, IsPlaced, IsSettled}}
+use Rattle.c_pass.{specs.Caches.IsSameBeside, specs.Waiting.{IsAhead, IsPlaced, IsSettled, IsUnplaced}}
 use Rattle.c_pass.specs.declared.held.Place.TheVariants.{Apart, Waiting}
-use Rattle.c_pass.{specs.Reading.{FailsRequest, IsRequest, asked_by}, specs.Telling.{is_head, outcome_told, waiting}}
+use Rattle.c_pass.{specs.Reading.{FailsRequest, IsRequest, asked_by}, specs.Telling.{TakesMemory, is_head}}
+use Rattle.c_pass.specs.Telling.{outcome_told, waiting}
 use Rattle.c_pass.{specs.declared.held.Shared.Shared, specs.declared.held.Stepped.Stepped}
 use Rattle.c_pass.specs.declared.outcome.Outcome.{Outcome}
 use Rattle.c_pass.{specs.declared.reading.CacheRequest.CacheRequest, specs.declared.telling.PassFacts.PassFacts}
@@ -39,13 +42,17 @@ pub record IsSilent (stepped : Stepped) : Type 0 where
   pub shown : stepped.shown ≡ None
   pub text : stepped.text.items ≡ []
 
+-- Memory ran out for what is told of the outcome of a first step, or to enter the queue.
+abbrev pub IsUnstarted : Pass → (now : ℕ) → (old new : Queue) → Outcome → Type 0
+IsUnstarted pass now old new outcome = (TakesMemory outcome × (new ≡ old)) ⊎ IsUnplaced pass now old new
+
 -- the first step of a pass
 
 module _ (now : ℕ) (old new : Shared) (pass : Pass) (stepped : Stepped) where
   -- it is made, and told
   pub record IsStarted (facts : PassFacts) : Type 0 where
     pub first : First
-    pub begun : HasBegun pass old.cache now stepped.pass new.cache first
+    pub begun : HasBegun pass old.cache now stepped.pass new.cache (Ok first)
     pub tells : Tells now new stepped (first_outcome first) facts
     pub content : stepped.content ≡ None
     pub place : IsPlaced stepped.pass now old.queue new.queue stepped.place
@@ -56,7 +63,7 @@ module _ (now : ℕ) (old new : Shared) (pass : Pass) (stepped : Stepped) where
   pub record IsWaiting : Type 0 where
     pub asking : Pass
     pub first : First
-    pub begun : HasBegun pass old.cache now asking new.cache first
+    pub begun : HasBegun pass old.cache now asking new.cache (Ok first)
     pub number : ℕ
     pub ahead : IsAhead old.queue asking now (Some number)
     pub place : stepped.place ≡ Waiting number
@@ -86,13 +93,15 @@ module _ (request : CacheRequest) (now : ℕ) (old new : Shared) where
     pub does : Does (settings_of old.cache) (Looked request.target.now) (kept_of old.cache) (kept_of new.cache)
     pub settings : settings_of new.cache ≡ settings_of old.cache
     pub queue : (new.queue ≡ old.queue)
-        ⊎ ((number : Option ℕ) × Enters request.target.now now old.queue new.queue number)
+        ⊎ ((number : Result (Option ℕ) AllocError) × Enters request.target.now now old.queue new.queue number)
     pub beside : IsSameBeside old new
 
   -- the request can't be parsed, or memory ran out, at the latest after a lookup
   abbrev pub FailsBegin : Failure → Type 0
   FailsBegin failure =
-      (FailsRequest request failure × (new ≡ old)) ⊎ ((failure ≡ Memory) × ((new ≡ old) ⊎ IsLookedUp))
+      (FailsRequest request failure × (new ≡ old))
+      ⊎ ((failure ≡ Memory) × ((fields : Entries FieldValue) × IsRequest request fields)
+      × ((new ≡ old) ⊎ IsLookedUp))
 
   abbrev pub Begins : Result (Stepped × PassFacts) Failure → Type 0
   Begins (Ok begun) = IsBegun begun.0 begun.1
@@ -104,10 +113,11 @@ abbrev pub reception_of : Bool → Reception
 reception_of true = Complete
 reception_of false = Incomplete
 
--- what is stored of the content that was kept, if it is the whole: all of it, or nothing if memory ran out
-abbrev pub IsContentStored : Option (List ℕ) → (whole : Bool) → List ℕ → Reception → Type 0
-IsContentStored kept whole content reception =
-    ((content ≡ unwrap_or kept []) × (reception ≡ reception_of whole)) ⊎ (reception ≡ Incomplete)
+-- What is stored of the content that was kept: all of it, if that is the whole, and memory didn't run out for it.
+abbrev pub IsContentStored : Option (List ℕ) → (whole lost : Bool) → List ℕ → Reception → Type 0
+IsContentStored kept true false content reception = (kept ≡ Some content) × (reception ≡ Complete)
+IsContentStored kept true true content reception = reception ≡ Incomplete
+IsContentStored kept false lost content reception = (lost ≡ false) × (reception ≡ Incomplete)
 
 -- a failed call has changed nothing
 abbrev pub IsUnchanged : Shared → Stepped → Shared → Stepped → Type 0
@@ -118,9 +128,10 @@ module _ (now : ℕ) (old : Shared) (before : Stepped) (new : Shared) (after : S
   abbrev pub IsNotAsking : Failure → Type 0
   IsNotAsking failure = (failure ≡ Absent) × (asked_of before.pass.phase ≡ None)
 
-  -- the step is done, and memory ran out for what is told of it
-  abbrev pub IsUntold : Failure → Type 0
-  IsUntold failure = (failure ≡ Memory) × IsSilent after
+  -- The step is done with this result. Memory ran out for it, or for what is told of its outcome.
+  abbrev pub IsUntold : {X : Type 0} → (X → Outcome) → Result X AllocError → Failure → Type 0
+  IsUntold outcome_of result failure =
+      (failure ≡ Memory) × IfOk result (λ it. TakesMemory (outcome_of it)) × IsSilent after
 
   -- `begin`, after a wait
 
@@ -133,13 +144,15 @@ module _ (now : ℕ) (old : Shared) (before : Stepped) (new : Shared) (after : S
   abbrev pub IsNotWaiting : Type 0
   IsNotWaiting = ((number : ℕ) → before.place ≢ Waiting number) ⊎ (before.pass.phase ≢ Began)
 
-  -- its first step is made, and memory ran out for what is told of it
+  -- its first step is made, and memory ran out for it, for what is told of it, or to enter the queue
   pub record IsStartLost : Type 0 where
-    pub first : First
+    pub first : Result First AllocError
     pub begun : HasBegun before.pass old.cache now after.pass new.cache first
+    pub lost : MatchResult first (λ it. IsUnstarted after.pass now old.queue new.queue (first_outcome it))
+        (λ error. new.queue ≡ old.queue)
     pub silent : IsSilent after
+    pub content : after.content ≡ None
     pub place : after.place ≡ Apart
-    pub queue : new.queue ≡ old.queue
     pub beside : IsSameBeside old new
 
   abbrev pub Resumes : Result PassFacts Failure → Type 0
@@ -152,7 +165,7 @@ module _ (now : ℕ) (old : Shared) (before : Stepped) (new : Shared) (after : S
 
   module _ (status : ℕ) (section : List ℕ) where
     -- `came`, with the response
-    pub record IsCame (next : Next) : Type 0 where
+    pub record IsCame (next : Result Next AllocError) : Type 0 where
       pub response : Entries FieldValue
       pub is_status : IsStatusCode status
       pub holds : Holds section response
@@ -167,29 +180,29 @@ module _ (now : ℕ) (old : Shared) (before : Stepped) (new : Shared) (after : S
     FailsResponse failure = IsStatusOf status (Err failure) ⊎ IsMapOf section (Err failure)
 
     abbrev pub Comes : Result PassFacts Failure → Type 0
-    Comes (Ok facts) = (next : Next) × IsCame next × Tells now new after (next_outcome next) facts
+    Comes (Ok facts) = (next : Next) × IsCame (Ok next) × Tells now new after (next_outcome next) facts
     Comes (Err failure) =
         ((FailsResponse failure ⊎ IsNotAsking failure) × IsUnchanged old before new after)
-        ⊎ ((next : Next) × IsCame next × IsUntold failure)
+        ⊎ ((next : Result Next AllocError) × IsCame next × IsUntold next_outcome next failure)
 
   -- `failed`
-  pub record IsFailed (found : Option Reply) : Type 0 where
+  pub record IsFailed (found : Result (Option Reply) AllocError) : Type 0 where
     pub failed : HasFailed before.pass old.cache now after.pass new.cache found
     pub content : after.content ≡ before.content
     pub place : IsSettled after.pass.phase before.place old.queue new.queue after.place
     pub beside : IsSameBeside old new
 
   abbrev pub Fails : Result PassFacts Failure → Type 0
-  Fails (Ok facts) = (found : Option Reply) × IsFailed found × Tells now new after (failed_outcome found) facts
+  Fails (Ok facts) = (found : Option Reply) × IsFailed (Ok found) × Tells now new after (failed_outcome found) facts
   Fails (Err failure) =
       (IsNotAsking failure × IsUnchanged old before new after)
-      ⊎ ((found : Option Reply) × IsFailed found × IsUntold failure)
+      ⊎ ((found : Result (Option Reply) AllocError) × IsFailed found × IsUntold failed_outcome found failure)
 
   -- it ends
 
   module _ (is_complete : Bool) where
     -- `ended`, with the content that was kept; if none was, as if not all of it came
-    pub record IsEnded (number : Option ℕ) : Type 0 where
+    pub record IsEnded (number : Result (Option ℕ) AllocError) : Type 0 where
       pub ended : HasEnded before.pass old.cache (unwrap_or (content_of before) [])
           (reception_of (is_complete && is_some before.content)) now after.pass new.cache number
       pub content : after.content ≡ None
@@ -200,8 +213,10 @@ module _ (now : ℕ) (old : Shared) (before : Stepped) (new : Shared) (after : S
 
     -- `Absent` if no response passes on that is to be stored
     abbrev pub Ends : Result (Option ℕ) Failure → Type 0
-    Ends (Ok number) = IsEnded number
-    Ends (Err failure) = (failure ≡ Absent) × IsNotPassing before.pass.phase × IsUnchanged old before new after
+    Ends (Ok number) = IsEnded (Ok number)
+    Ends (Err failure) =
+        ((failure ≡ Absent) × IsNotPassing before.pass.phase × IsUnchanged old before new after)
+        ⊎ ((failure ≡ Memory) × IsEnded (Err alloc_error))
 
 -- its content comes
 
@@ -222,13 +237,14 @@ module _ (piece : List ℕ) (before after : Stepped) where
     pub text : after.text ≡ before.text
     pub place : after.place ≡ before.place
 
-  -- The piece is kept with those before it. `Absent` if no response passes on that is to be stored. If memory runs out,
-  -- nothing is kept from now on.
+  -- The piece is kept with those before it. `Absent` if no response passes on that is to be stored. If memory runs out
+  -- for bytes that would be kept, nothing is from now on.
   abbrev pub Receives : Result (Unit {0}) Failure → Type 0
   Receives (Ok one) = IsKept (content_with before.most piece (content_of before))
   Receives (Err failure) =
       ((failure ≡ Absent) × IsNotPassing before.pass.phase × (after ≡ before))
-      ⊎ ((failure ≡ Memory) × (0 < length piece) × IsKept None)
+      ⊎ ((failure ≡ Memory) × (0 < length piece) × IsSome (content_with before.most piece (content_of before))
+      × IsKept None)
 
 -- what is sent
 

@@ -1,5 +1,5 @@
 -- Where passes are in the queue of their cache.
-use Rattle.std.specs.Prelude.{◌≡◌, ◌⊎◌, ℕ, Option, Some, None}
+use Rattle.std.specs.Prelude.{◌≡◌, ◌⊎◌, ℕ, Option, Some, None, Ok, Err, alloc_error}
 use Rattle.cache_pass.{specs.Passes.key_of, specs.Queue.{Collapses, Enters, HasLeft, number_ahead}}
 use Rattle.cache_pass.{specs.declared.pass.Pass.Pass, specs.declared.pass.Phase.Phase}
 use Rattle.cache_pass.{specs.declared.pass.Phase.TheVariants.Ended, specs.declared.queue.Queue.Queue}
@@ -20,7 +20,11 @@ abbrev pub IsPlaced : Pass → ℕ → (old new : Queue) → Place → Type 0
 IsPlaced pass now old new place =
     ((¬ (Collapses pass)) × (new ≡ old) × (place ≡ Apart))
     ⊎ (Collapses pass
-    × ((number : Option ℕ) × Enters (key_of pass) now old new number × (place ≡ place_ahead number)))
+    × ((number : Option ℕ) × Enters (key_of pass) now old new (Ok number) × (place ≡ place_ahead number)))
+
+-- memory runs out for that
+abbrev pub IsUnplaced : Pass → ℕ → (old new : Queue) → Type 0
+IsUnplaced pass now old new = Collapses pass × Enters (key_of pass) now old new (Err alloc_error)
 
 -- A pass that has ended leaves. Any other stays at its place.
 abbrev pub IsSettled : Phase → (was : Place) → (old new : Queue) → Place → Type 0

@@ -1,11 +1,11 @@
 //! The steps of a pass.
-ghost use Rattle.std.specs.Prelude.{◌≡◌, ◌<◌, ◌&&◌, length, IfErr, IfOk, IsErr, Some, None, is_some, option_map};
-ghost use Rattle.std.specs.Bool.{MatchBool};
+ghost use Rattle.std.specs.Prelude.{◌≡◌, ◌<◌, ◌&&◌, length, IfErr, IfOk, IsSome, OnErr, Some, None, is_some};
+ghost use Rattle.std.{specs.Bool.MatchBool, specs.Prelude.option_map};
 ghost use Rattle.cache_pass.specs.Passes.{IsNotPassing};
 ghost use Rattle.c_parts.specs.declared.status.Failure.TheVariants.{Memory};
-ghost use Rattle.c_pass.specs.Steps.{Begins, Comes, Ends, Fails, IsContentStored, IsSilent, Tells};
-ghost use Rattle.c_pass.{specs.Caches.IsSameBeside, specs.Steps.{Receives, Resumes, content_with, reception_of}};
-ghost use Rattle.c_pass.{specs.Outcomes.first_outcome, specs.Waiting.IsPlaced};
+ghost use Rattle.c_pass.specs.Steps.{Begins, Comes, Ends, Fails, IsContentStored, IsSilent, IsUnstarted, Tells};
+ghost use Rattle.c_pass.{specs.Caches.IsSameBeside, specs.Steps.{Receives, Resumes, content_with}};
+ghost use Rattle.c_pass.{specs.Outcomes.first_outcome, specs.Telling.TakesMemory, specs.Waiting.IsPlaced};
 ghost use Rattle.c_pass.specs.declared.held.Place.TheVariants.{Apart};
 
 use crate::held::{Place, Shared, Stepped};
@@ -21,6 +21,15 @@ use cache_rules::Reception;
 use std::alloc::{AllocError, Global};
 use std::mem::replace;
 
+// Shows no content, and takes no field lines.
+fn silence(alloc: Global, stepped: &mut Stepped)
+    ensures silent { IsSilent stepped.new }
+    ensures rest { stepped.new ≡ record stepped.old { shown = stepped.new.shown; text = stepped.new.text } }
+{
+    stepped.shown = None;
+    stepped.text = Vec::new(alloc);
+}
+
 // Tells an outcome, and shows the content of the stored response that is sent.
 fn tell_step(
     alloc: Global,
@@ -34,10 +43,8 @@ fn tell_step(
     ensures most { stepped.new.most ≡ stepped.old.most }
     ensures place { stepped.new.place ≡ stepped.old.place }
     ensures ok { IfOk result (Tells now shared.now stepped.new outcome) }
-    ensures err { IfErr result (λ failure. (failure ≡ Memory) × IsSilent stepped.new) }
+    ensures err { IfErr result (λ failure. (failure ≡ Memory) × TakesMemory outcome × (stepped.new ≡ stepped.old)) }
 {
-    stepped.shown = None;
-    stepped.text = Vec::new(alloc);
     let told = tell(alloc, &shared.cache, &stepped.pass, &outcome, now)?;
     stepped.shown = told.shown;
     stepped.text = told.text;
@@ -61,6 +68,18 @@ fn stepped_at(alloc: Global, pass: Pass, place: Place) -> Stepped
     }
 }
 
+// Has nothing of an earlier step.
+fn restart(alloc: Global, stepped: &mut Stepped)
+    ensures pass { stepped.new.pass ≡ stepped.old.pass }
+    ensures place { stepped.new.place ≡ Apart }
+    ensures content { stepped.new.content ≡ None }
+    ensures silent { IsSilent stepped.new }
+{
+    silence(alloc, stepped);
+    stepped.content = None;
+    stepped.place = Place::Apart;
+}
+
 // Tells the first step of a pass, which enters the queue if it asks the origin.
 fn tell_first(
     alloc: Global,
@@ -75,14 +94,21 @@ fn tell_first(
     ensures beside { IsSameBeside shared.old shared.new }
     ensures ok { IfOk result (λ facts. Tells now shared.new stepped.new (first_outcome first) facts
         × IsPlaced stepped.new.pass now shared.old.queue shared.new.queue stepped.new.place) }
-    ensures err { IfErr result (λ failure. (failure ≡ Memory) × IsSilent stepped.new
-        × (shared.new.queue ≡ shared.old.queue) × (stepped.new.place ≡ Apart)) }
+    ensures err { IfErr result (λ failure. (failure ≡ Memory) × IsSilent stepped.new × (stepped.new.place ≡ Apart)
+        × IsUnstarted stepped.new.pass now shared.old.queue shared.new.queue (first_outcome first)) }
 {
-    stepped.content = None;
-    stepped.place = Place::Apart;
+    restart(alloc, stepped);
     let facts = tell_step(alloc, shared, stepped, first_outcome(first), now)?;
-    stepped.place = enter(alloc, &mut shared.queue, &stepped.pass, now);
-    Ok(facts)
+    match enter(alloc, &mut shared.queue, &stepped.pass, now) {
+        Ok(place) => {
+            stepped.place = place;
+            Ok(facts)
+        }
+        Err(AllocError) => {
+            silence(alloc, stepped);
+            Err(Failure::Memory)
+        }
+    }
 }
 
 /// Begins a pass for a request. It waits if another pass asks the origin for the same, and others may wait for it.
@@ -100,9 +126,10 @@ pub fn begin(
     let key = String::from_str(alloc, target)?;
     let mut pass = Pass::new(key, method, fields);
     // A new pass can begin.
-    let Ok(first) = pass.begin(&mut shared.cache, alloc, now) else {
+    let Ok(begun) = pass.begin(&mut shared.cache, alloc, now) else {
         unreachable!()
     };
+    let first = begun?;
     match ahead(&shared.queue, &pass, now) {
         Some(number) => {
             let stepped = stepped_at(alloc, pass.anew(), Place::Waiting(number));
@@ -131,7 +158,11 @@ pub fn resume(
         return Ok(waiting());
     }
     match stepped.pass.begin(&mut shared.cache, alloc, now) {
-        Ok(first) => tell_first(alloc, shared, stepped, first, now),
+        Ok(Ok(first)) => tell_first(alloc, shared, stepped, first, now),
+        Ok(Err(AllocError)) => {
+            restart(alloc, stepped);
+            Err(Failure::Memory)
+        }
         Err(_) => Err(Failure::Absent),
     }
 }
@@ -157,7 +188,8 @@ pub fn came(
             stepped.content = Some(Vec::new(alloc));
             stepped.most = shared.most;
             stepped.place = settle(&mut shared.queue, stepped.pass.phase(), stepped.place);
-            tell_step(alloc, shared, stepped, next_outcome(next), now)
+            silence(alloc, stepped);
+            tell_step(alloc, shared, stepped, next_outcome(next?), now)
         }
         Err(_) => Err(Failure::Absent),
     }
@@ -175,19 +207,10 @@ pub fn failed(
     match stepped.pass.failed(&mut shared.cache, alloc, now) {
         Ok(found) => {
             stepped.place = settle(&mut shared.queue, stepped.pass.phase(), stepped.place);
-            tell_step(alloc, shared, stepped, failed_outcome(found), now)
+            silence(alloc, stepped);
+            tell_step(alloc, shared, stepped, failed_outcome(found?), now)
         }
         Err(_) => Err(Failure::Absent),
-    }
-}
-
-fn reception_of(is_complete: bool) -> Reception
-    ensures { result ≡ reception_of is_complete }
-{
-    if is_complete {
-        Reception::Complete
-    } else {
-        Reception::Incomplete
     }
 }
 
@@ -201,7 +224,7 @@ fn is_passing(pass: &Pass) -> bool
     }
 }
 
-// The content with a piece more, if that isn't more than so many bytes. Out of memory only if the piece has a byte.
+// The content with a piece more, if that isn't more than so many bytes. Out of memory only for a byte more.
 fn content_with(
     mut content: Vec<u8>,
     piece: &[u8],
@@ -209,7 +232,8 @@ fn content_with(
 ) -> Result<Option<Vec<u8>>, AllocError>
     ensures kept { IfOk result (λ kept.
         option_map (λ bytes. bytes.items) kept ≡ content_with most piece.now (Some content.items)) }
-    ensures memory { IsErr result → 0 < length piece.now }
+    ensures memory { OnErr result ((0 < length piece.now)
+        × IsSome (content_with most piece.now (Some content.items))) }
 {
     if most < content.len() || most - content.len() < piece.len() {
         return Ok(None);
@@ -233,18 +257,20 @@ pub fn received(stepped: &mut Stepped, piece: &[u8]) -> Result<(), Failure>
     Ok(())
 }
 
-// What is stored of the content that was kept: as if not all of it came if none was, or memory ran out.
-fn content_stored(content: Option<Vec<u8>>, is_complete: bool) -> (Bytes, Reception)
-    ensures { IsContentStored (option_map (λ bytes. bytes.items) content) (is_complete && is_some content)
+// What is stored of the content that was kept, and whether memory ran out for it: then as if not all of it came.
+fn content_stored(content: Option<Vec<u8>>, is_complete: bool) -> (Bytes, Reception, bool)
+    ensures { IsContentStored (option_map (λ bytes. bytes.items) content) (is_complete && is_some content) result.2
         result.0 result.1 }
 {
-    let Some(mut content) = content else {
-        return (Bytes::new(), Reception::Incomplete);
-    };
-    content.shrink_to_fit();
-    match Bytes::from_vec(content) {
-        Ok(shared) => (shared, reception_of(is_complete)),
-        Err(_) => (Bytes::new(), Reception::Incomplete),
+    match content {
+        Some(mut content) if is_complete => {
+            content.shrink_to_fit();
+            match Bytes::from_vec(content) {
+                Ok(shared) => (shared, Reception::Complete, false),
+                Err(_) => (Bytes::new(), Reception::Incomplete, true),
+            }
+        }
+        _ => (Bytes::new(), Reception::Incomplete, false),
     }
 }
 
@@ -261,14 +287,20 @@ pub fn ended(
     if !is_passing(&stepped.pass) {
         return Err(Failure::Absent);
     }
-    let (content, reception) = content_stored(replace(&mut stepped.content, None), is_complete);
+    let (content, reception, is_lost) = content_stored(
+        replace(&mut stepped.content, None),
+        is_complete,
+    );
     match stepped
         .pass
         .ended(&mut shared.cache, alloc, content, reception, now)
     {
         Ok(number) => {
             stepped.place = settle(&mut shared.queue, stepped.pass.phase(), stepped.place);
-            Ok(number)
+            if is_lost {
+                return Err(Failure::Memory);
+            }
+            Ok(number?)
         }
         Err(_) => unreachable!(),
     }

@@ -1,10 +1,10 @@
 //! The queue of a cache.
-ghost use Rattle.std.specs.Prelude.{◌≡◌};
-ghost use Rattle.c_pass.specs.Waiting.{IsAhead, IsPlaced, IsSettled};
+ghost use Rattle.std.specs.Prelude.{◌≡◌, IfOk, OnErr};
+ghost use Rattle.c_pass.specs.Waiting.{IsAhead, IsPlaced, IsSettled, IsUnplaced};
 
 use crate::held::Place;
 use cache_pass::{Pass, Phase, Queue};
-use std::alloc::Global;
+use std::alloc::{AllocError, Global};
 
 /// The number of the request for which a pass waits before it asks the origin, if it waits.
 pub(crate) fn ahead(queue: &Queue, pass: &Pass, now: u64) -> Option<u64>
@@ -18,15 +18,21 @@ pub(crate) fn ahead(queue: &Queue, pass: &Pass, now: u64) -> Option<u64>
 }
 
 /// Enters a pass that asks the origin, if others may wait for it.
-pub(crate) fn enter(alloc: Global, queue: &mut Queue, pass: &Pass, now: u64) -> Place
-    ensures { IsPlaced pass.now now queue.old queue.new result }
+pub(crate) fn enter(
+    alloc: Global,
+    queue: &mut Queue,
+    pass: &Pass,
+    now: u64,
+) -> Result<Place, AllocError>
+    ensures ok { IfOk result (IsPlaced pass.now now queue.old queue.new) }
+    ensures err { OnErr result (IsUnplaced pass.now now queue.old queue.new) }
 {
     if !pass.collapses() {
-        return Place::Apart;
+        return Ok(Place::Apart);
     }
-    match queue.enter(alloc, pass.key(), now) {
-        Some(number) => Place::Ahead(number),
-        None => Place::Apart,
+    match queue.enter(alloc, pass.key(), now)? {
+        Some(number) => Ok(Place::Ahead(number)),
+        None => Ok(Place::Apart),
     }
 }
 

@@ -13,25 +13,7 @@ use Rattle.decide_resource.specs.declared.request.RequestContent.TheVariants.{Ab
 use Rattle.c_decisions.specs.Numbers.{known}
 use Rattle.c_parts.{specs.declared.status.Failure.Failure, specs.declared.status.Failure.TheVariants.Refused}
 use Rattle.c_resource.{specs.Values.IsFilledValue, specs.declared.request.DenialParts.DenialParts}
-use Rattle.c_resource.specs.declared.request.GivenRequest.{GivenRequest}
 use Rattle.c_resource.specs.declared.request.RequestParts.{RequestParts}
-
--- a request, but for its fields
-pub record Asked : Type 0 where
-  pub parts : RequestParts
-  pub method : List ℕ
-  pub target : List ℕ
-  pub denial : DenialParts
-
--- the one that was handed in
-abbrev pub asked_by : GivenRequest → Asked
-asked_by given =
-    record {
-      parts = given.parts.now;
-      method = given.method.now;
-      target = given.target.now;
-      denial = given.denial.now;
-    }
 
 -- ---- the version
 

@@ -81,6 +81,7 @@ module _ (given : ResourceParts) (numbers : List RepresentationParts) (shared : 
     pub rules : IsRulesAnswer given (Ok resource.rules)
     pub representations : IsRepresentationsAnswer given numbers (Ok resource.representations)
     pub negotiation : resource.negotiation ≡ negotiation_of given
+    pub has_strong_dates : resource.has_strong_dates ≡ given.has_strong_dates
     pub needs_length : resource.needs_length ≡ given.needs_length
     pub limit : resource.limit ≡ known given.has_limit given.limit
     pub cors : IsCorsAnswer given.has_cors shared (Ok resource.cors)

@@ -1,9 +1,11 @@
 //! The whole answer of a resource.
 ghost use Rattle.std.specs.Prelude.{IfOk, option_map};
 ghost use Rattle.decide_resource.specs.Requests.{request_of};
-ghost use Rattle.c_resource.{specs.Answers.{Answers, AnswersBy, IsShownAnswer}, specs.Requests.asked_by};
+ghost use Rattle.c_resource.specs.Answers.{Answers, AnswersBy, IsShownAnswer};
 
-use crate::request::{GivenRequest, content_of, read_authority, read_denial, read_protocol};
+use crate::request::{
+    DenialParts, RequestParts, content_of, read_authority, read_denial, read_protocol,
+};
 use crate::resource::{GivenResource, read_resource};
 use crate::settled::settled_text;
 use crate::shown::{AnswerFacts, facts_of, parts_of};
@@ -25,26 +27,27 @@ pub struct Answered {
 pub fn answer_with(
     alloc: Global,
     resource: &Resource,
-    request: &GivenRequest<'_>,
+    request: &RequestParts<'_>,
+    denial: &DenialParts<'_>,
     fields: &HeaderMap,
 ) -> Result<Answered, Failure>
-    ensures { AnswersBy (asked_by request.entry.now) fields.now resource.now result }
+    ensures { AnswersBy request.now denial.now fields.now resource.now result }
 {
-    let protocol = read_protocol(request.parts.version)?;
+    let protocol = read_protocol(request.version)?;
     let method = read_method(alloc, request.method)?;
     let authority = read_authority(alloc, request.target)?;
-    let denial = read_denial(alloc, request.denial)?;
+    let denial = read_denial(alloc, denial)?;
     let host = authority.as_ref();
     let denied = denial.as_ref();
     let head = RequestHead {
         protocol,
         method: &method,
         authority: host,
-        content: content_of(request.parts),
+        content: content_of(request),
         fields,
         denied,
     };
-    let answer = answer_request(alloc, resource, &head, request.parts.present)?;
+    let answer = answer_request(alloc, resource, &head, request.present)?;
     Ok(show_answer(alloc, &answer)?)
 }
 
@@ -53,12 +56,13 @@ pub fn answer_with(
 pub fn answer_for(
     alloc: Global,
     resource: &GivenResource<'_>,
-    request: &GivenRequest<'_>,
+    request: &RequestParts<'_>,
+    denial: &DenialParts<'_>,
     section: &[u8],
     keys: &HashKeys,
 ) -> Result<Answered, Failure>
     ensures { Answers resource.entry.now.parts.now resource.entry.now.representations.now
-        resource.entry.now.rules.now (asked_by request.entry.now) section.now result }
+        resource.entry.now.rules.now request.now denial.now section.now result }
 {
     let known = read_resource(
         alloc,
@@ -67,7 +71,7 @@ pub fn answer_for(
         resource.rules,
     )?;
     let fields = read_map(alloc, section, keys)?;
-    let answered = answer_with(alloc, &known, request, &fields)?;
+    let answered = answer_with(alloc, &known, request, denial, &fields)?;
     Ok(answered)
 }
 

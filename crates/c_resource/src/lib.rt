@@ -15,6 +15,6 @@ mod values;
 
 pub use crate::answer::{Answered, answer_for, answer_with};
 pub use crate::representation::RepresentationParts;
-pub use crate::request::{DenialParts, GivenRequest, RequestParts};
+pub use crate::request::{DenialParts, RequestParts};
 pub use crate::resource::{GivenResource, ResourceParts, read_resource};
 pub use crate::shown::AnswerFacts;

@@ -11,10 +11,14 @@ use gateway_messages::{Protocol, authority_len, scheme_len};
 use headers::HeaderValue;
 use std::alloc::Global;
 
-/// What is said of a request beside its texts.
+/// What a server knows of a request, beside its fields.
 #[repr(C)]
 #[derive(Clone, Copy)]
-pub struct RequestParts {
+pub struct RequestParts<'a> {
+    /// Its method.
+    pub method: &'a [u8],
+    /// Its target.
+    pub target: &'a [u8],
     /// When it is answered, in seconds since the start of 1970.
     pub present: u64,
     /// How many bytes its content has, if `has_content` and `has_length`.
@@ -43,19 +47,6 @@ pub struct DenialParts<'a> {
     pub has_retry_after: bool,
 }
 
-/// A request, as C hands it in, but for its fields.
-#[derive(Clone, Copy)]
-pub struct GivenRequest<'a> {
-    /// What is said of it beside its texts.
-    pub parts: &'a RequestParts,
-    /// Its method.
-    pub method: &'a [u8],
-    /// Its target.
-    pub target: &'a [u8],
-    /// Why the server denies it, if it does.
-    pub denial: &'a DenialParts<'a>,
-}
-
 /// The protocol of a version. A later one than HTTP/1.1 counts as that.
 pub(crate) fn read_protocol(version: u8) -> Result<Protocol, Failure>
     ensures { IsProtocolAnswer version result }
@@ -68,7 +59,7 @@ pub(crate) fn read_protocol(version: u8) -> Result<Protocol, Failure>
 }
 
 /// What is known of the content.
-pub(crate) fn content_of(parts: &RequestParts) -> RequestContent
+pub(crate) fn content_of(parts: &RequestParts<'_>) -> RequestContent
     ensures { result ≡ content_of parts.now }
 {
     if !parts.has_content {

@@ -75,6 +75,8 @@ pub struct ResourceParts<'a> {
     pub has_cors: bool,
     /// Whether it is said which methods the server implements.
     pub has_implemented: bool,
+    /// Whether each change of a representation gives it a later date (RFC 9110, section 8.8.2.2).
+    pub has_strong_dates: bool,
 }
 
 /// A resource, as C hands it in.
@@ -185,6 +187,7 @@ pub fn read_resource(
         representations,
         negotiation: negotiation_of(parts),
         boundary,
+        has_strong_dates: parts.has_strong_dates,
         needs_length: parts.needs_length,
         limit: known(parts.has_limit, parts.limit),
         cors,

@@ -8,5 +8,6 @@ returns c = (
   c.next-event.result,
   c.event_number.ensures,
   c.next-event.ensures.said,
+  c.rejection_by-held.ensures,
   c.next-event.ensures.rests,
 )

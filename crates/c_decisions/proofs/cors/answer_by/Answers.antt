@@ -5,8 +5,8 @@ returns c =
     let method = c.in_ok-method.ensures in
     record {
       is_method = method.0;
-      asked = c.in_ok-request.request;
-      is_asked = c.in_ok-request.ensures;
+      asked = c.in_ok-fields.fields;
+      is_asked = c.in_ok-fields.ensures;
       told = c.in_ok-response.response;
       is_told = c.in_ok-response.ensures;
       answer = c.in_ok-answer.answer;

@@ -2,16 +2,16 @@ use Rattle.std.proofs.Common.{List, ℕ, Result, Ok, Err, inr}
 use Rattle.decide_cors.specs.Policy.{Policy}
 use Rattle.c_parts.specs.declared.status.Failure.{Failure}
 use Rattle.c_decisions.{specs.Cors.{Shares, SharesBy}, specs.Rules.IsPolicyFor, specs.declared.cors.Shared.Shared}
-use Rattle.c_decisions.specs.declared.rules.Rules.{Rules}
+use Rattle.c_decisions.{specs.declared.request.RequestTexts.RequestTexts, specs.declared.rules.Rules.Rules}
 use Rattle.c_decisions.proofs.cors.answer_by_rules.Goals as goal
 
-Shares-from_policy : (given : Rules) (policy : Policy) (method request response : List ℕ)
-    (result : Result Shared Failure) → IsPolicyFor given policy → SharesBy policy method request response result
-    → Shares given method request response result
-Shares-from_policy given policy method request response (Ok shared) is by = (policy, is, by)
-Shares-from_policy given policy method request response (Err failure) is by = inr by
+Shares-from_policy : (given : Rules) (policy : Policy) (request : RequestTexts) (response : List ℕ)
+    (result : Result Shared Failure) → IsPolicyFor given policy → SharesBy policy request response result
+    → Shares given request response result
+Shares-from_policy given policy request response (Ok shared) is by = (policy, is, by)
+Shares-from_policy given policy request response (Err failure) is by = inr by
 
 pub returns : goal.returns
 returns c =
-    Shares-from_policy c.args.rules.now c.in_ok-policy.policy c.args.method.now c.args.request.now
-    c.args.response.now c.answer_by.result c.in_ok-policy.ensures c.answer_by.ensures
+    Shares-from_policy c.args.rules.now c.in_ok-policy.policy c.args.request.now c.args.response.now
+    c.answer_by.result c.in_ok-policy.ensures c.answer_by.ensures

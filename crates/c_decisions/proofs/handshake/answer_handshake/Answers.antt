@@ -9,9 +9,7 @@ returns-in_err-show c =
     let answer = c.from_residual-in_err-show in
     let error = err_from_is_err_and answer.result answer.ensures.1 in
     let is : answer.result ≡ Err Memory = cc (error.1, error.2) in
-    subst
-    (AnswersHandshake c.args.method.now c.args.version c.args.section.now c.args.protocols.now c.args.origins.now)
-    (sym is)
+    subst (AnswersHandshake c.args.request.now c.args.version c.args.rules.now) (sym is)
     (inr (inr (inr (inr (inr (
       refl,
       record {
@@ -22,8 +20,8 @@ returns-in_err-show c =
         are_own = c.in_ok-own.ensures;
         allowed = c.in_ok-origins.origins;
         are_allowed = c.in_ok-origins.ensures;
-        request = c.in_ok-request.request;
-        holds = c.in_ok-request.ensures;
+        fields = c.in_ok-fields.fields;
+        holds = c.in_ok-fields.ensures;
         has_fields =
             inr (
               c.in_ok-answer.answer,

@@ -6,16 +6,15 @@ use Rattle.c_decisions.proofs.selection.select_ranges.Goals as goal
 pub returns : goal.returns
 returns c =
     let method = c.in_ok-method.ensures in
-    let request = c.in_ok-request.request in
     record {
       is_method = method.0;
       current = c.in-Current.current;
       is_resource =
           subst
-          (λ (resource : Resource). IsResourceOf c.args.asked.now.etag.now c.args.asked.now.target.now (Ok resource))
+          (λ (resource : Resource). IsResourceOf c.args.etag.now c.args.target.now (Ok resource))
           c.in-Current.is c.in_ok-current.ensures;
-      request = request;
-      holds = c.in_ok-request.ensures;
+      request = c.in_ok-fields.fields;
+      holds = c.in_ok-fields.ensures;
       selection = c.in_ok-selection.selection;
       selects =
           rw (method.1, c.usual-limits.ensures) at c.in_ok-selection.ensures.selects;

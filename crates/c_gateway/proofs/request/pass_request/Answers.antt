@@ -10,8 +10,7 @@ returns-in_err-step_of c =
     let error = err_from_is_err_and answer.result answer.ensures.1 in
     let is : answer.result ≡ Err Memory = cc (error.1, error.2) in
     subst
-    (PassesRequest c.args.gateway.now c.args.hop.now c.args.method.now c.args.version c.args.authority.now
-    c.args.section.now)
+    (PassesRequest c.args.gateway.now c.args.hop.now c.args.request.now c.args.version c.args.authority.now)
     (sym is) (inl (inl c.in_ok-gateway.ensures.0.0))
 
 pub returns : goal.returns

@@ -5,10 +5,10 @@ returns c =
     record {
       is_stored_method = c.in_ok-stored_method.ensures.0;
       is_method = c.in_ok-method.ensures.0;
-      first = c.in_ok-stored.stored;
-      is_first = c.in_ok-stored.ensures;
-      asked = c.in_ok-request.request;
-      is_asked = c.in_ok-request.ensures;
+      first = c.in_ok-stored_fields.stored_fields;
+      is_first = c.in_ok-stored_fields.ensures;
+      asked = c.in_ok-fields.fields;
+      is_asked = c.in_ok-fields.ensures;
       told = c.in_ok-response.response;
       is_told = c.in_ok-response.ensures;
       decision = c.decide-decision.result;

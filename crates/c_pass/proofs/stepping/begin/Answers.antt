@@ -1,7 +1,12 @@
-use Rattle.std.proofs.Common.{rules, ◌∙◌, ℕ, Option, None, subst, sym, refl, inl, inr}
-use Rattle.cache_pass.{specs.Passes.IsSameRequest, specs.Steps.HasBegun, specs.declared.cache.Cache.Cache}
-use Rattle.cache_pass.specs.declared.pass.Pass.{Pass}
-use Rattle.c_pass.specs.Waiting.{IsAhead}
+use Rattle.std.proofs.Common.{rules, ◌≡◌, ◌∙◌, ℕ, List, Option, None, Result, Ok, Err, ap, subst, sym, refl, inl, inr}
+use Rattle.std.{specs.Prelude.{alloc_error, string_bytes}, specs.declared.alloc.AllocError.AllocError}
+use Rattle.std.proofs.lemmas.Result.{err_from_is_err_and}
+use Rattle.cache_store.specs.History.Call.{Looked}
+use Rattle.cache_pass.{specs.Effects.{Does, kept_of, settings_of}, specs.Passes.{IsSameRequest, key_of}}
+use Rattle.cache_pass.{specs.Queue.Enters, specs.Steps.HasBegun, specs.declared.cache.Cache.Cache}
+use Rattle.cache_pass.specs.declared.{pass.Pass.Pass, replying.First.First}
+use Rattle.c_parts.specs.declared.status.Failure.TheVariants.{Memory}
+use Rattle.c_pass.specs.{Steps.Begins, Waiting.IsAhead}
 use Rattle.c_pass.proofs.stepping.begin.Goals as goal
 
 pub returns-in-Some : goal.returns-in-Some
@@ -16,8 +21,10 @@ returns-in-Some c =
           inr (
             record {
               asking = c.begin.new.self;
-              first = c.in-Ok.first;
-              begun = c.in-Ok.ensures.ok;
+              first = c.in_ok-first.first;
+              begun =
+                  subst (λ (found : Result First AllocError). HasBegun c.new-pass.result c.args.shared.now.cache
+                  c.args.now c.begin.new.self c.begin.new.cache found) c.in_ok-first.was c.in-Ok.ensures.ok;
               number = c.in-Some.number;
               ahead = search rules;
               place = search rules;
@@ -49,12 +56,14 @@ returns c =
                 (subst (λ (found : Option ℕ). IsAhead c.args.shared.now.queue c.begin.new.self c.args.now found)
                 c.in-None.is c.ahead.ensures),
             record {
-              first = c.in-Ok.first;
+              first = c.in_ok-first.first;
               begun =
                   subst (λ (pass : Pass). HasBegun c.new-pass.result c.args.shared.now.cache c.args.now pass
-                  c.tell_first.new.shared.cache c.in-Ok.first) (sym made)
+                  c.tell_first.new.shared.cache (Ok c.in_ok-first.first)) (sym made)
                   (subst (λ (cache : Cache). HasBegun c.new-pass.result c.args.shared.now.cache c.args.now
-                  c.begin.new.self cache c.in-Ok.first) (sym c.in_ok-facts.ensures.cache) c.in-Ok.ensures.ok);
+                  c.begin.new.self cache (Ok c.in_ok-first.first)) (sym c.in_ok-facts.ensures.cache)
+                  (subst (λ (found : Result First AllocError). HasBegun c.new-pass.result c.args.shared.now.cache
+                  c.args.now c.begin.new.self c.begin.new.cache found) c.in_ok-first.was c.in-Ok.ensures.ok));
               tells = search rules;
               content = search rules;
               place = search rules;
@@ -62,3 +71,39 @@ returns c =
             },
           );
     }
+
+pub returns-in_err-facts : goal.returns-in_err-facts
+returns-in_err-facts c =
+    let answer = c.from_residual-in_err-facts in
+    let error = err_from_is_err_and answer.result answer.ensures.1 in
+    let lost = c.in_err-facts.ensures.err in
+    let is : answer.result ≡ Err Memory = cc (error.1, error.2, lost.0) in
+    let made = c.in_err-facts.ensures.pass ∙ c.stepped_at-stepped-2.ensures.pass in
+    let begun = c.in-Ok.ensures.ok in
+    let key : key_of c.new-pass.result ≡ c.args.request.now.target.now = search rules in
+    subst (Begins c.args.request.now c.args.now c.args.shared.now c.tell_first.new.shared) (sym is)
+    (inr (
+      refl,
+      (c.in_ok-fields.fields, search rules),
+      inr (
+          record {
+            does =
+                subst (λ (target : List ℕ). Does (settings_of c.args.shared.now.cache) (Looked target)
+                (kept_of c.args.shared.now.cache) (kept_of c.tell_first.new.shared.cache)) key
+                (subst (λ (cache : Cache). Does (settings_of c.args.shared.now.cache)
+                (Looked (key_of c.new-pass.result)) (kept_of c.args.shared.now.cache) (kept_of cache))
+                (sym c.in_err-facts.ensures.cache) begun.does);
+            settings = ap settings_of c.in_err-facts.ensures.cache ∙ begun.settings;
+            queue = elim lost.3 [
+              | inl told ↦ inl told.1
+              | inr unplaced ↦ inr (
+                Err alloc_error,
+                subst (λ (target : List ℕ). Enters target c.args.now c.args.shared.now.queue
+                    c.tell_first.new.shared.queue (Err alloc_error)) (ap key_of made ∙ ap string_bytes begun.same.key ∙ key)
+                    unplaced.1,
+              )
+            ];
+            beside = record { keys = search rules; most = search rules };
+          }
+          ),
+    ))

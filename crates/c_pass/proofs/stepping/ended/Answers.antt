@@ -1,16 +1,18 @@
-use Rattle.std.proofs.Common.{rules, ℕ, Bool, List, [], Option, inl, inr, subst}
-use Rattle.std.specs.Prelude.{◌&&◌, is_some, unwrap_or}
+use Rattle.std.proofs.Common.{rules, ◌≡◌, ℕ, Bool, true, false, List, [], Option, Result, Ok, Err, inl, inr, refl, subst, sym}
+use Rattle.std.specs.{Prelude.{◌&&◌, is_some, unwrap_or}, declared.alloc.AllocError.AllocError}
+use Rattle.std.proofs.lemmas.Result.{err_from_is_err_and}
 use Rattle.cache_rules.specs.declared.storing.Reception.{Reception}
-use Rattle.cache_rules.specs.declared.storing.Reception.TheVariants.{Incomplete}
+use Rattle.cache_rules.specs.declared.storing.Reception.TheVariants.{Complete, Incomplete}
 use Rattle.cache_pass.{specs.Steps.HasEnded, specs.declared.cache.Cache.Cache, specs.declared.pass.Pass.Pass}
-use Rattle.c_pass.specs.Steps.{IsContentStored, content_of, reception_of}
+use Rattle.c_parts.specs.declared.status.Failure.TheVariants.{Memory}
+use Rattle.c_pass.specs.Steps.{Ends, IsContentStored, content_of, reception_of}
 use Rattle.c_pass.proofs.stepping.ended.Goals as goal
 
-module _ (old new : Pass) (before after : Cache) (now : ℕ) (number : Option ℕ) (content : List ℕ) where
-  -- a pass that ends as if not all came stores nothing, as one for which memory ran out
-  unstored : (kept : List ℕ) (reception : Reception) → HasEnded old before content Incomplete now new after number
-      → HasEnded old before kept reception now new after number
-  unstored kept reception h =
+module _ (old new : Pass) (before after : Cache) (now : ℕ) (number : Result (Option ℕ) AllocError) where
+  -- of a pass that ends as if not all came, the content doesn't count
+  unstored : (content kept : List ℕ) → HasEnded old before content Incomplete now new after number
+      → HasEnded old before kept Incomplete now new after number
+  unstored content kept h =
       record {
         asked = h.asked;
         status = h.status;
@@ -26,22 +28,53 @@ module _ (old new : Pass) (before after : Cache) (now : ℕ) (number : Option �
         phase = h.phase;
       }
 
-  ended-as : (given : Reception) (kept : Option (List ℕ)) (whole : Bool) → IsContentStored kept whole content given
-      → HasEnded old before content given now new after number
+  -- memory didn't run out for the content
+  ended-as : (kept : Option (List ℕ)) (whole : Bool) (content : List ℕ) (given : Reception)
+      → IsContentStored kept whole false content given → HasEnded old before content given now new after number
       → HasEnded old before (unwrap_or kept []) (reception_of whole) now new after number
-  ended-as given kept whole (inl is) h =
-      subst (λ (bytes : List ℕ). HasEnded old before bytes (reception_of whole) now new after number) is.0
-      (subst (λ (r : Reception). HasEnded old before content r now new after number) is.1 h)
-  ended-as given kept whole (inr is) h =
-      unstored (unwrap_or kept []) (reception_of whole)
-      (subst (λ (r : Reception). HasEnded old before content r now new after number) is h)
+  ended-as kept true content given (is, complete) h =
+      subst (λ (k : Option (List ℕ)). HasEnded old before (unwrap_or k []) Complete now new after number) (sym is)
+      (subst (λ (r : Reception). HasEnded old before content r now new after number) complete h)
+  ended-as kept false content given (lost, incomplete) h =
+      unstored content (unwrap_or kept [])
+      (subst (λ (r : Reception). HasEnded old before content r now new after number) incomplete h)
+
+pub returns-in_err-number-in-Ok : goal.returns-in_err-number-in-Ok
+returns-in_err-number-in-Ok c =
+    let answer = c.from_residual in
+    let error = err_from_is_err_and answer.result answer.ensures.1 in
+    let is : answer.result ≡ Err Memory = cc (error.1, error.2) in
+    let ended = ended-as _ _ _ _ _ _ (content_of c.args.stepped.now)
+    (c.args.is_complete && is_some c.args.stepped.now.content) _ _
+    (rw (c.replace.ensures.value, c.if-is_lost.false) at c.content_stored-content.ensures) c.in-Ok.ensures.ok in
+    subst (Ends c.args.now c.args.shared.now c.args.stepped.now _ _ c.args.is_complete) (sym is)
+    (inr (
+      refl,
+      record {
+        ended =
+            subst (λ (n : Result (Option ℕ) AllocError). HasEnded c.args.stepped.now.pass c.args.shared.now.cache
+            (unwrap_or (content_of c.args.stepped.now) [])
+            (reception_of (c.args.is_complete && is_some c.args.stepped.now.content)) c.args.now c.ended.new.self
+            c.ended.new.cache n) c.in_err-number-in-Ok.was ended;
+        content = search rules;
+        place = search rules;
+        shown = refl;
+        text = refl;
+        beside = record { keys = refl; most = refl };
+      },
+    ))
 
 pub returns : goal.returns
 returns c =
     record {
-      ended = ended-as _ _ _ _ _ _ _ _ (content_of c.args.stepped.now)
-          (c.args.is_complete && is_some c.args.stepped.now.content)
-          (rw c.replace.ensures.value at c.content_stored-content.ensures) c.in-Ok.ensures.ok;
+      ended =
+          subst (λ (n : Result (Option ℕ) AllocError). HasEnded c.args.stepped.now.pass c.args.shared.now.cache
+          (unwrap_or (content_of c.args.stepped.now) [])
+          (reception_of (c.args.is_complete && is_some c.args.stepped.now.content)) c.args.now c.ended.new.self
+          c.ended.new.cache n) c.in_ok-number-in-Ok.was
+          (ended-as _ _ _ _ _ _ (content_of c.args.stepped.now)
+          (c.args.is_complete && is_some c.args.stepped.now.content) _ _
+          (rw (c.replace.ensures.value, c.if-is_lost.false) at c.content_stored-content.ensures) c.in-Ok.ensures.ok);
       content = search rules;
       place = search rules;
       shown = search rules;

@@ -1,7 +1,7 @@
 use Rattle.std.{proofs.Common.{◌≡◌, Err, inl, inr, subst, sym}, proofs.lemmas.Result.err_from_is_err_and}
 use Rattle.c_decisions.specs.Contents.{IsBoundaryOf}
 use Rattle.c_parts.specs.declared.status.Failure.{Failure}
-use Rattle.c_resource.{specs.Answers.Answers, specs.Requests.asked_by, specs.Resources.boundary_text}
+use Rattle.c_resource.{specs.Answers.Answers, specs.Resources.boundary_text}
 use Rattle.c_resource.proofs.answer.answer_for.Goals as goal
 
 pub returns-in_err-known : goal.returns-in_err-known
@@ -12,7 +12,7 @@ returns-in_err-known c =
     let is : answer.result ≡ Err failure = cc (error.1, error.2) in
     let given = c.args.resource.now in
     subst
-    (Answers given.parts.now given.representations.now given.rules.now (asked_by c.args.request.now)
+    (Answers given.parts.now given.representations.now given.rules.now c.args.request.now c.args.denial.now
     c.args.section.now) (sym is) (inl c.in_err-known.ensures)
 
 pub returns-in_err-answered : goal.returns-in_err-answered
@@ -23,7 +23,7 @@ returns-in_err-answered c =
     let is : answer.result ≡ Err failure = cc (error.1, error.2) in
     let given = c.args.resource.now in
     subst
-    (Answers given.parts.now given.representations.now given.rules.now (asked_by c.args.request.now)
+    (Answers given.parts.now given.representations.now given.rules.now c.args.request.now c.args.denial.now
     c.args.section.now) (sym is)
     (elim c.in_err-answered.ensures [
       | inl request ↦ inr (inl request)

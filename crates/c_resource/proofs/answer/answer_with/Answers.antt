@@ -7,9 +7,8 @@ use Rattle.decide_resource.{specs.Requests.Request, specs.declared.denied.Denied
 use Rattle.c_decisions.specs.Methods.{IsMethodOf}
 use Rattle.c_parts.specs.declared.status.Failure.TheVariants.{Memory}
 use Rattle.c_resource.specs.Answers.{AnswersBy, IsRequest}
-use Rattle.c_resource.specs.Requests.{Asked, IsAuthorityAnswer, IsDenialAnswer, IsProtocolAnswer, asked_by}
-use Rattle.c_resource.specs.Requests.{authority_of}
-use Rattle.c_resource.specs.Requests.{content_of}
+use Rattle.c_resource.specs.Requests.{IsAuthorityAnswer, IsDenialAnswer, IsProtocolAnswer, authority_of, content_of}
+use Rattle.c_resource.{specs.declared.request.DenialParts.DenialParts, specs.declared.request.RequestParts.RequestParts}
 use Rattle.c_resource.proofs.answer.answer_with.Goals as goal
 
 lent : {X Y : Type 0} (f : X → Y) (given : Option (Bor X)) (value : Option X) → option_copied given ≡ value
@@ -18,16 +17,17 @@ lent f None value same = ap (option_map f) same
 lent f (Some it) value same = ap (option_map f) same
 
 -- the request that was read
-is_read : (asked : Asked) (fields : Entries FieldValue) (protocol : Protocol) (method : List ℕ)
-    (authority : Option FieldValue) (denied : Option Denied) → IsProtocolAnswer asked.parts.version (Ok protocol)
-    → IsMethodOf asked.method (Ok method) → IsAuthorityAnswer (authority_of asked.target) (Ok authority)
-    → IsDenialAnswer asked.denial (Ok denied) → (request : Request) × IsRequest asked fields request
-is_read asked fields protocol method authority denied is_protocol is_method is_authority is_denied = (
+is_read : (asked : RequestParts) (denial : DenialParts) (fields : Entries FieldValue) (protocol : Protocol)
+    (method : List ℕ) (authority : Option FieldValue) (denied : Option Denied)
+    → IsProtocolAnswer asked.version (Ok protocol) → IsMethodOf asked.method.now (Ok method)
+    → IsAuthorityAnswer (authority_of asked.target.now) (Ok authority) → IsDenialAnswer denial (Ok denied)
+    → (request : Request) × IsRequest asked denial fields request
+is_read asked denial fields protocol method authority denied is_protocol is_method is_authority is_denied = (
   record {
     protocol = protocol;
     method = method;
     authority = option_map (λ (value : FieldValue). value.bytes) authority;
-    content = content_of asked.parts;
+    content = content_of asked;
     fields = lines_at fields;
     denied = denied;
   },
@@ -49,24 +49,26 @@ returns-in_err-answer c =
     let answer = c.from_residual-in_err-answer in
     let error = err_from_is_err_and answer.result answer.ensures.1 in
     let is : answer.result ≡ Err Memory = cc (error.1, error.2) in
-    let asked = asked_by c.args.request.now in
+    let asked = c.args.request.now in
+    let denial = c.args.denial.now in
     let read =
-    is_read asked c.args.fields.now c.in_ok-protocol.protocol c.in_ok-method.method c.in_ok-authority.authority
-    c.in_ok-denial.denial c.in_ok-protocol.ensures c.in_ok-method.ensures c.in_ok-authority.ensures
-    c.in_ok-denial.ensures in
-    subst (AnswersBy asked c.args.fields.now c.args.resource.now) (sym is) (inr (refl, read.0, read.1))
+    is_read asked denial c.args.fields.now c.in_ok-protocol.protocol c.in_ok-method.method
+    c.in_ok-authority.authority c.in_ok-denial.denial c.in_ok-protocol.ensures c.in_ok-method.ensures
+    c.in_ok-authority.ensures c.in_ok-denial.ensures in
+    subst (AnswersBy asked denial c.args.fields.now c.args.resource.now) (sym is) (inr (refl, read.0, read.1))
 
 pub returns-in_err-show_answer : goal.returns-in_err-show_answer
 returns-in_err-show_answer c =
     let answer = c.from_residual-in_err-show_answer in
     let error = err_from_is_err_and answer.result answer.ensures.1 in
     let is : answer.result ≡ Err Memory = cc (error.1, error.2) in
-    let asked = asked_by c.args.request.now in
+    let asked = c.args.request.now in
+    let denial = c.args.denial.now in
     let read =
-    is_read asked c.args.fields.now c.in_ok-protocol.protocol c.in_ok-method.method c.in_ok-authority.authority
-    c.in_ok-denial.denial c.in_ok-protocol.ensures c.in_ok-method.ensures c.in_ok-authority.ensures
-    c.in_ok-denial.ensures in
-    subst (AnswersBy asked c.args.fields.now c.args.resource.now) (sym is) (inr (refl, read.0, read.1))
+    is_read asked denial c.args.fields.now c.in_ok-protocol.protocol c.in_ok-method.method
+    c.in_ok-authority.authority c.in_ok-denial.denial c.in_ok-protocol.ensures c.in_ok-method.ensures
+    c.in_ok-authority.ensures c.in_ok-denial.ensures in
+    subst (AnswersBy asked denial c.args.fields.now c.args.resource.now) (sym is) (inr (refl, read.0, read.1))
 
 pub returns : goal.returns
 returns c =
@@ -94,7 +96,7 @@ returns c =
             content = c.content_of.ensures;
             fields_are = refl;
             denied =
-                subst (λ (denied : Option Denied). IsDenialAnswer c.args.request.now.denial.now (Ok denied))
+                subst (λ (denied : Option Denied). IsDenialAnswer c.args.denial.now (Ok denied))
                 (sym c.as_ref-denied.ensures.value) c.in_ok-denial.ensures;
           };
       answer = c.in_ok-answer.answer;
