@@ -14,7 +14,6 @@ union slot {
         struct typed_headers_quality quality;
         struct typed_headers_handshake handshake;
         struct typed_headers_representation representation;
-        struct typed_headers_resource_request resource_request;
         struct typed_headers_resource_facts resource_facts;
         struct typed_headers_framing framing;
         struct typed_headers_port port;
@@ -22,12 +21,18 @@ union slot {
         struct typed_headers_retry_time retry_time;
         struct typed_headers_stale_directives stale_directives;
         struct typed_headers_entry entry;
+        struct typed_headers_request request;
+        struct typed_headers_message message;
         struct typed_headers_cache_directives cache_directives;
         struct typed_headers_cors_rules cors_rules;
+        struct typed_headers_stored stored;
         struct typed_headers_cache_extensions cache_extensions;
         struct typed_headers_cache_request cache_request;
         struct typed_headers_content content;
+        struct typed_headers_websocket_rules websocket_rules;
+        struct typed_headers_websocket_exchange websocket_exchange;
         struct typed_headers_resource resource;
+        struct typed_headers_resource_request resource_request;
         struct typed_headers_denial denial;
         struct typed_headers_gateway gateway;
         struct typed_headers_hop hop;
@@ -35,6 +40,7 @@ union slot {
         struct typed_headers_response_outcome response_outcome;
         struct typed_headers_framing_outcome framing_outcome;
         struct typed_headers_origin_parts origin_parts;
+        struct typed_headers_files_options files_options;
     } any;
 };
 
@@ -56,8 +62,6 @@ SHAPE(handshake, MEMBER(handshake, status, U16), MEMBER(handshake, fault, U8))
 SHAPE(representation, FLAGGED(representation, length, U64, has_length),
       FLAGGED(representation, last_modified, U64, has_last_modified), MEMBER(representation, sends_ranges, BOOL),
       MEMBER(representation, is_date_strong, BOOL))
-SHAPE(resource_request, MEMBER(resource_request, present, U64), FLAGGED(resource_request, length, U64, has_length),
-      MEMBER(resource_request, version, U8), MEMBER(resource_request, has_content, BOOL))
 SHAPE(resource_facts, FLAGGED(resource_facts, place, SIZE, has_place), MEMBER(resource_facts, status, U16),
       MEMBER(resource_facts, reason, U8), MEMBER(resource_facts, sends, U8))
 SHAPE(framing, MEMBER(framing, length, U64), MEMBER(framing, kind, U8))
@@ -70,6 +74,9 @@ SHAPE(stale_directives, FLAGGED(stale_directives, while_revalidate, U64, has_whi
 SHAPE(entry, MEMBER(entry, length, U64), MEMBER(entry, modified, U64), MEMBER(entry, device, U64),
       MEMBER(entry, inode, U64), MEMBER(entry, changed, U64), MEMBER(entry, changed_nanosecond, U64),
       MEMBER(entry, kind, U8))
+SHAPE(request, MEMBER(request, method, A_TEXT), MEMBER(request, section, A_TEXT))
+SHAPE(message, MEMBER(message, method, A_TEXT), MEMBER(message, section, A_TEXT), MEMBER(message, status, U16),
+      MEMBER(message, version, U8))
 SHAPE(cache_directives, INNER(cache_directives, max_age, directive_seconds),
       INNER(cache_directives, max_stale, directive_seconds), INNER(cache_directives, min_fresh, directive_seconds),
       INNER(cache_directives, s_maxage, directive_seconds), MEMBER(cache_directives, no_cache, U8),
@@ -81,12 +88,16 @@ SHAPE(cache_directives, INNER(cache_directives, max_age, directive_seconds),
 SHAPE(cors_rules, MEMBER(cors_rules, origins, A_TEXT), MEMBER(cors_rules, methods, A_TEXT),
       MEMBER(cors_rules, headers, A_TEXT), MEMBER(cors_rules, exposed, A_TEXT),
       FLAGGED(cors_rules, max_age, U64, has_max_age), MEMBER(cors_rules, credentials, BOOL))
+SHAPE(stored, MEMBER(stored, method, A_TEXT), MEMBER(stored, request, A_TEXT), MEMBER(stored, response, A_TEXT))
 SHAPE(cache_extensions, MEMBER(cache_extensions, targets, A_TEXT), MEMBER(cache_extensions, immutable, BOOL),
       MEMBER(cache_extensions, wait, U64))
 SHAPE(cache_request, MEMBER(cache_request, target, A_TEXT), MEMBER(cache_request, method, A_TEXT),
       MEMBER(cache_request, section, A_TEXT))
 SHAPE(content, MEMBER(content, media_type, A_TEXT), FLAGGED(content, length, U64, has_length),
       MEMBER(content, sends_ranges, BOOL))
+SHAPE(websocket_rules, MEMBER(websocket_rules, protocols, A_TEXT), MEMBER(websocket_rules, origins, A_TEXT))
+SHAPE(websocket_exchange, MEMBER(websocket_exchange, sent, A_TEXT), MEMBER(websocket_exchange, response, A_TEXT),
+      MEMBER(websocket_exchange, status, U16))
 SHAPE(resource, MEMBER(resource, hosts, A_TEXT), MEMBER(resource, methods, A_TEXT),
       MEMBER(resource, creating, A_TEXT), MEMBER(resource, guarded, A_TEXT), MEMBER(resource, accept, A_TEXT),
       MEMBER(resource, accept_encoding, A_TEXT), MEMBER(resource, location, A_TEXT),
@@ -95,7 +106,10 @@ SHAPE(resource, MEMBER(resource, hosts, A_TEXT), MEMBER(resource, methods, A_TEX
       FLAGGED(resource, implemented, A_TEXT, has_implemented), FLAGGED(resource, limit, U64, has_limit),
       MEMBER(resource, state, U16), MEMBER(resource, by_media_type, BOOL), MEMBER(resource, by_language, BOOL),
       MEMBER(resource, by_coding, BOOL), MEMBER(resource, is_strict, BOOL), MEMBER(resource, needs_length, BOOL),
-      MEMBER(resource, has_cors, BOOL))
+      MEMBER(resource, has_cors, BOOL), MEMBER(resource, has_strong_dates, BOOL))
+SHAPE(resource_request, MEMBER(resource_request, method, A_TEXT), MEMBER(resource_request, target, A_TEXT),
+      MEMBER(resource_request, present, U64), FLAGGED(resource_request, length, U64, has_length),
+      MEMBER(resource_request, version, U8), MEMBER(resource_request, has_content, BOOL))
 SHAPE(denial, MEMBER(denial, challenge, A_TEXT), FLAGGED(denial, retry_after, U64, has_retry_after),
       MEMBER(denial, status, U16))
 SHAPE(gateway, MEMBER(gateway, name, A_TEXT), MEMBER(gateway, protected_fields, A_TEXT),
@@ -114,6 +128,8 @@ SHAPE(framing_outcome, INNER(framing_outcome, framing, framing), MEMBER(framing_
       MEMBER(framing_outcome, reason, U8))
 SHAPE(origin_parts, MEMBER(origin_parts, scheme_length, SIZE), INNER(origin_parts, port, port),
       MEMBER(origin_parts, is_null, U8))
+SHAPE(files_options, MEMBER(files_options, cache_control, A_TEXT), MEMBER(files_options, hosts, A_TEXT),
+      MEMBER(files_options, boundary, A_TEXT), MEMBER(files_options, negotiates, BOOL))
 
 HANDLE(cache)
 HANDLE(section)
@@ -155,18 +171,17 @@ CALL(format_content_range, MAY(REFUSED) | MAY(NO_MEMORY), (&at[0].any.content_ra
      OF_SHAPE(IN_STRUCT, content_range), PLAIN(ROOM_OF_BYTES))
 CALL(format_etag, MAY(REFUSED) | MAY(NO_MEMORY), (at[0].flag, TEXT_OF(at[1]), ROOM(at[2])), OF_KIND(NUMBER, BOOL),
      PLAIN(GIVEN_TEXT), PLAIN(ROOM_OF_BYTES))
-CALL(evaluate, MAY(REFUSED) | MAY(TOO_LARGE) | MAY(NO_MEMORY), (TEXT_OF(at[0]), TEXT_OF(at[1]), &keys,
-     TEXT_OF(at[2]), &at[3].any.target, &at[4].u16), PLAIN(GIVEN_TEXT), PLAIN(GIVEN_TEXT), PLAIN(GIVEN_TEXT),
-     OF_SHAPE(IN_STRUCT, target), OF_KIND(OUT_NUMBER, U16))
-CALL(select, MAY(REFUSED) | MAY(ABSENT) | MAY(TOO_LARGE) | MAY(NO_MEMORY), (TEXT_OF(at[0]), TEXT_OF(at[1]), &keys,
-     TEXT_OF(at[2]), &at[3].any.target, at[4].u64, &at[5].u16, ROOM(at[6])), PLAIN(GIVEN_TEXT), PLAIN(GIVEN_TEXT),
+CALL(evaluate, MAY(REFUSED) | MAY(TOO_LARGE) | MAY(NO_MEMORY), (&at[0].any.request, &keys, TEXT_OF(at[1]),
+     &at[2].any.target, &at[3].u16), OF_SHAPE(IN_STRUCT, request), PLAIN(GIVEN_TEXT), OF_SHAPE(IN_STRUCT, target),
+     OF_KIND(OUT_NUMBER, U16))
+CALL(select, MAY(REFUSED) | MAY(ABSENT) | MAY(TOO_LARGE) | MAY(NO_MEMORY), (&at[0].any.request, &keys,
+     TEXT_OF(at[1]), &at[2].any.target, at[3].u64, &at[4].u16, ROOM(at[5])), OF_SHAPE(IN_STRUCT, request),
      PLAIN(GIVEN_TEXT), OF_SHAPE(IN_STRUCT, target), OF_KIND(NUMBER, U64), OF_KIND(OUT_NUMBER, U16),
      OF_SHAPE(ROOM_OF_STRUCTS, bytes_range))
-CALL(respond, MAY(REFUSED) | MAY(TOO_LARGE) | MAY(NO_MEMORY), (TEXT_OF(at[0]), TEXT_OF(at[1]), &keys, TEXT_OF(at[2]),
-     &at[3].any.target, &at[4].any.content, TEXT_OF(at[5]), &at[6].any.response, ROOM(at[7]), ROOM(at[8])),
-     PLAIN(GIVEN_TEXT), PLAIN(GIVEN_TEXT), PLAIN(GIVEN_TEXT), OF_SHAPE(IN_STRUCT, target),
-     OF_SHAPE(IN_STRUCT, content), PLAIN(GIVEN_TEXT), OF_SHAPE(OUT_STRUCT, response),
-     OF_SHAPE(ROOM_OF_STRUCTS, bytes_range), PLAIN(ROOM_OF_BYTES))
+CALL(respond, MAY(REFUSED) | MAY(TOO_LARGE) | MAY(NO_MEMORY), (&at[0].any.request, &keys, TEXT_OF(at[1]),
+     &at[2].any.target, &at[3].any.content, TEXT_OF(at[4]), &at[5].any.response, ROOM(at[6]), ROOM(at[7])),
+     OF_SHAPE(IN_STRUCT, request), PLAIN(GIVEN_TEXT), OF_SHAPE(IN_STRUCT, target), OF_SHAPE(IN_STRUCT, content),
+     PLAIN(GIVEN_TEXT), OF_SHAPE(OUT_STRUCT, response), OF_SHAPE(ROOM_OF_STRUCTS, bytes_range), PLAIN(ROOM_OF_BYTES))
 CALL(choose_type, MAY(REFUSED) | MAY(ABSENT) | MAY(NO_MEMORY), (FIELD(at[0]), TEXT_OF(at[1]), &at[2].size),
      PLAIN(LINES), PLAIN(GIVEN_TEXT), OF_KIND(OUT_NUMBER, SIZE))
 CALL(choose_coding, MAY(REFUSED) | MAY(ABSENT) | MAY(NO_MEMORY), (FIELD(at[0]), TEXT_OF(at[1]), &at[2].size),
@@ -183,29 +198,28 @@ CALL(language_quality, MAY(REFUSED) | MAY(ABSENT) | MAY(NO_MEMORY), (FIELD(at[0]
      &at[2].any.quality), PLAIN(LINES), PLAIN(GIVEN_TEXT), OF_SHAPE(OUT_STRUCT, quality))
 CALL(websocket_accept, MAY(REFUSED) | MAY(ABSENT) | MAY(NO_MEMORY), (FIELD(at[0]), ROOM(at[1])), PLAIN(LINES),
      PLAIN(ROOM_OF_BYTES))
-CALL(websocket_respond, MAY(REFUSED) | MAY(TOO_LARGE) | MAY(NO_MEMORY), (TEXT_OF(at[0]), at[1].u8, TEXT_OF(at[2]),
-     &keys, TEXT_OF(at[3]), TEXT_OF(at[4]), &at[5].any.handshake, ROOM(at[6])), PLAIN(GIVEN_TEXT),
-     OF_KIND(NUMBER, U8), PLAIN(GIVEN_TEXT), PLAIN(GIVEN_TEXT), PLAIN(GIVEN_TEXT), OF_SHAPE(OUT_STRUCT, handshake),
+CALL(websocket_respond, MAY(REFUSED) | MAY(TOO_LARGE) | MAY(NO_MEMORY), (&at[0].any.request, at[1].u8, &keys,
+     &at[2].any.websocket_rules, &at[3].any.handshake, ROOM(at[4])), OF_SHAPE(IN_STRUCT, request),
+     OF_KIND(NUMBER, U8), OF_SHAPE(IN_STRUCT, websocket_rules), OF_SHAPE(OUT_STRUCT, handshake),
      PLAIN(ROOM_OF_BYTES))
 CALL(websocket_request, MAY(REFUSED) | MAY(NO_MEMORY), (TEXT_OF(at[0]), ROOM(at[1])), PLAIN(GIVEN_TEXT),
      PLAIN(ROOM_OF_BYTES))
-CALL(websocket_check, MAY(REFUSED) | MAY(TOO_LARGE) | MAY(NO_MEMORY), (TEXT_OF(at[0]), at[1].u16, TEXT_OF(at[2]),
-     &keys, &at[3].u8), PLAIN(GIVEN_TEXT), OF_KIND(NUMBER, U16), PLAIN(GIVEN_TEXT), OF_KIND(OUT_NUMBER, U8))
-CALL(cors_answer, MAY(REFUSED) | MAY(TOO_LARGE) | MAY(NO_MEMORY), (&at[0].any.cors_rules, TEXT_OF(at[1]),
-     TEXT_OF(at[2]), TEXT_OF(at[3]), &keys, &at[4].any.cors_facts, ROOM(at[5])), OF_SHAPE(IN_STRUCT, cors_rules),
-     PLAIN(GIVEN_TEXT), PLAIN(GIVEN_TEXT), PLAIN(GIVEN_TEXT), OF_SHAPE(OUT_STRUCT, cors_facts), PLAIN(ROOM_OF_BYTES))
+CALL(websocket_check, MAY(REFUSED) | MAY(TOO_LARGE) | MAY(NO_MEMORY), (&at[0].any.websocket_exchange, &keys,
+     &at[1].u8), OF_SHAPE(IN_STRUCT, websocket_exchange), OF_KIND(OUT_NUMBER, U8))
+CALL(cors_answer, MAY(REFUSED) | MAY(TOO_LARGE) | MAY(NO_MEMORY), (&at[0].any.cors_rules, &at[1].any.request,
+     TEXT_OF(at[2]), &keys, &at[3].any.cors_facts, ROOM(at[4])), OF_SHAPE(IN_STRUCT, cors_rules),
+     OF_SHAPE(IN_STRUCT, request), PLAIN(GIVEN_TEXT), OF_SHAPE(OUT_STRUCT, cors_facts), PLAIN(ROOM_OF_BYTES))
 CALL(unsent_origin, MAY(REFUSED) | MAY(ABSENT) | MAY(NO_MEMORY), (TEXT_OF(at[0]), &at[1].size), PLAIN(GIVEN_TEXT),
      OF_KIND(OUT_NUMBER, SIZE))
 CALL(resource_answer, MAY(REFUSED) | MAY(TOO_LARGE) | MAY(NO_MEMORY), (&at[0].any.resource, at[1].list.at,
-     at[1].list.length, &at[2].any.cors_rules, &at[3].any.resource_request, TEXT_OF(at[4]), TEXT_OF(at[5]),
-     &at[6].any.denial, TEXT_OF(at[7]), &keys, &at[8].any.resource_facts, ROOM(at[9]), ROOM(at[10])),
-     OF_SHAPE(IN_STRUCT, resource), OF_SHAPE(LIST_STRUCT, representation), OF_SHAPE(IN_STRUCT, cors_rules),
-     OF_SHAPE(IN_STRUCT, resource_request), PLAIN(GIVEN_TEXT), PLAIN(GIVEN_TEXT), OF_SHAPE(IN_STRUCT, denial),
-     PLAIN(GIVEN_TEXT), OF_SHAPE(OUT_STRUCT, resource_facts), OF_SHAPE(ROOM_OF_STRUCTS, bytes_range),
-     PLAIN(ROOM_OF_BYTES))
-CALL(may_store, MAY(REFUSED) | MAY(TOO_LARGE) | MAY(NO_MEMORY), (TEXT_OF(at[0]), TEXT_OF(at[1]), at[2].u16,
-     TEXT_OF(at[3]), &keys, at[4].flag, &at[5].u8), PLAIN(GIVEN_TEXT), PLAIN(GIVEN_TEXT), OF_KIND(NUMBER, U16),
-     PLAIN(GIVEN_TEXT), OF_KIND(NUMBER, BOOL), OF_KIND(OUT_NUMBER, U8))
+     at[1].list.length, &at[2].any.cors_rules, &at[3].any.resource_request, &at[4].any.denial, TEXT_OF(at[5]), &keys,
+     &at[6].any.resource_facts, ROOM(at[7]), ROOM(at[8])), OF_SHAPE(IN_STRUCT, resource),
+     OF_SHAPE(LIST_STRUCT, representation), OF_SHAPE(IN_STRUCT, cors_rules), OF_SHAPE(IN_STRUCT, resource_request),
+     OF_SHAPE(IN_STRUCT, denial), PLAIN(GIVEN_TEXT), OF_SHAPE(OUT_STRUCT, resource_facts),
+     OF_SHAPE(ROOM_OF_STRUCTS, bytes_range), PLAIN(ROOM_OF_BYTES))
+CALL(may_store, MAY(REFUSED) | MAY(TOO_LARGE) | MAY(NO_MEMORY), (&at[0].any.request, at[1].u16, TEXT_OF(at[2]),
+     &keys, at[3].flag, &at[4].u8), OF_SHAPE(IN_STRUCT, request), OF_KIND(NUMBER, U16), PLAIN(GIVEN_TEXT),
+     OF_KIND(NUMBER, BOOL), OF_KIND(OUT_NUMBER, U8))
 CALL(lifetime, MAY(REFUSED) | MAY(ABSENT) | MAY(TOO_LARGE) | MAY(NO_MEMORY), (TEXT_OF(at[0]), &keys, at[1].u64,
      at[2].flag, &at[3].u64), PLAIN(GIVEN_TEXT), OF_KIND(NUMBER, U64), OF_KIND(NUMBER, BOOL),
      OF_KIND(OUT_NUMBER, U64))
@@ -214,10 +228,9 @@ CALL(heuristic_lifetime, MAY(REFUSED) | MAY(ABSENT) | MAY(TOO_LARGE) | MAY(NO_ME
      OF_KIND(NUMBER, BOOL), OF_KIND(OUT_NUMBER, U64))
 CALL(current_age, MAY(REFUSED) | MAY(TOO_LARGE) | MAY(NO_MEMORY), (TEXT_OF(at[0]), &keys, &at[1].any.moments,
      &at[2].u64), PLAIN(GIVEN_TEXT), OF_SHAPE(IN_STRUCT, moments), OF_KIND(OUT_NUMBER, U64))
-CALL(decide, MAY(REFUSED) | MAY(TOO_LARGE) | MAY(NO_MEMORY), (TEXT_OF(at[0]), TEXT_OF(at[1]), TEXT_OF(at[2]),
-     TEXT_OF(at[3]), TEXT_OF(at[4]), &keys, &at[5].any.moments, at[6].flag, &at[7].u8), PLAIN(GIVEN_TEXT),
-     PLAIN(GIVEN_TEXT), PLAIN(GIVEN_TEXT), PLAIN(GIVEN_TEXT), PLAIN(GIVEN_TEXT), OF_SHAPE(IN_STRUCT, moments),
-     OF_KIND(NUMBER, BOOL), OF_KIND(OUT_NUMBER, U8))
+CALL(decide, MAY(REFUSED) | MAY(TOO_LARGE) | MAY(NO_MEMORY), (&at[0].any.stored, &at[1].any.request, &keys,
+     &at[2].any.moments, at[3].flag, &at[4].u8), OF_SHAPE(IN_STRUCT, stored), OF_SHAPE(IN_STRUCT, request),
+     OF_SHAPE(IN_STRUCT, moments), OF_KIND(NUMBER, BOOL), OF_KIND(OUT_NUMBER, U8))
 CALL(validators, MAY(REFUSED) | MAY(TOO_LARGE) | MAY(NO_MEMORY), (TEXT_OF(at[0]), at[1].u64, &keys, ROOM(at[2])),
      PLAIN(GIVEN_TEXT), OF_KIND(NUMBER, U64), PLAIN(ROOM_OF_BYTES))
 CALL(cache_new, MAY(REFUSED) | MAY(NO_MEMORY), (at[0].handle.at, &at[1].any.cache_options, &keys),
@@ -229,16 +242,15 @@ CALL(cache_free, 0, (at[0].handle.at), OF_HANDLE(OPENED, cache))
 CALL(cache_remove, MAY(REFUSED) | MAY(ABSENT), (at[0].handle.at, TEXT_OF(at[1])), OF_HANDLE(OPENED, cache),
      PLAIN(GIVEN_TEXT))
 CALL(forward_request, MAY(REFUSED) | MAY(TOO_LARGE) | MAY(NO_MEMORY), (&at[0].any.gateway, &at[1].any.hop,
-     TEXT_OF(at[2]), at[3].u8, TEXT_OF(at[4]), TEXT_OF(at[5]), &keys, &at[6].any.request_outcome, ROOM(at[7])),
-     OF_SHAPE(IN_STRUCT, gateway), OF_SHAPE(IN_STRUCT, hop), PLAIN(GIVEN_TEXT), OF_KIND(NUMBER, U8),
-     PLAIN(GIVEN_TEXT), PLAIN(GIVEN_TEXT), OF_SHAPE(OUT_STRUCT, request_outcome), PLAIN(ROOM_OF_BYTES))
-CALL(forward_response, MAY(REFUSED) | MAY(TOO_LARGE) | MAY(NO_MEMORY), (&at[0].any.gateway, at[1].u16, at[2].u8,
-     TEXT_OF(at[3]), &keys, TEXT_OF(at[4]), at[5].u8, at[6].u64, &at[7].any.response_outcome, ROOM(at[8])),
-     OF_SHAPE(IN_STRUCT, gateway), OF_KIND(NUMBER, U16), OF_KIND(NUMBER, U8), PLAIN(GIVEN_TEXT), PLAIN(GIVEN_TEXT),
-     OF_KIND(NUMBER, U8), OF_KIND(NUMBER, U64), OF_SHAPE(OUT_STRUCT, response_outcome), PLAIN(ROOM_OF_BYTES))
-CALL(framing, MAY(REFUSED) | MAY(TOO_LARGE) | MAY(NO_MEMORY), (TEXT_OF(at[0]), at[1].u16, at[2].u8, TEXT_OF(at[3]),
-     &keys, &at[4].any.framing_outcome), PLAIN(GIVEN_TEXT), OF_KIND(NUMBER, U16), OF_KIND(NUMBER, U8),
-     PLAIN(GIVEN_TEXT), OF_SHAPE(OUT_STRUCT, framing_outcome))
+     &at[2].any.request, at[3].u8, TEXT_OF(at[4]), &keys, &at[5].any.request_outcome, ROOM(at[6])),
+     OF_SHAPE(IN_STRUCT, gateway), OF_SHAPE(IN_STRUCT, hop), OF_SHAPE(IN_STRUCT, request), OF_KIND(NUMBER, U8),
+     PLAIN(GIVEN_TEXT), OF_SHAPE(OUT_STRUCT, request_outcome), PLAIN(ROOM_OF_BYTES))
+CALL(forward_response, MAY(REFUSED) | MAY(TOO_LARGE) | MAY(NO_MEMORY), (&at[0].any.gateway, &at[1].any.message,
+     &keys, at[2].u8, at[3].u64, &at[4].any.response_outcome, ROOM(at[5])), OF_SHAPE(IN_STRUCT, gateway),
+     OF_SHAPE(IN_STRUCT, message), OF_KIND(NUMBER, U8), OF_KIND(NUMBER, U64), OF_SHAPE(OUT_STRUCT, response_outcome),
+     PLAIN(ROOM_OF_BYTES))
+CALL(framing, MAY(REFUSED) | MAY(TOO_LARGE) | MAY(NO_MEMORY), (&at[0].any.message, &keys,
+     &at[1].any.framing_outcome), OF_SHAPE(IN_STRUCT, message), OF_SHAPE(OUT_STRUCT, framing_outcome))
 CALL(basic, MAY(REFUSED) | MAY(ABSENT) | MAY(NO_MEMORY), (FIELD(at[0]), &at[1].size, ROOM(at[2])), PLAIN(LINES),
      OF_KIND(OUT_NUMBER, SIZE), PLAIN(ROOM_OF_BYTES))
 CALL(bearer, MAY(REFUSED) | MAY(ABSENT) | MAY(NO_MEMORY), (FIELD(at[0]), ROOM(at[1])), PLAIN(LINES),
@@ -302,10 +314,10 @@ CALL(resource_handle_new, MAY(REFUSED) | MAY(NO_MEMORY), (at[0].handle.at, &at[1
      at[2].list.length, &at[3].any.cors_rules), OF_HANDLE(NEW, resource_handle), OF_SHAPE(IN_STRUCT, resource),
      OF_SHAPE(LIST_STRUCT, representation), OF_SHAPE(IN_STRUCT, cors_rules))
 CALL(resource_handle_answer, MAY(REFUSED) | MAY(ABSENT) | MAY(NO_MEMORY), (at[0].handle.at, at[1].handle.at,
-     &at[2].any.resource_request, TEXT_OF(at[3]), TEXT_OF(at[4]), &at[5].any.denial, &at[6].any.resource_facts,
-     ROOM(at[7]), ROOM(at[8])), OF_HANDLE(OPENED, resource_handle), OF_HANDLE(OPENED, section),
-     OF_SHAPE(IN_STRUCT, resource_request), PLAIN(GIVEN_TEXT), PLAIN(GIVEN_TEXT), OF_SHAPE(IN_STRUCT, denial),
-     OF_SHAPE(OUT_STRUCT, resource_facts), OF_SHAPE(ROOM_OF_STRUCTS, bytes_range), PLAIN(ROOM_OF_BYTES))
+     &at[2].any.resource_request, &at[3].any.denial, &at[4].any.resource_facts, ROOM(at[5]), ROOM(at[6])),
+     OF_HANDLE(OPENED, resource_handle), OF_HANDLE(OPENED, section), OF_SHAPE(IN_STRUCT, resource_request),
+     OF_SHAPE(IN_STRUCT, denial), OF_SHAPE(OUT_STRUCT, resource_facts), OF_SHAPE(ROOM_OF_STRUCTS, bytes_range),
+     PLAIN(ROOM_OF_BYTES))
 CALL(connection_free, 0, (at[0].handle.at), OF_HANDLE(OPENED, connection))
 CALL(connection_new, MAY(REFUSED) | MAY(NO_MEMORY), (at[0].handle.at, at[1].size, &keys), OF_HANDLE(NEW, connection),
      OF_KIND(NUMBER, SIZE))
@@ -362,13 +374,12 @@ CALL(pass_content, MAY(ABSENT), (at[0].handle.at, at[1].size, ROOM(at[2])), OF_H
      OF_KIND(NUMBER, SIZE), PLAIN(PIECE))
 CALL(pass_received, MAY(ABSENT) | MAY(NO_MEMORY), (at[0].handle.at, TEXT_OF(at[1])), OF_HANDLE(OPENED, pass),
      PLAIN(GIVEN_TEXT))
-CALL(pass_ended, MAY(ABSENT), (at[0].handle.at, at[1].handle.at, at[2].flag, at[3].u64, &at[4].u64),
+CALL(pass_ended, MAY(ABSENT) | MAY(NO_MEMORY), (at[0].handle.at, at[1].handle.at, at[2].flag, at[3].u64, &at[4].u64),
      OF_HANDLE(OPENED, cache), OF_HANDLE(OPENED, pass), OF_KIND(NUMBER, BOOL), OF_KIND(NUMBER, U64),
      OF_KIND(OUT_NUMBER, U64))
 CALL(files_free, 0, (at[0].handle.at), OF_HANDLE(OPENED, files))
-CALL(files_new, MAY(REFUSED) | MAY(NO_MEMORY), (at[0].handle.at, TEXT_OF(at[1]), TEXT_OF(at[2]), at[3].flag,
-     TEXT_OF(at[4]), &keys), OF_HANDLE(NEW, files), PLAIN(GIVEN_TEXT), PLAIN(GIVEN_TEXT), OF_KIND(NUMBER, BOOL),
-     PLAIN(GIVEN_TEXT))
+CALL(files_new, MAY(REFUSED) | MAY(NO_MEMORY), (at[0].handle.at, &at[1].any.files_options, &keys),
+     OF_HANDLE(NEW, files), OF_SHAPE(IN_STRUCT, files_options))
 CALL(files_path, MAY(REFUSED) | MAY(ABSENT) | MAY(NO_MEMORY), (at[0].handle.at, at[1].handle.at, at[2].list.at,
      at[2].list.length, ROOM(at[3])), OF_HANDLE(OPENED, files), OF_HANDLE(OPENED, connection),
      OF_SHAPE(LIST_STRUCT, entry), PLAIN(ROOM_OF_BYTES))
@@ -376,7 +387,7 @@ CALL(files_plan, MAY(REFUSED) | MAY(ABSENT) | MAY(NO_MEMORY), (at[0].handle.at, 
      at[2].list.length, at[3].u64, at[4].flag, &at[5].size), OF_HANDLE(OPENED, files), OF_HANDLE(OPENED, connection),
      OF_SHAPE(LIST_STRUCT, entry), OF_KIND(NUMBER, U64), OF_KIND(NUMBER, BOOL), OF_KIND(OUT_NUMBER, SIZE))
 
-enum { MOST_SLOTS = 11 };
+enum { MOST_SLOTS = 9 };
 #define CALLS \
     METHOD(canonical), METHOD(field), METHOD(age), METHOD(content_length), METHOD(date), METHOD(expires), \
     METHOD(last_modified), METHOD(media_type), METHOD(essence), METHOD(strong_eq), METHOD(weak_eq), \

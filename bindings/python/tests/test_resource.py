@@ -3,6 +3,7 @@
 import importlib
 import io
 import unittest
+from email.utils import formatdate
 from typing import Any, AsyncIterator, Dict, List, Optional, Tuple, Union
 from unittest import mock
 from wsgiref.util import FileWrapper, setup_testing_defaults
@@ -68,6 +69,14 @@ class Answers(unittest.TestCase):
         resource = Resource(["POST"], needs_length=True, limit=10)
         for length, wanted in ((0, None), (10, None), (11, 413), (None, 411)):
             self.assertEqual(resource.answer("POST", HOST, length=length).status, wanted, length)
+
+    def test_strong_dates_name_what_may_be_replaced(self) -> None:
+        for strong, second, wanted in ((False, 100, 428), (True, 100, None), (True, 101, 428), (True, 99, 412)):
+            put, notes = Method("PUT", needs_condition=True), [Representation(last_modified=100)]
+            resource = Resource([put], notes, has_strong_dates=strong)
+            asked = {**HOST, "If-Unmodified-Since": formatdate(second, usegmt=True)}
+            self.assertEqual(resource.answer("PUT", asked).status, wanted, (strong, second))
+            self.assertEqual(resource.answer("PUT", {**asked, "If-Match": "*"}).status, 428)
 
     def test_versions(self) -> None:
         for version, wanted in ((10, 200), (11, 400), (20, 400), (30, 400)):

@@ -26,6 +26,7 @@ from typed_headers import (
     Range,
     ReferrerPolicy,
     RetryAfter,
+    Section,
     StrictTransportSecurity,
     age,
     canonical_section,
@@ -268,6 +269,7 @@ class Others(unittest.TestCase):
         self.assertEqual(RetryAfter.parse("0120"), RetryAfter(timedelta(minutes=2)))
         self.assertEqual(RetryAfter.parse(DATES[1]), RetryAfter(date=TIME))
         self.assertEqual(str(RetryAfter(timedelta(minutes=2))), "120")
+        self.assertEqual(RetryAfter(timedelta(seconds=2.5)), RetryAfter.parse("2"))
         self.assertEqual(RetryAfter.parse("18446744073709551615").delay, timedelta(999_999_999, 25215))
         wrong: Any = ((), (timedelta(1), TIME), (timedelta(-1),))
         for members in wrong:
@@ -292,6 +294,30 @@ class Others(unittest.TestCase):
         self.assertEqual(websocket_accept("dGhlIHNhbXBsZSBub25jZQ=="), "s3pPLMBiTxaQ9kYGzzhZRbK+xOo=")
         with self.assertRaisesRegex(InvalidField, "sec-websocket-key: expected the base64 of 16 bytes"):
             websocket_accept("dGhlIHNhbXBsZSBub25jZQ")
+
+    def test_types_are_checked(self) -> None:
+        one: Any = 1
+        text: Any = "yes"
+        wrong: Tuple[Callable[[], object], ...] = (
+            lambda: CacheControl(no_cache=text),
+            lambda: CacheControl(no_cache=one),
+            lambda: CacheControl(private_fields=text),
+            lambda: ContentRange(one, 5),
+            lambda: Cookie(((one, one),)),
+            lambda: Credentials(one, text),
+            lambda: ETag("a", weak=text),
+            lambda: ETag(one),
+            lambda: Host(one),
+            lambda: MediaType("a", "b", (("q", one),)),
+            lambda: Origin(one, one),
+            lambda: Range(one),
+            lambda: RetryAfter(one),
+            lambda: StrictTransportSecurity(1, one),
+        )
+        for place, make in enumerate(wrong):
+            with self.assertRaises(TypeError, msg=str(place)):
+                make()
+        self.assertEqual((str(CacheControl(max_age=True)), str(Host("a", True))), ("max-age=1", "a:1"))
 
     def test_values_are_values(self) -> None:
         values: Any = (
@@ -329,8 +355,19 @@ class TypedValues(unittest.TestCase):
             self.assertNotIn(repr(line), str(caught.exception))
 
     def test_secrets_are_not_shown(self) -> None:
-        for given in (Credentials("user", "secret"), Credentials(token="secret")):
+        fields = {"Cookie": "a=secret", "Authorization": "Bearer secret", "Set-Cookie": "a=secret"}
+        for given in (
+            Credentials("user", "secret"),
+            Credentials(token="secret"),
+            Cookie.parse("a=secret"),
+            Headers(fields),
+            Section(fields),
+        ):
             self.assertNotIn("secret", repr(given))
+        for make in (lambda: Cookie((("a;b", "secret"),)), lambda: Cookie.parse("secret\n")):
+            with self.assertRaises(InvalidField) as caught:
+                make()
+            self.assertNotIn("secret", str(caught.exception))
 
     def test_cookies(self) -> None:
         given = Cookie.parse('a=1; flag; b="x;y"', "a=2; c==")

@@ -137,7 +137,10 @@ class Turn:
         """Stores the response that was passed on, all of whose content came."""
         if self.pass_ is not None and self.came_as is not None:
             stated = None if self.method == "HEAD" else length_of(self.came_as)
-            self.pass_.ended(complete=stated in (None, self.size), now=self.rules.now())
+            try:
+                self.pass_.ended(complete=stated in (None, self.size), now=self.rules.now())
+            except MemoryError:
+                pass
         self.end()
 
     def validation(self) -> Optional["Turn"]:

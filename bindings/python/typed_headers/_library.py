@@ -8,11 +8,12 @@ import ctypes
 import operator
 import os
 import re
+from contextlib import contextmanager
 from datetime import datetime, timedelta, timezone
 from enum import IntEnum
-from typing import TYPE_CHECKING, Callable, List, Sequence, SupportsIndex, Tuple, Union
+from typing import TYPE_CHECKING, Callable, Iterable, Iterator, List, Optional, Sequence, SupportsIndex, Tuple, Union
 
-from ._names import FIELDS
+from ._names import FIELDS, SECRETS
 from .errors import HeaderError, InvalidField, InvalidSection, TooLarge
 
 if TYPE_CHECKING:
@@ -58,7 +59,18 @@ _REFUSED, _NO_MEMORY, ABSENT, _TOO_LARGE = map(
 )
 
 # Bytes that no sender of field names can guess. A map of fields hashes with them once names collide.
-calls.use_keys(os.urandom(16))
+_KEYS = os.urandom(16)
+calls.use_keys(_KEYS)
+
+
+@contextmanager
+def keyed(key: Optional[bytes]) -> Iterator[None]:
+    """Hashes what is opened here with another key, if there is one."""
+    calls.use_keys(_KEYS if key is None else key)
+    try:
+        yield
+    finally:
+        calls.use_keys(_KEYS)
 
 
 def version() -> str:
@@ -89,10 +101,27 @@ def to_str(text: bytes) -> str:
 
 def to_number(number: SupportsIndex, what: str, bits: int = 64) -> int:
     """A number that fits into so many bits."""
-    value = operator.index(number)
+    value = int(operator.index(number))
     if not 0 <= value < 1 << bits:
         raise HeaderError(f"{what}: {value} isn't from 0 to 2^{bits} - 1")
     return value
+
+
+def check_types(value: object, **kinds: Union[type, Tuple[type, ...]]) -> None:
+    """Raises an error if a member of a value isn't of its type."""
+    for name, kind in kinds.items():
+        given = getattr(value, name)
+        if not isinstance(given, kind):
+            wanted = " or ".join(it.__name__ for it in (kind if isinstance(kind, tuple) else (kind,)))
+            raise TypeError(f"{name}: expected {wanted}, not {type(given).__name__}")
+
+
+def to_pairs(given: Iterable[Tuple[str, str]], what: str) -> Tuple[Tuple[str, str], ...]:
+    """Pairs of texts."""
+    pairs = tuple((name, value) for name, value in given)
+    if not all(isinstance(text, str) for pair in pairs for text in pair):
+        raise TypeError(f"{what}: expected pairs of str")
+    return pairs
 
 
 def to_seconds(time: Time, what: str) -> int:
@@ -143,6 +172,8 @@ def rejected(field: str, lines: Sequence[bytes], reason: str = "") -> InvalidFie
     if not reason:
         grammar = FIELDS[field]
         reason = f"expected {grammar.expected} ({grammar.section})"
+    if field in SECRETS:
+        return InvalidField(field, reason, lines)
     shown = ", ".join(repr(to_str(line)) for line in lines) or "no field line"
     return InvalidField(field, f"{reason}, not {shown}", lines)
 

@@ -2,7 +2,7 @@
 
 from typing import Dict, NamedTuple
 
-__all__ = ["FIELDS", "Grammar"]
+__all__ = ["FIELDS", "SECRETS", "Grammar"]
 
 
 class Grammar(NamedTuple):
@@ -17,6 +17,9 @@ _TEXT = "printable ASCII in a single field line"
 _DATE = "an HTTP date in a single field line"
 _SECONDS = "a number of seconds below 2^64 in a single field line"
 _CORS = "Fetch standard, section 3.3"
+
+#: Fields whose values no message and no `repr` shows.
+SECRETS = ("authorization", "proxy-authorization", "cookie", "set-cookie")
 
 #: By field name, in lower case. Fields of other names are copied as they came.
 FIELDS: Dict[str, Grammar] = {

@@ -1,5 +1,5 @@
-"""Middleware for ASGI: conditional requests and ranges, requests from other origins, and a shared cache; and an
-application that answers for resources.
+"""Middleware for ASGI: conditional requests and ranges, requests from other origins, and a shared cache; and
+applications that answer for resources, and for the files of a folder.
 
 >>> import asyncio
 >>> from typed_headers import CorsPolicy
@@ -19,6 +19,7 @@ b'01234'
 """
 
 import asyncio
+import os
 import secrets
 import time
 from contextlib import suppress
@@ -39,10 +40,11 @@ from typing import (
     Tuple,
     Union,
 )
-from urllib.parse import quote
+from urllib.parse import quote, unquote_to_bytes
 
 from ._cached import MOMENT, Rules, Step, Turn, target_of
 from ._exchange import CONDITIONS, ORIGINS, Cutter, Fields, Response, length_of, respond, tagged
+from ._files import ASKED, Folder
 from ._serving import DECIDING, Explanation, explained, list_alternatives, ranges
 from .caching import Ask, Cache, Reply, Wait
 from .cors import CorsKind, CorsPolicy
@@ -50,7 +52,7 @@ from .errors import HeaderError
 from .headers import Headers
 from .resource import Answer, Denied, Resource, Sends
 
-__all__ = ["Cached", "ConditionalRequests", "Cors", "Result", "Served", "Serves", "list_alternatives"]
+__all__ = ["Cached", "ConditionalRequests", "Cors", "Files", "Result", "Served", "Serves", "list_alternatives"]
 
 Message = MutableMapping[str, Any]
 Scope = MutableMapping[str, Any]
@@ -569,3 +571,75 @@ async def _start(
     finally:
         await pieces.aclose()
     await send({"type": "http.response.body", "body": b"" if is_head else found})
+
+
+class Files:
+    """An application that serves the files of a folder, as `typed_headers.wsgi.Files` does. It reads them in threads.
+
+    >>> import asyncio, pathlib, tempfile
+    >>> folder = tempfile.TemporaryDirectory()
+    >>> _ = pathlib.Path(folder.name, "a.css").write_text("content")
+    >>> async def send(message):
+    ...     print(message["status"] if message["type"] == "http.response.start" else message["body"])
+    >>> fields = [(b"host", b"a"), (b"range", b"bytes=0-2")]
+    >>> scope = {"type": "http", "method": "GET", "path": "/a.css", "headers": fields}
+    >>> asyncio.run(Files(folder.name)(scope, None, send))
+    206
+    b'con'
+    b''
+    >>> folder.cleanup()
+    """
+
+    def __init__(
+        self,
+        folder: Union[str, "os.PathLike[str]"],
+        *,
+        precompressed: bool = False,
+        cache_control: str = "",
+        hosts: Union[str, Sequence[str]] = (),
+        key: Optional[bytes] = None,
+    ) -> None:
+        self.folder = Folder(folder, precompressed, cache_control, hosts, key)
+
+    async def __call__(self, scope: Scope, receive: Receive, send: Send) -> None:
+        if scope["type"] != "http":
+            raise NotImplementedError(f"files are served by http alone, not {scope['type']}")
+        request, (path, mount) = _request(scope, ASKED), _mounted(scope)
+        query = bytes(scope.get("query_string") or b"").decode("latin-1")
+        version = 10 if scope.get("http_version") == "1.0" else 11
+        if request is None:
+            await _answer(send, 400, [("content-length", "0")])
+            return
+        run = asyncio.get_running_loop().run_in_executor
+        try:
+            answer = await run(None, self.folder.answer, scope["method"], path, query, mount, request, version)
+        except HeaderError:
+            await _answer(send, 400, [("content-length", "0")])
+            return
+        try:
+            await send({"type": "http.response.start", "status": answer.status, "headers": _encoded(answer.fields)})
+            pieces = iter(answer)
+            while True:
+                piece = await run(None, next, pieces, None)
+                if piece is None:
+                    break
+                await send({"type": "http.response.body", "body": piece, "more_body": True})
+            await send({"type": "http.response.body", "body": b""})
+        finally:
+            answer.close()
+
+
+def _mounted(scope: Scope) -> Tuple[bytes, bytes]:
+    """The path of a request, decoded, and the path in it where the application is mounted, without slashes around it.
+
+    By the specification `path` has that of `root_path` in front. Servers and routers have left it out, but leave
+    `raw_path` as it came.
+    """
+    path, root = scope.get("path", "").encode("utf-8", "surrogateescape"), scope.get("root_path", "").encode("utf-8")
+    whole = unquote_to_bytes(bytes(scope.get("raw_path") or b"").partition(b"?")[0])
+    if whole.endswith(path) and whole != path:
+        return whole, whole[: len(whole) - len(path)].strip(b"/")
+    root = root.rstrip(b"/")
+    if path == root or path.startswith(root + b"/"):
+        return path or b"/", root.strip(b"/")
+    return root + path, root.strip(b"/")

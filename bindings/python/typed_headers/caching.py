@@ -86,7 +86,7 @@ def may_store(method: Text, request: HeadersLike, status: int, response: Headers
     False
     """
     verb, asked, given = _library.to_bytes(method, "method"), Headers(request).section, Headers(response).section
-    ended, answer = _library.calls.may_store(verb, asked, _library.to_number(status, "status", 16), given, shared)
+    ended, answer = _library.calls.may_store((verb, asked), _library.to_number(status, "status", 16), given, shared)
     _library.check(ended, lambda: _refused(asked, given))
     return answer == 1
 
@@ -157,15 +157,11 @@ def decide(
     >>> decide("GET", {}, "GET", {}, response, Times(request=1000, response=1000, now=1010), shared=True)
     <Decision.SERVE: 0>
     """
-    texts = (
-        _library.to_bytes(stored_method, "stored_method"),
-        Headers(stored_request).section,
-        _library.to_bytes(method, "method"),
-        Headers(request).section,
-        Headers(response).section,
-    )
-    status, decision = _library.calls.decide(*texts, times._seconds(), shared)
-    _library.check(status, lambda: _refused(texts[1], texts[3], texts[4]))
+    first, given = Headers(stored_request).section, Headers(response).section
+    stored = (_library.to_bytes(stored_method, "stored_method"), first, given)
+    asked = (_library.to_bytes(method, "method"), Headers(request).section)
+    status, decision = _library.calls.decide(stored, asked, times._seconds(), shared)
+    _library.check(status, lambda: _refused(first, asked[1], given))
     return Decision(decision)
 
 
@@ -342,11 +338,11 @@ class Pass:
     def ended(self, *, complete: bool = True, now: Optional[Time] = None) -> bool:
         """Stores the response that passed on, if it may be stored, and returns whether it is. The pass has ended.
 
-        `complete` says whether all of its content came.
+        `complete` says whether all of its content came. On `MemoryError` it isn't stored.
         """
         ended, number = self._call(_library.calls.pass_ended, complete, _present(now))
-        _check_passing("ended", ended)
         self._cache._wake()
+        _check_passing("ended", ended)
         return number != 0
 
     def validation(self, *, now: Optional[Time] = None) -> Optional["Pass"]:

@@ -143,7 +143,7 @@ def evaluate(
     if isinstance(request, Section):
         status, answer = _library.calls.section_evaluate(request._handle, verb, *facts)
     else:
-        status, answer = _evaluate(verb, section_of(request), *facts)
+        status, answer = _evaluate((verb, section_of(request)), *facts)
     if status:
         _library.check(status, lambda: _refused(method, request, target))
     return _PRECONDITIONS[answer]
@@ -165,7 +165,7 @@ def select(
     if isinstance(request, Section):
         status, answer, found = _library.calls.section_select(request._handle, verb, *facts, size)
     else:
-        status, answer, found = _library.calls.select(verb, section_of(request), *facts, size)
+        status, answer, found = _library.calls.select((verb, section_of(request)), *facts, size)
     _library.check(status, lambda: _refused(method, request, target))
     if status == _library.ABSENT:
         raise HeaderError("target: it doesn't exist, so nothing of it can be selected")
@@ -201,7 +201,7 @@ def respond(
     if isinstance(request, Section):
         given = _library.calls.section_respond(request._handle, verb, *facts, sent, separator)
     else:
-        given = _library.calls.respond(verb, section_of(request), *facts, sent, separator)
+        given = _library.calls.respond((verb, section_of(request)), *facts, sent, separator)
     status, (code, keeps), found, text = given
     if status:
         _library.check(status, lambda: _no_response(method, request, target, kind, separator))

@@ -254,7 +254,7 @@ class Gateway:
         verb, section = _library.to_bytes(method, "method"), Headers(request).section
         target = b"" if authority is None else _library.to_bytes(authority, "authority")
         status, (framed, code, action, reason, sends_continue), text = _library.calls.forward_request(
-            self._parts, _hop(hop), verb, _version(version, "version"), target, section
+            self._parts, _hop(hop), (verb, section), _version(version, "version"), target
         )
         _library.check(status, lambda: self._refused(section, verb, hop, target))
         is_rejected = action == Action.REJECT
@@ -288,7 +288,7 @@ class Gateway:
         second = _library.to_seconds(time.time_ns() // 10**9 if received is None else received, "received")
         versions = (_version(version, "version"), _version(client_version, "client_version"))
         ended, (came, sent, code, action, reason), text = _library.calls.forward_response(
-            self._parts, number, versions[0], section, verb, versions[1], second
+            self._parts, (verb, section, number, versions[0]), versions[1], second
         )
         _library.check(ended, lambda: _wrong_section(section) or HeaderError(
             f"the response can't be forwarded: {_library.to_str(verb)!r} is no token, {number} no status from 100 to "
@@ -329,7 +329,7 @@ def framing(
     """
     verb, section = _library.to_bytes(method, "method"), Headers(fields).section
     number = 0 if status is None else _library.to_number(status, "status", 16)
-    ended, (framed, code, reason) = _library.calls.framing(verb, number, _version(version, "version"), section)
+    ended, (framed, code, reason) = _library.calls.framing((verb, section, number, _version(version, "version")))
     _library.check(ended, lambda: _wrong_section(section) or HeaderError(
         f"{_library.to_str(verb)!r} is no token, or {status} no status from 100 to 999"
     ))

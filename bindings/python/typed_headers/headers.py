@@ -2,11 +2,11 @@
 
 import re
 from datetime import datetime
-from typing import Any, Iterable, Iterator, List, Mapping, MutableMapping, Optional, Sequence, Tuple, Union
+from typing import Any, Iterable, Iterator, List, Mapping, MutableMapping, Optional, Protocol, Sequence, Tuple, Union
 
 from . import _library
 from ._library import Text
-from ._names import FIELDS
+from ._names import FIELDS, SECRETS
 from .errors import InvalidField
 from .values import (
     CacheControl,
@@ -108,7 +108,7 @@ class Headers(MutableMapping[str, str]):
     It takes a header section as text, a mapping of names to values, pairs of a name and a value, or what Starlette,
     Werkzeug, httpx, requests, aiohttp and `http.client` have; `pairs` is what these take. An item is the field's value:
     its lines, joined by commas (RFC 9110, section 5.2), so take `lines` for Set-Cookie. A typed field that is absent is
-    `None`; one whose lines encode no value raises `InvalidField`.
+    `None`; one whose lines encode no value raises `InvalidField`. Its `repr` doesn't show credentials and cookies.
 
     >>> headers = Headers({"Content-Length": "42", "ETag": '"a"', "Cache-Control": "no-cache, max-age=60"})
     >>> headers.content_length
@@ -141,7 +141,8 @@ class Headers(MutableMapping[str, str]):
             self.section = b"".join([_field_of(name, value) for name, value in _pairs_of(fields)])
 
     def __repr__(self) -> str:
-        return f"{type(self).__name__}({self.pairs()!r})"
+        shown = [(name, "..." if name in SECRETS else value) for name, value in self._parsed()]
+        return f"{type(self).__name__}({shown!r})"
 
     def __eq__(self, other: object) -> bool:
         return isinstance(other, Headers) and self.pairs() == other.pairs()
@@ -401,10 +402,17 @@ def _values(given: Union[Text, Iterable[Text]]) -> Iterable[Text]:
     return (given,) if isinstance(given, (str, bytes, bytearray, memoryview)) else given
 
 
+class HasItems(Protocol):
+    """What gives names and values, as `HTTPMessage` of `http.client`."""
+
+    def items(self) -> Iterable[Tuple[Any, Any]]: ...
+
+
 #: What `Headers` takes.
 HeadersLike = Union[
     Headers,
     Text,
+    HasItems,
     Mapping[str, str],
     Mapping[str, Sequence[str]],
     Mapping[bytes, bytes],

@@ -106,8 +106,8 @@ class Method:
     accept_encoding: Union[str, Sequence[str]] = ()
     #: Whether it is performed if there is no current representation, as PUT. Any other is answered by 404.
     creates: bool = False
-    #: Whether the request must name what it may replace, by entity tags in If-Match or by `*` in If-None-Match (RFC
-    #: 6585, section 3). GET and HEAD need not.
+    #: Whether the request must name what it may replace, by entity tags in If-Match, by `*` in If-None-Match, or by a
+    #: strong date in If-Unmodified-Since (RFC 6585, section 3). GET and HEAD need not.
     needs_condition: bool = False
 
 
@@ -261,6 +261,9 @@ class Resource:
     #: The methods that the server implements for some resource, with GET, HEAD and `methods` (RFC 9110, section 9.1).
     #: `None`: those of RFC 9110, and PATCH. Any other is answered by 501, and one that isn't in `methods` by 405.
     implemented: Optional[Sequence[str]] = None
+    #: Whether each change of a representation gives it a later date (RFC 9110, section 8.8.2.2): then If-Unmodified-Since
+    #: with that date names it. An old date isn't enough: two changes may have come in its second.
+    has_strong_dates: bool = False
     # Its texts as the library takes them, and the handle of the resource that it made of them.
     _texts: ClassVar[Sequence[bytes]]
     _handle: "ClassVar[_library.Handle]"
@@ -317,6 +320,7 @@ class Resource:
             hosts, names, creating, guarded, accept, accept_encoding, location, kinds, languages, codings, etags, boundary,
             None if self.implemented is None else implemented, self.limit, int(self.state), self.by_media_type,
             self.by_language, self.by_coding, self.is_strict, self.needs_length, self.cors is not None,
+            self.has_strong_dates,
         )
         rules = _NO_RULES if self.cors is None else self.cors._rules
         return _library.calls.resource_handle_new(resource, known, rules)
@@ -343,10 +347,10 @@ class Resource:
         section = asked_of(request)
         size = None if length is None else _library.to_number(length, "length")
         present = int(time.time()) if now is None else _library.to_seconds(now, "now")
-        known = (present, size, version if version in _VERSIONS else 0, size != 0)
+        known = (verb, asked, present, size, version if version in _VERSIONS else 0, size != 0)
         denial = _NOT_DENIED if denied is None else denied._given
         status, (place, code, reason, sends), ranges, text = _library.calls.resource_handle_answer(
-            self._handle, section, known, verb, asked, denial
+            self._handle, section, known, denial
         )
         if status:
             text_of = section if isinstance(section, bytes) else b""

@@ -149,6 +149,7 @@ class ETag:
     weak: bool = False
 
     def __post_init__(self) -> None:
+        _library.check_types(self, opaque=str, weak=bool)
         lines = (str(self),)
         if '"' in self.opaque:
             raise _library.rejected("etag", _library.to_lines("etag", lines))
@@ -195,7 +196,8 @@ class MediaType:
     parameters: Tuple[Tuple[str, str], ...] = ()
 
     def __post_init__(self) -> None:
-        object.__setattr__(self, "parameters", tuple((name, value) for name, value in self.parameters))
+        _library.check_types(self, type=str, subtype=str)
+        object.__setattr__(self, "parameters", _library.to_pairs(self.parameters, "parameters"))
         read = MediaType.parse(str(self))
         given = (self.type.lower(), self.subtype.lower(), len(self.parameters))
         if (read.type, read.subtype, len(read.parameters)) != given:
@@ -289,7 +291,10 @@ class CacheControl:
             seconds = getattr(self, name)
             if seconds is not None:
                 object.__setattr__(self, name, _library.to_number(seconds, name))
+        _library.check_types(self, **dict.fromkeys(_FLAGS, bool))
         for name in _NAMES:
+            if isinstance(getattr(self, name), str):
+                raise TypeError(f"{name}: expected field names, not a str")
             object.__setattr__(self, name, tuple(getattr(self, name)))
             for field_name in getattr(self, name):
                 if not _library.TOKEN.fullmatch(field_name):
@@ -365,6 +370,7 @@ class Range:
     text: str
 
     def __post_init__(self) -> None:
+        _library.check_types(self, text=str)
         self._positions((self.text,), 0)
 
     @classmethod
@@ -419,6 +425,7 @@ class ContentRange:
     length: Optional[int]
 
     def __post_init__(self) -> None:
+        _library.check_types(self, range=(ByteRange, type(None)))
         numbers = [] if self.range is None else [self.range.first, self.range.last]
         for number in (*numbers, 0 if self.length is None else self.length):
             _library.to_number(number, "content-range")
@@ -439,7 +446,7 @@ class ContentRange:
 
 @dataclass(frozen=True)
 class RetryAfter:
-    """When a client may ask again (RFC 9110, section 10.2.3): after a delay, or from a time on.
+    """When a client may ask again (RFC 9110, section 10.2.3): after a delay, or from a time on, in whole seconds.
 
     >>> RetryAfter.parse("120").delay
     datetime.timedelta(seconds=120)
@@ -451,9 +458,14 @@ class RetryAfter:
     date: Optional[datetime] = None
 
     def __post_init__(self) -> None:
+        _library.check_types(self, delay=(timedelta, type(None)), date=(datetime, type(None)))
         if (self.delay is None) == (self.date is None):
             raise HeaderError("retry-after: expected either a delay or a date")
         _check("retry-after", str(self))
+        if self.delay is not None:
+            object.__setattr__(self, "delay", self.delay // _library.SECOND * _library.SECOND)
+        if self.date is not None:
+            object.__setattr__(self, "date", _library.to_datetime(_library.to_seconds(self.date, "date")))
 
     @classmethod
     def parse(cls, line: Text, *more: Text) -> "RetryAfter":
@@ -470,7 +482,7 @@ class RetryAfter:
         if self.date is not None:
             return format_date(self.date)
         assert self.delay is not None, "there is either a delay or a date"
-        return str(self.delay // timedelta(seconds=1))
+        return str(self.delay // _library.SECOND)
 
 
 @dataclass(frozen=True)
@@ -485,6 +497,7 @@ class StrictTransportSecurity:
     include_subdomains: bool = False
 
     def __post_init__(self) -> None:
+        _library.check_types(self, include_subdomains=bool)
         object.__setattr__(self, "max_age", _library.to_number(self.max_age, "max_age"))
 
     @classmethod
@@ -545,6 +558,7 @@ class Credentials:
     token: Optional[str] = field(default=None, repr=False)
 
     def __post_init__(self) -> None:
+        _library.check_types(self, **dict.fromkeys(("user", "password", "token"), (str, type(None))))
         if (self.user is None) != (self.password is None) or (self.user is None) == (self.token is None):
             raise HeaderError("credentials: expected either a user name and a password, or a token")
         if Credentials.parse(str(self)) != self:
@@ -577,9 +591,11 @@ class Credentials:
 
 @dataclass(frozen=True)
 class Cookie:
-    """The cookies of a request, in order (RFC 6265, section 5.4).
+    """The cookies of a request, in order (RFC 6265, section 5.4). Its `repr` has the names alone.
 
     >>> cookies = Cookie.parse("SID=31d4d96e407aad42; lang=en-US; lang=de")
+    >>> cookies
+    Cookie(names=('SID', 'lang', 'lang'))
     >>> cookies.get("lang"), cookies.get("theme")
     ('en-US', None)
     >>> [name for name, value in cookies]
@@ -592,7 +608,7 @@ class Cookie:
     pairs: Tuple[Tuple[str, str], ...] = ()
 
     def __post_init__(self) -> None:
-        object.__setattr__(self, "pairs", tuple((name, value) for name, value in self.pairs))
+        object.__setattr__(self, "pairs", _library.to_pairs(self.pairs, "pairs"))
         if Cookie.parse(str(self)).pairs != self.pairs:
             raise _library.rejected("cookie", _library.to_lines("cookie", [str(self)]))
 
@@ -608,6 +624,9 @@ class Cookie:
     def get(self, name: str) -> Optional[str]:
         """The value of the first cookie with this name."""
         return next((value for other, value in self.pairs if other == name), None)
+
+    def __repr__(self) -> str:
+        return f"Cookie(names={tuple(name for name, _ in self.pairs)!r})"
 
     def __iter__(self) -> Iterator[Tuple[str, str]]:
         return iter(self.pairs)
@@ -648,8 +667,9 @@ class Host:
     port: Optional[int] = None
 
     def __post_init__(self) -> None:
+        _library.check_types(self, name=str)
         if self.port is not None:
-            _library.to_number(self.port, "port", 16)
+            object.__setattr__(self, "port", _library.to_number(self.port, "port", 16))
         if Host.parse(str(self)) != self:
             raise _library.rejected("host", _library.to_lines("host", [str(self)]))
 
@@ -682,8 +702,9 @@ class Origin:
     port: Optional[int] = None
 
     def __post_init__(self) -> None:
+        _library.check_types(self, scheme=str, host=str)
         if self.port is not None:
-            _library.to_number(self.port, "port", 16)
+            object.__setattr__(self, "port", _library.to_number(self.port, "port", 16))
         if Origin.parse(str(self)) != self:
             raise _library.rejected("origin", _library.to_lines("origin", [str(self)]))
 

@@ -89,8 +89,9 @@ def websocket_respond(
     """
     verb, section = _library.to_bytes(method, "method"), Headers(request).section
     number = _library.to_number(version, "version", 8)
-    own, allowed = _values("protocols", protocols), _values("origins", origins)
-    status, (code, fault), text = _library.calls.websocket_respond(verb, number, section, own, allowed)
+    allowed = _values("origins", origins)
+    rules = (_values("protocols", protocols), allowed)
+    status, (code, fault), text = _library.calls.websocket_respond((verb, section), number, rules)
     _library.check(status, lambda: _wrong_sections(section) or unsent_origin(allowed) or HeaderError(
         f"the request can't be answered: {_library.to_str(verb)!r} is no token, {version} no version of HTTP, "
         "or a byte of a protocol or an origin is none of a field value"
@@ -119,6 +120,6 @@ def websocket_check(sent: HeadersLike, status: int, response: HeadersLike) -> Op
     """
     asked, told = Headers(sent).section, Headers(response).section
     number = _library.to_number(status, "status", 16)
-    ended, flaw = _library.calls.websocket_check(asked, number, told)
+    ended, flaw = _library.calls.websocket_check((asked, told, number))
     _library.check(ended, lambda: _wrong_sections(asked, told) or HeaderError(f"status: {status} is no status code"))
     return Flaw(flaw) if flaw else None

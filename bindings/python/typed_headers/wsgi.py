@@ -1,5 +1,5 @@
 """Middleware for WSGI (PEP 3333): conditional requests and ranges, requests from other origins, and a shared cache; and
-an application that answers for resources.
+applications that answer for resources, and for the files of a folder.
 
 >>> from typed_headers import CorsPolicy
 >>> from typed_headers.wsgi import ConditionalRequests, Cors
@@ -40,6 +40,7 @@ from ._exchange import (
     tagged,
 )
 from ._cached import Rules, Step, Turn, target_of
+from ._files import ASKED, Folder
 from ._serving import DECIDING, Explanation, explained, list_alternatives, ranges
 from .caching import Ask, Cache, Reply, Wait
 from .cors import CorsKind, CorsPolicy
@@ -47,13 +48,14 @@ from .errors import HeaderError
 from .headers import Headers
 from .resource import Answer, Denied, Resource, Sends
 
-__all__ = ["Cached", "ConditionalRequests", "Cors", "Result", "Served", "Serves", "list_alternatives"]
+__all__ = ["Cached", "ConditionalRequests", "Cors", "Files", "Result", "Served", "Serves", "list_alternatives"]
 
 Environ = Dict[str, Any]
 ExcInfo = Union[
     Tuple[Type[BaseException], BaseException, TracebackType], Tuple[None, None, None], None
 ]
-Write = Callable[[bytes], object]
+#: What a server's `start_response` gives, which nearly no application calls.
+Write = Any
 StartResponse = Callable[..., Write]
 Application = Callable[[Environ, StartResponse], Iterable[bytes]]
 
@@ -531,7 +533,6 @@ class Serves:
         pieces = [content] if isinstance(content, bytes) else content
         return _start(start_response, method, status, response.fields, _Parts(response, pieces))
 
-
     def _explained(
         self, start_response: StartResponse, method: str, status: int, answer: Answer, resource: Resource
     ) -> Iterable[bytes]:
@@ -586,3 +587,60 @@ def _phrase(status: int) -> str:
         return HTTPStatus(status).phrase
     except ValueError:
         return "Unknown"
+
+
+class Files:
+    """An application that serves the files of a folder (RFC 9110), below the path where it is mounted.
+
+    The library's service of files, which is proved, gives each answer: which file a path names, its media type and its
+    entity tag, 304, 206, 412 and 416, and a redirect of a folder to its `index.html`. With `precompressed` a client
+    gets the copy `NAME.br` or `NAME.gz` of a file, if its Accept-Encoding prefers that. `cache_control` is the value of
+    Cache-Control for what may be stored, and `hosts` are those that are served, or all.
+
+    A name that begins with a dot isn't served, and no link in the folder is followed. `key` are 16 bytes by which
+    entity tags are made, at random if there are none: give the same to all processes that serve the folder.
+
+    >>> import pathlib, tempfile
+    >>> folder = tempfile.TemporaryDirectory()
+    >>> for name in ("a.css", "a.css.gz"):
+    ...     _ = pathlib.Path(folder.name, name).write_text(f"content of {name}")
+    >>> application = Files(folder.name, precompressed=True)
+    >>> def ask(path, **environ):
+    ...     seen = []
+    ...     environ = {"REQUEST_METHOD": "GET", "HTTP_HOST": "a.example", "PATH_INFO": path, **environ}
+    ...     return b"".join(application(environ, lambda status, fields: seen.append(status))), seen[0]
+    >>> ask("/a.css")
+    (b'content of a.css', '200 OK')
+    >>> ask("/a.css", HTTP_ACCEPT_ENCODING="gzip")
+    (b'content of a.css.gz', '200 OK')
+    >>> ask("/a.css", HTTP_RANGE="bytes=-5")
+    (b'a.css', '206 Partial Content')
+    >>> ask("/../etc/passwd")[1]
+    '404 Not Found'
+    >>> folder.cleanup()
+    """
+
+    def __init__(
+        self,
+        folder: Union[str, "os.PathLike[str]"],
+        *,
+        precompressed: bool = False,
+        cache_control: str = "",
+        hosts: Union[str, Sequence[str]] = (),
+        key: Optional[bytes] = None,
+    ) -> None:
+        self.folder = Folder(folder, precompressed, cache_control, hosts, key)
+
+    def __call__(self, environ: Environ, start_response: StartResponse) -> Iterable[bytes]:
+        request, mount = _request(environ, ASKED), environ.get("SCRIPT_NAME", "").encode("latin-1")
+        path, query = mount + environ.get("PATH_INFO", "").encode("latin-1"), environ.get("QUERY_STRING", "")
+        method, below = environ["REQUEST_METHOD"], mount.strip(b"/")
+        version = 10 if _VERSIONS.get(environ.get("SERVER_PROTOCOL", "")) == 10 else 11
+        if request is None:
+            return _bad_request(start_response)
+        try:
+            answer = self.folder.answer(method, path or b"/", query, below, request, version)
+        except HeaderError:
+            return _bad_request(start_response)
+        start_response(f"{answer.status} {_phrase(answer.status)}", answer.fields)
+        return answer

@@ -72,6 +72,22 @@ pub struct Text {
 
 #[repr(C)]
 #[derive(Clone, Copy, Debug)]
+pub struct Request {
+    pub method: Text,
+    pub section: Text,
+}
+
+#[repr(C)]
+#[derive(Clone, Copy, Debug)]
+pub struct Message {
+    pub method: Text,
+    pub section: Text,
+    pub status: u16,
+    pub version: u8,
+}
+
+#[repr(C)]
+#[derive(Clone, Copy, Debug)]
 pub struct Content {
     pub media_type: Text,
     pub length: u64,
@@ -91,6 +107,21 @@ pub struct Response {
 pub struct Quality {
     pub weight: u16,
     pub is_acceptable: u8,
+}
+
+#[repr(C)]
+#[derive(Clone, Copy, Debug)]
+pub struct WebsocketRules {
+    pub protocols: Text,
+    pub origins: Text,
+}
+
+#[repr(C)]
+#[derive(Clone, Copy, Debug)]
+pub struct WebsocketExchange {
+    pub sent: Text,
+    pub response: Text,
+    pub status: u16,
 }
 
 #[repr(C)]
@@ -145,6 +176,7 @@ pub struct Resource {
     pub has_limit: bool,
     pub has_cors: bool,
     pub has_implemented: bool,
+    pub has_strong_dates: bool,
 }
 
 #[repr(C)]
@@ -161,6 +193,8 @@ pub struct Representation {
 #[repr(C)]
 #[derive(Clone, Copy, Debug)]
 pub struct ResourceRequest {
+    pub method: Text,
+    pub target: Text,
     pub present: u64,
     pub length: u64,
     pub version: u8,
@@ -193,6 +227,14 @@ pub struct Moments {
     pub request: u64,
     pub response: u64,
     pub now: u64,
+}
+
+#[repr(C)]
+#[derive(Clone, Copy, Debug)]
+pub struct Stored {
+    pub method: Text,
+    pub request: Text,
+    pub response: Text,
 }
 
 #[repr(C)]
@@ -302,6 +344,16 @@ pub struct Connection {
 pub struct Pass {
     pub place: *mut core::ffi::c_void,
     pub is_open: bool,
+}
+
+/// What a service of files does.
+#[repr(C)]
+#[derive(Clone, Copy, Debug)]
+pub struct FilesOptions {
+    pub cache_control: Text,
+    pub hosts: Text,
+    pub boundary: Text,
+    pub negotiates: bool,
 }
 
 /// The handle of a service of files. Zero bytes are a closed one.
@@ -502,10 +554,7 @@ extern "C" {
         written: *mut usize,
     ) -> u8;
     pub fn typed_headers_evaluate(
-        method: *const u8,
-        method_length: usize,
-        section: *const u8,
-        section_length: usize,
+        request: *const Request,
         keys: *const Keys,
         etag: *const u8,
         etag_length: usize,
@@ -513,10 +562,7 @@ extern "C" {
         answer: *mut u16,
     ) -> u8;
     pub fn typed_headers_select(
-        method: *const u8,
-        method_length: usize,
-        section: *const u8,
-        section_length: usize,
+        request: *const Request,
         keys: *const Keys,
         etag: *const u8,
         etag_length: usize,
@@ -528,10 +574,7 @@ extern "C" {
         written: *mut usize,
     ) -> u8;
     pub fn typed_headers_respond(
-        method: *const u8,
-        method_length: usize,
-        section: *const u8,
-        section_length: usize,
+        request: *const Request,
         keys: *const Keys,
         etag: *const u8,
         etag_length: usize,
@@ -604,16 +647,10 @@ extern "C" {
         written: *mut usize,
     ) -> u8;
     pub fn typed_headers_websocket_respond(
-        method: *const u8,
-        method_length: usize,
+        request: *const Request,
         version: u8,
-        section: *const u8,
-        section_length: usize,
         keys: *const Keys,
-        protocols: *const u8,
-        protocols_length: usize,
-        origins: *const u8,
-        origins_length: usize,
+        rules: *const WebsocketRules,
         handshake: *mut Handshake,
         room: *mut u8,
         room_length: usize,
@@ -626,21 +663,10 @@ extern "C" {
         room_length: usize,
         written: *mut usize,
     ) -> u8;
-    pub fn typed_headers_websocket_check(
-        sent: *const u8,
-        sent_length: usize,
-        status: u16,
-        response: *const u8,
-        response_length: usize,
-        keys: *const Keys,
-        flaw: *mut u8,
-    ) -> u8;
+    pub fn typed_headers_websocket_check(exchange: *const WebsocketExchange, keys: *const Keys, flaw: *mut u8) -> u8;
     pub fn typed_headers_cors_answer(
         rules: *const CorsRules,
-        method: *const u8,
-        method_length: usize,
-        request: *const u8,
-        request_length: usize,
+        request: *const Request,
         response: *const u8,
         response_length: usize,
         keys: *const Keys,
@@ -656,10 +682,6 @@ extern "C" {
         representations_length: usize,
         rules: *const CorsRules,
         request: *const ResourceRequest,
-        method: *const u8,
-        method_length: usize,
-        target: *const u8,
-        target_length: usize,
         denial: *const Denial,
         section: *const u8,
         section_length: usize,
@@ -673,10 +695,7 @@ extern "C" {
         written: *mut usize,
     ) -> u8;
     pub fn typed_headers_may_store(
-        method: *const u8,
-        method_length: usize,
-        request: *const u8,
-        request_length: usize,
+        request: *const Request,
         status: u16,
         response: *const u8,
         response_length: usize,
@@ -709,16 +728,8 @@ extern "C" {
         seconds: *mut u64,
     ) -> u8;
     pub fn typed_headers_decide(
-        stored_method: *const u8,
-        stored_method_length: usize,
-        stored: *const u8,
-        stored_length: usize,
-        method: *const u8,
-        method_length: usize,
-        request: *const u8,
-        request_length: usize,
-        response: *const u8,
-        response_length: usize,
+        stored: *const Stored,
+        request: *const Request,
         keys: *const Keys,
         moments: *const Moments,
         is_shared: bool,
@@ -745,13 +756,10 @@ extern "C" {
     pub fn typed_headers_forward_request(
         gateway: *const Gateway,
         hop: *const Hop,
-        method: *const u8,
-        method_length: usize,
+        request: *const Request,
         version: u8,
         authority: *const u8,
         authority_length: usize,
-        section: *const u8,
-        section_length: usize,
         keys: *const Keys,
         outcome: *mut RequestOutcome,
         room: *mut u8,
@@ -760,13 +768,8 @@ extern "C" {
     ) -> u8;
     pub fn typed_headers_forward_response(
         gateway: *const Gateway,
-        status: u16,
-        version: u8,
-        section: *const u8,
-        section_length: usize,
+        response: *const Message,
         keys: *const Keys,
-        method: *const u8,
-        method_length: usize,
         client_version: u8,
         received: u64,
         outcome: *mut ResponseOutcome,
@@ -774,16 +777,7 @@ extern "C" {
         room_length: usize,
         written: *mut usize,
     ) -> u8;
-    pub fn typed_headers_framing(
-        method: *const u8,
-        method_length: usize,
-        status: u16,
-        version: u8,
-        section: *const u8,
-        section_length: usize,
-        keys: *const Keys,
-        outcome: *mut FramingOutcome,
-    ) -> u8;
+    pub fn typed_headers_framing(message: *const Message, keys: *const Keys, outcome: *mut FramingOutcome) -> u8;
     pub fn typed_headers_basic(
         lines: *const u8,
         lines_length: usize,
@@ -968,10 +962,6 @@ extern "C" {
         handle: *mut ResourceHandle,
         fields: *mut Section,
         request: *const ResourceRequest,
-        method: *const u8,
-        method_length: usize,
-        target: *const u8,
-        target_length: usize,
         denial: *const Denial,
         facts: *mut ResourceFacts,
         parts: *mut BytesRange,
@@ -1086,17 +1076,7 @@ extern "C" {
         number: *mut u64,
     ) -> u8;
     pub fn typed_headers_files_free(files: *mut Files) -> u8;
-    pub fn typed_headers_files_new(
-        files: *mut Files,
-        cache_control: *const u8,
-        cache_control_length: usize,
-        hosts: *const u8,
-        hosts_length: usize,
-        negotiates: bool,
-        boundary: *const u8,
-        boundary_length: usize,
-        keys: *const Keys,
-    ) -> u8;
+    pub fn typed_headers_files_new(files: *mut Files, options: *const FilesOptions, keys: *const Keys) -> u8;
     pub fn typed_headers_files_path(
         files: *mut Files,
         connection: *mut Connection,

@@ -3,7 +3,7 @@ use alloc::vec::Vec;
 use typed_headers_sys as sys;
 
 use crate::error::{check, Error};
-use crate::text::{written, Section};
+use crate::text::{text, written, Section};
 use crate::Keys;
 
 /// When the request was made that a stored response answered, when that came, and the present, by the cache's own
@@ -28,14 +28,11 @@ pub fn may_store(
     is_shared: bool,
     keys: Keys,
 ) -> Result<bool, Error> {
-    let (method, request, response, mut answer) = (method.as_ref(), request.as_bytes(), response.as_bytes(), 0);
+    let (request, response, mut answer) = (request.with_method(method.as_ref()), response.as_bytes(), 0);
     // SAFETY: here and below these are pointers and counts of slices and of values, which don't overlap.
     check(unsafe {
         sys::typed_headers_may_store(
-            method.as_ptr(),
-            method.len(),
-            request.as_ptr(),
-            request.len(),
+            &request,
             status,
             response.as_ptr(),
             response.len(),
@@ -110,28 +107,14 @@ pub fn decide(
     is_shared: bool,
     keys: Keys,
 ) -> Result<Decision, Error> {
-    let mut decision = 0;
-    let texts = [stored.0.as_bytes(), stored.1.as_bytes(), request.0.as_bytes(), request.1.as_bytes()];
-    let response = response.as_bytes();
+    let stored = sys::Stored {
+        method: text(stored.0.as_bytes()),
+        request: text(stored.1.as_bytes()),
+        response: text(response.as_bytes()),
+    };
+    let (request, mut decision) = (request.1.with_method(request.0.as_bytes()), 0);
     // SAFETY: as above.
-    check(unsafe {
-        sys::typed_headers_decide(
-            texts[0].as_ptr(),
-            texts[0].len(),
-            texts[1].as_ptr(),
-            texts[1].len(),
-            texts[2].as_ptr(),
-            texts[2].len(),
-            texts[3].as_ptr(),
-            texts[3].len(),
-            response.as_ptr(),
-            response.len(),
-            &keys.0,
-            times,
-            is_shared,
-            &mut decision,
-        )
-    })?;
+    check(unsafe { sys::typed_headers_decide(&stored, &request, &keys.0, times, is_shared, &mut decision) })?;
     Ok(Decision::of(decision))
 }
 

@@ -110,14 +110,11 @@ pub fn evaluate(
     now: impl Into<Timestamp>,
     keys: Keys,
 ) -> Result<Precondition, Error> {
-    let (method, section, mut answer) = (method.as_ref(), request.as_bytes(), 0);
+    let (request, mut answer) = (request.with_method(method.as_ref()), 0);
     // SAFETY: these are pointers and counts of slices and of values, which don't overlap.
     let status = unsafe {
         sys::typed_headers_evaluate(
-            method.as_ptr(),
-            method.len(),
-            section.as_ptr(),
-            section.len(),
+            &request,
             &keys.0,
             target.etag.as_ptr(),
             target.etag.len(),
@@ -170,15 +167,12 @@ pub fn select(
     now: impl Into<Timestamp>,
     keys: Keys,
 ) -> Result<Option<Selection>, Error> {
-    let (method, section, given) = (method.as_ref(), request.as_bytes(), target.given(now));
+    let (request, given) = (request.with_method(method.as_ref()), target.given(now));
     let answer = Cell::new(0);
     // SAFETY: as above.
     let found = written(8, |room, room_length, count| unsafe {
         sys::typed_headers_select(
-            method.as_ptr(),
-            method.len(),
-            section.as_ptr(),
-            section.len(),
+            &request,
             &keys.0,
             target.etag.as_ptr(),
             target.etag.len(),

@@ -111,17 +111,14 @@ impl CorsRules<'_> {
         response: &Section,
         keys: Keys,
     ) -> Result<CorsAnswer, Error> {
-        let (method, request, response) = (method.as_ref(), request.as_bytes(), response.as_bytes());
+        let (request, response) = (request.with_method(method.as_ref()), response.as_bytes());
         let facts = Cell::new(sys::CorsFacts::default());
         let found = self.given(|rules| {
             // SAFETY: these are pointers and counts of slices and of values, which don't overlap.
             written(512, |room: *mut u8, room_length, count| unsafe {
                 sys::typed_headers_cors_answer(
                     rules,
-                    method.as_ptr(),
-                    method.len(),
-                    request.as_ptr(),
-                    request.len(),
+                    &request,
                     response.as_ptr(),
                     response.len(),
                     &keys.0,

@@ -227,7 +227,7 @@ impl Gateway<'_> {
         request: &Section,
         keys: Keys,
     ) -> Result<RequestOutcome, Error> {
-        let (method, section) = (method.as_ref(), request.as_bytes());
+        let request = request.with_method(method.as_ref());
         let given = sys::Hop {
             client: text(hop.client.as_bytes()),
             interface_node: text(hop.interface.as_bytes()),
@@ -249,13 +249,10 @@ impl Gateway<'_> {
                 sys::typed_headers_forward_request(
                     gateway,
                     &given,
-                    method.as_ptr(),
-                    method.len(),
+                    &request,
                     version as u8,
                     authority.as_ptr(),
                     authority.len(),
-                    section.as_ptr(),
-                    section.len(),
                     &keys.0,
                     outcome.as_ptr(),
                     room,
@@ -299,20 +296,16 @@ impl Gateway<'_> {
         received: impl Into<Timestamp>,
         keys: Keys,
     ) -> Result<ResponseOutcome, Error> {
-        let (section, received) = (response.as_bytes(), received.into().seconds());
+        let response = message_of(request.0.as_bytes(), response, status, version);
+        let received = received.into().seconds();
         let outcome = Cell::new(sys::ResponseOutcome::default());
         let lines = self.given(|gateway| {
             // SAFETY: as above.
             written(1024, |room: *mut u8, length, count| unsafe {
                 sys::typed_headers_forward_response(
                     gateway,
-                    status,
-                    version as u8,
-                    section.as_ptr(),
-                    section.len(),
+                    &response,
                     &keys.0,
-                    request.0.as_ptr(),
-                    request.0.len(),
                     request.1 as u8,
                     received,
                     outcome.as_ptr(),
@@ -333,6 +326,11 @@ impl Gateway<'_> {
             _ => ResponseOutcome::Reject(found.status, Rejection::of(found.reason)),
         })
     }
+}
+
+// A message as the library takes it.
+fn message_of(method: &[u8], message: &Section, status: u16, version: Version) -> sys::Message {
+    sys::Message { method: text(method), section: text(message.as_bytes()), status, version: version as u8 }
 }
 
 /// How the content of a message is delimited (RFC 9112, section 6.3), or the status that answers a rejected request, or
@@ -356,21 +354,10 @@ pub fn framing(
     message: &Section,
     keys: Keys,
 ) -> Result<Result<Framing, (u16, Rejection)>, Error> {
-    let (method, section) = (method.as_ref(), message.as_bytes());
+    let message = message_of(method.as_ref(), message, status.unwrap_or(0), version);
     let mut outcome = sys::FramingOutcome::default();
     // SAFETY: as above.
-    check(unsafe {
-        sys::typed_headers_framing(
-            method.as_ptr(),
-            method.len(),
-            status.unwrap_or(0),
-            version as u8,
-            section.as_ptr(),
-            section.len(),
-            &keys.0,
-            &mut outcome,
-        )
-    })?;
+    check(unsafe { sys::typed_headers_framing(&message, &keys.0, &mut outcome) })?;
     Ok(match outcome.reason {
         0 => Ok(Framing::of(outcome.framing)),
         reason => Err((outcome.status, Rejection::of(reason))),

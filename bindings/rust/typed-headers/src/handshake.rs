@@ -4,7 +4,7 @@ use core::cell::Cell;
 use typed_headers_sys as sys;
 
 use crate::error::{check, Error};
-use crate::text::{joined, written, Section};
+use crate::text::{joined, text, written, Section};
 use crate::Keys;
 
 /// The version of HTTP that a message is of.
@@ -125,22 +125,17 @@ pub fn websocket_respond(
     origins: &[&str],
     keys: Keys,
 ) -> Result<HandshakeAnswer, Error> {
-    let (method, section) = (method.as_ref(), request.as_bytes());
+    let request = request.with_method(method.as_ref());
     let (protocols, origins) = (joined(protocols)?, joined(origins)?);
+    let rules = sys::WebsocketRules { protocols: text(&protocols), origins: text(&origins) };
     let facts = Cell::new(sys::Handshake::default());
     // SAFETY: here and below these are pointers and counts of slices and of values, which don't overlap.
     let found = written(512, |room: *mut u8, length, count| unsafe {
         sys::typed_headers_websocket_respond(
-            method.as_ptr(),
-            method.len(),
+            &request,
             version as u8,
-            section.as_ptr(),
-            section.len(),
             &keys.0,
-            protocols.as_ptr(),
-            protocols.len(),
-            origins.as_ptr(),
-            origins.len(),
+            &rules,
             facts.as_ptr(),
             room,
             length,
@@ -187,18 +182,9 @@ pub fn websocket_request(nonce: &[u8; 16]) -> Result<Section, Error> {
 /// # Ok::<(), typed_headers::Error>(())
 /// ```
 pub fn websocket_check(sent: &Section, status: u16, response: &Section, keys: Keys) -> Result<Option<Flaw>, Error> {
-    let (sent, response, mut flaw) = (sent.as_bytes(), response.as_bytes(), 0);
+    let (sent, response, mut flaw) = (text(sent.as_bytes()), text(response.as_bytes()), 0);
+    let exchange = sys::WebsocketExchange { sent, response, status };
     // SAFETY: as above.
-    check(unsafe {
-        sys::typed_headers_websocket_check(
-            sent.as_ptr(),
-            sent.len(),
-            status,
-            response.as_ptr(),
-            response.len(),
-            &keys.0,
-            &mut flaw,
-        )
-    })?;
+    check(unsafe { sys::typed_headers_websocket_check(&exchange, &keys.0, &mut flaw) })?;
     Ok(FLAWS.get(usize::from(flaw).wrapping_sub(1)).copied())
 }

@@ -18,7 +18,7 @@ pub struct Method<'a> {
     pub accept_encoding: &'a str,
     /// Whether it is performed if there is no current representation, as PUT.
     pub creates: bool,
-    /// Whether it needs a precondition (RFC 6585, section 3).
+    /// Whether the request must name what it may replace (RFC 6585, section 3).
     pub is_guarded: bool,
 }
 
@@ -94,6 +94,9 @@ pub struct Resource<'a> {
     /// The methods that the server implements for some resource, with GET, HEAD and its `methods` (RFC 9110, section 9.1).
     /// `None`: those of RFC 9110, and PATCH. Any other is answered by 501, and one that it doesn't have by 405.
     pub implemented: Option<&'a [&'a str]>,
+    /// Whether each change of a representation gives it a later date (RFC 9110, section 8.8.2.2): then If-Unmodified-Since
+    /// with that date names it. An old date isn't enough: two changes may have come in its second.
+    pub has_strong_dates: bool,
 }
 
 /// What is said of the content of a request.
@@ -314,10 +317,6 @@ impl Resource<'_> {
                     numbers.len(),
                     rules,
                     &asked,
-                    request.method.as_ptr(),
-                    request.method.len(),
-                    request.target.as_ptr(),
-                    request.target.len(),
                     &denial,
                     section.as_ptr(),
                     section.len(),
@@ -381,6 +380,7 @@ impl Resource<'_> {
             has_limit: self.limit.is_some(),
             has_cors: self.cors.is_some(),
             has_implemented: self.implemented.is_some(),
+            has_strong_dates: self.has_strong_dates,
         };
         let numbers: Vec<sys::Representation> = shown
             .iter()
@@ -400,6 +400,8 @@ impl Resource<'_> {
 impl ResourceRequest<'_> {
     pub(crate) fn given(&self, now: impl Into<Timestamp>) -> sys::ResourceRequest {
         sys::ResourceRequest {
+            method: text(self.method.as_bytes()),
+            target: text(self.target.as_bytes()),
             present: now.into().seconds(),
             length: if let RequestContent::Sized(length) = self.content { length } else { 0 },
             version: self.version as u8,

@@ -84,17 +84,14 @@ pub fn respond(
     now: impl Into<Timestamp>,
     keys: Keys,
 ) -> Result<Option<Response>, Error> {
-    let (method, section, etag) = (method.as_ref(), request.as_bytes(), target.etag_text());
+    let (request, etag) = (request.with_method(method.as_ref()), target.etag_text());
     let given = target.given(now);
     let carried = content.given();
     let facts = Cell::new(sys::Response::default());
     // SAFETY: these are pointers and counts of slices and of values, which don't overlap.
     let found = written_both(|parts, room| unsafe {
         sys::typed_headers_respond(
-            method.as_ptr(),
-            method.len(),
-            section.as_ptr(),
-            section.len(),
+            &request,
             &keys.0,
             etag.as_ptr(),
             etag.len(),

@@ -191,6 +191,7 @@ impl Pass<'_> {
     }
 
     /// Stores the response that passed on, if all of its content came and it may be stored, and returns whether it is.
+    /// On [`Error::OutOfMemory`] it isn't.
     pub fn ended(&mut self, is_complete: bool, now: u64) -> Result<Option<bool>, Error> {
         let (pass, mut number) = (self.handle.alone(), 0);
         // SAFETY: as above.

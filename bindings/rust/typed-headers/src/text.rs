@@ -330,6 +330,11 @@ impl Section {
     pub fn as_bytes(&self) -> &[u8] {
         &self.text
     }
+
+    /// A request with these fields, as the library takes it.
+    pub(crate) fn with_method(&self, method: &[u8]) -> sys::Request {
+        sys::Request { method: text(method), section: text(&self.text) }
+    }
 }
 
 /// Yields the fields of a [`Section`], each a name and a value.

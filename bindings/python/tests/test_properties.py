@@ -1,0 +1,666 @@
+"""Random calls of all that the package has: none crashes or leaks, and values are values, also for eight threads.
+
+`TYPED_HEADERS_CALLS=1000000` makes as many calls, and not 3,000; `TYPED_HEADERS_SEED` makes other ones.
+"""
+
+import ctypes
+import gc
+import os
+import pickle
+import sys
+import tempfile
+import threading
+import unittest
+from collections import defaultdict
+from concurrent.futures import ThreadPoolExecutor
+from datetime import timedelta, timezone
+from enum import Enum
+from functools import partial
+from typing import Any, Callable, Dict, List, Tuple
+
+import typed_headers as it
+from typed_headers import asgi, audit, inspection, wsgi
+from typed_headers._names import FIELDS
+
+# (it keeps tables in the present folder otherwise)
+STORED = tempfile.TemporaryDirectory()
+os.environ.setdefault("HYPOTHESIS_STORAGE_DIRECTORY", STORED.name)
+try:
+    from hypothesis import HealthCheck, given, seed, settings
+    from hypothesis import strategies as some
+except ImportError as error:
+    raise unittest.SkipTest(f"hypothesis isn't installed: {error}") from None
+
+CALLS = int(os.environ.get("TYPED_HEADERS_CALLS", "3000"))
+SEED = int(os.environ.get("TYPED_HEADERS_SEED", "1"))
+Call = Callable[[], object]
+
+# Texts: of any bytes, and of what fields are made of.
+
+WORDS = (
+    'a b Z 0 1 -1 +5 007 60 184467440737095516 18446744073709551616 = , ; : / * " \\ \\" \t ( ) < > @ ? [::1] é \xff '
+    'q=0 q=0.5 text/html */* gzip br identity en-GB max-age no-cache private public stale-if-error bytes= bytes - W/ '
+    '"a" W/"b" chunked close null https://a.example a.example:80 Basic Bearer QWxhZGRpbjpvcGVuIHNlc2FtZQ== inline '
+    "attachment filename=x SID=31d4 lang no-referrer origin 13 websocket Upgrade max-age=1 includeSubDomains 1.1"
+).split(" ")
+DATE = "Sun, 06 Nov 1994 08:49:37 GMT"
+BYTES = [chr(code) for code in range(256)]
+MADE = some.lists(some.sampled_from([*WORDS, " ", ", ", DATE, "=", '"']), max_size=8).map("".join)
+
+
+def to_bytes(text: str) -> bytes:
+    return text.encode("latin-1")
+
+
+ANY_TEXT = some.one_of(MADE, MADE, some.text(BYTES, max_size=12), some.text(max_size=6))
+#: A text of a field, as each type that has it.
+TEXT = some.one_of(ANY_TEXT, *(some.builds(kind, MADE.map(to_bytes)) for kind in (bytes, bytearray, memoryview)))
+LINES = some.lists(TEXT, min_size=1, max_size=3)
+NAME = some.one_of(
+    some.sampled_from(sorted(FIELDS)), some.sampled_from(["accept", "authorization", "via", "x-a", "", "a b"])
+)
+LINE = some.one_of(MADE, some.sampled_from(["", "60", '"a"', DATE, "bytes=0-4", "gzip;q=0.5, br", "a=1; b=2"]))
+PAIRS = some.lists(some.tuples(NAME, LINE), max_size=5)
+SECTION = some.one_of(
+    PAIRS,
+    PAIRS.map(lambda pairs: dict(pairs)),
+    PAIRS.map(lambda pairs: [(name.encode(), line.encode("latin-1", "ignore")) for name, line in pairs]),
+    some.lists(MADE, max_size=4).map("\r\n".join),
+    some.binary(max_size=40),
+    some.builds(dict, some.just({"Host": "a.example", "If-None-Match": '"a"', "Range": "bytes=-3", "Origin": "null"})),
+)
+METHOD = some.sampled_from(["GET", "HEAD", "PUT", "POST", "OPTIONS", "DELETE", "get", "", "a b"])
+NUMBER = some.one_of(some.integers(0, 999), some.sampled_from([-1, 2**16, 2**63, 2**64 - 1, 2**64]))
+STATUS = some.sampled_from([0, 100, 200, 204, 206, 301, 304, 404, 412, 500, 999, 1000, 2**16])
+TIME = some.one_of(NUMBER, some.datetimes(timezones=some.sampled_from([timezone.utc, timezone(timedelta(hours=2))])))
+SOMETIMES_TIME = some.one_of(some.none(), TIME)
+BOOL = some.booleans()
+VERSION = some.sampled_from([10, 11, 20, 9, 0])
+TAG = some.one_of(some.none(), some.sampled_from(['"a"', 'W/"b"', it.ETag("a"), "a"]))
+TEXTS = some.lists(MADE, max_size=3)
+#: What isn't of the type that is wanted.
+WRONG = some.one_of(some.none(), some.integers(), some.floats(), some.just([1]), some.just({1: 2}), some.just(object()))
+
+
+def call(function: Callable[..., object], *arguments: Any, **named: Any) -> Any:
+    return some.builds(partial, some.just(function), *arguments, **named)
+
+
+def of_lines(function: Callable[..., object], *first: Any) -> Any:
+    return some.tuples(some.tuples(*first), LINES).map(lambda given: partial(function, *given[0], *given[1]))
+
+
+def wrong(function: Callable[..., object], *arguments: Any) -> Any:
+    """Calls with one argument of another type."""
+
+    def replaced(drawn: Tuple[int, Any, Tuple[Any, ...]]) -> Call:
+        place, other, given = drawn
+        return partial(ignore_types, function, *given[: place % len(given)], other, *given[place % len(given) + 1 :])
+
+    return some.tuples(some.integers(0, 7), WRONG, some.tuples(*arguments)).map(replaced)
+
+
+def ignore_types(function: Callable[..., object], *given: Any) -> object:
+    """A call that may find fault with the types of its arguments, by an exception that says so."""
+    try:
+        return function(*given)
+    except (TypeError, ValueError, AttributeError):
+        return None
+
+
+TARGET = some.builds(it.Target, TAG, SOMETIMES_TIME, BOOL, BOOL)
+HOP = some.builds(
+    it.Hop,
+    some.sampled_from([None, "192.0.2.1", "::1", "_p", "a b"]),
+    some.sampled_from([None, 80, 2**16]),
+    is_secure=BOOL,
+    is_trusted=BOOL,
+    writes_forwarded=BOOL,
+    writes_x_forwarded=BOOL,
+    tells_host=BOOL,
+    closes=BOOL,
+    server_version=VERSION,
+)
+SHOWN = some.builds(
+    it.Representation,
+    some.sampled_from([None, "text/html", "a\n"]),
+    some.one_of(some.none(), NUMBER),
+    TAG,
+    SOMETIMES_TIME,
+    some.sampled_from([None, "en", "de"]),
+    some.sampled_from([None, "gzip", "br"]),
+    BOOL,
+    BOOL,
+)
+DENIED = call(it.Denied, some.sampled_from([401, 403, 429, 503, 404]), MADE, some.one_of(some.none(), NUMBER))
+
+
+def named(needed: Dict[str, Any], more: Dict[str, Any]) -> Any:
+    """Arguments by names, of which some may be missing."""
+    found: Any = some.fixed_dictionaries(needed, optional=more)
+    return found
+
+
+def asked_resource(drawn: Tuple[Any, ...]) -> Call:
+    methods, shown, options, asked, named = drawn
+    return lambda: it.Resource(methods, shown, **options).answer(*asked, **named)
+
+
+RESOURCE = some.tuples(
+    some.lists(some.one_of(METHOD, some.builds(it.Method, METHOD, MADE, MADE, BOOL, BOOL)), max_size=3),
+    some.lists(SHOWN, max_size=3),
+    named(
+        {"state": some.sampled_from(list(it.State)), "is_strict": BOOL, "by_media_type": BOOL, "by_coding": BOOL},
+        {
+            "location": MADE,
+            "hosts": TEXTS,
+            "by_language": BOOL,
+            "boundary": MADE,
+            "needs_length": BOOL,
+            "limit": some.one_of(some.none(), NUMBER),
+            "implemented": TEXTS,
+            "cors": some.just(it.CorsPolicy("*")),
+        },
+    ),
+    some.tuples(METHOD, SECTION),
+    named(
+        {},
+        {
+            "target": MADE,
+            "length": some.one_of(some.none(), NUMBER),
+            "version": VERSION,
+            "now": SOMETIMES_TIME,
+            "denied": some.just(it.Denied(429, retry_after=5)),
+        },
+    ),
+).map(asked_resource)
+OPTIONS = {"shared": BOOL}
+TIMES = some.builds(it.Times, TIME, TIME, SOMETIMES_TIME)
+
+
+def steps_of_a_cache(drawn: Tuple[Any, ...]) -> Call:
+    """Passes through one cache, whose steps come in any order."""
+    options, steps = drawn
+
+    def take() -> None:
+        with it.Cache(**options) as cache:
+            passes: List[it.Pass] = []
+            for step, place, now, method, target, fields in steps:
+                try:
+                    if step == "begin" or not passes:
+                        passes.append(cache.begin(method, f"https://a.example/{target}", fields, now=now))
+                    elif step == "remove":
+                        cache.remove(f"https://a.example/{target}")
+                    else:
+                        one = passes[place % len(passes)]
+                        given = {"came": (200, fields), "received": (b"content",)}.get(step, ())
+                        getattr(one, step)(*given, **({"now": now} if step not in ("received", "close") else {}))
+                except (it.HeaderError, it.OutOfOrder):
+                    pass
+
+    return take
+
+
+PASSES = some.tuples(
+    named({"shared": BOOL}, {"wait": some.just(5), "responses": some.integers(0, 3), "guess": NUMBER}),
+    some.lists(
+        some.tuples(
+            some.sampled_from("begin came received ended failed resume validation close remove".split()),
+            some.integers(0, 3),
+            some.integers(0, 200),
+            METHOD,
+            some.integers(0, 1),
+            some.sampled_from([{"Cache-Control": "max-age=60"}, {"ETag": '"a"'}, {"Vary": "*"}, {}, {"Age": "5"}]),
+        ),
+        max_size=8,
+    ),
+).map(steps_of_a_cache)
+
+
+def by_wsgi(make: Callable[[Any], Any]) -> Any:
+    """An application that answers a request with such fields."""
+
+    def asked(drawn: Tuple[Any, ...]) -> Call:
+        method, fields, answer, content = drawn
+        environ = {f"HTTP_{name.upper().replace('-', '_')}": line for name, line in fields}
+
+        def application(environ: Any, start_response: Any) -> Any:
+            start_response("200 OK", [pair for pair in answer if "\n" not in "".join(pair)])
+            return [content]
+
+        def ask() -> None:
+            given = make(application)(
+                {"REQUEST_METHOD": method, "PATH_INFO": "/", "HTTP_HOST": "a", "wsgi.url_scheme": "http", **environ},
+                lambda status, fields, problem=None: None,
+            )
+            b"".join(given)
+            getattr(given, "close", lambda: None)()
+
+        return ask
+
+    return some.tuples(METHOD, PAIRS, PAIRS, some.binary(max_size=20)).map(asked)
+
+
+SERVED = wsgi.Served(it.Resource(["GET"], [it.Representation("text/plain", 4, '"a"')]), lambda place: b"milk")
+POLICY = it.CorsPolicy(["https://a.example"], ["PUT"], "*", "*", 60)
+VALUES: Dict[str, Any] = {
+    "CacheControl": call(
+        it.CacheControl,
+        max_age=some.one_of(some.none(), NUMBER),
+        no_cache=BOOL,
+        public=BOOL,
+        stale_if_error=some.one_of(some.none(), NUMBER),
+        private_fields=some.lists(some.one_of(NAME, MADE), max_size=2),
+    ),
+    "ContentDisposition": call(it.ContentDisposition, some.sampled_from(["", "inline", "attachment", "form-data"])),
+    "ContentRange": call(
+        it.ContentRange,
+        some.one_of(some.none(), some.builds(it.ByteRange, NUMBER, NUMBER)),
+        some.one_of(some.none(), NUMBER),
+    ),
+    "Cookie": call(it.Cookie, some.lists(some.tuples(MADE, MADE), max_size=3)),
+    "Credentials": some.one_of(call(it.Credentials, ANY_TEXT, ANY_TEXT), call(it.Credentials, token=ANY_TEXT)),
+    "ETag": call(it.ETag, ANY_TEXT, BOOL),
+    "Host": call(it.Host, ANY_TEXT, some.one_of(some.none(), NUMBER)),
+    "MediaType": call(
+        it.MediaType,
+        some.sampled_from(["text", "Image", "a b", ""]),
+        some.sampled_from(["html", "*", ""]),
+        some.lists(some.tuples(some.sampled_from(["q", "Charset", "a b"]), MADE), max_size=2),
+    ),
+    "Origin": call(
+        it.Origin, some.sampled_from(["https", "", "a b", "http"]), ANY_TEXT, some.one_of(some.none(), NUMBER)
+    ),
+    "Range": some.one_of(
+        call(it.Range, MADE.map("bytes={}".format)),
+        some.lists(some.tuples(some.one_of(some.none(), NUMBER), some.one_of(some.none(), NUMBER)), max_size=3).map(
+            lambda ranges: partial(it.Range.bytes, *ranges)
+        ),
+    ),
+    "ReferrerPolicy": call(it.ReferrerPolicy, some.sampled_from([str(policy) for policy in it.ReferrerPolicy])),
+    "RetryAfter": some.one_of(
+        call(it.RetryAfter, some.timedeltas(timedelta(-1))),
+        call(it.RetryAfter, date=some.datetimes(timezones=some.just(timezone.utc))),
+    ),
+    "StrictTransportSecurity": call(it.StrictTransportSecurity, NUMBER, BOOL),
+}
+TYPES: Dict[str, Any] = {name: getattr(it, name) for name in VALUES}
+FUNCTIONS: Dict[str, Any] = {
+    **{
+        name: of_lines(getattr(it, name))
+        for name in "age content_length date expires last_modified members websocket_accept".split()
+    },
+    **{
+        name: call(getattr(it, name), SECTION, TEXTS)
+        for name in "choose_type choose_coding choose_language look_up_language".split()
+    },
+    **{name: call(getattr(it, name), SECTION, TEXT) for name in "type_quality coding_quality language_quality".split()},
+    **{f"{name}.parse": of_lines(kind.parse) for name, kind in TYPES.items()},
+    **{name: making for name, making in VALUES.items()},
+    "canonical_field": of_lines(it.canonical_field, NAME),
+    "canonical_section": call(it.canonical_section, SECTION),
+    "current_age": call(it.current_age, SECTION, TIMES),
+    "decide": call(it.decide, METHOD, SECTION, METHOD, SECTION, SECTION, TIMES, **OPTIONS),
+    "evaluate": call(it.evaluate, METHOD, SECTION, TARGET, SOMETIMES_TIME),
+    "find_cookie": of_lines(it.find_cookie, TEXT),
+    "format_date": call(it.format_date, TIME),
+    "framing": call(it.framing, METHOD, SECTION, some.one_of(some.none(), STATUS), VERSION),
+    "has_member": of_lines(it.has_member, TEXT),
+    "heuristic_lifetime": call(it.heuristic_lifetime, STATUS, SECTION, SOMETIMES_TIME, **OPTIONS),
+    "lifetime": call(it.lifetime, SECTION, SOMETIMES_TIME, **OPTIONS),
+    "may_store": call(it.may_store, METHOD, SECTION, STATUS, SECTION, **OPTIONS),
+    "respond": call(
+        it.respond, METHOD, SECTION, TARGET, some.builds(it.Content, some.one_of(some.none(), NUMBER), MADE, BOOL), MADE
+    ),
+    "select": call(it.select, METHOD, SECTION, TARGET, NUMBER),
+    "validators": call(it.validators, SECTION, SOMETIMES_TIME),
+    "version": call(it.version),
+    "websocket_check": call(it.websocket_check, SECTION, STATUS, SECTION),
+    "websocket_request": call(
+        it.websocket_request, some.one_of(some.binary(min_size=16, max_size=16), some.binary(max_size=3))
+    ),
+    "websocket_respond": call(it.websocket_respond, METHOD, SECTION, TEXTS, TEXTS, VERSION),
+    "Cache": PASSES,
+    "CorsPolicy": some.tuples(
+        call(
+            it.CorsPolicy,
+            TEXTS,
+            TEXTS,
+            some.one_of(TEXTS, some.just("*")),
+            TEXTS,
+            some.one_of(some.none(), NUMBER),
+            BOOL,
+        ),
+        METHOD,
+        SECTION,
+        SECTION,
+    ).map(lambda given: lambda: given[0]().answer(*given[1:])),
+    "Denied": DENIED,
+    "Gateway.forward_request": some.tuples(
+        call(it.Gateway, some.sampled_from(["gw", "a b", ""]), TEXTS, BOOL, BOOL),
+        METHOD,
+        SECTION,
+        HOP,
+        VERSION,
+        some.one_of(some.none(), TEXT),
+    ).map(lambda given: lambda: given[0]().forward_request(*given[1:])),
+    "Gateway.forward_response": call(
+        it.Gateway("gw").forward_response, METHOD, STATUS, SECTION, VERSION, VERSION, SOMETIMES_TIME
+    ),
+    "Headers": SECTION.map(lambda given: lambda: use(it.Headers(given))),
+    "Resource": RESOURCE,
+    "Section": SECTION.map(lambda given: lambda: use(it.Section(given))),
+    "inspect": some.lists(MADE, max_size=6).map(
+        lambda lines: lambda: str(inspection.inspect("\n".join(lines) or "a: b"))
+    ),
+    "audit": some.lists(MADE, max_size=6).map(
+        lambda lines: lambda: audit.map_partition([audit.Exchange("", "\n".join(lines).encode("latin-1", "replace"))])
+    ),
+    "wsgi.Cached": by_wsgi(lambda app: wsgi.Cached(app, it.Cache(shared=True, responses=4))),
+    "wsgi.ConditionalRequests": by_wsgi(lambda app: wsgi.ConditionalRequests(app, tags=True)),
+    "wsgi.Cors": by_wsgi(lambda app: wsgi.Cors(app, POLICY)),
+    "wsgi.Files": by_wsgi(lambda app: wsgi.Files(os.path.dirname(__file__), precompressed=True)),
+    "wsgi.Serves": by_wsgi(lambda app: wsgi.Serves(lambda environ: SERVED)),
+    "wrong types": some.one_of(
+        wrong(it.age, TEXT),
+        wrong(it.CacheControl.parse, TEXT, TEXT),
+        wrong(it.ETag, MADE, BOOL),
+        wrong(it.Cookie, PAIRS),
+        wrong(it.MediaType, MADE, MADE, PAIRS),
+        wrong(it.Credentials, MADE, MADE, MADE),
+        wrong(it.Host, MADE, NUMBER),
+        wrong(it.Origin, MADE, MADE, NUMBER),
+        wrong(it.Range, MADE),
+        wrong(it.RetryAfter, NUMBER, NUMBER),
+        wrong(it.evaluate, METHOD, SECTION, TARGET, TIME),
+        wrong(it.select, METHOD, SECTION, TARGET, NUMBER),
+        wrong(it.choose_type, SECTION, TEXTS),
+        wrong(it.canonical_field, NAME, TEXT),
+        wrong(it.Headers, SECTION),
+        wrong(it.Section, SECTION),
+        wrong(it.format_date, TIME),
+        wrong(it.Gateway, MADE, TEXTS),
+        wrong(it.CorsPolicy, TEXTS),
+        wrong(it.may_store, METHOD, SECTION, STATUS, SECTION),
+        wrong(it.framing, METHOD, SECTION, STATUS, VERSION),
+        wrong(it.has_member, TEXT, TEXT),
+        wrong(it.StrictTransportSecurity, NUMBER, BOOL),
+        wrong(it.ContentRange, NUMBER, NUMBER),
+    ),
+}
+#: What has no code of its own: its values are those that calls give or take.
+DATA = set(
+    "CORS_FIELDS Action Answer Ask ByteRange Content CorsAnswer CorsKind Decision Fault Flaw Framing FramingKind "
+    "FramingOutcome Handshake HeaderError HeadersLike Hop InvalidField InvalidSection Method OutOfOrder Pass PassOn "
+    "Precondition Quality Reason Rejection Reply Representation RequestOutcome Response ResponseOutcome Selection "
+    "Sends State Target Times TooLarge Wait __version__".split()
+)
+CALL = some.sampled_from(sorted(FUNCTIONS)).flatmap(lambda name: some.tuples(some.just(name), FUNCTIONS[name]))
+
+
+def use(headers: it.Headers) -> None:
+    """Asks a section for all that it has."""
+    for name, member in vars(it.Headers).items():
+        if isinstance(member, property):
+            attempt(partial(getattr, headers, name))
+    for name in headers:
+        attempt(partial(headers.canonical, name))
+        headers.lines(name), headers[name], name in headers
+    repr(headers), len(headers), headers.raw(), pickle.loads(pickle.dumps(headers)) == headers
+
+
+def attempt(function: Call) -> object:
+    """What a call gives, or the error by which the library rejects an argument."""
+    try:
+        return function()
+    except it.HeaderError as error:
+        return str(error), repr(error)
+
+
+def tested(count: int, **strategies: Any) -> Callable[[Callable[..., None]], Callable[..., None]]:
+    """Runs a test with so many random arguments."""
+
+    def decorate(test: Callable[..., None]) -> Callable[..., None]:
+        made: Any = seed(SEED)(given(**strategies)(test))
+        checks = [HealthCheck.too_slow, HealthCheck.data_too_large, HealthCheck.filter_too_much]
+        options: Any = settings(max_examples=max(count, 10), deadline=None, database=None, suppress_health_check=checks)
+        ran: Callable[..., None] = options(made)
+        return ran
+
+    return decorate
+
+
+class Allocated(ctypes.Structure):
+    """What the C library's `mallinfo2` tells."""
+
+    names = "arena ordblks smblks hblks hblkhd usmblks fsmblks uordblks fordblks keepcost"
+    _fields_ = [(name, ctypes.c_size_t) for name in names.split()]
+
+
+def allocated() -> Tuple[int, int]:
+    """How many blocks Python has allocated, and how many bytes C has, as far as that can be known."""
+    gc.collect()
+    tells = getattr(ctypes.CDLL(None), "mallinfo2", None)
+    if tells is None:
+        return sys.getallocatedblocks(), 0
+    tells.restype = Allocated
+    found = tells()
+    return sys.getallocatedblocks(), found.uordblks + found.hblkhd
+
+
+def grows_little(calls: List[Call], rounds: int = 50) -> bool:
+    """Whether fewer blocks are left of calls than one for each two rounds.
+
+    (What the interpreter keeps for later use grows a few times, a leak each time.)
+    """
+    for call in calls:
+        attempt(call)
+    before = allocated()
+    for _ in range(rounds):
+        for call in calls:
+            attempt(call)
+    after = allocated()
+    return after[0] - before[0] < rounds // 2 and after[1] - before[1] < 16 * rounds // 2
+
+
+class Calls(unittest.TestCase):
+    def test_each_name_is_called(self) -> None:
+        called = {name.partition(".")[0] for name in FUNCTIONS}
+        self.assertEqual(set(it.__all__) - called, DATA)
+        for name in (*wsgi.__all__, *asgi.__all__):
+            self.assertTrue(f"wsgi.{name}" in FUNCTIONS or name in ("Result", "Served", "list_alternatives"), name)
+
+    def test_no_call_crashes_or_leaks(self) -> None:
+        """Each call ends with a value or a `HeaderError`. A few of each name are made again, many times: what is
+        allocated doesn't grow with the rounds."""
+        kept: Dict[str, List[Call]] = defaultdict(list)
+
+        @tested(CALLS, named=CALL)
+        def ask(named: Tuple[str, Call]) -> None:
+            name, function = named
+            attempt(function)
+            if len(kept[name]) < 12:
+                kept[name].append(function)
+
+        ask()
+        for name, functions in kept.items():
+            self.assertTrue(any(grows_little(functions) for _ in range(8)), name)
+
+
+class Values(unittest.TestCase):
+    def judge(self, value: Any) -> None:
+        """A value is what its field line encodes, and equal to what is made of it."""
+        kind = type(value)
+        again = kind.parse(str(value))
+        copies = [again, pickle.loads(pickle.dumps(value)), kind.parse(str(value).encode("latin-1"))]
+        if not isinstance(value, Enum):
+            members = {name: getattr(value, name) for name in value.__dataclass_fields__}
+            copies.append(kind(**members))
+            for name in members:
+                with self.assertRaises(AttributeError):
+                    setattr(value, name, None)
+        for other in copies:
+            self.assertEqual(
+                (other, hash(other), repr(other), str(other)), (value, hash(value), repr(value), str(value))
+            )
+            self.assertFalse(other != value)
+        self.assertNotEqual(value, str(value))
+
+    def test_what_is_parsed_and_made(self) -> None:
+        for name, kind in TYPES.items():
+            with self.subTest(name):
+
+                @tested(CALLS // 20, make=some.one_of(of_lines(kind.parse), VALUES[name]))
+                def judge(make: Call) -> None:
+                    try:
+                        value = make()
+                    except it.HeaderError:
+                        return
+                    self.judge(value)
+
+                judge()
+
+    def test_other_values_are_not_equal(self) -> None:
+        @tested(CALLS // 10, makes=some.lists(some.one_of(*VALUES.values()), min_size=2, max_size=2))
+        def judge(makes: List[Call]) -> None:
+            try:
+                one, other = (make() for make in makes)
+            except it.HeaderError:
+                return
+            if one == other:
+                self.assertEqual((hash(one), type(one), str(one)), (hash(other), type(other), str(other)))
+            else:
+                self.assertNotEqual((type(one), repr(one), str(one)), (type(other), repr(other), str(other)))
+
+        judge()
+
+    def test_dates(self) -> None:
+        @tested(CALLS // 10, seconds=some.integers(0, 253402300799))
+        def judge(seconds: int) -> None:
+            time = it.date(it.format_date(seconds))
+            self.assertEqual((time.timestamp(), it.format_date(time)), (seconds, it.format_date(seconds)))
+
+        judge()
+
+    def test_no_secret_is_shown(self) -> None:
+        secrets = some.text("abcdefgh", min_size=6, max_size=9)
+
+        @tested(CALLS // 10, secret=secrets, end=some.sampled_from(["", "\n", "\x7f", "é", '"', "=", " ", ","]))
+        def judge(secret: str, end: str) -> None:
+            text = f"XYZ{secret}{end}"
+            makes: List[Call] = [
+                lambda: it.Credentials("user", text),
+                lambda: it.Credentials(token=text),
+                lambda: it.Cookie((("SID", text),)),
+                lambda: it.Cookie(((f"a;{text}", "1"),)),
+                lambda: it.Credentials.parse(f"Basic {text}"),
+                lambda: it.Credentials.parse(f"Bearer {text}"),
+                lambda: it.Credentials.parse(f"Digest {text}"),
+                lambda: it.Cookie.parse(f"SID={text}"),
+                lambda: it.find_cookie("SID", f"a{text}\n"),
+                lambda: it.Headers({"Authorization": text, "Cookie": text}),
+                lambda: it.Section({"Set-Cookie": text}),
+                lambda: it.Headers([("Proxy-Authorization", f"Bearer {text}")]).proxy_authorization,
+                lambda: it.canonical_field("Set-Cookie", f"{text}\n"),
+            ]
+            for make in makes:
+                shown = attempt(make)
+                if not isinstance(shown, str):
+                    self.assertNotIn(text[:9], repr(shown))
+
+        judge()
+
+
+def print_nothing(*_: object) -> Any:
+    """Takes the head of a response."""
+
+
+def apart(count: int, work: Callable[[int], object]) -> List[object]:
+    """What so many threads get, which begin together and change places often."""
+    barrier, before = threading.Barrier(count), sys.getswitchinterval()
+
+    def run(number: int) -> object:
+        barrier.wait()
+        return work(number)
+
+    sys.setswitchinterval(1e-6)
+    try:
+        with ThreadPoolExecutor(count) as pool:
+            return list(pool.map(run, range(count)))
+    finally:
+        sys.setswitchinterval(before)
+
+
+class Threads(unittest.TestCase):
+    def test_eight_threads_over_one_of_each_object(self) -> None:
+        fields = {
+            "Host": "a",
+            "If-None-Match": '"a"',
+            "Range": "bytes=0-3",
+            "Cache-Control": "max-age=5",
+            "Origin": "null",
+        }
+        gateway, hop = it.Gateway("gw"), it.Hop(client="192.0.2.43")
+        resource = it.Resource([it.Method("GET")], [it.Representation("text/plain", 10, '"b"')], cors=POLICY)
+        section, headers, file = it.Section(fields), it.Headers(fields), wsgi.Files(os.path.dirname(__file__))
+        values: List[Any] = [
+            it.ETag("a"),
+            it.MediaType("text", "html", (("q", "1"),)),
+            it.CacheControl(max_age=5),
+            it.Range("bytes=0-3"),
+            it.ContentRange(None, 5),
+            it.RetryAfter(timedelta(5)),
+            it.StrictTransportSecurity(5),
+            it.ReferrerPolicy.ORIGIN,
+            it.Credentials("a", "b"),
+            it.Cookie((("a", "b"),)),
+            it.Host("a"),
+            it.Origin("https", "a"),
+            it.ContentDisposition.INLINE,
+        ]
+        self.assertEqual({type(value) for value in values}, set(TYPES.values()))
+        questions: List[Call] = [
+            *(
+                partial(lambda value: (str(value), hash(value), repr(value), type(value).parse(str(value))), value)
+                for value in values
+            ),
+            lambda: (it.evaluate("GET", section, it.Target('"a"')), section.canonical("cache-control"), section.etag),
+            lambda: (headers.cache_control, headers.range, headers.pairs(), "host" in headers),
+            lambda: POLICY.answer("GET", section).fields,
+            lambda: resource.answer("GET", section).fields,
+            lambda: gateway.forward_request("GET", section, hop).fields,
+            lambda: b"".join(
+                file({"REQUEST_METHOD": "GET", "PATH_INFO": "/__init__.py", "HTTP_HOST": "a"}, print_nothing)
+            ),
+        ]
+        wanted = [question() for question in questions]
+        rounds = max(20, CALLS // (8 * len(questions)) // 10)
+
+        def ask(number: int) -> int:
+            wrong = 0
+            for _ in range(rounds):
+                for place in range(len(questions)):
+                    at = (place + number) % len(questions)
+                    wrong += questions[at]() != wanted[at]
+            return wrong
+
+        self.assertEqual(apart(8, ask), [0] * 8)
+
+    def test_eight_threads_over_one_mapping_that_changes(self) -> None:
+        """Each sees a section that was whole at some time."""
+        headers = it.Headers({"A": "0", "B": "0"})
+
+        def work(number: int) -> int:
+            wrong = 0
+            for count in range(300):
+                if number % 2:
+                    headers["A"] = str(count)
+                else:
+                    wrong += len(headers.pairs()) != 2 or headers.lines("b") != ("0",)
+            return wrong
+
+        self.assertEqual(apart(8, work), [0] * 8)
+
+
+if __name__ == "__main__":
+    unittest.main()
