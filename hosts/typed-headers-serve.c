@@ -740,7 +740,7 @@ static enum step send_some(struct peer *peer) {
 
 /* Does what the connection wants, until it has to wait, or others have their turn. */
 static void take_turn(struct peer *peer) {
-    uint8_t event = TYPED_HEADERS_BUSY;
+    uint8_t event = TYPED_HEADERS_ABORTED;
     uint16_t status;
     enum step step = ON;
     for (int i = 0; i < TURN_EVENTS; i++) {
@@ -756,7 +756,6 @@ static void take_turn(struct peer *peer) {
             break;
         case TYPED_HEADERS_REQUEST: step = answer(peer); break;
         case TYPED_HEADERS_OUTPUT: step = send_some(peer); break;
-        case TYPED_HEADERS_BUSY: break;
         case TYPED_HEADERS_CLOSED_CONNECTION:
             if (typed_headers_connection_rejection(&peer->connection, &status) == TYPED_HEADERS_DONE)
                 log_rejection(peer, status);
@@ -953,9 +952,12 @@ static void do_what_is_due(void) {
 
 static void open_files(void) {
     const char *control = options.cache_control, *hosts = options.hosts ? options.hosts : "";
-    uint8_t status = typed_headers_files_new(
-        &worker.files, (const uint8_t *)control, strlen(control), (const uint8_t *)hosts, strlen(hosts),
-        options.is_precompressed, (const uint8_t *)server.boundary, strlen(server.boundary), &server.tag_keys);
+    const struct typed_headers_files_options given = {
+        .cache_control = {(const uint8_t *)control, strlen(control)},
+        .hosts = {(const uint8_t *)hosts, strlen(hosts)},
+        .boundary = {(const uint8_t *)server.boundary, strlen(server.boundary)},
+        .negotiates = options.is_precompressed};
+    uint8_t status = typed_headers_files_new(&worker.files, &given, &server.tag_keys);
     if (status != TYPED_HEADERS_DONE)
         DIE("%s", status == TYPED_HEADERS_REFUSED ? "--cache-control or --host has a byte that no field value can have"
                                                   : typed_headers_status_text(status));

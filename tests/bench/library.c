@@ -54,6 +54,7 @@ static void ask_callgrind(unsigned long request, const char *argument) {
 #define DUMP_STATS_AT 0x43540003
 
 #define BYTES(it) (const uint8_t *)(it), strlen(it)
+#define ASKS(method, section) &(struct typed_headers_request){{BYTES(method)}, {BYTES(section)}}
 #define COUNT(name, call)                                                                                              \
     do {                                                                                                               \
         char label[160];                                                                                               \
@@ -94,14 +95,14 @@ static const char *const NAMES[] = {
 
 static void decide(const char *request, const char *response) {
     uint8_t answer;
-    typed_headers_decide(BYTES("GET"), BYTES(request), BYTES("GET"), BYTES(request), BYTES(response), &KEYS, &TIMES, true,
-                         &answer);
+    const struct typed_headers_stored stored = {{BYTES("GET")}, {BYTES(request)}, {BYTES(response)}};
+    typed_headers_decide(&stored, ASKS("GET", request), &KEYS, &TIMES, true, &answer);
 }
 
 static void answer_cors(const char *origins, const char *headers, const char *request) {
     struct typed_headers_cors_rules rules = {{BYTES(origins)}, {BYTES("PUT")}, {BYTES(headers)}, {NULL, 0}, 60, true, false};
     struct typed_headers_cors_facts facts;
-    typed_headers_cors_answer(&rules, BYTES("OPTIONS"), BYTES(request), NULL, 0, &KEYS, &facts, room, MOST_ROOM, &written);
+    typed_headers_cors_answer(&rules, ASKS("OPTIONS", request), NULL, 0, &KEYS, &facts, room, MOST_ROOM, &written);
 }
 
 static void grow(size_t bytes) {
@@ -110,34 +111,34 @@ static void grow(size_t bytes) {
     uint64_t seconds;
     list(text, bytes, "", "\n", "x-name: value %u");
     COUNT("canonical, one name", typed_headers_canonical(BYTES(text), &KEYS, room, MOST_ROOM, &written));
-    COUNT("evaluate, one name", typed_headers_evaluate(BYTES("GET"), BYTES(text), &KEYS, BYTES("\"a\""), &TARGET, &status));
-    COUNT("may_store, one name", typed_headers_may_store(BYTES("GET"), BYTES(text), 200, BYTES(text), &KEYS, true, &answer));
+    COUNT("evaluate, one name", typed_headers_evaluate(ASKS("GET", text), &KEYS, BYTES("\"a\""), &TARGET, &status));
+    COUNT("may_store, one name", typed_headers_may_store(ASKS("GET", text), 200, BYTES(text), &KEYS, true, &answer));
     COUNT("decide, one name", decide(text, text));
     if (bytes <= 1 << 18) {
         list(text, bytes, "", "\n", "x-name-%u: value");
         COUNT("canonical, many names", typed_headers_canonical(BYTES(text), &KEYS, room, MOST_ROOM, &written));
         COUNT("may_store, many names",
-              typed_headers_may_store(BYTES("GET"), BYTES(text), 200, BYTES(text), &KEYS, true, &answer));
+              typed_headers_may_store(ASKS("GET", text), 200, BYTES(text), &KEYS, true, &answer));
         list(other, bytes, "Cache-Control: max-age=1\nVary: ", ", ", "x-name-%u");
         COUNT("decide, many names, and Vary of each", decide(text, other));
     }
     list(text, bytes, "If-None-Match: ", ", ", "\"%010x\"");
-    COUNT("evaluate, many tags", typed_headers_evaluate(BYTES("GET"), BYTES(text), &KEYS, BYTES("\"a\""), &TARGET, &status));
+    COUNT("evaluate, many tags", typed_headers_evaluate(ASKS("GET", text), &KEYS, BYTES("\"a\""), &TARGET, &status));
     list(text, bytes, "", "\n", "If-None-Match: \"%010x\"");
     COUNT("evaluate, many field lines of tags",
-          typed_headers_evaluate(BYTES("GET"), BYTES(text), &KEYS, BYTES("\"a\""), &TARGET, &status));
+          typed_headers_evaluate(ASKS("GET", text), &KEYS, BYTES("\"a\""), &TARGET, &status));
     list(text, bytes, "Range: bytes=", ",", "%u-%u");
-    COUNT("select, ranges that overlap", typed_headers_select(BYTES("GET"), BYTES(text), &KEYS, BYTES("\"a\""), &TARGET,
+    COUNT("select, ranges that overlap", typed_headers_select(ASKS("GET", text), &KEYS, BYTES("\"a\""), &TARGET,
                                                               1 << 30, &status, ranges, MOST / 4, &written));
     list(text, bytes, "Range: bytes=", ",", "%u00-%u00");
-    COUNT("select, ranges far apart", typed_headers_select(BYTES("GET"), BYTES(text), &KEYS, BYTES("\"a\""), &TARGET,
+    COUNT("select, ranges far apart", typed_headers_select(ASKS("GET", text), &KEYS, BYTES("\"a\""), &TARGET,
                                                            1 << 30, &status, ranges, MOST / 4, &written));
     list(text, bytes, "bytes=", ",", "%u-%u");
     COUNT("ranges", typed_headers_ranges(BYTES(text), 1 << 30, ranges, MOST / 4, &written));
     list(text, bytes, "Cache-Control: ", ", ", "x-%u=\"a, b\"");
     COUNT("lifetime, many directives", typed_headers_lifetime(BYTES(text), &KEYS, 784111777, true, &seconds));
     COUNT("may_store, many directives",
-          typed_headers_may_store(BYTES("GET"), BYTES(text), 200, BYTES(text), &KEYS, true, &answer));
+          typed_headers_may_store(ASKS("GET", text), 200, BYTES(text), &KEYS, true, &answer));
     COUNT("decide, many directives", decide(text, text));
     COUNT("current_age", typed_headers_current_age(BYTES(text), &KEYS, &TIMES, &seconds));
     list(text, bytes, "", "\n", "ETag: \"%010x\"");
@@ -198,7 +199,7 @@ static uint64_t sum;
 
 static uint64_t evaluated(const char *section) {
     uint16_t status = 0;
-    typed_headers_evaluate(BYTES("GET"), BYTES(section), &KEYS, BYTES("\"xyzzy\""), &TARGET, &status);
+    typed_headers_evaluate(ASKS("GET", section), &KEYS, BYTES("\"xyzzy\""), &TARGET, &status);
     return status + 1;
 }
 
@@ -219,7 +220,7 @@ static uint64_t responded(const char *section) {
     static const struct typed_headers_content CONTENT = {{(const uint8_t *)"text/html", 9}, 10000, true, true};
     struct typed_headers_response response = {0, 0};
     size_t parts;
-    typed_headers_respond(BYTES("HEAD"), BYTES(section), &KEYS, BYTES("\"xyzzy\""), &TARGET, &CONTENT, BYTES("a"),
+    typed_headers_respond(ASKS("HEAD", section), &KEYS, BYTES("\"xyzzy\""), &TARGET, &CONTENT, BYTES("a"),
                           &response, ranges, 10, &parts, room, 1000, &written);
     return response.status;
 }
@@ -243,8 +244,8 @@ static uint64_t asked(bool by_handle) {
             typed_headers_section_select(&fields, BYTES("GET"), BYTES("\"xyzzy\""), &TARGET, 10000, &status, ranges, 10,
                                          &written);
         } else {
-            typed_headers_evaluate(BYTES("GET"), BYTES(REQUEST), &KEYS, BYTES("\"xyzzy\""), &TARGET, &status);
-            typed_headers_select(BYTES("GET"), BYTES(REQUEST), &KEYS, BYTES("\"xyzzy\""), &TARGET, 10000, &status, ranges,
+            typed_headers_evaluate(ASKS("GET", REQUEST), &KEYS, BYTES("\"xyzzy\""), &TARGET, &status);
+            typed_headers_select(ASKS("GET", REQUEST), &KEYS, BYTES("\"xyzzy\""), &TARGET, 10000, &status, ranges,
                                  10, &written);
         }
         total += status;
@@ -263,18 +264,22 @@ static const struct typed_headers_resource RESOURCE = {.methods = {(const uint8_
 static const struct typed_headers_denial NOT_DENIED;
 
 static uint64_t resource_answered(struct typed_headers_resource_handle *handle) {
-    static const struct typed_headers_resource_request ASKED = {.present = 784200000, .version = 11, .has_length = true};
+    static const struct typed_headers_resource_request ASKED = {.method = {(const uint8_t *)"GET", 3},
+                                                                .target = {(const uint8_t *)"/", 1},
+                                                                .present = 784200000,
+                                                                .version = 11,
+                                                                .has_length = true};
     struct typed_headers_resource_facts facts = {0, 0, 0, 0, 0};
     struct typed_headers_section fields = TYPED_HEADERS_CLOSED;
     size_t parts;
     if (!handle->is_open) {
-        typed_headers_resource_answer(&RESOURCE, &SHOWN, 1, &RULES, &ASKED, BYTES("GET"), BYTES("/"), &NOT_DENIED,
-                                      BYTES(REQUEST), &KEYS, &facts, ranges, 10, &parts, room, 1000, &written);
+        typed_headers_resource_answer(&RESOURCE, &SHOWN, 1, &RULES, &ASKED, &NOT_DENIED, BYTES(REQUEST), &KEYS, &facts,
+                                      ranges, 10, &parts, room, 1000, &written);
         return facts.status;
     }
     typed_headers_section_new(&fields, BYTES(REQUEST), &KEYS);
-    typed_headers_resource_handle_answer(handle, &fields, &ASKED, BYTES("GET"), BYTES("/"), &NOT_DENIED, &facts, ranges,
-                                         10, &parts, room, 1000, &written);
+    typed_headers_resource_handle_answer(handle, &fields, &ASKED, &NOT_DENIED, &facts, ranges, 10, &parts, room, 1000,
+                                         &written);
     typed_headers_section_free(&fields);
     return facts.status;
 }

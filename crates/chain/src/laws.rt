@@ -44,7 +44,7 @@ pub fn responses_return_unchanged()
 {}
 
 /// Theorem: through any gateways, a browser's CORS check of what it gets passes exactly if that of
-/// what the server sent does.
+/// what the server sent does, if the server sends no connection option.
 pub fn cors_check_survives_gateways()
     ensures { (gateways : List Gateway) (response last : Response) (sent : Sent)
         → Returns gateways response last → HasNoOptions response.fields
@@ -55,7 +55,7 @@ pub fn cors_check_survives_gateways()
 /// they forward the request, the resource answers what it gets, and they forward the response, then
 /// it is an answer to the client's own request. The client gets each field that the answer sets
 /// with the answer's field lines, except fields that the gateways write, those of one connection,
-/// and names with more than letters, digits and dashes.
+/// and names with more than letters, digits and dashes, if the server sends no connection option.
 pub fn client_gets_the_answer()
     ensures own { (present : ℕ) (resource : Resource) (gateway : Gateway) (gateways : List Gateway)
         (request last : Request) (answer : Answer) → Reaches (gateway ∷ gateways) request last
@@ -71,10 +71,10 @@ pub fn client_gets_the_answer()
 }
 
 /// Theorem: a stored answer that a cache uses for a request is the resource's answer to it. If a
-/// resource answers two requests with the same method, target, content and conditions, and a cache
-/// that has stored the first answer uses it for the second request by method and Vary (RFC 9111,
-/// sections 4 and 4.1), then both answers are the same. A cache may compare the members of Accept
-/// and similar fields, and not their field lines.
+/// resource answers two requests with the same version, method, target, Host, Expect, content,
+/// conditions, Range and denial, and a cache that has stored the first answer uses it for the second
+/// request by method and Vary (RFC 9111, sections 4 and 4.1), then both answers are the same. A cache
+/// may compare the members of Accept and similar fields, and not their field lines.
 pub fn stored_answer_is_the_answer()
     ensures { (present : ℕ) (resource : Resource) (r s : Request) (a b : Answer) (before : LineMap)
         → IsAnswer present resource r a → IsAnswer present resource s b → AreAlike r s
@@ -86,9 +86,10 @@ pub fn stored_answer_is_the_answer()
 
 /// Theorem: what a client gets through any gateways and caches is what the resource says about its
 /// request, or what one of them answers by itself. The resource says it now; or it said it no
-/// longer ago than Age tells, and a cache on the way found it fresh, or each directive allowed it
-/// stale. The status, the content and each field that neither a gateway nor a cache writes are the
-/// server's. An answer of their own has no content, and no such field.
+/// longer ago than Age tells, in whole seconds, and some policy and some Date make it fresh, or each
+/// directive allows it stale. They needn't be those of a cache on the way. The status, the content
+/// and each field that neither a gateway nor a cache writes are the server's. An answer of their own
+/// has no content, and no such field, and may have any reason.
 pub fn client_gets_what_the_resource_says()
     ensures { (site : List ℕ → Server) (hops : List Hop) (now : ℕ) (target : List ℕ) (request : Request)
         (reply : Reply) → behind site hops now target request reply
@@ -139,8 +140,8 @@ pub fn shared_caches_serve_nothing_private()
 }
 
 /// Theorem: no field of one connection crosses: a gateway forwards none of a response but its own
-/// Transfer-Encoding, and none comes from a store (RFC 9110, section 7.6.1). Fields that Connection
-/// names are included.
+/// Transfer-Encoding, fields that Connection names included, and no field of RFC 9110, section 7.6.1,
+/// or of a proxy comes from a store.
 pub fn no_connection_field_crosses()
     ensures forwarded { (site : List ℕ → Server) (hops : List Hop) (gateway : Gateway) (now : ℕ)
         (target : List ℕ) (request : Request) (reply : Reply) (name : List ℕ)

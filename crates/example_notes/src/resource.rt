@@ -141,6 +141,7 @@ fn resource(
             is_strict: true,
         },
         boundary: boundary(alloc)?,
+        has_strong_dates: false,
         needs_length: false,
         limit: Some(MAX_LEN),
         cors: Some(policy(alloc)?),

@@ -6,7 +6,8 @@ ghost use Rattle.interference.specs.Statements.{HasStrongTags, IsFor, IsOwn, NoV
 ghost use Rattle.interference.{specs.Statements.SaysWhatItDependsOn, specs.Worlds.{Clients, Origin, Received, told}};
 ghost use Rattle.interference.{specs.Worlds.Kind.Right, specs.Worlds.Storing.NotShared};
 
-/// Theorem: confidentiality by content. Whatever a client receives is, byte for byte, what the
+/// Theorem: confidentiality by content, if the origin server says what its content depends on, and no
+/// two contents of a target have the same tag. Whatever a client receives is, byte for byte, what the
 /// origin server would have answered to that client's own request, in a version no later than now:
 /// in one no earlier than that in which the request was sent, or else the answer was fresh then. If
 /// the origin server also says what its fields depend on, then so are they.
@@ -21,9 +22,10 @@ pub fn clients_get_their_own_answers()
         → received.given.answer ≡ origin received.given.version received.asked.request }
 {}
 
-/// Theorem: only what may be shared is shared. Whatever an origin server depends on and says, a client
-/// receives what it answered to that client's own request, or to one whose answer it let be stored for
-/// requests like this. What it let nobody share is the answer to the client's own request.
+/// Theorem: only what may be shared is shared, if no two contents of a target have the same tag.
+/// Whatever an origin server depends on and says, a client receives what it answered to that client's
+/// own request, or to one whose answer it let be stored for requests like this. What it let nobody
+/// share is the answer to the client's own request.
 pub fn only_what_may_be_shared_is_shared()
     ensures matching { (origin : Origin) (clients : Clients) (events : List Event) (received : Received)
         → HasStrongTags origin
@@ -39,8 +41,8 @@ pub fn only_what_may_be_shared_is_shared()
 /// Theorem: noninterference. In two runs with the same schedule, clients whom the origin server
 /// answers the same are told the same: the same contents, heads, dates and versions, in the same
 /// order, so that they also go on asking the same. The requests of the others may differ in the
-/// values of secret fields, and the answers to them in all that may not be stored, if no answer that
-/// may be stored varies by a secret field.
+/// values of secret fields, but both have Authorization, or neither; and the answers to them in all
+/// that may not be stored, if no answer that may be stored varies by a secret field.
 pub fn clients_learn_nothing_of_secrets()
     ensures { (watches secret : ℕ → Bool) (origin other : Origin) (clients others : Clients) (events : List Event)
         (client : ℕ) → DifferInSecrets watches secret clients others

@@ -82,6 +82,7 @@ fn open_resource(
             is_strict,
         },
         boundary,
+        has_strong_dates: false,
         needs_length: false,
         limit: None,
         cors: None,

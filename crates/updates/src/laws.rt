@@ -27,8 +27,9 @@ pub fn if_match_is_compare_and_swap()
         → Has (given change.put.client (run events (start first)).received) change.put.read }
 {}
 
-/// Theorem: no update is lost. Of all guarded PUTs that were made of one version, at most one is
-/// performed, and that at most once, however often the request comes.
+/// Theorem: no update is lost, if no two versions have the same tag. Of all guarded PUTs that were
+/// made of one version, at most one is performed, and that at most once, however often the request
+/// comes.
 pub fn no_update_is_lost()
     ensures { (first : Version) (events : List Event) (place other : ℕ) (change rival : Change)
         → HasUniqueTags (run events (start first))
@@ -37,9 +38,9 @@ pub fn no_update_is_lost()
         → IsGuarded change.put → IsGuarded rival.put → change.put.read ≡ rival.put.read → place ≡ other }
 {}
 
-/// Theorem: guarded PUTs are linearizable. If all that were performed are guarded, they lead from
-/// the first version to the current one, in the order of their performance: each was made
-/// of the version that the one before had made.
+/// Theorem: guarded PUTs are linearizable. If all that were performed are guarded, and no two versions
+/// have the same tag, they lead from the first version to the current one, in the order of their
+/// performance: each was made of the version that the one before had made.
 pub fn guarded_updates_are_linearizable()
     ensures { (first : Version) (events : List Event) → HasUniqueTags (run events (start first))
         → ((change : Change) → Has (run events (start first)).changes change → IsGuarded change.put)

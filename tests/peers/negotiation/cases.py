@@ -23,16 +23,18 @@ LANGUAGES = ["en", "en-US", "en-GB", "de", "de-CH", "de-Latn-CH", "fr", "zh-Hant
              "i-klingon", "x-a"]
 RANGES = ["en", "en-US", "en-us", "en-GB", "de", "de-CH", "de-DE", "fr", "fr-CA", "zh", "zh-Hant", "zh-Hans", "*", "EN",
           "sr", "en-GB-oed", "i-klingon", "i"]
-BAD_RANGES = ["en_US", "*-CH", "en-", "-en", "englishlanguage", "e n", "en;", "d*", "1en", "", "\xe9n"]
+BAD_RANGES = ["en_US", "*-CH", "en-", "-en", "englishlanguage", "e n", "en;", "d*", "1en", "", "\xe9n", 'en;x="a']
 # Malformed elements, which exclude nothing, with what is acceptable beside them. The first is what a client in Java sends.
 BROKEN = {
     "accept": (["text/html, image/gif, image/jpeg, *; q=.2, */*; q=.2", "text/html;q=2", "text/*;q=high", "*/*;q=",
-                "text/html;level;q=1", "*/*;q=00", "text/html;q=1.001, text/plain;q=0"],
+                "text/html;level;q=1", "*/*;q=00", "text/html;q=1.001, text/plain;q=0", 'text/html;level="1',
+                'text/html;x="a, application/json', 'text/html, application/json;q="', 'text/*;q=0, */*;q=0, "'],
                [["text/html"], ["application/json"], ["application/json", "text/html"]]),
     "encoding": (["gzip;q=1.0000", "gzip, br;level=5", "gzip;q=2, *;q=0.5", "br;q=high, identity;q=0",
-                  "deflate;level=9;q=0", "identity;q=2, *;q=0", "*;q=00"], [["identity"], ["identity", "gzip"]]),
-    "language": (["en;q=2", "en;q=.5", "*;q=high", "en-GB;q=1.001, en;q=0", "en;level=1", "*;q=00", "de, en;q="],
-                 [["en"], ["de", "en-GB"]]),
+                  "deflate;level=9;q=0", "identity;q=2, *;q=0", "*;q=00", 'gzip;q="1'],
+                 [["identity"], ["identity", "gzip"]]),
+    "language": (["en;q=2", "en;q=.5", "*;q=high", "en-GB;q=1.001, en;q=0", "en;level=1", "*;q=00", "de, en;q=",
+                  'de;q="1', 'en;q=0, de;q="1'], [["en"], ["de", "en-GB"]]),
 }
 WEIGHTS = ["", "", "", ";q=1", ";q=0.5", ";q=0", "; q=0.8", " ; q=0.3", ";q=0.001", ";q=0.9", ";q=1.0", ";q=1.000",
            ";q=0.0", ";q=0.000", ";q=0.5", ";q=0.7", ";Q=0.6", ";q=0."]

@@ -29,6 +29,8 @@ SAME = {"gzip": "x-gzip", "x-gzip": "gzip", "compress": "x-compress", "x-compres
 Parameters = list[tuple[str, str]]
 # A range, its parameters, and its weight.
 Element = tuple[str, Parameters, int]
+# What may be behind a quote that stays open.
+ANYTHING: dict[str, Element | None] = {"accept": ("*/*", [], 1), "encoding": None, "language": ("*", [], 1)}
 # As many combinations of the readings of malformed elements are tried.
 MOST_READINGS = 300
 
@@ -102,8 +104,12 @@ def readings(dimension: str, text: str) -> list[Element | None]:
 
     The text has no rule for that, so this is the choice of the page of `decide_negotiation`: what is malformed accepts
     less, and excludes nothing. With a malformed weight or parameter an element has some weight above 0, and its other
-    parameters; with a weight of 0 it counts for nothing. What is no range matches nothing.
+    parameters; with a weight of 0 it counts for nothing. What is no range matches nothing. Behind a quote that stays
+    open may be any type or language, so each is taken, below all that are named; but a coding that isn't named may be
+    one that the client can't decode.
     """
+    if '"' in re.sub(QUOTES, "", text):
+        return [ANYTHING[dimension]]
     try:
         return [element_of(dimension, text)]
     except Malformed:
@@ -197,9 +203,8 @@ def qualities(dimension: str, lines: list[str], offers: list[str], is_loose: boo
     try:
         if is_loose:
             return list(LOOSE[dimension]([element_of(dimension, it) for it in elements(lines)], offers))
-        if any('"' in re.sub(QUOTES, "", line) for line in lines):
-            return None  # a quote without an end in its line: what it hides isn't said
-        every = [readings(dimension, it) for it in elements(lines)]
+        # (a quote that stays open ends with its field line)
+        every = [readings(dimension, it) for line in lines for it in elements([line])]
     except Malformed:
         return None
     if math.prod(map(len, every)) > MOST_READINGS:
