@@ -282,6 +282,7 @@ class Cached:
             await _reply(send, turn.method, step)
             validation = turn.validation() if turn.validates and given.rewind() else None
             if validation is not None:
+                given.is_answered = True
                 await self._asked(validation, validation.asked, scope, given, None)
                 validation.end()
 
@@ -336,6 +337,8 @@ class _Given:
         self.receive, self.place, self.is_whole = receive, 0, True
         self.left = _MOST_GIVEN if method in ("GET", "HEAD") else 0
         self.messages: List[Message] = []
+        #: Whether the client has its response, so that its absence ends nothing.
+        self.is_answered = False
 
     def rewind(self) -> bool:
         """Begins again, and returns whether all that was given can be given again."""
@@ -347,6 +350,11 @@ class _Given:
             self.place += 1
             return self.messages[self.place - 1]
         message = await self.receive()
+        if self.is_answered and message["type"] == "http.disconnect":
+            # A server says so of each request that was answered.
+            if self.messages and not self.messages[-1].get("more_body"):
+                await asyncio.Event().wait()
+            message = {"type": "http.request", "body": b"", "more_body": False}
         self.left -= _OF_MESSAGE + len(message.get("body", b""))
         if self.is_whole and self.left >= 0:
             self.messages.append(message)
