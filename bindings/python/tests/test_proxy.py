@@ -555,7 +555,7 @@ class Users(ProxyTest):
         def answer(asked: Asked) -> List[Piece]:
             user, path = asked.get(b"authorization")[0], asked.line.split()[1]
             time.sleep(0.001 * (hash(user + path) % 5))
-            caching = {b"/all": b"public, max-age=1", b"/each": b"public, max-age=60"}.get(path, b"max-age=60")
+            caching = {b"/all": b"public, max-age=60", b"/each": b"public, max-age=60"}.get(path, b"max-age=60")
             found = b"all" if path == b"/all" else user + b" " + path + b" " + asked.content
             vary = b"Vary: Authorization" if path == b"/each" else b"Vary: X"
             if path == b"/chunked":
@@ -585,7 +585,7 @@ class Users(ProxyTest):
                 it.start()
             for it in threads:
                 it.join()
-            self.assertLess(len(self.origin.asked), 320 - 60)
+            self.assertLess(len(self.origin.asked), 320 - 90)
         self.assertEqual((wrong, len(asked)), ([], 640))
 
 

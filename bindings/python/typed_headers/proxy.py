@@ -47,7 +47,8 @@ class Proxy:
     """Passes requests to the server at `origin`, as `"http://127.0.0.1:8080"`, and its responses back.
 
     `gateway` decides which fields are sent, how content is delimited, and which messages are rejected. The method, the
-    target and the content pass as they came, content in pieces. The origin server gets the client's Host.
+    target and the content pass as they came, content in pieces. The origin server gets the client's Host, and the whole
+    path, also where the proxy is mounted at a part of it.
 
     A client may say who sent it the request if its address is in `trusted`, or `trusted` returns true for the address,
     which is empty for a client at a Unix socket. `writes_forwarded`, `writes_x_forwarded` and `tells_host` are those of
