@@ -37,7 +37,8 @@ DATE = b"Date: Sun, 06 Nov 1994 08:49:37 GMT\r\n"
 
 def read_head(file: IO[bytes]) -> Tuple[bytes, Fields]:
     """The first line of a message and its fields, names in lower case."""
-    first, fields = file.readline(), []
+    first = file.readline()
+    fields: Fields = []
     while True:
         line = file.readline()
         if line in (b"\r\n", b""):
@@ -87,7 +88,7 @@ class Origin:
     """An origin server, which answers each request with pieces that the test writes."""
 
     def __init__(self, answer: Callable[[Asked], Any]) -> None:
-        self.answer, self.asked, self.connections, self.sent, self.ended = answer, [], 0, 0, 0
+        self.answer, self.connections, self.sent, self.ended = answer, 0, 0, 0
         self.asked: List[Asked] = []
         self.listener = socket.create_server(("127.0.0.1", 0))
         self.port = self.listener.getsockname()[1]
@@ -157,8 +158,10 @@ class Server:
         wait_for(lambda: self.server.started)
 
     def close(self) -> None:
-        self.server.should_exit = self.server.force_exit = True
-        self.thread.join(10)
+        self.server.should_exit = True
+        self.thread.join(5)
+        self.server.force_exit = True
+        self.thread.join(5)
 
 
 class Reply:
@@ -220,6 +223,8 @@ class ProxyTest(unittest.TestCase):
         self.origin = Origin(pieces if callable(pieces) else lambda asked: pieces)
         self.addCleanup(self.origin.close)
         proxy = Proxy(self.origin.url, Gateway("gw.example"), **options)
+        # (so that the transport of a test is closed, too)
+        proxy.is_own = True
         self.serve(proxy if app is None else app(proxy))
 
     def serve(self, app: Any) -> None:
@@ -237,34 +242,37 @@ class ProxyTest(unittest.TestCase):
 
     @property
     def last(self) -> Asked:
-        return self.origin.asked[-1]
+        found: Asked = self.origin.asked[-1]
+        return found
 
 
 class Requests(ProxyTest):
     def test_fields(self) -> None:
         self.begin(plain())
         lines = ["Connection: X-Hop, keep-alive", "X-Hop: 1", "Keep-Alive: 5", "TE: gzip", "Proxy-Connection: a",
-                 "X-B: 2", b"X-A: \xff\x80", "X-B: 1", "Via: 1.0 before", "Content_Length: 7", "Cookie: a=b"]  # fmt: skip
+                 "X-B: 2", b"X-A: \xff\x80", "X-B: 1", "Via: 1.0 before", "Content_Length: 7", "Cookie: a=b"]
         self.assertEqual(self.ask("/", *lines).content, b"hello")
-        expected = [(b"host", b"a.example"), (b"x-b", b"2"), (b"x-b", b"1"), (b"x-a", b"\xff\x80"), (b"via", b"1.0 before"),
-                    (b"cookie", b"a=b"), (b"via", b"1.1 gw.example"), (b"connection", b"close")]  # fmt: skip
+        expected = [(b"host", b"a.example"), (b"x-b", b"2"), (b"x-b", b"1"), (b"x-a", b"\xff\x80"),
+                    (b"via", b"1.0 before"), (b"via", b"1.1 gw.example"), (b"cookie", b"a=b"),
+                    (b"connection", b"close")]
         self.assertEqual(sorted(self.last.fields), sorted(expected))
         self.assertEqual([it for it in self.last.fields if it[0] == b"x-b"], expected[1:3])
 
     def test_targets(self) -> None:
         self.begin(plain())
         client = self.client()
-        for target in ("/", "//b.example//c/", "/a%2Fb%20%41%zz", "/a?b=%3F&c=?d", "/../x/./y;z", "/?", "/a?//b", '/"<>|^{}'):
+        targets = ["/", "//b.example//c/", "/a%2Fb%20%41%zz", "/a?b=%3F&c=?d", "/../x/./y;z", "/?", "/a?//b", '/"<>^{}']
+        for target in targets:
             client.ask(target)
             # (ASGI doesn't tell an empty query from none)
             sent = target[:-1] if target == "/?" else target
             self.assertEqual(self.last.line, f"GET {sent} HTTP/1.1".encode())
         client.ask("*", method="OPTIONS")
         self.assertEqual(self.last.line, b"OPTIONS * HTTP/1.1")
-        for target, sent in (("http://B.example:81/x?y", "/x?y"), ("HTTP://b", "/"), ("https://b?x", "/?x")):
+        absolute = [("http://B:81/x?y", b"B:81", "/x?y"), ("HTTP://b", b"b", "/"), ("https://b?x", b"b", "/?x")]
+        for target, host, sent in absolute:
             client.ask(target)
-            self.assertEqual(self.last.line, f"GET {sent} HTTP/1.1".encode())
-            self.assertEqual(self.last.get(b"host"), [target[7:].strip("/").partition("/")[0].partition("?")[0].encode()])
+            self.assertEqual((self.last.line, self.last.get(b"host")), (f"GET {sent} HTTP/1.1".encode(), [host]))
         client.ask("http://b", method="OPTIONS")
         self.assertEqual(self.last.line, b"OPTIONS * HTTP/1.1")
         count = len(self.origin.asked)
@@ -356,12 +364,12 @@ class Requests(ProxyTest):
 class Responses(ProxyTest):
     def test_fields(self) -> None:
         lines = [b"Set-Cookie: a=1", b"X-A: \xfe\x80", b"Set-Cookie: b=2", b"Connection: X-Hop, close", b"X-Hop: 1",
-                 b"Keep-Alive: 5", b"Server: origin", DATE.strip(), b"Via: 1.1 inner", b"Content-Encoding: gzip"]  # fmt: skip
+                 b"Keep-Alive: 5", b"Server: origin", DATE.strip(), b"Via: 1.1 inner", b"Content-Encoding: gzip"]
         self.begin(plain(b"no gzip", *lines))
         reply = self.ask()
         expected = [(b"set-cookie", b"a=1"), (b"set-cookie", b"b=2"), (b"x-a", b"\xfe\x80"), (b"server", b"origin"),
                     (b"date", b"Sun, 06 Nov 1994 08:49:37 GMT"), (b"via", b"1.1 inner"), (b"via", b"1.1 gw.example"),
-                    (b"content-encoding", b"gzip"), (b"content-length", b"7")]  # fmt: skip
+                    (b"content-encoding", b"gzip"), (b"content-length", b"7")]
         self.assertEqual((reply.content, sorted(reply.fields)), (b"no gzip", sorted(expected)))
         self.assertEqual(reply.get(b"set-cookie"), [b"a=1", b"b=2"])
 
@@ -415,7 +423,8 @@ class Responses(ProxyTest):
         ):
             self.begin([wrong, CUT])
             reply = self.ask()
-            self.assertEqual((reply.status, reply.content, reply.get(b"content-length")), (502, b"", [b"0"]), wrong[:99])
+            length = reply.get(b"content-length")
+            self.assertEqual((reply.status, reply.content, length), (502, b"", [b"0"]), wrong[:99])
             self.assertEqual((len(reply.get(b"date")), self.ask().status), (1, 502))
 
     def test_what_follows_a_response_reaches_nobody(self) -> None:
@@ -435,7 +444,9 @@ class Responses(ProxyTest):
 
 class Failures(ProxyTest):
     def test_no_response(self) -> None:
-        for pieces in ([CUT], [RESET], [b"HTTP/1.1 200 OK\r\nContent-Le", CUT], [b"HTTP/1.1 200 OK\r\n", RESET]):
+        some = b"HTTP/1.1 200 OK\r\nContent-Le"
+        answers: List[List[Piece]] = [[CUT], [RESET], [some, CUT], [some, RESET]]
+        for pieces in answers:
             self.begin(pieces)
             for method in ("GET", "POST"):
                 reply = self.ask(method=method)
@@ -448,7 +459,8 @@ class Failures(ProxyTest):
         self.assertEqual([self.ask().status, self.ask(method="POST").status], [502, 502])
 
     def test_a_cut_is_seen(self) -> None:
-        stated, chunked = b"HTTP/1.1 200 OK\r\nContent-Length: 10\r\n\r\n", b"HTTP/1.1 200 OK\r\nTransfer-Encoding: chunked\r\n\r\n"
+        stated = b"HTTP/1.1 200 OK\r\nContent-Length: 10\r\n\r\n"
+        chunked = b"HTTP/1.1 200 OK\r\nTransfer-Encoding: chunked\r\n\r\n"
         for end in (CUT, RESET):
             for head, pieces in (
                 (stated, [b""]),
@@ -525,15 +537,12 @@ class Failures(ProxyTest):
             is_first = sum(it.connection == asked.connection for it in self.origin.asked) == 1
             return [plain()] if is_first else [CUT]
 
-        for method, lines, status, count in (
-            ("GET", [], 200, 3),
-            ("DELETE", [], 200, 3),
-            ("POST", [], 502, 2),
-            ("PUT", ["Content-Length: 1"], 502, 2),
-        ):
+        cases = [("GET", 0, 200, 3), ("DELETE", 0, 200, 3), ("POST", 0, 502, 2), ("PUT", 1, 502, 2)]
+        for method, size, status, count in cases:
             self.begin(answer, transport=httpx.AsyncHTTPTransport(verify=False))
             self.assertEqual(self.ask().status, 200)
-            self.assertEqual(self.ask("/", *lines, method=method, content=b"x" * len(lines)).status, status, method)
+            lines = [f"Content-Length: {size}"] if size else []
+            self.assertEqual(self.ask("/", *lines, method=method, content=b"x" * size).status, status, method)
             self.assertEqual((len(self.origin.asked), self.origin.connections), (count, count - 1), method)
 
 
@@ -559,7 +568,8 @@ class Users(ProxyTest):
             found = b"all" if path == b"/all" else user + b" " + path + b" " + asked.content
             vary = b"Vary: Authorization" if path == b"/each" else b"Vary: X"
             if path == b"/chunked":
-                return [b"HTTP/1.1 200 OK\r\nTransfer-Encoding: chunked\r\n\r\n%x\r\n%s\r\n0\r\n\r\n" % (len(found), found)]
+                head = b"HTTP/1.1 200 OK\r\nTransfer-Encoding: chunked\r\n\r\n"
+                return [head + b"%x\r\n%s\r\n0\r\n\r\n" % (len(found), found)]
             return [plain(found * (1000 if path == b"/large" else 1), b"Cache-Control: " + caching, vary)]
 
         wrong: List[Any] = []
@@ -620,7 +630,8 @@ class BehindCached(ProxyTest):
         self.ask("/a")
         self.now += 10
         cut = b"HTTP/1.1 200 OK\r\nContent-Length: 10\r\nCache-Control: max-age=60\r\n\r\nhello"
-        for answers[0] in ([CUT], [b"no response\r\n\r\n"], [plain(status="503 X")]):
+        faults: List[List[Piece]] = [[CUT], [b"no response\r\n\r\n"], [plain(status="503 X")]]
+        for answers[0] in faults:
             self.assertEqual(self.ask("/a").content, b"one")
         answers[0] = [cut, 0.05, CUT]
         self.assertFalse(self.ask("/c").is_whole)
@@ -786,7 +797,8 @@ class Applications(unittest.TestCase):
         self.assertEqual([it["type"] for it in found], ["lifespan.startup.complete", "lifespan.shutdown.complete"])
 
     def test_arguments(self) -> None:
-        for origin in ("a.example", "ftp://a.example", "http://", "http://a/b", "http://a/?b", "http://u:p@a", "http://a#b"):
+        wrong = ["a.example", "ftp://a.example", "http://", "http://a/b", "http://a/?b", "http://u:p@a", "http://a#b"]
+        for origin in wrong:
             with self.assertRaises(ValueError):
                 Proxy(origin, Gateway("gw"))
         with self.assertRaises(HeaderError):
