@@ -186,7 +186,7 @@ class Client:
     """A connection of a client."""
 
     def __init__(self, port: int) -> None:
-        self.socket = socket.create_connection(("127.0.0.1", port), timeout=30)
+        self.socket = socket.create_connection(("127.0.0.1", port), timeout=120)
         self.file = self.socket.makefile("rb")
 
     def ask(self, target: str = "/", *lines: Union[str, bytes], method: str = "GET", content: bytes = b"") -> Reply:

@@ -54,16 +54,19 @@ class Proxy:
     which is empty for a client at a Unix socket. `writes_forwarded`, `writes_x_forwarded` and `tells_host` are those of
     `Hop`.
 
-    `transport` sends the requests. Without one, each request has a connection of its own, so that nothing which an
-    origin server sends too much reaches another client. A transport of the caller is the caller's to close. If it sends
-    an idempotent request without content on a connection that was used before, and no response comes, the request is
+    `transport` sends the requests, and is the caller's to close. Without one, each request has its own connection, so
+    that what an origin server sends after its response reaches no client. A transport that reuses connections may take
+    it for the next response. If an idempotent request without content gets no response on a reused connection, it is
     sent once more.
 
-    `timeout` is the limit, in seconds, for a connection to be made or to become free, and for each piece to be sent or
-    to come. A client gets 504 if that is over before a response, or 503 if no connection became free. It gets 502 if
-    the origin server can't be reached, fails, or sends a response that is rejected. Once a response has begun, an
-    `httpx.TransportError` is raised instead, by which a server ends the connection to the client. A client that goes
-    away ends its request to the origin server.
+    `timeout` limits, in seconds, how long a connection may take to be made or to become free, and each piece of a
+    message to be sent or to come. If it ends before a response, the client gets 504, or 503 if no connection became
+    free. The client gets 502 if the origin server can't be reached, fails, or sends a response that is rejected. Once a
+    response has begun, an `httpx.TransportError` is raised instead, so that the server ends the client's connection. If
+    the client goes away, its request to the origin server ends. A client that is slow isn't limited.
+
+    The proxy answers CONNECT and handshakes of WebSockets with 501, the latter if the server lets an application do so.
+    Let the server set neither Date nor Server, and not take the client from X-Forwarded-For.
     """
 
     def __init__(
