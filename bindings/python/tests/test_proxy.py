@@ -577,7 +577,7 @@ class Users(ProxyTest):
 
         def use(number: int) -> None:
             client, user = Client(self.port), f"user-{number}"
-            for turn in range(40):
+            for turn in range(25):
                 path = ("/all", "/each", "/own", "/large", "/chunked")[(turn + number) % 5]
                 content = f"{number}.{turn}".encode() if path == "/own" else b""
                 method, lines = ("POST", [f"Content-Length: {len(content)}"]) if content else ("GET", [])
@@ -595,8 +595,8 @@ class Users(ProxyTest):
                 it.start()
             for it in threads:
                 it.join()
-            self.assertLess(len(self.origin.asked), 320 - 90)
-        self.assertEqual((wrong, len(asked)), ([], 640))
+            self.assertLess(len(self.origin.asked), 200 - 60)
+        self.assertEqual((wrong, len(asked)), ([], 400))
 
 
 class BehindCached(ProxyTest):
