@@ -16,6 +16,7 @@ import subprocess
 import tempfile
 import threading
 import time
+import warnings
 from contextlib import suppress
 from pathlib import Path
 from typing import Any, Callable, Dict, Iterable, List, NamedTuple, Optional, Tuple
@@ -126,7 +127,7 @@ class Origin:
 class Counts:
     """Numbers that all processes see, and that outlive each: a thread writes those of its slot alone."""
 
-    NAMES = ("requests", "hits", "shared", "puts", "wrong")
+    NAMES = ("requests", "hits", "shared", "puts", "unremoved", "wrong")
 
     def __init__(self) -> None:
         self.width = len(self.NAMES) + len(PATHS)
@@ -160,7 +161,7 @@ class Counts:
 class Client:
     """A thread of a process: it asks by the cache of the process, and judges what it gets."""
 
-    def __init__(self, number: int, slot: int, folder: Path, counts: Counts, cached: Callable[..., Any]) -> None:
+    def __init__(self, number: int, slot: int, folder: Path, counts: Counts, cached: Any) -> None:
         self.by, self.slot, self.folder, self.counts, self.cached = f"{number}", slot, folder, counts, cached
         self.chance = random.Random(f"{number} {slot}")
 
@@ -193,6 +194,8 @@ class Client:
 
     def put(self, path: str) -> None:
         _, fields, _ = self.ask("PUT", path, {})
+        if self.cached.rules.shelf.owed:
+            self.counts.add(self.slot, "unremoved")
         self.counts.put(self.slot, path, int(fields["x-version"]))
         self.counts.add(self.slot, "puts")
 
@@ -240,7 +243,8 @@ class Client:
 
 
 def work(number: int, worker: int, folder: Path, counts: Counts, storage: Storage, secret: bytes) -> None:
-    """A process of the fleet."""
+    """A process of the fleet, which closes nothing."""
+    warnings.simplefilter("ignore", ResourceWarning)
     connections = threading.local()
 
     def application(environ: Any, start_response: Any) -> Iterable[bytes]:
@@ -276,6 +280,8 @@ class Result(NamedTuple):
     #: The hits whose response another process had asked for.
     shared: int
     puts: int
+    #: PUTs whose removal failed, and is tried again later.
+    unremoved: int
     killed: int
     #: How often the storage was killed, and lost all that it had.
     lost: int

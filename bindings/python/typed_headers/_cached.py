@@ -104,9 +104,9 @@ class Turn:
     def _looked(self, shelf: Shelf, looked: Optional[Looked]) -> Step:
         """What is done first after a look at the storage."""
         step = self._begin()
-        # A 504 says that the origin may not be asked.
-        is_missing = isinstance(step, Ask) or isinstance(step, Reply) and step.status == 504
-        if looked is not None and looked.names and self.pass_ is not None and is_missing:
+        # (a 504 says that the origin may not be asked)
+        has_fresh = isinstance(step, Reply) and step.status != 504 and not step.validates or isinstance(step, Wait)
+        if looked is not None and looked.names and self.pass_ is not None and not has_fresh:
             self.pass_.close()
             self.pass_, self.asked = None, Ask()
             shelf.take_over(self.target, looked, self.rules.now)

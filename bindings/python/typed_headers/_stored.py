@@ -232,7 +232,9 @@ class Shelf:
     def _play(self, target: str, entry: Entry) -> None:
         asked, came = entry.times
         try:
-            played = self.cache.begin("GET", target, entry.request, now=asked)
+            # (its origin was asked, whatever this process has stored)
+            forced = () if "cache-control" in _varies(entry.response) else (("cache-control", "no-cache"),)
+            played = self.cache.begin("GET", target, [*entry.request, *forced], now=asked)
         except (HeaderError, MemoryError):
             return
         try:
@@ -259,9 +261,8 @@ class Record:
     def came(self, request: Headers, status: int, fields: Fields, times: Tuple[int, int]) -> None:
         """Notes the response. No entry has secrets of clients, nor those that its origin gives to one."""
         try:
-            response = Headers(fields)
-            varies = {name.lower() for name in response.vary or ()}
-            if "set-cookie" not in response and varies.isdisjoint(_UNWRITTEN):
+            varies = _varies(fields)
+            if varies.isdisjoint(_UNWRITTEN) and "set-cookie" not in Headers(fields):
                 asked = [(name, line) for name, line in request.pairs() if name in varies]
                 self.entry = Entry(asked, status, fields, times, b"")
         except (HeaderError, MemoryError):
@@ -280,6 +281,11 @@ class Record:
         except MemoryError:
             # (what was removed meanwhile is removed at the next look)
             pass
+
+
+def _varies(fields: Fields) -> Set[str]:
+    """The names of Vary, in lower case."""
+    return {name.lower() for name in Headers(fields).vary or ()}
 
 
 def put_behind(cache: Cache, storage: "Storage", secret: bytes) -> None:

@@ -72,8 +72,8 @@ def _key(target: str) -> bytes:
     return hashlib.sha256(target.encode()).digest()
 
 
-#: How long a call waits for another process, in seconds.
-_PATIENCE = 5.0
+#: How long a call waits for other processes, in seconds; and a removal, as others answer by what isn't removed.
+_PATIENCE, _PATIENCE_TO_REMOVE = 5.0, 60.0
 #: A target's last use is noted again after so many milliseconds.
 _NOTED_FOR = 60_000
 #: How many bytes an entry counts beside its own, and a target.
@@ -163,10 +163,10 @@ class SQLiteStorage:
         """See `Storage.remove`."""
         with self._connection() as connection:
             # Other changes may be lost if the machine stops, but not this one.
-            connection.execute("PRAGMA synchronous = FULL")
+            _set(connection, _PATIENCE_TO_REMOVE, "FULL")
             with _writing(connection):
                 self._forget(connection, _key(target))
-            connection.execute("PRAGMA synchronous = NORMAL")
+            _set(connection, _PATIENCE, "NORMAL")
 
     def _found(self, connection: sqlite3.Connection, key: bytes) -> List[Tuple[bytes, int, Optional[str]]]:
         """The token of a target, its last use, and the name of an entry, for each of its entries, or once."""
@@ -213,7 +213,7 @@ class SQLiteStorage:
                 self._idle, self._process = [], os.getpid()
             if self._idle:
                 return self._idle.pop()
-        connection = sqlite3.connect(self.path, timeout=_PATIENCE, isolation_level=None, check_same_thread=False)
+        connection = sqlite3.connect(self.path, isolation_level=None, check_same_thread=False)
         try:
             _prepare(connection)
         except BaseException:
@@ -233,6 +233,11 @@ def _all(connection: sqlite3.Connection, statement: str, *given: object) -> List
     return connection.execute(statement, given).fetchall()
 
 
+def _set(connection: sqlite3.Connection, patience: float, synchronous: str) -> None:
+    _all(connection, f"PRAGMA busy_timeout = {int(patience * 1000)}")
+    _all(connection, f"PRAGMA synchronous = {synchronous}")
+
+
 @contextmanager
 def _writing(connection: sqlite3.Connection) -> Iterator[None]:
     """A transaction that no other process writes beside."""
@@ -242,7 +247,8 @@ def _writing(connection: sqlite3.Connection) -> Iterator[None]:
 
 
 def _prepare(connection: sqlite3.Connection) -> None:
-    """Makes the tables, if there are none."""
+    """Sets the connection up, and makes the tables, if there are none."""
+    _set(connection, _PATIENCE, "NORMAL")
     give_up = time.monotonic() + _PATIENCE
     while True:
         try:
@@ -253,7 +259,6 @@ def _prepare(connection: sqlite3.Connection) -> None:
             if time.monotonic() > give_up:
                 raise
             time.sleep(0.01)
-    connection.execute("PRAGMA synchronous = NORMAL")
     if _all(connection, "PRAGMA user_version") == [(_SCHEMA_VERSION,)]:
         return
     with _writing(connection):
