@@ -215,7 +215,8 @@ class Client:
         problem = self.problem(page, path, user, method, oldest, status, fields, content)
         if problem is not None:
             self.counts.add(self.slot, "wrong")
-            found = f"{problem}: {method} {path} of {user} by {self.by}, at the oldest {oldest}: {status} {fields} {content!r}\n"
+            asked_for = f"{method} {path} of {user} by {self.by}, at the oldest {oldest}"
+            found = f"{problem}: {asked_for}: {status} {fields} {content!r}\n"
             with open(self.folder / "wrong", "ab", buffering=0) as file:
                 file.write(found[:2000].encode())
         if "age" in fields:

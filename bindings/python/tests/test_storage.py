@@ -218,8 +218,7 @@ class SQLiteCalls(Calls.Each):
         token, _ = storage.look(A)
         with contextlib.closing(sqlite3.connect(self.folder / "cache.sqlite", isolation_level=None)) as connection:
             connection.execute("BEGIN IMMEDIATE")
-            more = {"_PATIENCE": 0.05, "_PATIENCE_TO_REMOVE": 0.05}
-            with mock.patch.multiple("typed_headers.storage", **more):
+            with mock.patch.multiple("typed_headers.storage", _PATIENCE=0.05, _PATIENCE_TO_REMOVE=0.05):
                 storage._close_idle()
                 for call in (lambda: storage.add(A, token, "one", b""), lambda: storage.remove(A)):
                     with self.assertRaises(StorageError):
@@ -314,7 +313,9 @@ class Process:
 
     now = 1000
 
-    def __init__(self, kind: str, origin: Origin, storage: Optional[Storage], cache: Optional[Cache] = None, **more: Any) -> None:
+    def __init__(
+        self, kind: str, origin: Origin, storage: Optional[Storage], cache: Optional[Cache] = None, **more: Any
+    ) -> None:
         self.kind, self.cache = kind, Cache(shared=True) if cache is None else cache
         of_kind: Tuple[Any, Any] = (wsgi.Cached, origin.wsgi) if kind == "wsgi" else (asgi.Cached, origin.asgi)
         more = {"clock": lambda: self.now, "storage": storage, "secret": b"of the fleet", **more}
@@ -448,7 +449,8 @@ class Shared(Storages):
 
                 def writes(environ: Any, start_response: Any) -> Iterable[bytes]:
                     if environ["REQUEST_METHOD"] != "PUT":
-                        return inner(environ, start_response)  # type: ignore[no-any-return]
+                        content: Iterable[bytes] = inner(environ, start_response)
+                        return content
                     b"".join(inner(environ, lambda *_: None))
                     start_response("204 X", [])(b"")
                     return []
@@ -465,10 +467,10 @@ class Shared(Storages):
 
     def test_what_was_asked_before_a_removal_is_never_stored(self) -> None:
         for origin, one, two in self.each():
-            respond, puts = origin.respond, []
+            respond, puts = origin.respond, []  # type: Any, List[int]
 
             def overlaps(method: str, fields: Dict[str, str]) -> Given:
-                given = respond(method, fields)
+                given: Given = respond(method, fields)
                 if method == "GET" and not puts:
                     # (meanwhile another client changes it, by another process)
                     puts.append(1)
@@ -620,7 +622,7 @@ class Shared(Storages):
         storage, origin = self.sqlite(), pages()
         one, other = Process("wsgi", origin, storage), Process("wsgi", origin, storage)
         other.ask()
-        shelf, threads, got = one.application.rules.shelf, [], []
+        shelf, threads, got = one.application.rules.shelf, [], []  # type: Any, List[threading.Thread], List[bytes]
         take_over = shelf.take_over
 
         def slowly(*given: Any) -> None:
@@ -725,7 +727,8 @@ class Lies(Storages):
 
     def test_forged_without_a_secret(self) -> None:
         """It is taken over or left out, and nothing breaks."""
-        whole = {"request": [], "status": 200, "response": [["cache-control", "max-age=60"]], "times": [1000, 1000], "length": 9}
+        whole: Dict[str, Any] = {"request": [], "status": 200, "times": [1000, 1000], "length": 9}
+        whole["response"] = [["cache-control", "max-age=60"]]
         told: List[Any] = [None, [], "x", 1.5, {}, *({**whole, name: None} for name in whole)]
         for name, values in {
             "request": [[[]], [["a"]], [[1, 2]], [["a", "b", "c"]], [["\u1234", "b"]], [["a\n", "b"]], "ab", {"ab": 1}],
@@ -835,26 +838,25 @@ class Failures(Storages):
         self.assertEqual(list(shelf.owed), ["0", "1", "2", "3"])
         self.assertIsNone(shelf.look(A))
         removed: List[str] = []
-        faulty.remove = removed.append
+        faulty.remove = lambda target: removed.append(target)
         self.assertIsNotNone(shelf.look(A))
         self.assertEqual((removed, shelf.owed), (["0", "1", "2", "3"], {}))
 
     def test_a_removal_that_fails_while_others_are_tried_again(self) -> None:
         faulty = Faulty(self.sqlite())
-        rules = Rules(Cache(shared=True), 1000, lambda: 1000, storage=faulty)
-        shelf = rules.shelf
-        assert shelf is not None
+        shelf: Any = Rules(Cache(shared=True), 1000, lambda: 1000, storage=faulty).shelf
+        looked: List[Any] = []
         faulty.remove = fail()
         shelf.remove(A)
 
         def remove(target: str) -> None:
             # Another PUT fails to remove the same, and another look doesn't wait.
             faulty.remove = fail()
-            thread = threading.Thread(target=lambda: (shelf.remove(A), looked.append(shelf.look(B))))
+            shelf.remove(A)
+            thread = threading.Thread(target=lambda: looked.append(shelf.look(B)))
             thread.start()
             thread.join()
 
-        looked: List[Any] = []
         faulty.remove = remove
         shelf.look(B)
         self.assertEqual((list(shelf.owed), looked), ([A], [None]))
@@ -1037,7 +1039,8 @@ class Documented(Storages):
         page = HERE.parent / "MIDDLEWARE.md"
         if not page.exists():
             raise unittest.SkipTest("the page isn't here")
-        blocks = re.findall(r"<!-- test: bindings/python/tests/test_storage.py -->\n```python\n(.*?)```", page.read_text("utf-8"), re.S)
+        mark = "<!-- test: bindings/python/tests/test_storage.py -->"
+        blocks = re.findall(mark + r"\n```python\n(.*?)```", page.read_text("utf-8"), re.S)
         self.assertEqual(len(blocks), 2)
         before = os.getcwd()
         os.chdir(self.folder)
@@ -1050,7 +1053,8 @@ class Documented(Storages):
                     raise unittest.SkipTest(f"{error}") from None
 
     def run_block(self, block: str) -> None:
-        origin, known = pages(), {"Cache": Cache, "secret": b"of the fleet", "RedisStorage": RedisStorage, "SQLiteStorage": SQLiteStorage}
+        origin, kinds = pages(), {"RedisStorage": RedisStorage, "SQLiteStorage": SQLiteStorage}
+        known: Dict[str, Any] = {"Cache": Cache, "secret": b"of the fleet", **kinds}
         if "redis" not in block:
             import requests
             from typed_headers.requests import CachedAdapter

@@ -25,7 +25,21 @@ import time
 from dataclasses import dataclass, field, replace
 from http import HTTPStatus
 from types import TracebackType
-from typing import TYPE_CHECKING, Any, Callable, Dict, Iterable, Iterator, List, Mapping, Optional, Sequence, Tuple, Type, Union
+from typing import (
+    TYPE_CHECKING,
+    Any,
+    Callable,
+    Dict,
+    Iterable,
+    Iterator,
+    List,
+    Mapping,
+    Optional,
+    Sequence,
+    Tuple,
+    Type,
+    Union,
+)
 from urllib.parse import quote
 
 from ._exchange import (
@@ -331,6 +345,8 @@ class Cached:
             if started.is_sent or not started.is_called:
                 if started.is_sent:
                     turn.came(started.status, started.fields)
+                else:
+                    turn.outdate()
                 turn.end()
                 return content
             step = turn.came(started.status, started.fields)
