@@ -618,25 +618,24 @@ class Shared(Storages):
         self.assertIsInstance(get(Rules(Cache(shared=False), 1000, lambda: 1000, False, storage=storage), A), Reply)
 
     def test_a_removal_between_a_look_and_its_pass(self) -> None:
-        """A request looks, another process removes, and another request of this process looks, before the first goes on."""
+        """A request loads an entry, another process removes it, and another request of this process looks meanwhile."""
         storage, origin = self.sqlite(), pages()
-        one, other = Process("wsgi", origin, storage), Process("wsgi", origin, storage)
+        faulty, threads = Faulty(storage), []  # type: Faulty, List[threading.Thread]
+        one, other = Process("wsgi", origin, faulty), Process("wsgi", origin, storage)
         other.ask()
-        shelf, threads, got = one.application.rules.shelf, [], []  # type: Any, List[threading.Thread], List[bytes]
-        take_over = shelf.take_over
 
-        def slowly(*given: Any) -> None:
-            if not threads:
-                other.ask("PUT")
-                threads.append(threading.Thread(target=lambda: got.append(one.ask()[2])))
-                threads[0].start()
-                threads[0].join(0.2)
-            take_over(*given)
+        def load(target: str, name: str) -> Optional[bytes]:
+            sealed = storage.load(target, name)
+            other.ask("PUT")
+            threads.append(threading.Thread(target=one.ask, args=("HEAD",)))
+            threads[0].start()
+            threads[0].join(0.2)
+            return sealed
 
-        shelf.take_over = slowly
-        one.ask()
+        faulty.load = load
+        self.assertEqual(one.ask()[2], b"version-0")
         threads[0].join()
-        self.assertEqual((got, one.ask()[2]), ([b"version-1"], b"version-1"))
+        self.assertEqual(one.ask()[2], b"version-1")
 
 
 def get(rules: Rules, target: str, given: Sequence[Tuple[str, str]] = FRESH, **asked: str) -> Any:
@@ -874,30 +873,32 @@ class Failures(Storages):
 
 class Asynchronous(Storages):
     def test_a_storage_that_blocks_does_not_hold_the_loop(self) -> None:
-        faulty, origin = Faulty(self.sqlite()), pages()
+        faulty, origin, goes = Faulty(self.sqlite()), pages(), threading.Event()
+        held: List[bool] = []
 
-        def slow(call: Callable[..., Any]) -> Callable[..., Any]:
+        def waits(call: Callable[..., Any]) -> Callable[..., Any]:
             def called(*given: Any) -> Any:
-                time.sleep(0.5)
+                # (the loop lets it go, if it isn't held)
+                goes.clear()
+                held.append(not goes.wait(10))
                 return call(*given)
 
             return called
 
-        faulty.look, faulty.add = slow(faulty.look), slow(faulty.add)
-        faulty.remove, faulty.load = slow(faulty.remove), slow(faulty.load)
+        faulty.look, faulty.add = waits(faulty.look), waits(faulty.add)
+        faulty.remove, faulty.load = waits(faulty.remove), waits(faulty.load)
         process = Process("asgi", origin, faulty)
 
-        async def run() -> float:
-            most, before, task = 0.0, time.monotonic(), None
+        async def run() -> None:
             for method in ("GET", "GET", "PUT", "GET"):
                 task = asyncio.ensure_future(process.by_asgi(method, {"host": "a.example"}))
                 while not task.done():
                     await asyncio.sleep(0.001)
-                    most, before = max(most, time.monotonic() - before), time.monotonic()
+                    goes.set()
                 task.result()
-            return most
 
-        self.assertLess(asyncio.run(run()), 0.45)
+        asyncio.run(run())
+        self.assertEqual(held, [False] * 6)
 
     def test_a_request_that_is_cancelled_at_a_look(self) -> None:
         faulty, origin, goes = Faulty(self.sqlite()), pages(), threading.Event()
