@@ -505,13 +505,21 @@ class Shared(Storages):
             ("Set-Cookie", "a=b"), ("Cache-Control", "no-store"), ("Cache-Control", "private"), ("Vary", "a b"),
         ]
         for field in secret:
-            for origin, one, two in self.each(lambda: pages(field)):
+            for origin, one, two in self.each(lambda: pages(field, control="public, max-age=60")):
                 for it in (one, two):
                     self.assertEqual(it.ask(Cookie="secret", Authorization="Basic secret")[2], b"version-0")
                 self.assertEqual(len(origin.asked), 2, field)
                 one.application.rules.shelf.storage.close()
         for file in self.folder.iterdir():
             self.assertNotIn(b"secret", file.read_bytes())
+
+    def test_writes_no_cookies_of_a_private_cache(self) -> None:
+        for given, is_written in (([("Set-Cookie", "a=b")], False), ([], True)):
+            storage = self.another()
+            rules = [Rules(Cache(shared=False), 1000, lambda: 1000, False, storage=storage) for _ in range(2)]
+            get(rules[0], A, [*FRESH, *given])
+            self.assertIsInstance(get(rules[0], A), Reply)
+            self.assertIsInstance(get(rules[1], A), Reply if is_written else Ask)
 
     def test_writes_no_credentials_of_a_request(self) -> None:
         for origin, one, two in self.each(lambda: pages(("Vary", "X-User"), control="public, max-age=60")):
