@@ -514,7 +514,8 @@ class Shared(Storages):
             self.assertNotIn(b"secret", file.read_bytes())
 
     def test_writes_no_cookies_of_a_private_cache(self) -> None:
-        for given, is_written in (([("Set-Cookie", "a=b")], False), ([], True)):
+        cases: List[Tuple[Fields, bool]] = [([("Set-Cookie", "a=b")], False), ([], True)]
+        for given, is_written in cases:
             storage = self.another()
             rules = [Rules(Cache(shared=False), 1000, lambda: 1000, False, storage=storage) for _ in range(2)]
             get(rules[0], A, [*FRESH, *given])
@@ -877,6 +878,25 @@ class Failures(Storages):
                 self.assertEqual(one.ask()[2], b"version-0")
             with mock.patch("typed_headers._stored.Record.came", side_effect=None):
                 self.assertEqual(one.ask()[2], b"version-0")
+
+
+    def test_a_pass_that_does_not_begin_again(self) -> None:
+        """The client didn't ask for the 304 that the validators of a pass would get."""
+        for _, origin, faulty, one, two in self.each():
+            one.ask(at=1000)
+            token, names = faulty.storage.look(A)
+            faulty.look = mock.Mock(return_value=(token, [*names, "another"]))
+            begin, count = one.cache.begin, []  # type: Any, List[int]
+
+            def fails(*given: Any, **more: Any) -> Any:
+                count.append(1)
+                if len(count) == 2:
+                    raise MemoryError
+                return begin(*given, **more)
+
+            with mock.patch.object(one.cache, "begin", fails):
+                self.assertEqual(one.ask(at=1100)[::2], (200, b"version-0"))
+            self.assertNotIn("if-none-match", origin.asked[-1][1])
 
 
 class Asynchronous(Storages):

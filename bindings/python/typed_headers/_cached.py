@@ -64,7 +64,7 @@ class Rules:
 
     @property
     def shelf(self) -> Optional[Shelf]:
-        """The storage behind the cache, if it has one. Each call of a turn that is marked with it may block then."""
+        """The storage behind the cache, if it has one. Some calls of a turn may then block, as their docstrings say."""
         return self.cache._shelf
 
     def now(self) -> int:

@@ -33,7 +33,7 @@ MOST_ENTRIES = 16
 TOKEN = 16
 #: Of so many targets a process knows the tokens. What it has of another is removed at the next request for it.
 _MOST_KNOWN = 4096
-#: So many removals that failed are tried again.
+#: At most so many removals that failed are tried again.
 _MOST_OWED = 65_536
 _LOCKS = 64
 _VERSION = b"typed-headers 1\n"
@@ -123,10 +123,10 @@ class Shelf:
 
     def __init__(self, cache: Cache, storage: "Storage", secret: bytes) -> None:
         self.cache, self.storage, self.secret = cache, storage, secret
-        # (a private cache stores what a shared one may not, for the one user whose it is)
+        # (a private cache stores what a shared one may not)
         self.kind = b"shared" if cache.shared else b"private"
         self.locks = [Lock() for _ in range(_LOCKS)]
-        # Holds each of these together, and is held for none of the storage's calls.
+        # Guards `known` and `owed`, and is held during no call of the storage.
         self.lock = Lock()
         self.known: "OrderedDict[str, _Known]" = OrderedDict()
         self.owed: Dict[str, object] = {}
@@ -142,7 +142,7 @@ class Shelf:
     def look(self, target: str) -> Optional[Looked]:
         """Looks at a target, whose lock is held, and removes from the cache what isn't of its present token.
 
-        `None` if the storage fails: nothing is stored of the target then.
+        `None` if the storage fails: then all that the cache has of the target is removed.
         """
         try:
             self._pay()
@@ -174,7 +174,7 @@ class Shelf:
                 return
             entry = None if sealed is None else opened(sealed, self.secret, *self._about(target, looked.token, name))
             if entry is not None and entry.times[1] > now():
-                # The clock that it is of is ahead, and its age would be too small.
+                # (the clock of its process is ahead, so its age would be too small)
                 continue
             self._note(target, looked.token, name)
             if entry is not None:
@@ -194,7 +194,7 @@ class Shelf:
             self.cache.remove(target)
 
     def remove(self, target: str) -> None:
-        """Removes a target for all processes, at the latest before this one looks at a target again."""
+        """Removes a target for all processes. If that fails, it is tried again before the next look."""
         try:
             self.storage.remove(target)
         except (MemoryError, StorageError):
