@@ -336,7 +336,7 @@ def run_fleet(storage: Storage, requests: int, *, lose: Optional[Callable[[], No
                 os.waitpid(victim, 0)
                 killed += 1
                 start(running.pop(victim))
-                if lose is not None and killed % 50 == 25:
+                if lose is not None and killed % 10 == 5:
                     lose()
                     lost += 1
             counts.stop()
