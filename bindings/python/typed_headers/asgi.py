@@ -25,6 +25,7 @@ import time
 from contextlib import suppress
 from dataclasses import dataclass, field, replace
 from typing import (
+    TYPE_CHECKING,
     Any,
     AsyncGenerator,
     AsyncIterable,
@@ -38,6 +39,7 @@ from typing import (
     Optional,
     Sequence,
     Tuple,
+    TypeVar,
     Union,
 )
 from urllib.parse import quote, unquote_to_bytes
@@ -52,6 +54,9 @@ from .errors import HeaderError
 from .headers import Headers
 from .resource import Answer, Denied, Resource, Sends
 
+if TYPE_CHECKING:
+    from .storage import Storage
+
 __all__ = ["Cached", "ConditionalRequests", "Cors", "Files", "Result", "Served", "Serves", "list_alternatives"]
 
 Message = MutableMapping[str, Any]
@@ -59,6 +64,7 @@ Scope = MutableMapping[str, Any]
 Receive = Callable[[], Awaitable[Message]]
 Send = Callable[[Message], Awaitable[None]]
 Application = Callable[[Scope, Receive, Send], Awaitable[None]]
+Found = TypeVar("Found")
 
 # Extensions by which an application hands a server its content, so that nobody else sees it.
 _CONTENT_EXTENSIONS = ("http.response.pathsend", "http.response.zerocopysend")
@@ -238,7 +244,9 @@ class Cached:
     most `largest` bytes. One with Set-Cookie isn't stored. A request that isn't safe removes what is stored for its URI,
     and for the URIs of Location and Content-Location at the same host.
 
-    If the cache has `wait`, a GET waits for another that asks the application for the same, by asyncio.
+    If the cache has `wait`, a GET waits for another that asks the application for the same, by asyncio. With a `storage`
+    (`typed_headers.storage`) processes share what is stored; `secret` is the key by which its entries are authenticated.
+    What may block on it runs in threads, by the executor of the loop.
 
     `clock` gives the seconds since 1970. Each request is a pass through the cache, which is held for a step of it alone.
     """
@@ -250,8 +258,11 @@ class Cached:
         *,
         largest: int = 8 * 1024 * 1024,
         clock: Callable[[], float] = time.time,
+        storage: "Optional[Storage]" = None,
+        secret: bytes = b"",
     ) -> None:
-        self.application, self.rules = app, Rules(cache, largest, clock)
+        self.application = app
+        self.rules = Rules(cache, largest, clock, storage=storage, secret=secret)
 
     async def __call__(self, scope: Scope, receive: Receive, send: Send) -> None:
         if scope["type"] != "http":
@@ -267,7 +278,7 @@ class Cached:
             await _answer(send, 400, [("content-length", "0")])
             return
         turn = Turn(self.rules, scope["method"], target, request)
-        step: Optional[Step] = turn.start()
+        step: Optional[Step] = await unblocked(turn, turn.start)
         if isinstance(step, Wait):
             step = await waited(turn)
         given = _Given(receive, scope["method"])
@@ -280,7 +291,8 @@ class Cached:
             step = await self._asked(turn, step, scope, given, send)
         if isinstance(step, Reply):
             await _reply(send, turn.method, step)
-            validation = turn.validation() if turn.validates and given.rewind() else None
+            validates = turn.validates and given.rewind()
+            validation = await unblocked(turn, turn.validation) if validates else None
             if validation is not None:
                 given.is_answered = True
                 await self._asked(validation, validation.asked, scope, given, None)
@@ -294,7 +306,7 @@ class Cached:
         try:
             await self.application(_asking(scope, ask), given, passing)
         except Exception:
-            step = None if passing.is_passed else turn.failed()
+            step = None if passing.is_passed else await unblocked(turn, turn.failed)
             turn.end()
             if step is None:
                 raise
@@ -306,6 +318,24 @@ class Cached:
         if not isinstance(passing.step, Ask):
             turn.end()
         return passing.step
+
+
+async def unblocked(turn: Turn, call: Callable[[], Found]) -> Found:
+    """Calls a call of a turn that may block on a storage: in another thread, if there is one."""
+    if turn.rules.shelf is None:
+        return call()
+    done = asyncio.get_running_loop().run_in_executor(None, call)
+
+    def end(_: "asyncio.Future[Found]") -> None:
+        # (nobody takes what the call returned or raised)
+        done.exception()
+        turn.end()
+
+    try:
+        return await asyncio.shield(done)
+    except asyncio.CancelledError:
+        done.add_done_callback(end)
+        raise
 
 
 async def waited(turn: Turn) -> Step:
@@ -374,7 +404,8 @@ class _Passing:
 
     async def __call__(self, message: Message) -> None:
         if message["type"] == "http.response.start":
-            self.step = self.turn.came(message["status"], _fields(message))
+            status, fields = message["status"], _fields(message)
+            self.step = await unblocked(self.turn, lambda: self.turn.came(status, fields))
             self.is_passed = self.step is None
             if message.get("trailers"):
                 self.turn.end()
@@ -383,7 +414,7 @@ class _Passing:
         if message["type"] == "http.response.body":
             self.turn.received(bytes(message.get("body", b"")))
             if not message.get("more_body", False):
-                self.turn.keep()
+                await unblocked(self.turn, self.turn.keep)
         if self.send is not None:
             await self.send(message)
 

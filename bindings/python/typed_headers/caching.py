@@ -7,12 +7,15 @@ import threading
 import time
 from dataclasses import dataclass, field
 from enum import IntEnum
-from typing import Any, Callable, Iterable, List, Optional, Sequence, Set, Tuple, TypeVar, Union
+from typing import TYPE_CHECKING, Any, Callable, Iterable, List, Optional, Sequence, Set, Tuple, TypeVar, Union
 
 from . import _library
 from ._library import Text, Time
 from .errors import HeaderError
 from .headers import Headers, HeadersLike
+
+if TYPE_CHECKING:
+    from ._stored import Shelf
 
 __all__ = [
     "Ask",
@@ -474,6 +477,8 @@ class Cache:
         #: Whether it serves several users.
         self.shared = shared
         self._lock, self._is_open = threading.RLock(), True
+        # What is behind it, if those that use it have a storage.
+        self._shelf: Optional["Shelf"] = None
         # What is called once some pass has ended.
         self._waking: Set[Callable[[], None]] = set()
 

@@ -2,7 +2,7 @@
 
 from typing import Any, Optional, Sequence, Tuple
 
-__all__ = ["HeaderError", "InvalidField", "InvalidSection", "TooLarge"]
+__all__ = ["HeaderError", "InvalidField", "InvalidSection", "StorageError", "TooLarge"]
 
 
 class HeaderError(ValueError):
@@ -56,6 +56,10 @@ class InvalidSection(HeaderError):
     def __init__(self, message: str, line: Optional[int] = None) -> None:
         super().__init__(message)
         self.line = line
+
+
+class StorageError(RuntimeError):
+    """A storage behind a cache fails: it can't be reached, or is busy for too long."""
 
 
 class TooLarge(HeaderError):

@@ -7,15 +7,18 @@
 import asyncio
 import time
 from threading import Thread
-from typing import Any, AsyncIterator, Callable, Iterator, List, Optional, Set, Tuple
+from typing import TYPE_CHECKING, Any, AsyncIterator, Callable, Iterator, List, Optional, Set, Tuple
 
 import httpx
 
 from ._cached import Rules, Step, Turn
-from .asgi import waited
+from .asgi import unblocked, waited
 from .caching import Ask, Cache, Reply, Wait
 from .errors import HeaderError
 from .headers import Headers
+
+if TYPE_CHECKING:
+    from .storage import Storage
 
 __all__ = ["AsyncCachedTransport", "CachedTransport"]
 
@@ -32,7 +35,9 @@ class CachedTransport(httpx.BaseTransport):
     is true of what was stored.
 
     `clock` gives the seconds since 1970. Without a transport it is `httpx.HTTPTransport()`, and without a cache one in
-    64 MiB of memory is made. Transports and threads may share a cache.
+    64 MiB of memory is made. Transports and threads may share a cache. With a `storage` (`typed_headers.storage`) what
+    is stored outlives the process. It is one user's alone, and `secret` is the key by which its entries are
+    authenticated.
     """
 
     def __init__(
@@ -42,9 +47,11 @@ class CachedTransport(httpx.BaseTransport):
         *,
         largest: int = _LARGEST,
         clock: Callable[[], float] = time.time,
+        storage: "Optional[Storage]" = None,
+        secret: bytes = b"",
     ) -> None:
         self.transport = httpx.HTTPTransport() if transport is None else transport
-        self.rules = _rules(cache, largest, clock)
+        self.rules = _rules(cache, largest, clock, storage, secret)
 
     def handle_request(self, request: httpx.Request) -> httpx.Response:
         turn = _turn(self.rules, request)
@@ -93,7 +100,10 @@ class CachedTransport(httpx.BaseTransport):
 
 
 class AsyncCachedTransport(httpx.AsyncBaseTransport):
-    """The same for `httpx.AsyncClient`, under asyncio: what was served stale is validated by a task."""
+    """The same for `httpx.AsyncClient`, under asyncio: what was served stale is validated by a task.
+
+    What may block on a storage runs in threads, by the executor of the loop.
+    """
 
     def __init__(
         self,
@@ -102,28 +112,30 @@ class AsyncCachedTransport(httpx.AsyncBaseTransport):
         *,
         largest: int = _LARGEST,
         clock: Callable[[], float] = time.time,
+        storage: "Optional[Storage]" = None,
+        secret: bytes = b"",
     ) -> None:
         self.transport = httpx.AsyncHTTPTransport() if transport is None else transport
-        self.rules = _rules(cache, largest, clock)
+        self.rules = _rules(cache, largest, clock, storage, secret)
         self.tasks: Set["asyncio.Task[None]"] = set()
 
     async def handle_async_request(self, request: httpx.Request) -> httpx.Response:
         turn = _turn(self.rules, request)
-        step: Optional[Step] = turn.start()
+        step: Optional[Step] = await unblocked(turn, turn.start)
         if isinstance(step, Wait):
             step = await waited(turn)
         while isinstance(step, Ask):
             try:
                 response = await self.transport.handle_async_request(_asking(request, step))
             except httpx.TransportError:
-                step = turn.failed()
+                step = await unblocked(turn, turn.failed)
                 if step is None:
                     raise
                 continue
             except BaseException:
                 turn.end()
                 raise
-            step = turn.came(response.status_code, _fields(response))
+            step = await _came(turn, response)
             if step is None:
                 return _passed(response, _AsyncPassing(turn, response))
             await response.aclose()
@@ -135,13 +147,13 @@ class AsyncCachedTransport(httpx.AsyncBaseTransport):
         return _stored(step)
 
     async def _validate(self, served: Turn, request: httpx.Request) -> None:
-        turn = served.validation()
+        turn = await unblocked(served, served.validation)
         if turn is None:
             return
         try:
             response = await self.transport.handle_async_request(_asking(request, turn.asked))
             stream = _AsyncPassing(turn, response)
-            if turn.came(response.status_code, _fields(response)) is None:
+            if await _came(turn, response) is None:
                 async for _ in stream:
                     pass
             await stream.aclose()
@@ -187,15 +199,18 @@ class _AsyncPassing(httpx.AsyncByteStream):
         async for piece in self.stream:
             self.turn.received(piece)
             yield piece
-        self.turn.keep()
+        await unblocked(self.turn, self.turn.keep)
 
     async def aclose(self) -> None:
         self.turn.end()
         await self.stream.aclose()
 
 
-def _rules(cache: Optional[Cache], largest: int, clock: Callable[[], float]) -> Rules:
-    return Rules(Cache(shared=False) if cache is None else cache, largest, clock, is_shared=False)
+def _rules(
+    cache: Optional[Cache], largest: int, clock: Callable[[], float], storage: "Optional[Storage]", secret: bytes
+) -> Rules:
+    own = Cache(shared=False) if cache is None else cache
+    return Rules(own, largest, clock, is_shared=False, storage=storage, secret=secret)
 
 
 def _turn(rules: Rules, request: httpx.Request) -> Turn:
@@ -208,6 +223,15 @@ def _turn(rules: Rules, request: httpx.Request) -> Turn:
 
 def _fields(response: httpx.Response) -> List[Tuple[str, str]]:
     return [(name.decode("latin-1"), value.decode("latin-1")) for name, value in response.headers.raw]
+
+
+async def _came(turn: Turn, response: httpx.Response) -> Optional[Step]:
+    status, fields = response.status_code, _fields(response)
+    try:
+        return await unblocked(turn, lambda: turn.came(status, fields))
+    except BaseException:
+        await response.aclose()
+        raise
 
 
 def _asking(request: httpx.Request, ask: Ask) -> httpx.Request:

@@ -9,7 +9,7 @@ import time
 from http.client import responses
 from io import BytesIO
 from threading import Thread
-from typing import Any, Callable, List, Optional
+from typing import TYPE_CHECKING, Any, Callable, List, Optional
 from urllib.parse import urldefrag
 
 import requests
@@ -26,6 +26,9 @@ from .caching import Ask, Cache, Reply, Wait
 from .errors import HeaderError
 from .headers import Headers
 
+if TYPE_CHECKING:
+    from .storage import Storage
+
 __all__ = ["CachedAdapter"]
 
 _PIECE = 64 * 1024
@@ -41,7 +44,8 @@ class CachedAdapter(HTTPAdapter):
     `stream=True`, only if it states its length.
 
     `clock` gives the seconds since 1970. Without a cache, one in 64 MiB of memory is made. Adapters and threads may share
-    a cache.
+    a cache. With a `storage` (`typed_headers.storage`) what is stored outlives the process. It is one user's alone, and
+    `secret` is the key by which its entries are authenticated.
     """
 
     def __init__(
@@ -50,10 +54,13 @@ class CachedAdapter(HTTPAdapter):
         *,
         largest: int = 8 * 1024 * 1024,
         clock: Callable[[], float] = time.time,
+        storage: "Optional[Storage]" = None,
+        secret: bytes = b"",
         **options: Any,
     ) -> None:
         super().__init__(**options)
-        self.rules = Rules(Cache(shared=False) if cache is None else cache, largest, clock, is_shared=False)
+        own = Cache(shared=False) if cache is None else cache
+        self.rules = Rules(own, largest, clock, is_shared=False, storage=storage, secret=secret)
 
     def send(
         self, request: requests.PreparedRequest, stream: bool = False, *given: Any, **named: Any

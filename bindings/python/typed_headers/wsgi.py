@@ -25,7 +25,21 @@ import time
 from dataclasses import dataclass, field, replace
 from http import HTTPStatus
 from types import TracebackType
-from typing import Any, Callable, Dict, Iterable, Iterator, List, Mapping, Optional, Sequence, Tuple, Type, Union
+from typing import (
+    TYPE_CHECKING,
+    Any,
+    Callable,
+    Dict,
+    Iterable,
+    Iterator,
+    List,
+    Mapping,
+    Optional,
+    Sequence,
+    Tuple,
+    Type,
+    Union,
+)
 from urllib.parse import quote
 
 from ._exchange import (
@@ -47,6 +61,9 @@ from .cors import CorsKind, CorsPolicy
 from .errors import HeaderError
 from .headers import Headers
 from .resource import Answer, Denied, Resource, Sends
+
+if TYPE_CHECKING:
+    from .storage import Storage
 
 __all__ = ["Cached", "ConditionalRequests", "Cors", "Files", "Result", "Served", "Serves", "list_alternatives"]
 
@@ -139,8 +156,9 @@ class ConditionalRequests:
 class _Started:
     """Stands for the server's `start_response`: it keeps what it is called with until that is decided."""
 
-    def __init__(self, start_response: StartResponse) -> None:
-        self.start_response = start_response
+    def __init__(self, start_response: StartResponse, before: Callable[[], None] = lambda: None) -> None:
+        # (`before` is called before anything is sent by `write`)
+        self.start_response, self.before = start_response, before
         self.line, self.exc_info = "", None  # type: Tuple[str, ExcInfo]
         self.fields: Fields = []
         self.is_called = self.is_sent = False
@@ -165,7 +183,10 @@ class _Started:
 
     def write(self, content: bytes) -> None:
         """What an application calls that doesn't return its content. Its response is sent as it is."""
-        write = self.server_write or self.send(self.line, self.fields)
+        write = self.server_write
+        if write is None:
+            self.before()
+            write = self.send(self.line, self.fields)
         write(content)
 
 
@@ -264,7 +285,8 @@ class Cached:
     has at most `largest` bytes. One with Set-Cookie isn't stored. A request that isn't safe removes what is stored for
     its URI, and for the URIs of Location and Content-Location at the same host.
 
-    If the cache has `wait`, a GET waits for another that asks the application for the same.
+    If the cache has `wait`, a GET waits for another that asks the application for the same. With a `storage`
+    (`typed_headers.storage`) processes share what is stored; `secret` is the key by which its entries are authenticated.
 
     `clock` gives the seconds since 1970. Each request is a pass through the cache, which is held for a step of it alone.
 
@@ -295,8 +317,11 @@ class Cached:
         *,
         largest: int = 8 * 1024 * 1024,
         clock: Callable[[], float] = time.time,
+        storage: "Optional[Storage]" = None,
+        secret: bytes = b"",
     ) -> None:
-        self.application, self.rules = application, Rules(cache, largest, clock)
+        self.application = application
+        self.rules = Rules(cache, largest, clock, storage=storage, secret=secret)
 
     def __call__(self, environ: Environ, start_response: StartResponse) -> Iterable[bytes]:
         request, target = _whole_request(environ), _uri(environ)
@@ -307,7 +332,7 @@ class Cached:
         if isinstance(step, Wait):
             step = turn.wait()
         while isinstance(step, Ask):
-            started = _Started(start_response)
+            started = _Started(start_response, turn.outdate)
             try:
                 content = self.application(_asking(environ, step), started)
                 if not started.is_called:
@@ -320,6 +345,8 @@ class Cached:
             if started.is_sent or not started.is_called:
                 if started.is_sent:
                     turn.came(started.status, started.fields)
+                else:
+                    turn.outdate()
                 turn.end()
                 return content
             step = turn.came(started.status, started.fields)
