@@ -26,5 +26,5 @@ pub use crate::freshening::{Exchange, Freshened, freshen, is_head_of};
 pub use crate::identifying::{select_updated, updated_by};
 pub use crate::invalidation::invalidates;
 pub use crate::selection::select;
-pub use crate::stored::StoredResponse;
+pub use crate::stored::{StoredResponse, number_after};
 pub use crate::storing::{Reception, is_stored, storing_fields};

@@ -1,5 +1,5 @@
 //! Stored responses.
-ghost use Rattle.std.specs.Prelude.{◌≡◌};
+ghost use Rattle.std.specs.Prelude.{◌+◌, ◌<◌, ◌^◌, ◌≡◌, ◌≤◌, IfOk, OnErr};
 ghost use Rattle.cache_policy.specs.Requests.{request_of};
 ghost use Rattle.cache_rules.specs.Stored.{made_at, request_of_stored, times_of};
 
@@ -9,6 +9,7 @@ use headers::HeaderMap;
 use http::{Method, StatusCode};
 use http_header::DATE;
 use rfc_values::Timestamp;
+use std::alloc::AllocError;
 
 /// A response that a cache has stored, with the request that it answered (RFC 9111, section 2). Times
 /// are seconds since 1970, by the cache's own clock.
@@ -75,4 +76,12 @@ impl StoredResponse {
             None => Timestamp::from_unix_seconds(self.received),
         }
     }
+}
+
+/// Returns the number after so many from the first: no stored response has had it. Fails if it would be 2^64 or more.
+pub fn number_after(first: u64, count: usize) -> Result<u64, AllocError>
+    ensures ok { IfOk result (λ next. (next ≡ first + count) × (first + count < 2 ^ 64)) }
+    ensures err { OnErr result (2 ^ 64 ≤ first + count) }
+{
+    first.checked_add(count as u64).ok_or(AllocError)
 }

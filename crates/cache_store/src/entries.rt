@@ -7,7 +7,7 @@ ghost use Rattle.cache_store.specs.{Contents.{response_count, shown, without}, K
 ghost use Rattle.cache_store.specs.{Numbers.{AreNumberedWith, times_in, times_used}, Room.{HasRoom, IsLongestWithRoom}};
 
 use crate::store::Store;
-use cache_rules::StoredResponse;
+use cache_rules::{StoredResponse, number_after};
 use headers::HeaderMap;
 use lru::LruCache;
 use std::alloc::{AllocError, Global};
@@ -118,13 +118,8 @@ impl Store {
         ensures limits { self.new.limits ≡ self.old.limits }
     {
         let first = self.next;
-        match first.checked_add(count as u64) {
-            Some(next) => {
-                self.next = next;
-                Ok(first)
-            }
-            None => Err(AllocError),
-        }
+        self.next = number_after(first, count)?;
+        Ok(first)
     }
 
     // Removes the least recently used targets, until there is room for so many more responses and

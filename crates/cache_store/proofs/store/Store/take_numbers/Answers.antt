@@ -5,5 +5,5 @@ pub invariant_of-self : goal.invariant_of-self
 invariant_of-self c =
     record {
       unbounded = c.args.self.now.unbounded;
-      counted = counted-later c.args.self.now.counted (omega (arith, c.in-Some.ensures));
+      counted = counted-later c.args.self.now.counted (omega (arith, c.in_ok-self.ensures.ok.0));
     }
