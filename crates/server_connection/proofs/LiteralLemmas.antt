@@ -21,12 +21,10 @@ rest_same config (c ∷ calls) stream text other rest after x y =
 IsLater-append : (limits : Limits) (state : State) (rest later more : List ℕ) → IsLater limits state rest later
     → IsLater limits state (rest ++ more) later
 IsLater-append limits Open rest later more x = IsInterim-append limits rest later more x
-IsLater-append limits (Closing Asked) rest later more x = x
-IsLater-append limits (Closing EndOfInput) rest later more x = x
+IsLater-append limits Aborted rest later more x = IsInterim-append limits rest later more x
 IsLater-append limits (Closing (Refused why)) rest later more x =
     (x.0, IsInterim-append limits rest x.0 more x.1, x.2)
-IsLater-append limits Upgraded rest later more x = x
-IsLater-append limits Aborted rest later more x = IsInterim-append limits rest later more x
+IsLater-append limits state rest later more x = x
 
 module _ {H : Type 0} (plans : Plans H) (gives : H → Gives) (config : Config) where
   SendsCall-append : {before now : H} {stream text rest : List ℕ} {c : Call}

@@ -63,31 +63,16 @@ module _ (gives : Gives) where
   skips_range extent pieces none = skips (Range extent) pieces pieces [] none (stays pieces)
 
   -- the same at the front of a list
-  pub sends_literal_at : (old popped new : List Piece) (piece : Piece) (literal bytes : List ℕ) → old ≡ piece ∷ popped
-      → piece ≡ Literal literal → bytes ≡ literal → new ≡ popped → Advances gives old bytes new
-  sends_literal_at old popped new piece literal bytes front is given left =
-      subst (λ t. Advances gives t bytes new) (sym (front ∙ ap (λ q. q ∷ popped) is))
-      (subst (λ t. Advances gives (Literal literal ∷ popped) t new) (sym given)
-      (subst (λ t. Advances gives (Literal literal ∷ popped) literal t) (sym left) (sends_literal literal popped)))
-
   pub sends_range_at : {old after : List Piece} {extent : Extent} (bytes : List ℕ) → old ≡ Range extent ∷ after
       → length bytes ≤ extent.len → gives extent.start bytes
       → Advances gives old bytes (Range (rest_of extent (length bytes)) ∷ after)
   sends_range_at {after = after} {extent = extent} bytes front fits given =
-      subst (λ t. Advances gives t bytes (Range (rest_of extent (length bytes)) ∷ after)) (sym front)
-      (sends_range extent bytes after fits given)
+      rw front (sends_range extent bytes after fits given)
 
   -- and taken off it
   pub sends_short : {old new after : List Piece} {extent : Extent} (bytes : List ℕ) → old ≡ Range extent ∷ after
       → Shortens old new (length bytes) → gives extent.start bytes → Advances gives old bytes new
-  sends_short {old} {extent = extent} bytes front short given =
+  sends_short {extent = extent} bytes front short given =
       let both : Range extent ∷ _ ≡ Range short.0 ∷ short.1 = sym front ∙ short.2 in
       let same : extent ≡ short.0 = cc in
-      subst (λ t. Advances gives old bytes t) (sym short.4)
-      (sends_range_at bytes short.2 short.3 (subst (λ (e : Extent). gives e.start bytes) same given))
-
-  pub skips_range_at : (old popped new : List Piece) (piece : Piece) (extent : Extent) → old ≡ piece ∷ popped
-      → piece ≡ Range extent → extent.len ≡ 0 → new ≡ popped → Advances gives old [] new
-  skips_range_at old popped new piece extent front is none left =
-      subst (λ t. Advances gives t [] new) (sym (front ∙ ap (λ q. q ∷ popped) is))
-      (subst (λ t. Advances gives (Range extent ∷ popped) [] t) (sym left) (skips_range extent popped none))
+      rw short.4 (sends_range_at bytes short.2 short.3 (subst (λ (e : Extent). gives e.start bytes) same given))
