@@ -2,9 +2,9 @@
 use Rattle.std.proofs.Common.{◌≡◌, ℕ, List, [], ◌∷◌, ◌++◌, refl, sym, ap, ◌∙◌, subst, append_assoc, append-nil}
 use Rattle.http1.{specs.declared.conn.Limits.Limits, proofs.OneParse.request_message_unique}
 use Rattle.http_server.{specs.declared.state.Config.Config, specs.declared.state.State.State}
-use Rattle.http_server.specs.declared.state.State.TheVariants.{Open, Closing, Upgraded, Aborted}
-use Rattle.http_server.{specs.declared.state.Reason.TheVariants.{Asked, EndOfInput, Refused}, specs.Exchange.Call}
-use Rattle.http_server.{specs.Exchange.Serves, proofs.StreamLemmas.{IsInterim-append, ReadsCall-append, Serves-append}}
+use Rattle.http_server.specs.declared.state.State.TheVariants.{Open, Closing, Aborted}
+use Rattle.http_server.{specs.declared.state.Reason.TheVariants.Refused, specs.Exchange.{Call, Serves}}
+use Rattle.http_server.proofs.StreamLemmas.{IsInterim-append, ReadsCall-append, Serves-append}
 use Rattle.server_connection.{specs.Literal.{IsLater, SendsCall, SendsCalls}, specs.Machine.{Account, IsLaid}}
 use Rattle.server_connection.{specs.Pieces.Gives, specs.Plan.Plans}
 

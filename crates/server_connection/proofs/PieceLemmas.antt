@@ -3,8 +3,8 @@ use Rattle.std.proofs.Common.{◌≡◌, ℕ, ◌+◌, ◌-◌, ◌≤◌, List,
 use Rattle.std.proofs.Common.{append_assoc, append-nil, length-append}
 use Rattle.server_connection.{specs.declared.piece.Extent.Extent, specs.declared.piece.Piece.Piece}
 use Rattle.server_connection.{specs.declared.piece.Piece.TheVariants.{Literal, Range}, specs.Pieces.{Gives, Emits}}
-use Rattle.server_connection.{specs.Pieces.{Advances, piece_len, total_len, rest_of}, specs.Pieces.Advances.stays}
-use Rattle.server_connection.{specs.Pieces.Shortens, specs.Pieces.Advances.{emits, skips}}
+use Rattle.server_connection.specs.Pieces.{Advances, piece_len, total_len, rest_of, Shortens}
+use Rattle.server_connection.specs.Pieces.Advances.{stays, emits, skips}
 
 pub total_len-push : (pieces : List Piece) (piece : Piece) → total_len (pieces ++ piece ∷ []) ≡ total_len pieces +
     piece_len piece
@@ -34,9 +34,8 @@ module _ (gives : Gives) where
       emitted : (piece after : Piece) (sent : List ℕ) → Emits gives piece sent after
           → piece_len piece ≡ length sent + piece_len after
       emitted (Literal bytes) (Literal left) sent step = ap length step ∙ length-append sent left
-      emitted (Literal bytes) (Range left) sent step = absurd step
-      emitted (Range extent) (Literal left) sent step = absurd step
       emitted (Range extent) (Range left) sent step = step.2
+      emitted piece after sent step = absurd step
   Advances-length (skips piece pieces left front none rest) =
       let more = Advances-length rest in omega (arith, more, none)
 

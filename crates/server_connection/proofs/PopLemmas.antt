@@ -1,5 +1,5 @@
 -- What a step of sending does, once its piece was taken from those that are left.
-use Rattle.std.proofs.Common.{◌≡◌, ℕ, List, [], refl, sym, subst, append-nil, inl, inr}
+use Rattle.std.proofs.Common.{◌≡◌, ℕ, List, [], sym, subst, append-nil, inl, inr}
 use Rattle.server_connection.{specs.declared.machine.Machine.Machine, specs.declared.piece.Piece.Piece}
 use Rattle.server_connection.{specs.Machine.{CutsOff, PutsBytes, SendsOn}, specs.Pieces.{Advances, Gives}}
 

@@ -1,34 +1,30 @@
 -- What a step of sending does to a response.
-use Rattle.std.proofs.Common.{◌≡◌, ◌⊎◌, ℕ, ◌+◌, ◌^◌, ◌<◌, ◌≤◌, Bool, true, false, cond, List, [], ◌∷◌, ◌++◌, length}
-use Rattle.std.proofs.Common.{replicate, not, None, refl, sym, ap, ◌∙◌, subst, arith, append_assoc, append-nil, inl}
-use Rattle.std.{proofs.Common.inr, proofs.lemmas.Bool.{ne_eqb, cond-false}, proofs.lemmas.List.length-replicate}
-use Rattle.std.proofs.lemmas.List.{nil_from_length}
+use Rattle.std.proofs.Common.{◌≡◌, ◌⊎◌, ℕ, ◌+◌, ◌≤◌, Bool, true, false, cond, List, [], ◌∷◌, ◌++◌, length, replicate}
+use Rattle.std.proofs.Common.{not, None, refl, sym, ap, ◌∙◌, subst, arith, append_assoc, append-nil, inl, inr}
+use Rattle.std.{proofs.lemmas.Bool.{ne_eqb, cond-false}, proofs.lemmas.List.{length-replicate, nil_from_length}}
 use Rattle.http.{specs.declared.request.Request.Request, specs.Request.{head_of, body_of}}
-use Rattle.http1.specs.declared.conn.Writing.{Writing}
-use Rattle.http1.specs.declared.conn.Writing.TheVariants as Writes
-use Rattle.http1.{specs.declared.server.Server.Server, specs.Conn.{after_data, data_prefix, data_refusal, data_suffix}}
-use Rattle.http1.{specs.Conn.{data_text, finish_text}, specs.Framing.method_kind, specs.Message.ReadsRequestMessage}
-use Rattle.http1.{specs.Message.known_of, specs.Server.{is_head, peer_method, writing, with_writing, after_end}}
-use Rattle.http1.specs.Server.{after_response, planned_response, response_refusal, IsClosed}
+use Rattle.http1.{specs.declared.conn.Writing.Writing, specs.declared.server.Server.Server, specs.Conn.data_prefix}
+use Rattle.http1.{specs.Conn.{data_refusal, data_suffix, data_text}, specs.Framing.method_kind}
+use Rattle.http1.{specs.Message.{ReadsRequestMessage, known_of}, specs.Server.{is_head, peer_method, writing}}
+use Rattle.http1.specs.Server.{after_end, response_refusal, IsClosed, new_server}
 use Rattle.http1_typed.specs.Parts.{reason_of}
 use Rattle.http_server.{specs.declared.response.Response.Response, specs.declared.state.State.State}
 use Rattle.http_server.specs.declared.state.State.TheVariants.{Open, Closing, Aborted}
 use Rattle.http_server.{specs.declared.state.Reason.TheVariants.Asked, specs.Encoding.{Encodes, answering, size_of}}
-use Rattle.http_server.specs.Encoding.{after_body, final_text}
-use Rattle.http_server.specs.Encoding as Whole
-use Rattle.http_server.specs.Exchange.{ArePartsOf, Call, Chain, Exchanges, IsAnswer, ReadsCall, Serves, keeps_open}
-use Rattle.http_server.{specs.History.{History, IsServed, output}, specs.Machine.{Core, HasRequest, HasResponse}}
-use Rattle.http_server.{specs.Machine.IsRunning, proofs.AnswerLemmas.{body_is_taken, final_answer, starts_over}}
-use Rattle.http_server.specs.Machine.{Base}
-use Rattle.http1.specs.Server.{new_server}
-use Rattle.http_server.{proofs.ReplyLemmas.{closes, goes_on}, proofs.StreamLemmas.Serves-push}
+use Rattle.http_server.{specs.Encoding.{after_body, final_text}, specs.Exchange.{ArePartsOf, Call, Exchanges, IsAnswer}}
+use Rattle.http_server.{specs.Exchange.{Serves, keeps_open}, specs.History.{History, IsServed, output}}
+use Rattle.http_server.specs.Machine.{Core, HasRequest, HasResponse, IsRunning, Base}
+use Rattle.http_server.{proofs.AnswerLemmas.{body_is_taken, final_answer, starts_over}, proofs.ReplyLemmas.closes}
+use Rattle.http_server.{proofs.ReplyLemmas.goes_on, proofs.StreamLemmas.Serves-push}
 use Rattle.server_connection.{specs.declared.piece.Piece.Piece, specs.declared.plan.Plan.Plan, specs.Encoding.Frames}
-use Rattle.server_connection.specs.Encoding.{after_content, after_head, content_len, head_text, plan_size, plan_fields}
-use Rattle.server_connection.{specs.Encoding.{prefix_of, size_for}, specs.Literal.{IsLater, IsLiteral, SendsCall}}
-use Rattle.server_connection.{specs.Machine.{Account, IsLaid, IsSending, Sends, View}, specs.Pieces.{Advances, Gives}}
-use Rattle.server_connection.{specs.Pieces.Advances.stays, specs.Plan.{Answers, IsContentOf, Plans, sent_pieces}}
+use Rattle.server_connection.specs.Encoding.{after_head, content_len, head_text, plan_fields, prefix_of}
+use Rattle.server_connection.{specs.Literal.{IsLater, SendsCall}, specs.Machine.{Account, IsLaid, IsSending, Sends}}
+use Rattle.server_connection.{specs.Machine.View, specs.Pieces.{Advances, Gives}, specs.Pieces.Advances.stays}
+use Rattle.server_connection.specs.Plan.{Answers, IsContentOf, Plans, sent_pieces}
 use Rattle.server_connection.{proofs.LiteralLemmas.{SendsCalls-push, rest_same}, proofs.PieceLemmas.Advances-length}
 use Rattle.server_connection.proofs.PieceLemmas.{Advances-then}
+use Rattle.http1.specs.declared.conn.Writing.TheVariants as Writes
+use Rattle.http_server.specs.Encoding as Whole
 
 -- ---- a response with this content
 
@@ -291,7 +287,8 @@ module _ {H : Type 0} (plans : Plans H) (gives : H → Gives) (first before now 
       is_content false step = (omega (arith, Advances-length (gives now) step), step, refl)
 
       whole : Advances (gives now) (sent_pieces s.bodiless s.plan) s.front []
-      whole = subst (Advances (gives now) (sent_pieces s.bodiless s.plan) s.front) (sym (x.left is_open) ∙ none) s.advances
+      whole =
+          subst (Advances (gives now) (sent_pieces s.bodiless s.plan) s.front) (sym (x.left is_open) ∙ none) s.advances
 
       abbrev pub content : List ℕ
       content = content_for s.bodiless
@@ -513,12 +510,3 @@ module _ {H : Type 0} (plans : Plans H) (gives : H → Gives) (first before now 
             | inl open_still ↦ let wrong = sym closed ∙ ap writing (next ∙ open_still.1) in absurd (cc)
             | inr ends ↦ laid (Closing Asked) false ends.0 refl (λ wrong. absurd (cc))
           ]
-
--- one exchange more
-pub Chain-push : {S : Type 0} (answers : S → Request (List ℕ) → Response → S → Type 0) (calls : List Call)
-    (old between new : S)
-    (c : Call) → Chain answers old calls between → answers between c.0 c.1 new → Chain answers old (calls ++ c ∷ []) new
-Chain-push answers [] old between new c chain last =
-    (new, subst (λ t. answers t c.0 c.1 new) chain last, refl)
-Chain-push answers (d ∷ calls) old between new c chain last =
-    (chain.0, chain.1, Chain-push answers calls chain.0 between new c chain.2 last)

@@ -1,48 +1,40 @@
 -- What steps, reads and writes do to a connection.
 use Rattle.std.proofs.Common.{◌≡◌, ◌≢◌, ◌⊎◌, ℕ, ◌==◌, Bool, true, false, List, [], ◌∷◌, ◌++◌, length, take, drop}
-use Rattle.std.proofs.Common.{if◌then◌else◌, Option, Some, None, Result, Ok, Err, OnOk, OnErr, IsTrue, IfNone, is_some}
-use Rattle.std.proofs.Common.{◌+◌, ◌<◌, take_all}
-use Rattle.std.proofs.Common.{refl, sym, ap, ◌∙◌, subst, append_assoc, append-nil, inl, inr, arith, length-append, ◌≤◌}
+use Rattle.std.proofs.Common.{if◌then◌else◌, Option, Some, None, IsTrue, IfNone, is_some, ◌+◌, ◌<◌, take_all, refl, sym}
+use Rattle.std.proofs.Common.{ap, ◌∙◌, subst, append_assoc, append-nil, inl, inr, arith, length-append, ◌≤◌, Global}
+use Rattle.std.{proofs.Math.Seq.take-append_seam, proofs.lemmas.Bool.eqb-true, proofs.lemmas.List.nil_from_length}
+use Rattle.std.{proofs.lemmas.List.take-append-drop, specs.Io.KnownBytes.{Appends, Consumes, Keeps as StaysKnown}}
 use Rattle.bytes.specs.declared.unique.BytesMut.{BytesMut}
-use Rattle.std.proofs.Common.{Global}
-use Rattle.std.proofs.Math.Seq.{take-append_seam}
-use Rattle.server_connection.specs.Machine.{Aborts}
-use Rattle.server_connection.proofs.SendLemmas.{base_out}
-use Rattle.http_server.specs.Exchange.{Chain}
-use Rattle.std.{proofs.lemmas.Bool.{cond-false, eqb-true}, proofs.lemmas.List.{nil_from_length, take-append-drop}}
-use Rattle.std.specs.Io.KnownBytes.{Appends, Consumes, Keeps as StaysKnown}
-use Rattle.http.{specs.declared.request.Parts.Parts, specs.Request.{body_of, head_of}}
-use Rattle.http1.{specs.declared.conn.Event.Event, specs.declared.conn.Event.TheVariants.Head}
-use Rattle.http1.{specs.declared.conn.Progress.Progress, specs.declared.server.Server.Server, specs.Conn.ReadsPiece}
-use Rattle.http1.{specs.Message.ReadsRequestMessage, specs.Server.{ReadsAt, ServerReads, reading}}
-use Rattle.httparse.{specs.declared.spans.HeaderSpan.HeaderSpan, specs.declared.spans.RequestSpans.RequestSpans}
-use Rattle.http_server.{specs.declared.state.Config.Config, specs.declared.state.State.State}
-use Rattle.http_server.specs.declared.state.State.TheVariants.{Open, Closing, Upgraded, Aborted}
-use Rattle.http_server.specs.declared.state.Reason.TheVariants.{Asked, EndOfInput, Refused}
-use Rattle.http_server.{specs.declared.state.Refusal.Refusal, specs.declared.state.Refusal.TheVariants.BodyTooLarge}
-use Rattle.http_server.{specs.Encoding.answering, specs.Exchange.{Call, ExpectsContinue, IsInterim, Serves}}
-use Rattle.http_server.{specs.Exchange.continue_text, specs.History.{History, IsServed, Stands, after_read, after_sent}}
-use Rattle.http_server.{specs.History.output, specs.Machine.{Base, Core, HasHead, HasRequest, Holds, HoldsAt, IsPlaced}}
-use Rattle.http_server.{specs.Refusal.refusal_text, proofs.MachineLemmas.{busy, may_abort, running, served}}
-use Rattle.http_server.{proofs.KnownLemmas.{Appends-then, Consumes-then}, proofs.TransferLemmas.{hands_out, receives}}
-use Rattle.http_server.proofs.TransferLemmas.{with_history}
-use Rattle.server_connection.{specs.declared.machine.Machine.Machine, specs.declared.piece.Extent.Extent}
-use Rattle.server_connection.{specs.declared.piece.Piece.Piece, specs.declared.piece.Piece.TheVariants.Range}
+use Rattle.server_connection.specs.Machine.{Aborts, Account, Begins, Ends, GoesOn, HandsOut, HasAnswered, HasAborted}
+use Rattle.server_connection.specs.Machine.{Asks, CutsOff, Drops, Empties, GivesUp, HasPlanned, IsLaid, Offers, Stays}
+use Rattle.server_connection.specs.Machine.{IsNextRange, IsSending, Keeps, Opens, Refuses, KeepsRest, KeepsState, Leads}
+use Rattle.server_connection.specs.Machine.{Past, Runs, RunsAt, SendsOn, TakesIn, Moves, core, core_asking, history_of}
+use Rattle.server_connection.specs.Machine.{new_past, past_after, view, account, sends_left, with_calls, work}
+use Rattle.server_connection.proofs.SendLemmas.{base_out, answers, call, closes_after, cuts, hands_on, laid_closed}
+use Rattle.server_connection.{proofs.SendLemmas.{laid_open, moves, stays_open}, specs.declared.machine.Machine.Machine}
+use Rattle.server_connection.{specs.declared.piece.Extent.Extent, specs.declared.piece.Piece.Piece}
 use Rattle.server_connection.{specs.declared.plan.Plan.Plan, specs.Connection.{Exchanged, HasEnded, IsClosing}}
 use Rattle.server_connection.{specs.Connection.{IsReached, IsSentLiterally, Turns}, specs.Connection.IsReached.begun}
-use Rattle.server_connection.{specs.Connection.IsReached.moved, specs.Literal.{IsLater, IsLiteral, SendsCalls}}
-use Rattle.server_connection.specs.Machine.{Account, Begins, Ends, GoesOn, HandsOut, HasAnswered, HasAborted, Asks}
-use Rattle.server_connection.specs.Machine.{CutsOff, Drops, Empties, GivesUp, HasPlanned, IsLaid, Offers, Stays}
-use Rattle.server_connection.specs.Machine.{IsNextRange, IsSending, Keeps, Opens, PutsNothing, PutsRefusal, Refuses}
-use Rattle.server_connection.specs.Machine.{KeepsRest, KeepsState, Leads, Past, Runs, RunsAt, Sends, SendsOn, TakesIn}
-use Rattle.server_connection.specs.Machine.{Moves, core, core_asking, head_now, history_of, new_past, past_after, view}
-use Rattle.server_connection.{specs.Machine.{account, sends_left, with_calls, work}, specs.Pieces.Shortens}
-use Rattle.server_connection.specs.declared.machine.Phase.{Phase}
+use Rattle.server_connection.{specs.Connection.IsReached.moved, specs.Literal.{IsLater, IsLiteral}}
+use Rattle.server_connection.{specs.Pieces.{Shortens, Advances, Gives}, specs.declared.machine.Phase.Phase}
 use Rattle.server_connection.specs.declared.machine.Phase.TheVariants.{Receiving, Asking, Responding}
-use Rattle.server_connection.{specs.Pieces.{Advances, Gives, rest_of}, specs.Plan.{Answers, Plans, sent_pieces}}
-use Rattle.server_connection.{proofs.LiteralLemmas.{laid_more, rest_same}, proofs.PieceLemmas.{sends_range_at, sends_short}}
-use Rattle.server_connection.{proofs.SendLemmas.{Chain-push, answers, call}}
-use Rattle.server_connection.proofs.SendLemmas.{closes_after, cuts, hands_on, laid_closed, laid_open, moves, stays_open}
+use Rattle.server_connection.{specs.Plan.{Answers, Plans, sent_pieces}, proofs.LiteralLemmas.{laid_more, rest_same}}
+use Rattle.server_connection.proofs.PieceLemmas.{sends_range_at, sends_short}
+use Rattle.http_server.specs.Exchange.{Chain, Call, ExpectsContinue, IsInterim, Serves, continue_text}
+use Rattle.http_server.{specs.declared.state.Config.Config, specs.declared.state.State.State}
+use Rattle.http_server.specs.declared.state.State.TheVariants.{Open, Closing, Aborted}
+use Rattle.http_server.{specs.declared.state.Reason.TheVariants.{Asked, Refused}, specs.declared.state.Refusal.Refusal}
+use Rattle.http_server.{specs.declared.state.Refusal.TheVariants.BodyTooLarge, specs.Encoding.answering}
+use Rattle.http_server.{specs.History.{History, IsServed, Stands, after_read, after_sent, output}, specs.Machine.Core}
+use Rattle.http_server.{specs.Machine.{HasHead, HasRequest, Holds, HoldsAt, IsPlaced}, specs.Refusal.refusal_text}
+use Rattle.http_server.{proofs.MachineLemmas.{busy, may_abort, running, served}, proofs.KnownLemmas.Appends-then}
+use Rattle.http_server.{proofs.KnownLemmas.Consumes-then, proofs.TransferLemmas.{hands_out, receives, with_history}}
+use Rattle.http_server.proofs.StreamLemmas.{Chain-append}
+use Rattle.http.{specs.declared.request.Parts.Parts, specs.Request.head_of}
+use Rattle.http1.{specs.declared.conn.Event.Event, specs.declared.conn.Event.TheVariants.Head}
+use Rattle.http1.{specs.declared.conn.Progress.Progress, specs.declared.server.Server.Server, specs.Conn.ReadsPiece}
+use Rattle.http1.specs.Server.{ReadsAt, ServerReads, reading}
+use Rattle.httparse.{specs.declared.spans.HeaderSpan.HeaderSpan, specs.declared.spans.RequestSpans.RequestSpans}
 
 -- ---- known bytes
 
@@ -314,6 +306,10 @@ asked_out k sent pending out x = record {
   server = x.server;
 }
 
+closing_served : (s : State) → IsClosing s → s ≢ Aborted
+closing_served (Closing why) x = λ wrong. cc
+closing_served s x = absurd x
+
 module _ {H : Type 0} (plans : Plans H) (gives : H → Gives) where
   -- what `RunsAt` says in a phase
   pub phased : {b : Phase} (first now : H) (m : Machine) (p : Past) → m.phase ≡ b → Runs plans gives first m now p
@@ -346,8 +342,8 @@ module _ {H : Type 0} (plans : Plans H) (gives : H → Gives) where
   after_end first before now old new p x is_open none chain y =
       let z = call plans gives first before now (view old p) y is_open none in
       let calls = p.calls ++ z ∷ [] in
-      let chained = Chain-push (Answers plans gives) p.calls first before now z chain
-      (answers plans gives first before now (view old p) y is_open none) in
+      let chained = Chain-append (Answers plans gives) p.calls (z ∷ []) first before now chain
+      (now, answers plans gives first before now (view old p) y is_open none, refl) in
       elim x.state [
         | inl closed ↦
             let laid = subst (IsLaid plans gives first now)
@@ -386,10 +382,142 @@ module _ {H : Type 0} (plans : Plans H) (gives : H → Gives) where
       (cuts plans gives first y.0 now (view old p) y.2 new.left.items) in
       (p.calls, runs_by first now new p (cut.phase ∙ is) (y.0, y.1, z))
 
+  kept_by : (old new : Machine) (h : H) → SendsOn (gives h) old new
+      → (new.config ≡ old.config) × (new.ended ≡ old.ended)
+  kept_by old new h (inl sends) = assumption
+  kept_by old new h (inr (inl ended)) = assumption
+  kept_by old new h (inr (inr cut)) = assumption
+
+  -- waiting bytes are handed out
+  module _ {old new : Machine} (h : H) (count : ℕ) (x : HandsOut old new count) (first : H) (p : Past) where
+    abbrev after : Past
+    after = past_after p [] (take count old.output.items) p.calls
+
+    same_out : after.sent ++ drop count old.output.items ≡ p.sent ++ old.output.items
+    same_out = append_assoc p.sent _ _ ∙ ap (λ (t : List ℕ). p.sent ++ t) (take-append-drop count old.output.items)
+
+    cored : core new after ≡ with_history (core old p) (after_sent (history_of old p) count)
+    cored = cc (append-nil p.received)
+
+    accounted : account new after ≡ account old p
+    accounted = cc (append-nil p.received, same_out)
+
+    viewed : view new after ≡ record (view old p) {
+      history = record (history_of old p) { sent = after.sent; pending = drop count old.output.items };
+    }
+    viewed = cc (append-nil p.received)
+
+    asked_on : core_asking new after ≡ with_history (core_asking old p) (after_sent (history_of old p) count)
+    asked_on = cc (append-nil p.received)
+
+    runs_out : (b : Phase) → RunsAt b plans gives first old h p → RunsAt b plans gives first new h after
+    runs_out Responding z = (
+      z.0,
+      z.1,
+      subst (IsSending plans gives first z.0 h) (sym viewed)
+          (hands_on plans gives first z.0 h (view old p) z.2 after.sent (drop count old.output.items) same_out),
+    )
+    runs_out Receiving z = (
+      subst (Answered first h) (sym accounted) z.0,
+      subst Holds (sym cored) (hands_out (core old p) count _ refl z.1),
+    )
+    runs_out Asking z = (
+      subst (Answered first h) (sym accounted) z.0,
+      subst HasRequest (sym asked_on)
+          (asked_out (core_asking old p) after.sent (drop count old.output.items) same_out z.1),
+    )
+
+  -- the first of the bytes that wait to be written are offered,
+  pub offers_bytes : (m : Machine) (h : H) (bytes : List ℕ) (count : ℕ) → length bytes ≡ count
+      → count ≤ length m.output.items → Offers (gives h) m bytes → take count m.output.items ≡ bytes
+  offers_bytes m h bytes count long within (inl waits) = rw (← long, waits.1) (take-append_seam bytes waits.0)
+  offers_bytes m h bytes count long within (inr range) =
+      let none = ap length range.0 in
+      take_all count m.output.items (omega (arith, none)) ∙ range.0
+      ∙ sym (nil_from_length bytes (omega (arith, long, within, none)))
+
+  -- or, where they are not so many, those of a range,
+  abbrev pub OffersRange : Machine → H → List ℕ → Type 0
+  OffersRange m h bytes =
+      (m.output.items ≡ []) × (extent : Extent) × IsNextRange m extent × (length bytes ≤ extent.len)
+      × gives h extent.start bytes
+
+  pub offers_range : (m : Machine) (h : H) (bytes : List ℕ) → ¬ (length bytes ≤ length m.output.items)
+      → Offers (gives h) m bytes → OffersRange m h bytes
+  offers_range m h bytes beyond (inl waits) =
+      absurd (beyond (omega (arith, ap length waits.1, length-append bytes waits.0)))
+  offers_range m h bytes beyond (inr range) = range
+
+  -- the history since the beginning, of all that was read and written
+  abbrev pub HasRun : Config → H → (remaining left contents grown : Option (List ℕ)) → Machine → H → Type 0
+  HasRun config first remaining left contents grown m now =
+      (received : List ℕ) × (sent : List ℕ) × Consumes remaining left received × Appends contents grown sent
+      × IsReached plans gives config first m now received sent
+
+  -- ---- the end
+
+  module _ (first now : H) (m : Machine) (p : Past) where
+    exchanged_by : (is_whole : Bool) (last : H) → HasPlanned plans gives first last p
+        → HasEnded plans gives m.config last now (history_of m p) is_whole
+        → IsSentLiterally plans gives m.config first last now (history_of m p) is_whole
+        → Exchanged plans gives m.config first now p.received p.sent is_whole
+    exchanged_by is_whole last answered ended literal = record {
+      history = history_of m p;
+      is_received = refl;
+      is_sent = refl;
+      last = last;
+      answered = answered;
+      ended = ended;
+      literal = literal;
+    }
+
+    laid_cut : HasAnswered plans gives first now m p → IsServed m.config (history_of m p)
+        → Exchanged plans gives m.config first now p.received p.sent false
+    laid_cut x all =
+        exchanged_by false x.0 x.1 (inl all)
+        (inl (m.output.items ++ x.3.lost, rw append_assoc at x.3.literal))
+
+    cut_at : (b : Phase) → RunsAt b plans gives first m now p
+        → Exchanged plans gives m.config first now p.received p.sent false
+    cut_at Responding x = exchanged_by false x.0 x.1 (inr x.2.response) (inr (x.2.response, x.2.sends))
+    cut_at Receiving x = laid_cut x.0 (served (core m p) x.1)
+    cut_at Asking x = laid_cut x.0 (served_asking (core_asking m p) x.1)
+
+    -- whatever happens, what was sent until then is as promised
+    pub is_cut : Runs plans gives first m now p → Exchanged plans gives m.config first now p.received p.sent false
+    is_cut = cut_at m.phase
+
+    whole_at : (b : Phase) → IsClosing m.state → m.output.items ≡ [] → RunsAt b plans gives first m now p
+        → Exchanged plans gives m.config first now p.received p.sent true
+    whole_at Responding closing out x =
+        absurd (elim x.2.state [ inl is ↦ rw is at closing | inr is ↦ rw is at closing ])
+    whole_at Receiving closing out x =
+        let going = closing_served m.state closing in
+        let none = x.0.3.whole going in
+        exchanged_by true x.0.0 x.0.1 (served (core m p) x.1, closing, out, x.0.2 going)
+        (rw (none, out, append-nil (p.sent ++ []), append-nil) at x.0.3.literal)
+    whole_at Asking closing out x = absurd (rw x.1.base.is_open at closing)
+
+    -- where it closed, all was sent; and at any time
+    pub done_or_cut : (b : Bool) → (IsTrue b → m.output.items ≡ []) → IsClosing m.state
+        → Runs plans gives first m now p → Exchanged plans gives m.config first now p.received p.sent b
+    done_or_cut true out closing x = whole_at m.phase closing (out refl) x
+    done_or_cut false out closing x = is_cut x
+
+  -- a history, with the exchanges that were completed in it
+  pub record HasReached (config : Config) (first : H) (m : Machine) (now : H) (received sent : List ℕ) : Type 0 where
+    pub past : Past
+    pub is_received : past.received ≡ received
+    pub is_sent : past.sent ≡ sent
+    pub configured : m.config ≡ config
+    pub runs : Runs plans gives first m now past
+
+module _ {H : Type 0} {plans : Plans H} {gives : H → Gives} where
   -- A step that isn't one of sending, and leaves the application as it is. The server may have taken some of the input
   -- before it.
-  step_with : (old : Machine) {s : Server} {i : BytesMut Global} {new : Machine} (h : H) → Keeps (with_input old s i) new
-      → old.phase ≡ Receiving → old.state ≡ Open → ((p : Past) → Holds (core old p) → Holds (core new p))
+  step_with : (old : Machine) {s : Server} {i : BytesMut Global} {new : Machine} (h : H)
+      → Keeps (with_input old s i) new → old.phase ≡ Receiving → old.state ≡ Open
+      → ((p : Past) → Holds (core old p) → Holds (core new p))
       → ((first last : H) (p : Past) → Holds (core old p) → IsLaid plans gives first last (account old p)
       → IsLaid plans gives first last (account new p)) → Stays plans gives old h new
   step_with old {new = new} h keeps is is_open holding laying =
@@ -398,8 +526,8 @@ module _ {H : Type 0} (plans : Plans H) (gives : H → Gives) where
         config = keeps.config;
         ended = keeps.ended;
         runs = λ first p x.
-            let y = phased first h old p is x in
-            runs_by first h new p (keeps.phase ∙ is)
+            let y = phased plans gives first h old p is x in
+            runs_by plans gives first h new p (keeps.phase ∙ is)
             ((y.0.0, y.0.1, λ _. y.0.2 going, laying first y.0.0 p y.1 y.0.3), holding p y.1);
       }
 
@@ -432,20 +560,14 @@ module _ {H : Type 0} (plans : Plans H) (gives : H → Gives) where
   pub step_none : (m : Machine) (h : H) → Leads plans gives m h m h
   step_none m h = record { config = refl; ended = refl; runs = λ first p x. (p.calls, x) }
 
-  kept_by : (old new : Machine) (h : H) → SendsOn (gives h) old new
-      → (new.config ≡ old.config) × (new.ended ≡ old.ended)
-  kept_by old new h (inl sends) = assumption
-  kept_by old new h (inr (inl ended)) = assumption
-  kept_by old new h (inr (inr cut)) = assumption
-
   pub step_sends : (old new : Machine) (h : H) → old.phase ≡ Responding → old.state ≡ Open → SendsOn (gives h) old new
       → Leads plans gives old h new h
   step_sends old new h is is_open step =
-      let kept = kept_by old new h step in
+      let kept = kept_by plans gives old new h step in
       record {
         config = kept.0;
         ended = kept.1;
-        runs = λ first p x. after_send first h old new p is is_open step x;
+        runs = λ first p x. after_send plans gives first h old new p is is_open step x;
       }
 
   -- The request was received, and waits for its plan; or the connection gave up. The server has taken some of the input
@@ -457,9 +579,11 @@ module _ {H : Type 0} (plans : Plans H) (gives : H → Gives) where
     config = ap (λ (m : Machine). m.config) x.same;
     ended = ap (λ (m : Machine). m.ended) x.same;
     runs = λ first p y.
-        let z = phased first h old p is y in
-        runs_by first h new p (ap (λ (m : Machine). m.phase) x.same)
-        (subst (λ (m : Machine). HasAnswered plans gives first h m p) (sym x.same) z.0, subst HasRequest (sym (asks_of p)) (has p z.1));
+        let z = phased plans gives first h old p is y in
+        runs_by plans gives first h new p (ap (λ (m : Machine). m.phase) x.same) (
+          subst (λ (m : Machine). HasAnswered plans gives first h m p) (sym x.same) z.0,
+          subst HasRequest (sym (asks_of p)) (has p z.1),
+        );
   }
     where
       asks_of : (p : Past) → core_asking new p ≡ core (with_input old s i) p
@@ -485,7 +609,7 @@ module _ {H : Type 0} (plans : Plans H) (gives : H → Gives) where
     config = config;
     ended = ended;
     runs = λ first p x.
-        let y = phased first before old p is x in
+        let y = phased plans gives first before old p is x in
         let same = y.0.2 (λ over. let wrong = sym y.1.base.is_open ∙ over in cc) in
         (p.calls, answering first p (rw same at y.0.1) (rw same at y.0.3) y.1);
   }
@@ -532,75 +656,16 @@ module _ {H : Type 0} (plans : Plans H) (gives : H → Gives) where
     runs = λ first p z. let mid = x.runs first p z in y.runs first (with_calls p mid.0) mid.1;
   }
 
-  -- waiting bytes are handed out
-  module _ {old new : Machine} (h : H) (count : ℕ) (x : HandsOut old new count) (first : H) (p : Past) where
-    abbrev after : Past
-    after = past_after p [] (take count old.output.items) p.calls
-
-    same_out : after.sent ++ drop count old.output.items ≡ p.sent ++ old.output.items
-    same_out = append_assoc p.sent _ _ ∙ ap (λ (t : List ℕ). p.sent ++ t) (take-append-drop count old.output.items)
-
-    cored : core new after ≡ with_history (core old p) (after_sent (history_of old p) count)
-    cored = cc (append-nil p.received)
-
-    accounted : account new after ≡ account old p
-    accounted = cc (append-nil p.received, same_out)
-
-    viewed : view new after ≡ record (view old p) {
-      history = record (history_of old p) { sent = after.sent; pending = drop count old.output.items };
-    }
-    viewed = cc (append-nil p.received)
-
-    asked_on : core_asking new after ≡ with_history (core_asking old p) (after_sent (history_of old p) count)
-    asked_on = cc (append-nil p.received)
-
-    runs_out : (b : Phase) → RunsAt b plans gives first old h p → RunsAt b plans gives first new h after
-    runs_out Responding z = (
-      z.0,
-      z.1,
-      subst (IsSending plans gives first z.0 h) (sym viewed)
-          (hands_on plans gives first z.0 h (view old p) z.2 after.sent (drop count old.output.items) same_out),
-    )
-    runs_out Receiving z = (
-      subst (Answered first h) (sym accounted) z.0,
-      subst Holds (sym cored) (hands_out (core old p) count _ refl z.1),
-    )
-    runs_out Asking z = (
-      subst (Answered first h) (sym accounted) z.0,
-      subst HasRequest (sym asked_on)
-          (asked_out (core_asking old p) after.sent (drop count old.output.items) same_out z.1),
-    )
-
   pub moves_out : {old new : Machine} (h : H) (count : ℕ) → HandsOut old new count
       → Moves plans gives old h [] (take count old.output.items) new h
   moves_out {old} {new} h count x = record {
     config = x.rest.config;
-    runs = λ first p y. (p.calls, runs_by first h new _ x.rest.phase (runs_out h count x first p old.phase y));
+    runs = λ first p y.
+        (p.calls, runs_by plans gives first h new _ x.rest.phase (runs_out plans gives h count x first p old.phase y));
   }
 
-  -- the first of the bytes that wait to be written are offered,
-  pub offers_bytes : (m : Machine) (h : H) (bytes : List ℕ) (count : ℕ) → length bytes ≡ count
-      → count ≤ length m.output.items → Offers (gives h) m bytes → take count m.output.items ≡ bytes
-  offers_bytes m h bytes count long within (inl waits) = rw (← long, waits.1) (take-append_seam bytes waits.0)
-  offers_bytes m h bytes count long within (inr range) =
-      let none = ap length range.0 in
-      take_all count m.output.items (omega (arith, none)) ∙ range.0
-      ∙ sym (nil_from_length bytes (omega (arith, long, within, none)))
-
-  -- or, where they are not so many, those of a range,
-  abbrev pub OffersRange : Machine → H → List ℕ → Type 0
-  OffersRange m h bytes =
-      (m.output.items ≡ []) × (extent : Extent) × IsNextRange m extent × (length bytes ≤ extent.len)
-      × gives h extent.start bytes
-
-  pub offers_range : (m : Machine) (h : H) (bytes : List ℕ) → ¬ (length bytes ≤ length m.output.items)
-      → Offers (gives h) m bytes → OffersRange m h bytes
-  offers_range m h bytes beyond (inl waits) =
-      absurd (beyond (omega (arith, ap length waits.1, length-append bytes waits.0)))
-  offers_range m h bytes beyond (inr range) = range
-
   -- which are handed out
-  offered : {old new : Machine} (h : H) (bytes : List ℕ) (left : List Piece) → OffersRange old h bytes
+  offered : {old new : Machine} (h : H) (bytes : List ℕ) (left : List Piece) → OffersRange plans gives old h bytes
       → Advances (gives h) old.left.items bytes left → new.config ≡ old.config → new.phase ≡ old.phase
       → ((first before : H) (p : Past) → IsSending plans gives first before h (record (view old p) {
         history = record (history_of old p) { sent = p.sent ++ bytes; pending = [] };
@@ -610,17 +675,17 @@ module _ {H : Type 0} (plans : Plans H) (gives : H → Gives) where
   offered {old} {new} h bytes left x advances config phase sending = record {
     config = config;
     runs = λ first p y.
-        let z = phased first h old p x.2.1 y in
+        let z = phased plans gives first h old p x.2.1 y in
         let mid = moves plans gives first z.0 h (view old p) z.2 x.2.0 bytes left advances in
         let late = hands_on plans gives first z.0 h _ mid (p.sent ++ bytes) [] (out p) in
-        (p.calls, runs_by first h new (past_after p [] bytes p.calls) (phase ∙ x.2.1) (z.0, z.1, sending first z.0 p late));
+        (p.calls, runs_by plans gives first h new _ (phase ∙ x.2.1) (z.0, z.1, sending first z.0 p late));
   }
     where
       out : (p : Past) → (p.sent ++ bytes) ++ [] ≡ p.sent ++ (old.output.items ++ bytes)
       out p = append-nil _ ∙ ap (λ (t : List ℕ). p.sent ++ (t ++ bytes)) (sym x.0)
 
   -- before the connection is cut off,
-  pub offered_cut : {old new : Machine} (h : H) (bytes : List ℕ) → OffersRange old h bytes → CutsOff old new
+  pub offered_cut : {old new : Machine} (h : H) (bytes : List ℕ) → OffersRange plans gives old h bytes → CutsOff old new
       → Moves plans gives old h [] bytes new h
   offered_cut {old} {new} h bytes x cut =
       offered h bytes _ x (sends_range_at (gives h) bytes x.2.3 x.3 x.4) cut.rest.config cut.phase
@@ -634,7 +699,7 @@ module _ {H : Type 0} (plans : Plans H) (gives : H → Gives) where
       viewed p = cc (append-nil p.received)
 
   -- or kept in part
-  pub offered_range : {old new : Machine} (h : H) (bytes : List ℕ) → OffersRange old h bytes
+  pub offered_range : {old new : Machine} (h : H) (bytes : List ℕ) → OffersRange plans gives old h bytes
       → new ≡ record old { left = new.left } → Shortens old.left.items new.left.items (length bytes)
       → Moves plans gives old h [] bytes new h
   offered_range {old} {new} h bytes x same short =
@@ -656,11 +721,11 @@ module _ {H : Type 0} (plans : Plans H) (gives : H → Gives) where
   moves_waiting {old} {new} h bytes is x out holding = record {
     config = x.config;
     runs = λ first p y.
-        let z = phased first h old p is y in
+        let z = phased plans gives first h old p is y in
         let laid = laid_more plans gives first z.0.0 (account old p) bytes z.0.3 in (
           p.calls,
-          runs_by first h new (past_after p bytes [] p.calls) (x.phase ∙ is)
-              (subst (Answered first h) (sym (accounted p)) (z.0.0, z.0.1, z.0.2, laid), holding p z.1),
+          runs_by plans gives first h new (past_after p bytes [] p.calls) (x.phase ∙ is)
+              (subst (Answered plans gives first h) (sym (accounted p)) (z.0.0, z.0.1, z.0.2, laid), holding p z.1),
         );
   }
     where
@@ -704,17 +769,11 @@ module _ {H : Type 0} (plans : Plans H) (gives : H → Gives) where
 
   -- ---- the loop over a reader and a writer
 
-  -- the history since the beginning, of all that was read and written
-  abbrev pub HasRun : Config → H → (remaining left contents grown : Option (List ℕ)) → Machine → H → Type 0
-  HasRun config first remaining left contents grown m now =
-      (received : List ℕ) × (sent : List ℕ) × Consumes remaining left received × Appends contents grown sent
-      × IsReached plans gives config first m now received sent
-
   -- one turn more
-  pub runs_on : (config : Config) (first : H) (r u : Option (List ℕ)) {s t v w : Option (List ℕ)} {a b : Machine}
-      {f g : H} → Turns plans gives s t v w a f b g → HasRun config first r s u v a f
-      → HasRun config first r t u w b g
-  runs_on config first r u {s} {t} {v} {w} {a} {b} {f} {g} turn run = (
+  pub runs_on : {config : Config} {first : H} (r u : Option (List ℕ)) {s t v w : Option (List ℕ)} {a b : Machine}
+      {f g : H} → Turns plans gives s t v w a f b g → HasRun plans gives config first r s u v a f
+      → HasRun plans gives config first r t u w b g
+  runs_on r u {s} {t} {v} {w} {a} {b} {f} {g} turn run = (
     run.0 ++ turn.received,
     run.1 ++ turn.sent,
     Consumes-then r s t run.0 turn.received run.2 turn.consumes,
@@ -747,71 +806,10 @@ module _ {H : Type 0} (plans : Plans H) (gives : H → Gives) where
     moves = x;
   }
 
-  -- ---- the end
-
-  closing_served : (s : State) → IsClosing s → s ≢ Aborted
-  closing_served (Closing why) x = λ wrong. cc
-  closing_served s x = absurd x
-
-  module _ (first now : H) (m : Machine) (p : Past) where
-    exchanged_by : (is_whole : Bool) (last : H) → HasPlanned plans gives first last p
-        → HasEnded plans gives m.config last now (history_of m p) is_whole
-        → IsSentLiterally plans gives m.config first last now (history_of m p) is_whole
-        → Exchanged plans gives m.config first now p.received p.sent is_whole
-    exchanged_by is_whole last answered ended literal = record {
-      history = history_of m p;
-      is_received = refl;
-      is_sent = refl;
-      last = last;
-      answered = answered;
-      ended = ended;
-      literal = literal;
-    }
-
-    laid_cut : HasAnswered plans gives first now m p → IsServed m.config (history_of m p)
-        → Exchanged plans gives m.config first now p.received p.sent false
-    laid_cut x all =
-        exchanged_by false x.0 x.1 (inl all)
-        (inl (m.output.items ++ x.3.lost, rw append_assoc at x.3.literal))
-
-    cut_at : (b : Phase) → RunsAt b plans gives first m now p
-        → Exchanged plans gives m.config first now p.received p.sent false
-    cut_at Responding x = exchanged_by false x.0 x.1 (inr x.2.response) (inr (x.2.response, x.2.sends))
-    cut_at Receiving x = laid_cut x.0 (served (core m p) x.1)
-    cut_at Asking x = laid_cut x.0 (served_asking (core_asking m p) x.1)
-
-    -- whatever happens, what was sent until then is as promised
-    pub is_cut : Runs plans gives first m now p → Exchanged plans gives m.config first now p.received p.sent false
-    is_cut = cut_at m.phase
-
-    whole_at : (b : Phase) → IsClosing m.state → m.output.items ≡ [] → RunsAt b plans gives first m now p
-        → Exchanged plans gives m.config first now p.received p.sent true
-    whole_at Responding closing out x =
-        absurd (elim x.2.state [ inl is ↦ rw is at closing | inr is ↦ rw is at closing ])
-    whole_at Receiving closing out x =
-        let going = closing_served m.state closing in
-        let none = x.0.3.whole going in
-        exchanged_by true x.0.0 x.0.1 (served (core m p) x.1, closing, out, x.0.2 going)
-        (rw (none, out, append-nil, append-nil) at x.0.3.literal)
-    whole_at Asking closing out x = absurd (rw x.1.base.is_open at closing)
-
-    -- where it closed, all was sent; and at any time
-    pub done_or_cut : (b : Bool) → (IsTrue b → m.output.items ≡ []) → IsClosing m.state
-        → Runs plans gives first m now p → Exchanged plans gives m.config first now p.received p.sent b
-    done_or_cut true out closing x = whole_at m.phase closing (out refl) x
-    done_or_cut false out closing x = is_cut x
-
-  -- a history, with the exchanges that were completed in it
-  pub record HasReached (config : Config) (first : H) (m : Machine) (now : H) (received sent : List ℕ) : Type 0 where
-    pub past : Past
-    pub is_received : past.received ≡ received
-    pub is_sent : past.sent ≡ sent
-    pub configured : m.config ≡ config
-    pub runs : Runs plans gives first m now past
-
-  module _ (config : Config) (first : H) where
+  module _ {config : Config} {first : H} where
     pub reached : {m : Machine} {now : H} {received sent : List ℕ}
-        → IsReached plans gives config first m now received sent → HasReached config first m now received sent
+        → IsReached plans gives config first m now received sent
+        → HasReached plans gives config first m now received sent
     reached (begun m configured runs) =
         record { past = new_past; is_received = refl; is_sent = refl; configured = configured; runs = runs }
     reached (moved old new before now received sent more_received more_sent x step) =
@@ -841,23 +839,23 @@ module _ {H : Type 0} (plans : Plans H) (gives : H → Gives) where
     pub cut_short : {m : Machine} {now : H} {received sent : List ℕ}
         → IsReached plans gives config first m now received sent
         → Exchanged plans gives config first now received sent false
-    cut_short {m} {now} x = exchanged false x (is_cut first now m)
+    cut_short {m} {now} x = exchanged false x (is_cut plans gives first now m)
 
   -- ---- the loop's exits
 
   -- nothing was read and nothing was written
   pub run_first : {config : Config} {first : H} {m : Machine} (r u : Option (List ℕ))
-      → IsReached plans gives config first m first [] [] → HasRun config first r r u u m first
+      → IsReached plans gives config first m first [] [] → HasRun plans gives config first r r u u m first
   run_first r u x = ([], [], Consumes-none r r (stays_known r), Appends-none u u (stays_known u), x)
 
   -- with an error
   pub run_cut : {config : Config} {first now : H} {m : Machine} (r s u v : Option (List ℕ)) (b : Bool) → b ≡ false
-      → HasRun config first r s u v m now → (received : List ℕ) × (sent : List ℕ) × Consumes r s received
+      → HasRun plans gives config first r s u v m now → (received : List ℕ) × (sent : List ℕ) × Consumes r s received
       × Appends u v sent × Exchanged plans gives config first now received sent b
   run_cut {config} {first} {now} r s u v b is run = (
     run.0,
     run.1,
     run.2,
     run.3,
-    subst (Exchanged plans gives config first now run.0 run.1) (sym is) (cut_short config first run.4),
+    subst (Exchanged plans gives config first now run.0 run.1) (sym is) (cut_short run.4),
   )

@@ -7,34 +7,31 @@ returns-in_err-buffer g c =
     let r = g.R.Read.remaining c.args.reader.now in
     let w = g.W.Write.contents c.args.writer.now in
     let p = err_from_is_err_and c.from_residual.result c.from_residual.ensures.1 in
-    run_cut g.H.Handler.plans g.H.Handler.gives r r w w _ (ap is_ok p.1)
-    (run_first g.H.Handler.plans g.H.Handler.gives r w (c.new-connection.ensures.begins c.args.handler.now))
+    run_cut r r w w _ (ap is_ok p.1) (run_first r w (c.new-connection.ensures.begins c.args.handler.now))
 
 pub loop-init : goal.loop-init
 loop-init g c =
-    run_first g.H.Handler.plans g.H.Handler.gives (g.R.Read.remaining c.args.reader.now)
-    (g.W.Write.contents c.args.writer.now) (c.new-connection.ensures.begins c.args.handler.now)
+    run_first (g.R.Read.remaining c.args.reader.now) (g.W.Write.contents c.args.writer.now)
+    (c.new-connection.ensures.begins c.args.handler.now)
 
 pub loop-preserved : goal.loop-preserved
 loop-preserved g c =
-    runs_on g.H.Handler.plans g.H.Handler.gives c.args.config c.args.handler.now (g.R.Read.remaining c.args.reader.now)
-    (g.W.Write.contents c.args.writer.now) c.turn.ensures c.loop.invariant
+    runs_on (g.R.Read.remaining c.args.reader.now) (g.W.Write.contents c.args.writer.now) c.turn.ensures
+    c.loop.invariant
 
 pub returns-in_err-turn : goal.returns-in_err-turn
 returns-in_err-turn g c =
     let r = g.R.Read.remaining c.args.reader.now in
     let w = g.W.Write.contents c.args.writer.now in
-    let run = runs_on g.H.Handler.plans g.H.Handler.gives c.args.config c.args.handler.now r w c.turn.ensures
-    c.loop.invariant in
+    let run = runs_on r w c.turn.ensures c.loop.invariant in
     let p = err_from_is_err_and c.from_residual-in_err-turn.result c.from_residual-in_err-turn.ensures.1 in
-    run_cut g.H.Handler.plans g.H.Handler.gives r (g.R.Read.remaining c.turn.new.reader) w
-    (g.W.Write.contents c.turn.new.writer) _ (ap is_ok p.1) run
+    run_cut r (g.R.Read.remaining c.turn.new.reader) w (g.W.Write.contents c.turn.new.writer) _ (ap is_ok p.1) run
 
 pub returns-then-branch : goal.returns-then-branch
 returns-then-branch g c =
     let first = c.args.handler.now in
-    let run = runs_on g.H.Handler.plans g.H.Handler.gives c.args.config first (g.R.Read.remaining c.args.reader.now)
-    (g.W.Write.contents c.args.writer.now) c.turn.ensures c.loop.invariant in (
+    let run = runs_on (g.R.Read.remaining c.args.reader.now) (g.W.Write.contents c.args.writer.now) c.turn.ensures
+    c.loop.invariant in (
       run.0,
       run.1,
       run.2,
@@ -46,5 +43,4 @@ returns-then-branch g c =
 
 pub returns : goal.returns
 returns g c =
-    run_cut g.H.Handler.plans g.H.Handler.gives _ (g.R.Read.remaining c.loop.reader) _ (g.W.Write.contents c.loop.writer) _
-    refl c.loop.invariant
+    run_cut _ (g.R.Read.remaining c.loop.reader) _ (g.W.Write.contents c.loop.writer) _ refl c.loop.invariant

@@ -1,7 +1,6 @@
 use Rattle.std.proofs.Common.{length, refl, ap, ◌∙◌, inl, inr, arith}
-use Rattle.server_connection.proofs.PieceLemmas.{sends_literal, skips_range}
-use Rattle.server_connection.proofs.PopLemmas.{cuts_on, puts_on, skips_on}
-use Rattle.server_connection.{specs.Machine.sends_left, proofs.TurnLemmas.sends_less}
+use Rattle.server_connection.{proofs.PieceLemmas.{sends_literal, skips_range}, proofs.PopLemmas.{cuts_on, puts_on}}
+use Rattle.server_connection.{proofs.PopLemmas.skips_on, specs.Machine.sends_left, proofs.TurnLemmas.sends_less}
 use Rattle.server_connection.proofs.machine.Machine.send.Goals as goal
 
 pub returns-in-Some-Literal-clause-sends : goal.returns-in-Some-Literal-clause-sends
