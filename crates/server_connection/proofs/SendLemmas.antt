@@ -1,5 +1,5 @@
 -- What a step of sending does to a response.
-use Rattle.std.proofs.Common.{◌≡◌, ◌⊎◌, ℕ, ◌+◌, ◌≤◌, Bool, true, false, cond, List, [], ◌∷◌, ◌++◌, length, replicate}
+use Rattle.std.proofs.Common.{◌≡◌, ◌⊎◌, ℕ, ◌≤◌, Bool, true, false, cond, List, [], ◌∷◌, ◌++◌, length, replicate}
 use Rattle.std.proofs.Common.{not, None, refl, sym, ap, ◌∙◌, subst, arith, append_assoc, append-nil, inl, inr}
 use Rattle.std.{proofs.lemmas.Bool.{ne_eqb, cond-false}, proofs.lemmas.List.{length-replicate, nil_from_length}}
 use Rattle.http.{specs.declared.request.Request.Request, specs.Request.{head_of, body_of}}
@@ -17,7 +17,7 @@ use Rattle.http_server.specs.Machine.{Core, HasRequest, HasResponse, IsRunning, 
 use Rattle.http_server.{proofs.AnswerLemmas.{body_is_taken, final_answer, starts_over}, proofs.ReplyLemmas.closes}
 use Rattle.http_server.{proofs.ReplyLemmas.goes_on, proofs.StreamLemmas.Serves-push}
 use Rattle.server_connection.{specs.declared.piece.Piece.Piece, specs.declared.plan.Plan.Plan, specs.Encoding.Frames}
-use Rattle.server_connection.specs.Encoding.{after_head, content_len, head_text, plan_fields, prefix_of}
+use Rattle.server_connection.specs.Encoding.{content_len, head_text, plan_fields, prefix_of}
 use Rattle.server_connection.{specs.Literal.{IsLater, SendsCall}, specs.Machine.{Account, IsLaid, IsSending, Sends}}
 use Rattle.server_connection.{specs.Machine.View, specs.Pieces.{Advances, Gives}, specs.Pieces.Advances.stays}
 use Rattle.server_connection.specs.Plan.{Answers, IsContentOf, Plans, sent_pieces}
