@@ -83,24 +83,17 @@ module _ (plan : Plan) (old new : Server) (head tail content : List ℕ) (same :
 
 -- ---- the steps
 
-shuffle : (a b c d : List ℕ) → a ++ ((b ++ c) ++ d) ≡ (a ++ b) ++ (c ++ d)
-shuffle a b c d = simp append_assoc
-
 out_at_start : (sent pending head prefix base after : List ℕ) → sent ++ pending ≡ base → after ≡ (pending ++ head) ++
     prefix
     → (sent ++ after) ++ [] ≡ base ++ ((head ++ prefix) ++ [])
-out_at_start sent pending head prefix base after out is =
-    append-nil _ ∙ ap (λ (t : List ℕ). sent ++ t) is ∙ shuffle sent pending head prefix
-    ∙ ap (λ (t : List ℕ). t ++ (head ++ prefix)) out ∙ sym (ap (λ (t : List ℕ). base ++ t) (append-nil _))
+out_at_start sent pending head prefix base after out is = rw (is, ← out) (simp (append_assoc, append-nil))
 
 out_after : (sent pending lost base head front bytes : List ℕ) → lost ≡ [] → (sent ++ pending) ++ lost ≡ base ++
     (head ++ front)
     → (sent ++ (pending ++ bytes)) ++ [] ≡ base ++ (head ++ (front ++ bytes))
 out_after sent pending lost base head front bytes none out =
-    let before : sent ++ pending ≡ base ++ (head ++ front) =
-    sym (append-nil _) ∙ ap (λ (t : List ℕ). (sent ++ pending) ++ t) (sym none) ∙ out in
-    append-nil _ ∙ sym (append_assoc sent pending bytes) ∙ ap (λ (t : List ℕ). t ++ bytes) before
-    ∙ append_assoc base (head ++ front) bytes ∙ ap (λ (t : List ℕ). base ++ t) (append_assoc head front bytes)
+    let before : sent ++ pending ≡ base ++ (head ++ front) = rw (none, append-nil) at out in
+    append-nil _ ∙ sym (append_assoc sent pending bytes) ∙ ap (λ (t : List ℕ). t ++ bytes) before ∙ simp append_assoc
 
 -- the output is cut elsewhere into what was sent and what waits
 abbrev pub base_out : (k : Core) (server : Server) (sent pending : List ℕ) → sent ++ pending ≡ output k.history → Base k

@@ -848,14 +848,9 @@ module _ {H : Type 0} {plans : Plans H} {gives : H → Gives} where
       → IsReached plans gives config first m first [] [] → HasRun plans gives config first r r u u m first
   run_first r u x = ([], [], Consumes-none r r (stays_known r), Appends-none u u (stays_known u), x)
 
-  -- with an error
-  pub run_cut : {config : Config} {first now : H} {m : Machine} (r s u v : Option (List ℕ)) (b : Bool) → b ≡ false
-      → HasRun plans gives config first r s u v m now → (received : List ℕ) × (sent : List ℕ) × Consumes r s received
-      × Appends u v sent × Exchanged plans gives config first now received sent b
-  run_cut {config} {first} {now} r s u v b is run = (
-    run.0,
-    run.1,
-    run.2,
-    run.3,
-    subst (Exchanged plans gives config first now run.0 run.1) (sym is) (cut_short run.4),
-  )
+  -- what the connection says of its bytes is returned
+  pub run_ends : {config : Config} {first now : H} {m : Machine} (r s u v : Option (List ℕ)) {b : Bool} (done : Bool)
+      → done ≡ b → (run : HasRun plans gives config first r s u v m now)
+      → Exchanged plans gives config first now run.0 run.1 b → (received : List ℕ) × (sent : List ℕ)
+      × Consumes r s received × Appends u v sent × Exchanged plans gives config first now received sent done
+  run_ends r s u v done is run x = (run.0, run.1, run.2, run.3, rw is x)
