@@ -2,9 +2,9 @@
 use Rattle.std.proofs.Common.{◌≡◌, ℕ, List, [], ◌∷◌, ◌++◌, refl, sym, ap, ◌∙◌, subst, append_assoc, append-nil}
 use Rattle.http1.{specs.declared.conn.Limits.Limits, proofs.OneParse.request_message_unique}
 use Rattle.http_server.{specs.declared.state.Config.Config, specs.declared.state.State.State}
-use Rattle.http_server.specs.declared.state.State.TheVariants.{Open, Closing, Upgraded, Aborted}
-use Rattle.http_server.{specs.declared.state.Reason.TheVariants.{Asked, EndOfInput, Refused}, specs.Exchange.Call}
-use Rattle.http_server.{specs.Exchange.Serves, proofs.StreamLemmas.{IsInterim-append, ReadsCall-append, Serves-append}}
+use Rattle.http_server.specs.declared.state.State.TheVariants.{Open, Closing, Aborted}
+use Rattle.http_server.{specs.declared.state.Reason.TheVariants.Refused, specs.Exchange.{Call, Serves}}
+use Rattle.http_server.proofs.StreamLemmas.{IsInterim-append, ReadsCall-append, Serves-append}
 use Rattle.server_connection.{specs.Literal.{IsLater, SendsCall, SendsCalls}, specs.Machine.{Account, IsLaid}}
 use Rattle.server_connection.{specs.Pieces.Gives, specs.Plan.Plans}
 
@@ -21,12 +21,10 @@ rest_same config (c ∷ calls) stream text other rest after x y =
 IsLater-append : (limits : Limits) (state : State) (rest later more : List ℕ) → IsLater limits state rest later
     → IsLater limits state (rest ++ more) later
 IsLater-append limits Open rest later more x = IsInterim-append limits rest later more x
-IsLater-append limits (Closing Asked) rest later more x = x
-IsLater-append limits (Closing EndOfInput) rest later more x = x
+IsLater-append limits Aborted rest later more x = IsInterim-append limits rest later more x
 IsLater-append limits (Closing (Refused why)) rest later more x =
     (x.0, IsInterim-append limits rest x.0 more x.1, x.2)
-IsLater-append limits Upgraded rest later more x = x
-IsLater-append limits Aborted rest later more x = IsInterim-append limits rest later more x
+IsLater-append limits state rest later more x = x
 
 module _ {H : Type 0} (plans : Plans H) (gives : H → Gives) (config : Config) where
   SendsCall-append : {before now : H} {stream text rest : List ℕ} {c : Call}

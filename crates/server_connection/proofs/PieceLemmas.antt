@@ -3,8 +3,8 @@ use Rattle.std.proofs.Common.{◌≡◌, ℕ, ◌+◌, ◌-◌, ◌≤◌, List,
 use Rattle.std.proofs.Common.{append_assoc, append-nil, length-append}
 use Rattle.server_connection.{specs.declared.piece.Extent.Extent, specs.declared.piece.Piece.Piece}
 use Rattle.server_connection.{specs.declared.piece.Piece.TheVariants.{Literal, Range}, specs.Pieces.{Gives, Emits}}
-use Rattle.server_connection.{specs.Pieces.{Advances, piece_len, total_len, rest_of}, specs.Pieces.Advances.stays}
-use Rattle.server_connection.{specs.Pieces.Shortens, specs.Pieces.Advances.{emits, skips}}
+use Rattle.server_connection.specs.Pieces.{Advances, piece_len, total_len, rest_of, Shortens}
+use Rattle.server_connection.specs.Pieces.Advances.{stays, emits, skips}
 
 pub total_len-push : (pieces : List Piece) (piece : Piece) → total_len (pieces ++ piece ∷ []) ≡ total_len pieces +
     piece_len piece
@@ -34,9 +34,8 @@ module _ (gives : Gives) where
       emitted : (piece after : Piece) (sent : List ℕ) → Emits gives piece sent after
           → piece_len piece ≡ length sent + piece_len after
       emitted (Literal bytes) (Literal left) sent step = ap length step ∙ length-append sent left
-      emitted (Literal bytes) (Range left) sent step = absurd step
-      emitted (Range extent) (Literal left) sent step = absurd step
       emitted (Range extent) (Range left) sent step = step.2
+      emitted piece after sent step = absurd step
   Advances-length (skips piece pieces left front none rest) =
       let more = Advances-length rest in omega (arith, more, none)
 
@@ -63,31 +62,16 @@ module _ (gives : Gives) where
   skips_range extent pieces none = skips (Range extent) pieces pieces [] none (stays pieces)
 
   -- the same at the front of a list
-  pub sends_literal_at : (old popped new : List Piece) (piece : Piece) (literal bytes : List ℕ) → old ≡ piece ∷ popped
-      → piece ≡ Literal literal → bytes ≡ literal → new ≡ popped → Advances gives old bytes new
-  sends_literal_at old popped new piece literal bytes front is given left =
-      subst (λ t. Advances gives t bytes new) (sym (front ∙ ap (λ q. q ∷ popped) is))
-      (subst (λ t. Advances gives (Literal literal ∷ popped) t new) (sym given)
-      (subst (λ t. Advances gives (Literal literal ∷ popped) literal t) (sym left) (sends_literal literal popped)))
-
   pub sends_range_at : {old after : List Piece} {extent : Extent} (bytes : List ℕ) → old ≡ Range extent ∷ after
       → length bytes ≤ extent.len → gives extent.start bytes
       → Advances gives old bytes (Range (rest_of extent (length bytes)) ∷ after)
   sends_range_at {after = after} {extent = extent} bytes front fits given =
-      subst (λ t. Advances gives t bytes (Range (rest_of extent (length bytes)) ∷ after)) (sym front)
-      (sends_range extent bytes after fits given)
+      rw front (sends_range extent bytes after fits given)
 
   -- and taken off it
   pub sends_short : {old new after : List Piece} {extent : Extent} (bytes : List ℕ) → old ≡ Range extent ∷ after
       → Shortens old new (length bytes) → gives extent.start bytes → Advances gives old bytes new
-  sends_short {old} {extent = extent} bytes front short given =
+  sends_short {extent = extent} bytes front short given =
       let both : Range extent ∷ _ ≡ Range short.0 ∷ short.1 = sym front ∙ short.2 in
       let same : extent ≡ short.0 = cc in
-      subst (λ t. Advances gives old bytes t) (sym short.4)
-      (sends_range_at bytes short.2 short.3 (subst (λ (e : Extent). gives e.start bytes) same given))
-
-  pub skips_range_at : (old popped new : List Piece) (piece : Piece) (extent : Extent) → old ≡ piece ∷ popped
-      → piece ≡ Range extent → extent.len ≡ 0 → new ≡ popped → Advances gives old [] new
-  skips_range_at old popped new piece extent front is none left =
-      subst (λ t. Advances gives t [] new) (sym (front ∙ ap (λ q. q ∷ popped) is))
-      (subst (λ t. Advances gives (Range extent ∷ popped) [] t) (sym left) (skips_range extent popped none))
+      rw short.4 (sends_range_at bytes short.2 short.3 (subst (λ (e : Extent). gives e.start bytes) same given))

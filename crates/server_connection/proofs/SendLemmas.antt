@@ -1,32 +1,30 @@
 -- What a step of sending does to a response.
-use Rattle.std.proofs.Common.{◌≡◌, ℕ, ◌+◌, ◌^◌, ◌<◌, ◌≤◌, Bool, true, false, cond, List, [], ◌∷◌, ◌++◌, length}
-use Rattle.std.proofs.Common.{replicate, not, None, refl, sym, ap, ◌∙◌, subst, arith, append_assoc, append-nil, inl}
-use Rattle.std.{proofs.Common.inr, proofs.lemmas.Bool.{ne_eqb, cond-false}, proofs.lemmas.List.length-replicate}
-use Rattle.std.proofs.lemmas.List.{nil_from_length}
+use Rattle.std.proofs.Common.{◌≡◌, ◌⊎◌, ℕ, ◌≤◌, Bool, true, false, cond, List, [], ◌∷◌, ◌++◌, length, replicate}
+use Rattle.std.proofs.Common.{not, None, refl, sym, ap, ◌∙◌, subst, arith, append_assoc, append-nil, inl, inr}
+use Rattle.std.{proofs.lemmas.Bool.{ne_eqb, cond-false}, proofs.lemmas.List.{length-replicate, nil_from_length}}
 use Rattle.http.{specs.declared.request.Request.Request, specs.Request.{head_of, body_of}}
-use Rattle.http1.specs.declared.conn.Writing.{Writing}
-use Rattle.http1.specs.declared.conn.Writing.TheVariants as Writes
-use Rattle.http1.{specs.declared.server.Server.Server, specs.Conn.{after_data, data_prefix, data_refusal, data_suffix}}
-use Rattle.http1.{specs.Conn.{data_text, finish_text}, specs.Framing.method_kind, specs.Message.ReadsRequestMessage}
-use Rattle.http1.{specs.Message.known_of, specs.Server.{is_head, peer_method, writing, with_writing, after_end}}
-use Rattle.http1.specs.Server.{after_response, planned_response, response_refusal, IsClosed}
+use Rattle.http1.{specs.declared.conn.Writing.Writing, specs.declared.server.Server.Server, specs.Conn.data_prefix}
+use Rattle.http1.{specs.Conn.{data_refusal, data_suffix, data_text}, specs.Framing.method_kind}
+use Rattle.http1.{specs.Message.{ReadsRequestMessage, known_of}, specs.Server.{is_head, peer_method, writing}}
+use Rattle.http1.specs.Server.{after_end, response_refusal, IsClosed, new_server}
 use Rattle.http1_typed.specs.Parts.{reason_of}
 use Rattle.http_server.{specs.declared.response.Response.Response, specs.declared.state.State.State}
 use Rattle.http_server.specs.declared.state.State.TheVariants.{Open, Closing, Aborted}
 use Rattle.http_server.{specs.declared.state.Reason.TheVariants.Asked, specs.Encoding.{Encodes, answering, size_of}}
-use Rattle.http_server.specs.Encoding.{after_body, final_text}
-use Rattle.http_server.specs.Encoding as Whole
-use Rattle.http_server.specs.Exchange.{ArePartsOf, Call, Chain, Exchanges, IsAnswer, ReadsCall, Serves, keeps_open}
-use Rattle.http_server.{specs.History.{History, IsServed, output}, specs.Machine.{Core, HasRequest, HasResponse}}
-use Rattle.http_server.{specs.Machine.IsRunning, proofs.AnswerLemmas.{body_is_taken, final_answer, starts_over}}
-use Rattle.http_server.{proofs.ReplyLemmas.{closes, goes_on}, proofs.StreamLemmas.Serves-push}
+use Rattle.http_server.{specs.Encoding.{after_body, final_text}, specs.Exchange.{ArePartsOf, Call, Exchanges, IsAnswer}}
+use Rattle.http_server.{specs.Exchange.{Serves, keeps_open}, specs.History.{History, IsServed, output}}
+use Rattle.http_server.specs.Machine.{Core, HasRequest, HasResponse, IsRunning, Base}
+use Rattle.http_server.{proofs.AnswerLemmas.{body_is_taken, final_answer, starts_over}, proofs.ReplyLemmas.closes}
+use Rattle.http_server.{proofs.ReplyLemmas.goes_on, proofs.StreamLemmas.Serves-push}
 use Rattle.server_connection.{specs.declared.piece.Piece.Piece, specs.declared.plan.Plan.Plan, specs.Encoding.Frames}
-use Rattle.server_connection.specs.Encoding.{after_content, after_head, content_len, head_text, plan_size, plan_fields}
-use Rattle.server_connection.{specs.Encoding.{prefix_of, size_for}, specs.Literal.{IsLater, IsLiteral, SendsCall}}
-use Rattle.server_connection.{specs.Machine.{Account, IsLaid, IsSending, Sends, View}, specs.Pieces.{Advances, Gives}}
-use Rattle.server_connection.{specs.Pieces.Advances.stays, specs.Plan.{Answers, IsContentOf, Plans, sent_pieces}}
+use Rattle.server_connection.specs.Encoding.{content_len, head_text, plan_fields, prefix_of}
+use Rattle.server_connection.{specs.Literal.{IsLater, SendsCall}, specs.Machine.{Account, IsLaid, IsSending, Sends}}
+use Rattle.server_connection.{specs.Machine.View, specs.Pieces.{Advances, Gives}, specs.Pieces.Advances.stays}
+use Rattle.server_connection.specs.Plan.{Answers, IsContentOf, Plans, sent_pieces}
 use Rattle.server_connection.{proofs.LiteralLemmas.{SendsCalls-push, rest_same}, proofs.PieceLemmas.Advances-length}
 use Rattle.server_connection.proofs.PieceLemmas.{Advances-then}
+use Rattle.http1.specs.declared.conn.Writing.TheVariants as Writes
+use Rattle.http_server.specs.Encoding as Whole
 
 -- ---- a response with this content
 
@@ -45,9 +43,6 @@ framed_text Writes.Done content taken = absurd (cc)
 framed_text Writes.Upgraded content taken = absurd (cc)
 framed_text Writes.Closed content taken = absurd (cc)
 
-regroup : (a b c d e : List ℕ) → (a ++ b) ++ (c ++ (d ++ e)) ≡ a ++ ((b ++ (c ++ d)) ++ e)
-regroup a b c d e = simp append_assoc
-
 -- what is sent of a content
 abbrev pub shown : Bool → List ℕ → List ℕ
 shown bodiless content = cond bodiless [] content
@@ -56,43 +51,23 @@ module _ (plan : Plan) (old new : Server) (head tail content : List ℕ) (same :
   abbrev r : Response
   r = response_of plan content
 
-  sized : size_of r ≡ plan_size plan
-  sized = ap size_for same
-
-  planned : planned_response old plan.status (reason_of plan.status) (size_of r) (plan_fields plan) ≡ head_text old plan
-  planned = ap (λ z. planned_response old plan.status (reason_of plan.status) z (plan_fields plan)) sized
-
-  head_same : Whole.after_head old r ≡ after_head old plan
-  head_same = ap (λ z. after_response old plan.status z (plan_fields plan)) sized
-
-  next_same : (bodiless : Bool) → after_end (after_content bodiless old plan) ≡ after_end (after_body bodiless old r)
-  next_same true = sym (ap after_end head_same)
-  next_same false =
-      sym (λ i. after_end (with_writing (head_same i) (after_data (writing (head_same i)) (same i))))
-
   module _ (bodiless : Bool) (x : Frames bodiless plan old [] [] new head tail) where
     valid : response_refusal old plan.status (reason_of plan.status) (size_of r) (plan_fields plan) ≡ None
-    valid = ap (λ z. response_refusal old plan.status (reason_of plan.status) z (plan_fields plan)) sized ∙ x.valid
+    valid = rw same x.valid
 
+  -- its bytes, and the server after it
   text_for : (bodiless : Bool) → Frames bodiless plan old [] [] new head tail → bodiless ≡ is_head (peer_method old)
       → head ++ (shown bodiless content ++ tail) ≡ final_text bodiless old r
-  text_for true x kind =
-      (λ i. x.head i ++ x.tail i) ∙ ap (λ (t : List ℕ). t ++ finish_text (writing (after_head old plan)) [])
-      (append-nil _)
-      ∙ sym (λ i. planned i ++ finish_text (writing (head_same i)) [])
+  text_for true x kind = rw (x.head, x.tail, same, append-nil)
   text_for false x kind =
-      let w = writing (after_head old plan) in
-      let taken : data_refusal w (length content) ≡ None =
-      ap (λ s. data_refusal (writing s) (length content)) (sym head_same) ∙ body_is_taken old r (valid false x) kind in
-      let framed : data_text w content ≡ data_prefix w (content_len plan) ++
-      (content ++ data_suffix w (content_len plan)) =
-      framed_text w content taken ∙ ap (λ n. data_prefix w n ++ (content ++ data_suffix w n)) same in
-      let end = finish_text (writing (after_content false old plan)) [] in
-      (λ i. x.head i ++ (content ++ x.tail i))
-      ∙ regroup (head_text old plan) (data_prefix w (content_len plan)) content (data_suffix w (content_len plan)) end
-      ∙ ap (λ (t : List ℕ). head_text old plan ++ (t ++ end)) (sym framed)
-      ∙ sym (λ i. planned i ++ (data_text (writing (head_same i)) content
-      ++ finish_text (writing (with_writing (head_same i) (after_data (writing (head_same i)) (same i)))) []))
+      let framed = framed_text (writing (Whole.after_head old r)) content
+      (body_is_taken old r (valid false x) kind) in
+      rw (x.head, x.tail, framed, same) (simp append_assoc)
+
+  next_for : (bodiless : Bool) → Frames bodiless plan old [] [] new head tail
+      → new ≡ after_end (after_body bodiless old r)
+  next_for true x = rw (x.next, same)
+  next_for false x = rw (x.next, same)
 
   -- what `http_server` says of a response that is whole
   pub encodes : (bodiless : Bool) → Frames bodiless plan old [] [] new head tail → bodiless ≡ is_head (peer_method old)
@@ -101,31 +76,38 @@ module _ (plan : Plan) (old new : Server) (head tail content : List ℕ) (same :
       let other = ne_eqb plan.status 101 x.late in
       record {
         valid = cond-false _ _ _ other ∙ valid bodiless x;
-        short = λ _. subst (λ n. n < 2 ^ 64) (sym same) x.short;
+        short = λ _. rw same x.short;
         text = text_for bodiless x kind ∙ sym (cond-false _ _ _ other);
-        next = x.next ∙ next_same bodiless ∙ sym (cond-false _ _ _ other);
+        next = next_for bodiless x ∙ sym (cond-false _ _ _ other);
       }
 
 -- ---- the steps
 
-shuffle : (a b c d : List ℕ) → a ++ ((b ++ c) ++ d) ≡ (a ++ b) ++ (c ++ d)
-shuffle a b c d = simp append_assoc
-
 out_at_start : (sent pending head prefix base after : List ℕ) → sent ++ pending ≡ base → after ≡ (pending ++ head) ++
     prefix
     → (sent ++ after) ++ [] ≡ base ++ ((head ++ prefix) ++ [])
-out_at_start sent pending head prefix base after out is =
-    append-nil _ ∙ ap (λ (t : List ℕ). sent ++ t) is ∙ shuffle sent pending head prefix
-    ∙ ap (λ (t : List ℕ). t ++ (head ++ prefix)) out ∙ sym (ap (λ (t : List ℕ). base ++ t) (append-nil _))
+out_at_start sent pending head prefix base after out is = rw (is, ← out) (simp (append_assoc, append-nil))
 
 out_after : (sent pending lost base head front bytes : List ℕ) → lost ≡ [] → (sent ++ pending) ++ lost ≡ base ++
     (head ++ front)
     → (sent ++ (pending ++ bytes)) ++ [] ≡ base ++ (head ++ (front ++ bytes))
 out_after sent pending lost base head front bytes none out =
-    let before : sent ++ pending ≡ base ++ (head ++ front) =
-    sym (append-nil _) ∙ ap (λ (t : List ℕ). (sent ++ pending) ++ t) (sym none) ∙ out in
-    append-nil _ ∙ sym (append_assoc sent pending bytes) ∙ ap (λ (t : List ℕ). t ++ bytes) before
-    ∙ append_assoc base (head ++ front) bytes ∙ ap (λ (t : List ℕ). base ++ t) (append_assoc head front bytes)
+    let before : sent ++ pending ≡ base ++ (head ++ front) = rw (none, append-nil) at out in
+    append-nil _ ∙ sym (append_assoc sent pending bytes) ∙ ap (λ (t : List ℕ). t ++ bytes) before ∙ simp append_assoc
+
+-- the output is cut elsewhere into what was sent and what waits
+abbrev pub base_out : (k : Core) (server : Server) (sent pending : List ℕ) → sent ++ pending ≡ output k.history → Base k
+    → Base (record k { history = record (k.history) { sent = sent; pending = pending }; server = server })
+base_out k server sent pending same b = record {
+  is_open = b.is_open;
+  answered = b.answered;
+  text = b.text;
+  rest = b.rest;
+  serves = b.serves;
+  interim = b.interim;
+  is_interim = b.is_interim;
+  out = same ∙ b.out;
+}
 
 module _ {H : Type 0} (plans : Plans H) (gives : H → Gives) (first before now : H) where
   pub begins : (k : Core) (x : HasRequest k) {has_head : Bool}
@@ -209,94 +191,77 @@ module _ {H : Type 0} (plans : Plans H) (gives : H → Gives) (first before now 
     abbrev pub s : Sends plans gives before now v.config v.history
     s = x.response
 
-    abbrev again : (h : History) → Serves v.config h.received h.calls s.text s.rest
-        → (reads : ReadsCall v.config s.rest s.message s.request h.unread)
-        → Frames s.bodiless s.plan (answering v.config.limits s.message.head reads.reads.framing) [] [] s.server
-        s.head s.tail
-        → (front : List ℕ) (left : List Piece) → Advances (gives now) (sent_pieces s.bodiless s.plan) front left
-        → (lost : List ℕ) → output h ++ lost ≡ (s.text ++ s.interim) ++ (s.head ++ front)
-        → Sends plans gives before now v.config h
-    again h serves reads frames front left advances lost out = record {
-      text = s.text;
-      rest = s.rest;
-      serves = serves;
-      interim = s.interim;
-      is_interim = s.is_interim;
-      message = s.message;
-      request = s.request;
-      reads = reads;
-      plan = s.plan;
-      planned = s.planned;
-      bodiless = s.bodiless;
-      kind = s.kind;
-      server = s.server;
-      head = s.head;
-      tail = s.tail;
-      frames = frames;
-      front = front;
-      left = left;
-      advances = advances;
-      lost = lost;
-      out = out;
+    -- The response is still being sent. This front of it was put out but for what was lost, and these pieces are kept.
+    goes : (state : State) (sent pending front lost : List ℕ) (left kept : List Piece)
+        → Advances (gives now) (sent_pieces s.bodiless s.plan) front kept
+        → (sent ++ pending) ++ lost ≡ (s.text ++ s.interim) ++ (s.head ++ front)
+        → (state ≡ Open → (left ≡ kept) × (lost ≡ [])) → (state ≡ Open) ⊎ (state ≡ Aborted)
+        → IsSending plans gives first before now (record v {
+          history = record (v.history) { state = state; sent = sent; pending = pending };
+          left = left;
+        })
+    goes state sent pending front lost left kept advances out open_now is = record {
+      response = record {
+        text = s.text;
+        rest = s.rest;
+        serves = s.serves;
+        interim = s.interim;
+        is_interim = s.is_interim;
+        message = s.message;
+        request = s.request;
+        reads = s.reads;
+        plan = s.plan;
+        planned = s.planned;
+        bodiless = s.bodiless;
+        kind = s.kind;
+        server = s.server;
+        head = s.head;
+        tail = s.tail;
+        frames = s.frames;
+        front = front;
+        left = kept;
+        advances = advances;
+        lost = lost;
+        out = out;
+      };
+      sends = x.sends;
+      server = x.server;
+      tail = x.tail;
+      left = λ is_open. (open_now is_open).0;
+      head = x.head;
+      body = x.body;
+      going = λ is_open. (open_now is_open).1;
+      state = is;
     }
 
     -- pieces are put into the output
     pub moves : v.history.state ≡ Open → (bytes : List ℕ) (left : List Piece) → Advances (gives now) v.left bytes left
         → IsSending plans gives first before now
         (record v { history = record (v.history) { pending = v.history.pending ++ bytes }; left = left })
-    moves is_open bytes left step = record {
-      response = again (record (v.history) { pending = v.history.pending ++ bytes }) s.serves s.reads s.frames
-          (s.front ++ bytes)
-          left
-          (Advances-then (gives now) s.advances
-          (subst (λ l. Advances (gives now) l bytes left) (x.left is_open) step)) []
-          (out_after v.history.sent v.history.pending s.lost _ s.head s.front bytes (x.going is_open) s.out);
-      sends = x.sends;
-      server = x.server;
-      tail = x.tail;
-      left = λ _. refl;
-      head = x.head;
-      body = x.body;
-      going = λ _. refl;
-      state = x.state;
-    }
+    moves is_open bytes left step =
+        let steps = subst (λ l. Advances (gives now) l bytes left) (x.left is_open) step in
+        goes v.history.state v.history.sent (v.history.pending ++ bytes) (s.front ++ bytes) [] left left
+        (Advances-then (gives now) s.advances steps)
+        (out_after v.history.sent v.history.pending s.lost _ s.head s.front bytes (x.going is_open) s.out)
+        (λ _. (refl, refl)) x.state
 
     -- the connection is cut off
     pub cuts : (left : List Piece) → IsSending plans gives first before now
         (record v { history = record (v.history) { state = Aborted; pending = [] }; left = left })
-    cuts left = record {
-      response = again (record (v.history) { state = Aborted; pending = [] }) s.serves s.reads s.frames s.front s.left
-          s.advances
-          (v.history.pending ++ s.lost)
-          (ap (λ (t : List ℕ). t ++ (v.history.pending ++ s.lost)) (append-nil v.history.sent)
-          ∙ sym (append_assoc v.history.sent v.history.pending s.lost) ∙ s.out);
-      sends = x.sends;
-      server = x.server;
-      tail = x.tail;
-      left = λ wrong. absurd (cc);
-      head = x.head;
-      body = x.body;
-      going = λ wrong. absurd (cc);
-      state = inr refl;
-    }
+    cuts left =
+        goes Aborted v.history.sent [] s.front (v.history.pending ++ s.lost) left s.left s.advances
+        (ap (λ (t : List ℕ). t ++ (v.history.pending ++ s.lost)) (append-nil v.history.sent)
+        ∙ sym (append_assoc v.history.sent v.history.pending s.lost) ∙ s.out)
+        (λ wrong. absurd (cc)) (inr refl)
 
     -- bytes of the output are written
     pub hands_on : (sent pending : List ℕ) → sent ++ pending ≡ output v.history
         → IsSending plans gives first before now
         (record v { history = record (v.history) { sent = sent; pending = pending } })
-    hands_on sent pending same = record {
-      response = again (record (v.history) { sent = sent; pending = pending }) s.serves s.reads s.frames s.front
-          s.left s.advances
-          s.lost (ap (λ (t : List ℕ). t ++ s.lost) same ∙ s.out);
-      sends = x.sends;
-      server = x.server;
-      tail = x.tail;
-      left = x.left;
-      head = x.head;
-      body = x.body;
-      going = x.going;
-      state = x.state;
-    }
+    hands_on sent pending same =
+        goes v.history.state sent pending s.front s.lost v.left s.left s.advances
+        (ap (λ (t : List ℕ). t ++ s.lost) same ∙ s.out)
+        (λ is. (x.left is, x.going is)) x.state
 
     module _ (is_open : v.history.state ≡ Open) (none : v.left ≡ []) where
       abbrev pub content_for : Bool → List ℕ
@@ -307,18 +272,16 @@ module _ {H : Type 0} (plans : Plans H) (gives : H → Gives) (first before now 
           (content_for bodiless)
           × (shown bodiless (content_for bodiless) ≡ s.front)
       is_content true step =
-          let long = length-replicate (content_len s.plan) 0 in
-          (long, long, nothing (Advances-length (gives now) step))
-        where
-          nothing : 0 ≡ length s.front + 0 → [] ≡ s.front
-          nothing same = sym (nil_from_length s.front (omega (arith, same)))
-      is_content false step =
-          let long = Advances-length (gives now) step in
-          (omega (arith, long), step, refl)
+          let none = Advances-length (gives now) step in (
+            length-replicate (content_len s.plan) 0,
+            length-replicate (content_len s.plan) 0,
+            sym (nil_from_length s.front (omega (arith, none))),
+          )
+      is_content false step = (omega (arith, Advances-length (gives now) step), step, refl)
 
       whole : Advances (gives now) (sent_pieces s.bodiless s.plan) s.front []
-      whole = subst (λ l. Advances (gives now) (sent_pieces s.bodiless s.plan) s.front l)
-          (sym (x.left is_open) ∙ none) s.advances
+      whole =
+          subst (Advances (gives now) (sent_pieces s.bodiless s.plan) s.front) (sym (x.left is_open) ∙ none) s.advances
 
       abbrev pub content : List ℕ
       content = content_for s.bodiless
@@ -411,16 +374,7 @@ module _ {H : Type 0} (plans : Plans H) (gives : H → Gives) (first before now 
           let r = goes_on at_response response s.bodiless has_response s.server text did
           s.frames.late (λ closed. going (subst IsClosed (sym x.server) closed)) in
           record {
-            base = record {
-              is_open = refl;
-              answered = r.base.answered;
-              text = r.base.text;
-              rest = r.base.rest;
-              serves = r.base.serves;
-              interim = r.base.interim;
-              is_interim = r.base.is_interim;
-              out = sym ended_output ∙ r.base.out;
-            };
+            base = base_out _ v.server v.history.sent (v.history.pending ++ v.tail) (sym ended_output) r.base;
             calls = r.calls;
             placed = (r.placed.0, x.server ∙ r.placed.1);
           }
@@ -437,41 +391,28 @@ module _ {H : Type 0} (plans : Plans H) (gives : H → Gives) (first before now 
             serves = r.serves;
             interim = r.interim;
             is_interim = r.is_interim;
-            stands = (
-              r.stands.0,
-              r.stands.1,
-              r.stands.2,
-              r.stands.3,
-              r.stands.4,
-              sym ended_output ∙ r.stands.5,
-            );
+            stands = (r.stands.0, r.stands.1, r.stands.2, r.stands.3, r.stands.4, sym ended_output ∙ r.stands.5);
           }
 
       -- ---- its bytes
 
-      ended_text : text ≡ final_text s.bodiless at_response.server response
-      ended_text =
-          text_for s.plan at_response.server s.server s.head s.tail content (is_content s.bodiless whole).0 s.bodiless
-          s.frames s.kind
+      long : length content ≡ content_len s.plan
+      long = (is_content s.bodiless whole).0
 
       valid_response : response_refusal at_response.server response.status (reason_of response.status)
           (size_of response) (plan_fields s.plan) ≡ None
-      valid_response =
-          valid s.plan at_response.server s.server s.head s.tail content (is_content s.bodiless whole).0 s.bodiless
-          s.frames
+      valid_response = valid s.plan at_response.server s.server s.head s.tail content long s.bodiless s.frames
 
       next : v.server ≡ after_end (after_body s.bodiless at_response.server response)
-      next =
-          x.server ∙ s.frames.next
-          ∙ next_same s.plan at_response.server s.server s.head s.tail content (is_content s.bodiless whole).0
-          s.bodiless
+      next = x.server ∙ next_for s.plan at_response.server s.server s.head s.tail content long s.bodiless s.frames
 
       read_as : (a : IsAnswer s.message.head response text)
           × ((known_of a.message.head.fields).close ≡ not (keeps_open s.message.head response))
       read_as =
           subst
           (λ (t : List ℕ). (a : IsAnswer s.message.head response t)
-          × ((known_of a.message.head.fields).close ≡ not (keeps_open s.message.head response))) (sym ended_text)
+          × ((known_of a.message.head.fields).close ≡ not (keeps_open s.message.head response)))
+          (sym (text_for s.plan at_response.server s.server s.head s.tail content long s.bodiless s.frames s.kind))
           (final_answer at_response.server response valid_response v.config.limits s.message.head
           s.reads.reads.framing refl s.bodiless s.kind (did.short s.frames.late))
 
@@ -519,55 +460,46 @@ module _ {H : Type 0} (plans : Plans H) (gives : H → Gives) (first before now 
         has_head = false;
       }
 
-      abbrev literal_after : (state : State) (on : Bool) → keeps_open s.message.head response ≡ on
-          → IsLater v.config.limits state v.history.unread []
-          → IsLiteral plans gives v.config first now state v.history.received (v.history.calls ++ call ∷ [])
-          ((v.history.sent ++ (v.history.pending ++ v.tail)) ++ [])
-      literal_after state on persists is_later = record {
-        text = s.text ++ (s.interim ++ text);
-        rest = v.history.unread;
-        sends = SendsCalls-push plans gives v.config first before now v.history.calls call v.history.received s.text
-            s.rest (s.interim ++ text) v.history.unread x.sends (sends_call on persists);
-        later = [];
-        is_later = is_later;
-        out = append-nil _ ∙ sym ended_output ∙ append_assoc s.text s.interim text ∙ sym (append-nil _);
+      -- all that was put out is known, and nothing follows the response
+      laid : (state : State) (on : Bool) → keeps_open s.message.head response ≡ on
+          → IsLater v.config.limits state v.history.unread [] → (state ≡ Open → on ≡ true)
+          → IsLaid plans gives first now (account_after state)
+      laid state on persists is_later open_now = record {
+        lost = [];
+        literal = record {
+          text = s.text ++ (s.interim ++ text);
+          rest = v.history.unread;
+          sends = SendsCalls-push plans gives v.config first before now v.history.calls call v.history.received s.text
+              s.rest (s.interim ++ text) v.history.unread x.sends (sends_call on persists);
+          later = [];
+          is_later = is_later;
+          out = append-nil _ ∙ sym ended_output ∙ append_assoc s.text s.interim text ∙ sym (append-nil _);
+        };
+        whole = λ _. refl;
+        serves = λ is. Serves-push v.config v.history.calls call v.history.received s.text s.rest
+            (s.interim ++ text) v.history.unread s.serves (exchanged true (persists ∙ open_now is));
+        between = λ _ _. refl;
       }
 
-      -- all that was put out is known, and nothing follows the response
+      abbrev ended : Server
+      ended = after_end (after_body s.bodiless at_response.server response)
+
+      over : ((keeps_open s.message.head response ≡ true) × (ended ≡ new_server v.config.limits))
+          ⊎ ((keeps_open s.message.head response ≡ false) × IsClosed ended)
+      over =
+          starts_over at_response.server response valid_response v.config.limits s.message.head s.reads.reads.framing
+          refl s.bodiless s.kind
+
       pub laid_open : ¬ (IsClosed v.server) → IsLaid plans gives first now (account_after Open)
       laid_open going =
-          elim (starts_over at_response.server response valid_response v.config.limits s.message.head
-          s.reads.reads.framing refl s.bodiless s.kind) [
-            | inl open_still ↦ record {
-              lost = [];
-              literal = literal_after Open true open_still.0 (inl refl);
-              whole = λ _. refl;
-              serves = λ _. Serves-push v.config v.history.calls call v.history.received s.text s.rest
-                  (s.interim ++ text) v.history.unread s.serves (exchanged true open_still.0);
-              between = λ _ _. refl;
-            }
+          elim over [
+            | inl open_still ↦ laid Open true open_still.0 (inl refl) (λ _. refl)
             | inr ends ↦ absurd (going (subst IsClosed (sym next) ends.1))
           ]
 
       pub laid_closed : IsClosed v.server → IsLaid plans gives first now (account_after (Closing Asked))
       laid_closed closed =
-          elim (starts_over at_response.server response valid_response v.config.limits s.message.head
-          s.reads.reads.framing refl s.bodiless s.kind) [
+          elim over [
             | inl open_still ↦ let wrong = sym closed ∙ ap writing (next ∙ open_still.1) in absurd (cc)
-            | inr ends ↦ record {
-              lost = [];
-              literal = literal_after (Closing Asked) false ends.0 refl;
-              whole = λ _. refl;
-              serves = λ wrong. absurd (cc);
-              between = λ wrong _. absurd (cc);
-            }
+            | inr ends ↦ laid (Closing Asked) false ends.0 refl (λ wrong. absurd (cc))
           ]
-
--- one exchange more
-pub Chain-push : {S : Type 0} (answers : S → Request (List ℕ) → Response → S → Type 0) (calls : List Call)
-    (old between new : S)
-    (c : Call) → Chain answers old calls between → answers between c.0 c.1 new → Chain answers old (calls ++ c ∷ []) new
-Chain-push answers [] old between new c chain last =
-    (new, subst (λ t. answers t c.0 c.1 new) chain last, refl)
-Chain-push answers (call ∷ calls) old between new c chain last =
-    (chain.0, chain.1, Chain-push answers calls chain.0 between new c chain.2 last)

@@ -3,5 +3,4 @@ use Rattle.server_connection.proofs.TurnLemmas.{moves_in}
 use Rattle.server_connection.proofs.connection.Connection.finish_input.Goals as goal
 
 pub returns-clause-moves : goal.returns-clause-moves
-returns-clause-moves g c = λ now.
-    moves_in g.A.Application.plans g.A.Application.gives now [] c.requires c.finish_input.ensures.takes
+returns-clause-moves g c = λ now. moves_in now [] c.requires c.finish_input.ensures.takes

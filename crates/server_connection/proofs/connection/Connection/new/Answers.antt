@@ -1,6 +1,6 @@
 use Rattle.std.proofs.Common.{refl}
 use Rattle.server_connection.{specs.Connection.IsReached.begun, specs.Machine.new_past, proofs.TurnLemmas.laid_first}
-use Rattle.server_connection.proofs.TurnLemmas.{waited}
+use Rattle.server_connection.proofs.TurnLemmas.{runs_by}
 use Rattle.server_connection.proofs.connection.Connection.new.Goals as goal
 
 pub returns-clause-begins : goal.returns-clause-begins
@@ -9,7 +9,7 @@ returns-clause-begins g c = λ first.
     let gives = g.A.Application.gives in
     let m = c.new.result in
     begun m c.new.ensures.config
-    (waited plans gives first first m new_past c.new.ensures.phase (
+    (runs_by plans gives first first m new_past c.new.ensures.phase (
       (first, refl, λ _. refl, laid_first plans gives first m c.new.ensures.state c.new.ensures.output),
       c.new.ensures.holds,
     ))

@@ -2,21 +2,18 @@ use Rattle.std.proofs.Common.{refl, sym, subst, ap, ◌∙◌, inl, inr}
 use Rattle.http_server.{specs.Machine.{HasRequest, Holds, IsStarved}, proofs.MachineLemmas.{with_server, after_event}}
 use Rattle.http_server.proofs.MachineLemmas.{left_starved, unreadable}
 use Rattle.server_connection.{specs.declared.machine.Machine.Machine, specs.Machine.{Past, core}}
-use Rattle.server_connection.proofs.TurnLemmas.{has_no_head, opens_at, refused_on, step_asks, step_by, step_opens}
+use Rattle.server_connection.proofs.TurnLemmas.{has_no_head, refused_on, step_asks, step_by, step_opens}
 use Rattle.server_connection.proofs.machine.Machine.read.Goals as goal
 
 pub returns-then-missing-gt0-clause-stays : goal.returns-then-missing-gt0-clause-stays
 returns-then-missing-gt0-clause-stays g c = λ now.
-    let open_now = c.requires.state in
-    step_by g.A.Application.plans g.A.Application.gives c.args.self.now now c.wait.ensures.keeps
-    c.wait.ensures.puts refl c.requires.phase open_now
-    (λ p x. c.wait.ensures.reaches p (c.missing.ensures c.if-missing-gt0.true p x open_now))
+    step_by c.args.self.now now c.wait.ensures.keeps c.wait.ensures.puts c.requires.phase c.requires.state
+    (λ p x. c.wait.ensures.reaches p (c.missing.ensures c.if-missing-gt0.true p x c.requires.state))
 
 pub returns-in-Err-clause-stays : goal.returns-in-Err-clause-stays
 returns-in-Err-clause-stays g c = λ now.
-    step_by g.A.Application.plans g.A.Application.gives c.args.self.now now c.refuse.ensures.keeps
-    (refused_on refl c.refuse.ensures.puts) refl c.requires.phase c.requires.state
-    (λ p x. c.refuse.ensures.reaches p (unreadable (core c.args.self.now p) c.read.new.self c.in-Err.e
+    step_by c.args.self.now now c.refuse.ensures.keeps (refused_on refl c.refuse.ensures.puts) c.requires.phase
+    c.requires.state (λ p x. c.refuse.ensures.reaches p (unreadable (core c.args.self.now p) c.read.new.self c.in-Err.e
     c.requires.state (rw (c.as_slice.ensures, c.requires.spans) at c.in-Err.ensures.err) x))
 
 pub returns-in-Head-clause-stays : goal.returns-in-Head-clause-stays
@@ -26,23 +23,21 @@ returns-in-Head-clause-stays g c = λ now.
     let reads = rw c.as_slice.ensures at c.in-Ok.ensures.ok in
     let head = λ (p : Past) (x : Holds (core old p)).
     after_event (core old p) c.read.new.headers c.read.new.self c.in-Ok.read _ c.in-Head.is open_now reads x in
-    step_opens g.A.Application.plans g.A.Application.gives old now c.begin.ensures.keeps refl c.requires.phase
-    open_now (λ p x. c.begin.ensures.reaches p (head p x))
+    step_opens old now c.begin.ensures.keeps c.requires.phase open_now
+    (λ p x. c.begin.ensures.reaches p (head p x))
     (λ p x. has_no_head old p c.read.new.headers c.read.new.self c.in-Ok.read _ c.in-Head.is open_now reads x)
-    (λ p x. opens_at (with_server (core old p) c.read.new.self old.input.items) c.read.new.headers _ (head p x) _ _
-    (c.begin.ensures.puts p (head p x)))
+    c.read.new.headers _ head (λ p x. c.begin.ensures.puts p (head p x))
 
 pub returns-in-Data-clause-stays : goal.returns-in-Data-clause-stays
 returns-in-Data-clause-stays g c = λ now.
-    step_by g.A.Application.plans g.A.Application.gives c.args.self.now now c.take.ensures.keeps
-    c.take.ensures.puts refl c.requires.phase c.requires.state
+    step_by c.args.self.now now c.take.ensures.keeps c.take.ensures.puts c.requires.phase c.requires.state
     (λ p x. c.take.ensures.reaches p
     (after_event (core c.args.self.now p) c.read.new.headers c.read.new.self c.in-Ok.read _
     c.in-Data.is c.requires.state (rw c.as_slice.ensures at c.in-Ok.ensures.ok) x))
 
 pub returns-in-End-clause-stays : goal.returns-in-End-clause-stays
 returns-in-End-clause-stays g c = λ now.
-    step_asks g.A.Application.plans g.A.Application.gives c.args.self.now _ _ now refl c.requires.phase c.requires.state
+    step_asks c.args.self.now _ c.read.new.self c.advance.new.self now c.requires.phase c.requires.state
     (λ p x. subst (λ t. HasRequest (with_server (core c.args.self.now p) c.read.new.self t))
     (sym c.advance.ensures.items)
     (after_event (core c.args.self.now p) c.read.new.headers c.read.new.self c.in-Ok.read _ c.in-End.is
@@ -51,9 +46,8 @@ returns-in-End-clause-stays g c = λ now.
 
 pub returns-in_default-clause-stays : goal.returns-in_default-clause-stays
 returns-in_default-clause-stays g c = λ now.
-    step_by g.A.Application.plans g.A.Application.gives c.args.self.now now c.wait-in_default.ensures.keeps
-    c.wait-in_default.ensures.puts refl
-    c.requires.phase c.requires.state
+    step_by c.args.self.now now c.wait-in_default.ensures.keeps c.wait-in_default.ensures.puts c.requires.phase
+    c.requires.state
     (λ p x. c.wait-in_default.ensures.reaches p
     (subst (λ t. IsStarved (with_server (core c.args.self.now p) c.read.new.self t))
     (sym c.advance-in_default.ensures.items)
@@ -78,8 +72,8 @@ returns-in-Data-clause-rests g c = λ stops phase p x. λ is_open. absurd (c.tak
 pub returns-in-End-clause-rests : goal.returns-in-End-clause-rests
 returns-in-End-clause-rests g c = λ stops phase p x. λ is_open.
     elim c.ask.ensures.asks [
-      | inl asks ↦ let wrong = sym (ap (λ (m : Machine). m.phase) asks.same) ∙ phase in absurd (cc)
-      | inr over ↦ let wrong = sym over.aborted.0 ∙ is_open in absurd (cc)
+      | inl asks ↦ let wrong = sym (ap (λ (m : Machine). m.phase) asks.same) ∙ phase in cc
+      | inr over ↦ let wrong = sym over.aborted.0 ∙ is_open in cc
     ]
 
 pub returns-in_default-clause-rests : goal.returns-in_default-clause-rests

@@ -5,7 +5,7 @@ use Rattle.http_server.{specs.Exchange.ArePartsOf, proofs.MachineLemmas.{busy, m
 use Rattle.server_connection.specs.declared.machine.Machine.{Machine}
 use Rattle.server_connection.{specs.declared.machine.Phase.TheVariants.Receiving, specs.Machine.IsSending}
 use Rattle.server_connection.{specs.Machine.core_asking, proofs.SendLemmas.begins, proofs.TurnLemmas.{aborted, headed}}
-use Rattle.server_connection.proofs.TurnLemmas.{runs_aborted, sent, step_answers, view_begun}
+use Rattle.server_connection.proofs.TurnLemmas.{runs_aborted, runs_by, step_answers, view_begun}
 use Rattle.server_connection.proofs.machine.Machine.respond.Goals as goal
 
 pub returns : goal.returns
@@ -21,28 +21,27 @@ returns g c = λ before now planned.
       request = c.release.new.request;
     } in
     elim c.start.ensures [
-      | inl begun ↦ step_answers plans gives old new before now begun.config begun.ended c.requires
+      | inl begun ↦ step_answers old new before now begun.config begun.ended c.requires
           (λ first p chain laid x.
           let k = core_asking old p in
-          let parts : x.parts ≡ head_of old.request = headed old.has_head (head_of old.request) x.parts x.head in
+          let are = subst (ArePartsOf x.message.head) (headed old.has_head (head_of old.request) x.parts x.head)
+          x.are_parts in
           let kind : c.is_head-is_head.result ≡ is_head (method_kind x.message.head.method) =
           c.is_head-is_head.ensures
           ∙ ap (λ (m : List ℕ). is_head (method_kind m))
-          (c.method.ensures ∙ (subst (ArePartsOf x.message.head) parts x.are_parts).method) in
-          sent plans gives first now new p begun.phase (
+          (c.method.ensures ∙ are.method) in
+          runs_by plans gives first now new p begun.phase (
             before,
             chain,
             subst (IsSending plans gives first before now)
                 (sym (view_begun p c.args.plan c.is_head-is_head.result middle new begun refl c.clear.ensures.items))
-                (begins plans gives first before now k x laid old.request
-                (subst (ArePartsOf x.message.head) parts x.are_parts) refl c.args.plan planned
+                (begins plans gives first before now k x laid old.request are refl c.args.plan planned
                 c.is_head-is_head.result kind new.server new.output.items new.tail.items begun.frames),
           ))
-      | inr over ↦ step_answers plans gives old new before now over.config over.ended c.requires
+      | inr over ↦ step_answers old new before now over.config over.ended c.requires
           (λ first p chain laid x.
           let k = core_asking old p in
           runs_aborted plans gives first before now old new p x.base.is_open over.config over.phase
           (over.state, over.output) chain laid
-          (aborted p middle new over.config over.ended over.input over.state over.output
-          (may_abort k x.base (busy k.config k.history x.reads.head) (inl x.calls))))
+          (aborted p middle new over (may_abort k x.base (busy k.config k.history x.reads.head) (inl x.calls))))
     ]

@@ -1,7 +1,6 @@
 use Rattle.std.proofs.Common.{length, refl, ap, ◌∙◌, inl, inr, arith}
-use Rattle.server_connection.proofs.PieceLemmas.{sends_literal_at, skips_range_at}
-use Rattle.server_connection.proofs.PopLemmas.{cuts_on, puts_on, skips_on}
-use Rattle.server_connection.{specs.Machine.sends_left, proofs.TurnLemmas.sends_less}
+use Rattle.server_connection.{proofs.PieceLemmas.{sends_literal, skips_range}, proofs.PopLemmas.{cuts_on, puts_on}}
+use Rattle.server_connection.{proofs.PopLemmas.skips_on, specs.Machine.sends_left, proofs.TurnLemmas.sends_less}
 use Rattle.server_connection.proofs.machine.Machine.send.Goals as goal
 
 pub returns-in-Some-Literal-clause-sends : goal.returns-in-Some-Literal-clause-sends
@@ -9,9 +8,8 @@ returns-in-Some-Literal-clause-sends g c = λ now.
     let gives = g.A.Application.gives now in
     elim c.put.ensures [
       | inl puts ↦ puts_on gives c.args.self.now puts refl
-          (sends_literal_at gives _ c.pop_front.new.self.items _ c.in-Some-Literal.field-0 c.in-Some-Literal.bytes
-          c.as_slice.result.now c.in-Some-Literal.ensures.items c.in-Some-Literal.field-0-is c.as_slice.ensures
-          puts.left)
+          (rw (c.in-Some-Literal.ensures.items, c.in-Some-Literal.field-0-is, c.as_slice.ensures, puts.left)
+          (sends_literal gives _ _))
       | inr cut ↦ cuts_on gives c.args.self.now cut refl
     ]
 
@@ -20,8 +18,7 @@ returns-in-Some-Range-clause-sends g c = λ now.
     let gives = g.A.Application.gives now in
     elim c.skip.ensures [
       | inl none ↦ skips_on gives c.args.self.now none.1 refl
-          (skips_range_at gives _ c.pop_front.new.self.items _ c.in-Some-Range.field-0 c.in-Some-Range.extent
-          c.in-Some-Range.ensures.items c.in-Some-Range.field-0-is none.0 (ap (λ m. m.left.items) none.1))
+          (rw (none.1, c.in-Some-Range.ensures.items, c.in-Some-Range.field-0-is) (skips_range gives _ _ none.0))
       | inr cut ↦ cuts_on gives c.args.self.now cut refl
     ]
 

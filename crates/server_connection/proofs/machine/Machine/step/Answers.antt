@@ -1,17 +1,15 @@
-use Rattle.server_connection.proofs.TurnLemmas.{stays_leads, step_none, waiting}
+use Rattle.server_connection.proofs.TurnLemmas.{phased, stays_leads, step_none}
 use Rattle.server_connection.proofs.machine.Machine.step.Goals as goal
 
 pub returns-then-not-is_open-clause-leads : goal.returns-then-not-is_open-clause-leads
-returns-then-not-is_open-clause-leads g c = λ now.
-    step_none g.A.Application.plans g.A.Application.gives c.args.self.now now
+returns-then-not-is_open-clause-leads g c = λ now. step_none c.args.self.now now
 
 pub returns-in-Receiving-clause-leads : goal.returns-in-Receiving-clause-leads
-returns-in-Receiving-clause-leads g c = λ now.
-    stays_leads g.A.Application.plans g.A.Application.gives (c.read.ensures.stays now)
+returns-in-Receiving-clause-leads g c = λ now. stays_leads (c.read.ensures.stays now)
 
 pub returns-in-Receiving-clause-rests : goal.returns-in-Receiving-clause-rests
 returns-in-Receiving-clause-rests g c = λ stops phase now first p x. (
   (c.read.ensures.stays now).runs first p x,
   c.read.ensures.rests stops phase p
-      (waiting g.A.Application.plans g.A.Application.gives first now c.args.self.now p c.in-Receiving.is x).1,
+      (phased g.A.Application.plans g.A.Application.gives first now c.args.self.now p c.in-Receiving.is x).1,
 )
