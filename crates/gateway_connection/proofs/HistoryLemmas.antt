@@ -227,8 +227,10 @@ goes_grows {k} {c} {input} new bytes follows now g =
     grown : (now : Now) (x : IsTold c.limits k.ended g.since.start now input)
         → IsAt k.ended g.since.start c now input x → to now
     grown Fresh x at = (ap (λ (s : List ℕ). s ++ bytes) x, at)
-    grown (Asked r interim) x at =
-        (grows bytes follows (λ s t. ReadsInterim c.limits (method_kind r.method) s interim t) g.since.start input x, at)
+    grown (Asked r interim) x at = (
+      grows bytes follows (λ s t. ReadsInterim c.limits (method_kind r.method) s interim t) g.since.start input x,
+      at,
+    )
     grown (Hears r interim response content) x at = (
       record {
         at = x.at ++ bytes;
@@ -301,16 +303,12 @@ module _ (pieces : Request → List (List ℕ)) (trailers : Request → Option (
     abbrev more_of : Request → Request
     more_of r = record r { pieces = pieces r; trailers = trailers r }
 
-    put_since : {k : Frame} (r : Request) → Since k (request_bytes r)
+    longer : {k : Frame} (r : Request) → Since k (request_bytes r)
         → request_bytes (more_of r) ≡ request_bytes r ++ text
         → Since (record k { output = k.output ++ text }) (request_bytes (more_of r))
-    put_since {k} r s more = record {
-      written = rw (
-        more,
-        ← (append_assoc k.sent k.output text),
-        ← (append_assoc (texts k.before) (request_bytes r) text),
-        s.written,
-      );
+    longer {k} r s more = record {
+      written = sym (append_assoc k.sent k.output text) ∙ ap (λ (t : List ℕ). t ++ text) s.written
+          ∙ rw more (append_assoc (texts k.before) (request_bytes r) text);
       start = s.start;
       kept = s.kept;
     }
@@ -320,14 +318,14 @@ module _ (pieces : Request → List (List ℕ)) (trailers : Request → Option (
         → (w ≡ writing_of (more_of r)) × (request_bytes (more_of r) ≡ request_bytes r ++ text))
         → (now : Now) → Goes k c input now
         → Goes (record k { output = k.output ++ text }) (record c { writing = w }) input (change more_of now)
-    unfolding put_since
+    unfolding longer
     put_now is_open puts Fresh g = absurd (rests_open _ _ _ is_open.1 g.at)
     put_now is_open puts (Asked r interim) g =
         let p = puts r g.at.1 in
-        record { since = put_since r g.since p.1; limited = g.limited; told = g.told; at = (g.at.0, p.0, g.at.2, g.at.3) }
+        record { since = longer r g.since p.1; limited = g.limited; told = g.told; at = (g.at.0, p.0, g.at.2, g.at.3) }
     put_now is_open puts (Hears r interim response content) g =
         let p = puts r g.at.1 in
-        record { since = put_since r g.since p.1; limited = g.limited; told = g.told; at = (g.at.0, p.0, g.at.2, g.at.3) }
+        record { since = longer r g.since p.1; limited = g.limited; told = g.told; at = (g.at.0, p.0, g.at.2, g.at.3) }
     put_now is_open puts (Over e) g = absurd (rests_open _ _ _ is_open.1 g.at.0)
 
 waits_body : (c next : Client) (rest input : List ℕ) (r : Reading) (d : Decoder) → r ≡ Reads.Body d
@@ -423,7 +421,8 @@ module _ {k : Frame} {c : Client} {input : List ℕ} where
   -- a response is read
   heard : (P : Now → Type 0) {d : Decoder} → c.reading ≡ Reads.Body d
       → ((r : Request) (interim : List Response) (response : Response) (content : List ℕ)
-      (g : Goes k c input (Hears r interim response content)) → g.told.decoder ≡ d → P (Hears r interim response content))
+      (g : Goes k c input (Hears r interim response content)) → g.told.decoder ≡ d
+      → P (Hears r interim response content))
       → (now : Now) → Goes k c input now → P now
   heard P {d} is f Fresh g = absurd (rests_body c.writing d (rw is at g.at))
   heard P is f (Asked r interim) g = absurd (cc (is, g.at.0))
@@ -677,7 +676,8 @@ said old new event (Some fault) is says r = rw (says.0, says.1) r
 said old new event None is (inl found) r = run_of (find_goes old new event found (goes_of r is))
 said old new event None is (inr failed) r =
     let same = fails_same failed.2 in
-    rw (failed.3, failed.4, same.0, same.1) (record { client = r.client; unread = r.unread; goes = r.goes; left = λ none. absurd (cc) })
+    rw (failed.3, failed.4, same.0, same.1)
+    (record { client = r.client; unread = r.unread; goes = r.goes; left = λ none. absurd (cc) })
 
 -- the client that begins a request
 requests : (c : Client) (method : List ℕ) (headers : List Header) (line : Bool) (plan : Result Plan WriteError)
