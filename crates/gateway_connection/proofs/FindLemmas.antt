@@ -1,8 +1,8 @@
 -- What a read of `http1` finds.
-use Rattle.std.proofs.Common.{◌≡◌, ◌≢◌, ℕ, ◌<◌, ◌≤◌, ◌⊎◌, inl, inr, Bool, true, false, cond, List}
+use Rattle.std.proofs.Common.{◌≡◌, ◌≢◌, ℕ, ◌<◌, ◌≤◌, ◌⊎◌, inl, inr, Bool, true, false, List}
 use Rattle.std.proofs.Common.{[], ◌∷◌, ◌++◌, length, ◌-◌}
 use Rattle.std.proofs.Common.{drop, sym, refl, ap, ◌∙◌, subst, append-nil, IsFalse, arith, ltb}
-use Rattle.std.{proofs.lemmas.Bool.cond-false, proofs.lemmas.Bool.Decides.nat_tests}
+use Rattle.std.proofs.lemmas.Bool.Decides.{nat_tests}
 use Rattle.bytes.specs.Filled.{Filled}
 use Rattle.httparse.{specs.Grammar.{ResponseHead, status_code}, specs.Spans.{span_bytes}}
 use Rattle.httparse.specs.{declared.spans.HeaderSpan.HeaderSpan, declared.spans.ResponseSpans.ResponseSpans}
@@ -17,7 +17,8 @@ use Rattle.http1.specs.declared.conn.Event.TheVariants.{NeedMore, Head, Informat
 use Rattle.http1.specs.{declared.conn.Limits.Limits, declared.conn.Progress.Progress, declared.conn.Reading.Reading}
 use Rattle.http1.specs.{declared.decode.Decoder.Decoder, declared.framing.Framing.Framing}
 use Rattle.http1.specs.declared.framing.MethodKind.{MethodKind}
-use Rattle.gateway_connection.specs.{Responses.{HasNoMap, IsFieldsFault, IsUnder, map_of}}
+use Rattle.gateway_relay.specs.{Content.map_of, Failures.HasNoMap}
+use Rattle.gateway_connection.specs.Responses.{IsFieldsFault, IsUnder}
 use Rattle.gateway_connection.specs.{declared.event.Fault.Fault, declared.event.Response.Response}
 use Rattle.gateway_connection.specs.Steps.{Fails, Finds, HasInvalidFields, IsDue, IsFault, TakesPiece}
 use Rattle.gateway_connection.specs.Steps.{TakesResponse, Waits, WaitsAt}
@@ -51,10 +52,9 @@ module _ (c new : Client) (input : List ℕ) (spans : List HeaderSpan) where
   Tells len (Found.Informational r) = AtHead len (Found.Informational r)
   Tells len (Found.Data s) = InBody len (Found.Data s)
   Tells len (Found.End count) = InBody len (Found.End count)
-  Tells len Found.NeedMore = WaitsAt c.reading c input new (drop len input)
-  Tells len Found.Paused = WaitsAt c.reading c input new (drop len input)
   Tells len Found.Upgraded = Unit {0}
   Tells len Found.Closed = Unit {0}
+  Tells len e = WaitsAt c.reading c input new (drop len input)
 
   tells_head : (len : ℕ) (e : Event Spans) → c.reading ≡ Reads.Head → awaits_head c.writing ≡ false
       → ReadsHead c input spans new len e → Tells len e
@@ -63,24 +63,16 @@ module _ (c new : Client) (input : List ℕ) (spans : List HeaderSpan) where
       (found.1, ap (λ (n : ℕ). drop n input) found.0, inr (due, found.2, found.4))
   tells_head len (Found.Head r) is due found = ((is, due), found)
   tells_head len (Found.Informational r) is due found = ((is, due), found)
-  tells_head len (Found.Data s) is due found = absurd found
-  tells_head len (Found.End count) is due found = absurd found
-  tells_head len Found.Paused is due found = absurd found
-  tells_head len Found.Upgraded is due found = tt
-  tells_head len Found.Closed is due found = tt
+  tells_head len e is due found = absurd found
 
   tells_body : (d : Decoder) (next : Reading) (len : ℕ) (e : Event Spans) → c.reading ≡ Reads.Body d
       → ReadsPiece d input spans next len e → new ≡ after_piece c next → Tells len e
   tells_body d next len Found.NeedMore is found goes =
       subst (λ (r : Reading). WaitsAt r c input new (drop len input)) (sym is)
       (found.0, len, found.2, refl, goes ∙ ap (after_piece c) found.1)
-  tells_body d next len (Found.Head r) is found goes = absurd found
-  tells_body d next len (Found.Informational r) is found goes = absurd found
   tells_body d next len (Found.Data s) is found goes = (d, next, is, found, goes)
   tells_body d next len (Found.End count) is found goes = (d, next, is, found, goes)
-  tells_body d next len Found.Paused is found goes = absurd found
-  tells_body d next len Found.Upgraded is found goes = tt
-  tells_body d next len Found.Closed is found goes = tt
+  tells_body d next len e is found goes = absurd found
 
   tells_first : (idle : Bool) (read : Progress Spans) → c.reading ≡ Reads.Head → awaits_head c.writing ≡ idle
       → ReadsFirst idle c input spans new read → Tells read.consumed read.event
@@ -142,98 +134,51 @@ interim_of b input spans r response u is = ap is_interim u.status ∙ is
 
 body_size : (limits : Limits) (framing : Framing) → unread_size (Reads.Body (decoder_for limits framing)) ≢ Size.Empty
 body_size limits Framed.NoBody is = absurd (cc)
-body_size limits (Framed.Length n) is = absurd (cc)
-body_size limits Framed.Chunked is = absurd (cc)
-body_size limits Framed.UntilClose is = absurd (cc)
+body_size limits framing is = absurd (cc)
 
-pub final_high : (c : Client) (method : MethodKind) (status : ℕ) → is_interim status ≡ false
+final_high : (c : Client) (method : MethodKind) (status : ℕ) → is_interim status ≡ false
     → switches (record c { method = method }) status ≡ false → ltb status 200 ≡ false
 final_high c Method.Head status is stays = grind (arith, nat_tests)
-final_high c Method.Connect status is stays = grind (arith, nat_tests)
-final_high c Method.Other status is stays = grind (arith, nat_tests)
+final_high c method status is stays = grind (arith, nat_tests)
 
--- the input after a final head shows whether it switches
-module _ (c new : Client) (h : ResponseHead) (framing : Framing) (goes : new ≡ after_head c h framing)
-    (final : is_interim (status_code h) ≡ false) where
-  size_at : (b : Bool) → switches c (status_code h) ≡ b
-      → ((unread_size new.reading ≡ Size.Empty) × (b ≡ true)) ⊎ ((unread_size new.reading ≢ Size.Empty) × (b ≡ false))
-  size_at true is =
-      inl (
-        ap (λ (k : Client). unread_size k.reading) (goes ∙ ap (λ (t : Bool). cond t (upgraded_client c)
-            (cond (ltb (status_code h) 200) c (reading_body c h.minor (known_of h.fields) framing))) is),
-        refl,
-      )
-  size_at false is =
-      let stays = goes ∙ ap (λ (t : Bool). cond t (upgraded_client c)
-      (cond (ltb (status_code h) 200) c (reading_body c h.minor (known_of h.fields) framing))) is
-      ∙ cond-false _ _ _ (final_high c c.method (status_code h) final is) in
-      inr (λ none. body_size c.limits framing (sym (ap (λ (k : Client). unread_size k.reading) stays) ∙ none), refl)
+pub final_stays : (c : Client) (h : ResponseHead) (framing : Framing) → is_interim (status_code h) ≡ false
+    → switches c (status_code h) ≡ false → after_head c h framing ≡ reading_body c h.minor (known_of h.fields) framing
+final_stays c h framing final stays = rw (stays, final_high c c.method (status_code h) final stays)
 
-  switched_of : (b : Bool) → ((unread_size new.reading ≡ Size.Empty) × (b ≡ true))
-      ⊎ ((unread_size new.reading ≢ Size.Empty) × (b ≡ false)) → unread_size new.reading ≡ Size.Empty → b ≡ true
-  switched_of b (inl x) empty = x.1
-  switched_of b (inr x) empty = absurd (x.0 empty)
+-- ---- steps
 
-  stayed_of : (b : Bool) → ((unread_size new.reading ≡ Size.Empty) × (b ≡ true))
-      ⊎ ((unread_size new.reading ≢ Size.Empty) × (b ≡ false)) → unread_size new.reading ≢ Size.Empty → b ≡ false
-  stayed_of b (inl x) other = absurd (other x.0)
-  stayed_of b (inr x) other = x.1
-
--- what is said of a final head
+-- what is said of a final head, by what is unread after it
 module _ (old new : Origin) (spans : List HeaderSpan) (len : ℕ) (r : ResponseSpans) (response : Response)
     (seen : List ℕ) (same : seen ≡ old.input.items) (due : IsDue old.client)
     (head : IsFalse (is_interim r.code) × TakesHead old.client seen spans new.client len r)
     (u : IsUnder old.input.items spans r response) (left : new.input.items ≡ drop r.len old.input.items)
     (rest : new ≡ record old { client = new.client; input = new.input; silent = false }) (size : BodySize)
     (sized : size ≡ unread_size new.client.reading) where
-  final : is_interim response.status ≡ false
-  final = interim_of false old.input.items spans r response u head.0
-
-  code : response.status ≡ status_code head.1.head
-  code = u.status ∙ head.1.covered.code
-
-  tested : ((unread_size new.client.reading ≡ Size.Empty) × (switches old.client (status_code head.1.head) ≡ true))
-      ⊎ ((unread_size new.client.reading ≢ Size.Empty) × (switches old.client (status_code head.1.head) ≡ false))
-  tested = size_at old.client new.client head.1.head head.1.framing head.1.next (ap is_interim (sym code) ∙ final)
-      (switches old.client (status_code head.1.head)) refl
-
-  takes : TakesResponse old response new
-  takes = takes_response old new spans len r response seen same due head.1 u left rest
-
-  pub head_switches : size ≡ Size.Empty
-      → IsFalse (is_interim response.status) × (switches old.client response.status ≡ true)
-      × TakesResponse old response new
-  head_switches empty = (
-    final,
-    ap (switches old.client) code ∙ switched_of old.client new.client head.1.head head.1.framing head.1.next
-        (ap is_interim (sym code) ∙ final) _ tested (sym sized ∙ empty),
-    takes,
-  )
-
-  pub head_stays : size ≢ Size.Empty
-      → IsFalse (is_interim response.status) × (switches old.client response.status ≡ false)
-      × TakesResponse old response new
-  head_stays other = (
-    final,
-    ap (switches old.client) code ∙ stayed_of old.client new.client head.1.head head.1.framing head.1.next
-        (ap is_interim (sym code) ∙ final) _ tested (λ empty. other (sized ∙ empty)),
-    takes,
-  )
-
-  -- it is told by what is unread
   pub head_found : (event : Said) → (size ≡ Size.Empty → event ≡ Is.Switched response)
       → (size ≢ Size.Empty → event ≡ Is.Head response) → Finds old event new
-  head_found event switched stays = head_at_size size refl
+  head_found event switched stays = by_switch (switches old.client response.status) refl
     where
-      head_at_size : (n : BodySize) → size ≡ n → Finds old event new
-      head_at_size Size.Empty is =
-          subst (λ (e : Said). Finds old e new) (sym (switched is)) (head_switches is)
-      head_at_size (Size.Known len) is =
-          let other : size ≢ Size.Empty = λ empty. let no = sym is ∙ empty in absurd (cc) in
-          subst (λ (e : Said). Finds old e new) (sym (stays other)) (head_stays other)
-      head_at_size Size.Unknown is =
-          let other : size ≢ Size.Empty = λ empty. let no = sym is ∙ empty in absurd (cc) in
-          subst (λ (e : Said). Finds old e new) (sym (stays other)) (head_stays other)
+      t : TakesResponse old response new
+      t = takes_response old new spans len r response seen same due head.1 u left rest
+
+      status : status_code t.head ≡ response.status
+      status = sym (ap (λ (x : Response). x.status) t.parts)
+
+      final : is_interim response.status ≡ false
+      final = interim_of false old.input.items spans r response u head.0
+
+      by_switch : (b : Bool) → switches old.client response.status ≡ b → Finds old event new
+      by_switch true is =
+          let goes : after_head old.client t.head t.framing ≡ upgraded_client old.client =
+          rw (ap (switches old.client) status ∙ is) in
+          let empty = sized ∙ ap (λ (k : Client). unread_size k.reading) (t.client ∙ goes) in
+          subst (λ (e : Said). Finds old e new) (sym (switched empty)) (final, is, t)
+      by_switch false is =
+          let goes = t.client ∙ final_stays old.client t.head t.framing (ap is_interim status ∙ final)
+          (ap (switches old.client) status ∙ is) in
+          let other : size ≢ Size.Empty = λ empty. body_size old.client.limits t.framing
+          (sym (ap (λ (k : Client). unread_size k.reading) goes) ∙ sym sized ∙ empty) in
+          subst (λ (e : Said). Finds old e new) (sym (stays other)) (final, is, t)
 
 -- ---- content
 
@@ -273,12 +218,9 @@ breaks old next rest fault because = inl (record { because = because; rest = ref
 
 pub fields_fault : (m : Origin) (fields : List Header) (fault : Fault) → IsFieldsFault fields fault
     → (HasNoMap fields → HasInvalidFields m.client m.input.items) → IsFault m fault
-fields_fault m fields Faults.Unasked is invalid = absurd is
-fields_fault m fields (Faults.Malformed e) is invalid = absurd is
-fields_fault m fields Faults.CutShort is invalid = absurd is
-fields_fault m fields Faults.Unanswered is invalid = absurd is
 fields_fault m fields Faults.InvalidFields is invalid = invalid is
 fields_fault m fields Faults.OutOfMemory is invalid = tt
+fields_fault m fields fault is invalid = absurd is
 
 pub head_fault : (m : Origin) (new : Client) (spans : List HeaderSpan) (len : ℕ) (r : ResponseSpans) (seen : List ℕ)
     (fault : Fault) → seen ≡ m.input.items → TakesHead m.client seen spans new len r

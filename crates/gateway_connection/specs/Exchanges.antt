@@ -1,11 +1,11 @@
 -- Exchanges: requests literally, and the responses to them by the grammar.
-use Rattle.std.specs.Prelude.{◌≡◌, ◌≢◌, ℕ, Bool, true, false, List, [], ◌∷◌, ◌++◌, length, map, Option}
+use Rattle.std.specs.Prelude.{◌≡◌, ◌≢◌, ℕ, Bool, true, false, List, [], ◌∷◌, ◌++◌, map, Option}
 use Rattle.std.specs.Prelude.{Some, None, Result, Ok, Err, IsTrue}
 use Rattle.httparse.specs.{Spans.name_and_value}
 use Rattle.http_header.{specs.FieldValue.FieldValue, specs.HeaderMap.Entries}
 use Rattle.http1.specs.{Body.{Body}, Client.{is_interim, plan_fields}, Decoder.{Completes, IsLive}}
 use Rattle.http1.specs.{Conn.{Plan, keeps_alive, planned_headers}, Decoder.with_front, Fields.Header}
-use Rattle.http1.specs.Encoder.{after_piece, encoder_for, end_text, piece_text}
+use Rattle.http1.specs.Encoder.{encoder_for, end_text}
 use Rattle.http1.specs.{Framing.method_kind, Head.request_text}
 use Rattle.http1.specs.{Message.{AcceptsResponse, ReadsResponseMessage, known_of}, declared.conn.BodySize.BodySize}
 use Rattle.http1.specs.{declared.conn.Limits.Limits, declared.decode.Decoder.Decoder, declared.encode.Encoder.Encoder}
@@ -13,7 +13,8 @@ use Rattle.http1.specs.{declared.error.WriteError.WriteError}
 use Rattle.http1.specs.declared.framing.MethodKind.{MethodKind}
 use Rattle.http1.specs.Message as Message
 use Rattle.http1.specs.declared.encode.Encoder.TheVariants as Encodes
-use Rattle.gateway_connection.specs.{Responses.{map_of, response_of}, declared.event.Response.Response}
+use Rattle.gateway_relay.specs.Content.{after_pieces, map_of, pieces_text}
+use Rattle.gateway_connection.specs.{Responses.response_of, declared.event.Response.Response}
 
 -- ---- requests
 
@@ -37,16 +38,6 @@ encoder_in (Err error) = Encodes.Length 0
 abbrev pub keeps_in : Result Plan WriteError → Bool
 keeps_in (Ok plan) = plan.keep_alive
 keeps_in (Err error) = false
-
--- the pieces, each in its frame
-abbrev pub pieces_text : List (List ℕ) → Encoder → List ℕ
-pieces_text [] e = []
-pieces_text (piece ∷ pieces) e = piece_text e piece ++ pieces_text pieces (after_piece e (length piece))
-
--- the encoder after them
-abbrev pub after_pieces : List (List ℕ) → Encoder → Encoder
-after_pieces [] e = e
-after_pieces (piece ∷ pieces) e = after_pieces pieces (after_piece e (length piece))
 
 -- what ends the content, once it was ended
 abbrev pub last_text : Encoder → Option (List Header) → List ℕ

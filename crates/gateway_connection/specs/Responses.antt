@@ -1,18 +1,13 @@
 -- The head and the fields of a response, as a caller gets them.
-use Rattle.std.specs.Prelude.{◌≡◌, ⊤, ℕ, ◌⊎◌, List, [], map, take, fold, Any}
+use Rattle.std.specs.Prelude.{◌≡◌, ⊤, ℕ, List, map}
 use Rattle.httparse.specs.{Grammar.{ResponseHead, reason_phrase, status_code}, Spans.{name_and_value, span_bytes}}
 use Rattle.httparse.specs.{declared.spans.HeaderSpan.HeaderSpan, declared.spans.ResponseSpans.ResponseSpans}
 use Rattle.http.specs.declared.error.Error.{Error}
-use Rattle.http_header.{specs.FieldName.IsFieldName, specs.FieldValue.{FieldValue, IsFieldValue, plain_value}}
-use Rattle.http_header.{specs.HeaderMap.{Entries, RefusesAppend, append}, specs.Token.lowercase}
 use Rattle.http1.specs.{Fields.Header, ServerTrace.headers_at}
+use Rattle.gateway_relay.specs.{Content.map_of, Failures.HasNoMap}
 use Rattle.gateway_connection.specs.{declared.event.Fault.Fault, declared.event.Response.Response}
 use Rattle.http.specs.declared.error.Error.TheVariants as Mapped
 use Rattle.gateway_connection.specs.declared.event.Fault.TheVariants as Faults
-
--- the header map of some fields: each is appended in order, its name in lower case
-abbrev pub map_of : List Header → Entries FieldValue
-map_of headers = fold (λ m h. append m (lowercase h.0) (plain_value h.1)) [] headers
 
 -- the parts of a head of the grammar
 abbrev pub response_of : ResponseHead → Response
@@ -29,13 +24,6 @@ pub record IsUnder (input : List ℕ) (spans : List HeaderSpan) (r : ResponseSpa
   pub status : response.status ≡ r.code
   pub reason : response.reason ≡ span_bytes input r.reason
   pub fields : response.fields ≡ map_of (headers_at input spans r.headers)
-
--- no header map takes the fields: a name or a value is invalid, or there are too many
-abbrev pub HasNoMap : List Header → Type 0
-HasNoMap fields =
-    Any (λ h. ¬ (IsFieldName h.0)) fields
-    ⊎ (Any (λ h. ¬ (IsFieldValue h.1)) fields
-    ⊎ ((count : ℕ) × (name : List ℕ) × RefusesAppend (map_of (take count fields)) name))
 
 -- the reason that `http1_typed` tells
 abbrev pub map_fault : Error → Fault

@@ -14,7 +14,8 @@ use Rattle.http1.specs.{declared.conn.Limits.Limits, declared.conn.Reading.Readi
 use Rattle.http1.specs.declared.error.ReadError.{ReadError}
 use Rattle.http1.specs.{declared.error.WriteError.WriteError, declared.framing.Framing.Framing}
 use Rattle.http1.specs.declared.decode.Decoder.TheVariants.{UntilClose}
-use Rattle.gateway_connection.specs.{Responses.{HasNoMap, map_of, response_of}, declared.event.Event.Event}
+use Rattle.gateway_relay.specs.{Content.map_of, Failures.HasNoMap}
+use Rattle.gateway_connection.specs.{Responses.response_of, declared.event.Event.Event}
 use Rattle.gateway_connection.specs.{declared.event.Fault.Fault, declared.event.Response.Response}
 use Rattle.gateway_connection.specs.{declared.head.TheConstants.MAX_FIELDS, declared.origin.Origin.Origin}
 use Rattle.http1.specs.declared.conn.Reading.TheVariants as Reads

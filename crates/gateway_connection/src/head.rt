@@ -2,7 +2,8 @@
 ghost use Rattle.std.specs.Prelude.{◌≡◌, ◌≤◌, drop, length, IfErr, IfOk, OnOk};
 ghost use Rattle.httparse.specs.Spans.{IsResponseWithin, IsSectionWithin, IsWithin, span_bytes};
 ghost use Rattle.http1.specs.ServerTrace.{headers_at};
-ghost use Rattle.gateway_connection.specs.Responses.{IsFieldsFault, IsUnder, map_of};
+ghost use Rattle.gateway_relay.specs.Content.{map_of};
+ghost use Rattle.gateway_connection.specs.Responses.{IsFieldsFault, IsUnder};
 
 use crate::event::{Fault, Response};
 use bytes::{Bytes, BytesMut};

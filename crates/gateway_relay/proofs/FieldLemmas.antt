@@ -64,10 +64,6 @@ module _ (n : ℕ) (text : List ℕ) (spans : List HeaderSpan) (within : All (Is
   -- why the fields under the spans have no map
   pub map_fails : (e : Error) → MapError (take n text) spans e
       → IsMapFailure (map (header_bytes text) spans) (map_failure e)
-  map_fails Mapped.StatusCode wrong = absurd wrong
-  map_fails Mapped.Method wrong = absurd wrong
-  map_fails (Mapped.Uri e) wrong = absurd wrong
-  map_fails (Mapped.UriParts e) wrong = absurd wrong
   map_fails Mapped.HeaderName wrong = inl (subst (λ (hs : List Header). Any (λ h. ¬ (IsFieldName h.0)) hs) under
       (any_map (header_bytes (take n text)) (λ h. ¬ (IsFieldName h.0)) spans wrong))
   map_fails Mapped.HeaderValue wrong = inr (inl (subst (λ (hs : List Header). Any (λ h. ¬ (IsFieldValue h.1)) hs) under
@@ -78,3 +74,4 @@ module _ (n : ℕ) (text : List ℕ) (spans : List HeaderSpan) (within : All (Is
     subst (λ (m : Entries FieldValue). RefusesAppend m wrong.1) (first_map wrong.0) wrong.2,
   ))
   map_fails Mapped.OutOfMemory wrong = tt
+  map_fails e wrong = absurd wrong

@@ -1,35 +1,26 @@
 -- Heads that were read.
-use Rattle.std.proofs.Common.{◌≡◌, ℕ, List, ◌++◌, ◌∙◌, ap, sym, subst, drop, false, Err, IfErr, IfOk, IsErr, Ok, Option}
+use Rattle.std.proofs.Common.{◌≡◌, ℕ, List, ◌++◌, ◌∙◌, ap, sym, subst, drop, false, Err, IfErr, Option}
 use Rattle.std.proofs.Common.{Result, ◌⊎◌, inl, inr, map, take, take-append-drop}
-use Rattle.std.{proofs.KnownBytes.Consumes-kept, proofs.lemmas.List.append_cancel_right}
-use Rattle.std.specs.Io.KnownBytes.{Consumes, Keeps}
+use Rattle.std.{proofs.lemmas.List.append_cancel_right, specs.Io.KnownBytes.Consumes}
 use Rattle.httparse.{specs.Grammar.{RequestHead, ResponseHead, print_request}, specs.Spans.name_and_value}
 use Rattle.httparse.{specs.declared.spans.HeaderSpan.HeaderSpan, specs.declared.spans.RequestSpans.RequestSpans}
 use Rattle.httparse.specs.declared.spans.ResponseSpans.{ResponseSpans}
 use Rattle.http1.{specs.Client.{ClientReads, ReadsAt, ReadsFirst, ReadsHead, TakesHead}, specs.Conn.awaits_head}
 use Rattle.http1.{specs.Fields.Header, specs.Message.{AcceptsRequest, AcceptsResponse}, specs.Server.ServerReads}
-use Rattle.http1.{specs.Server.new_server, specs.declared.client.Client.Client, specs.declared.conn.Event.Event}
+use Rattle.http1.{specs.Server.new_server, specs.declared.client.Client.Client}
 use Rattle.http1.{specs.declared.conn.Event.TheVariants.{Head, Informational}, specs.declared.conn.Limits.Limits}
 use Rattle.http1.{specs.declared.conn.Progress.Progress, specs.declared.conn.Reading.Reading}
 use Rattle.http1.{specs.declared.error.ReadError.ReadError, specs.declared.framing.Framing.Framing}
 use Rattle.http1.specs.declared.server.Server.{Server}
 use Rattle.gateway_relay.{specs.Content.map_of, specs.declared.failure.Failure.Failure}
 use Rattle.gateway_relay.{specs.declared.response.Response.Response, specs.Failures.{HasNoMap, IsMapFailure}}
-use Rattle.gateway_relay.{specs.Failures.{IsReceiveFailure, Receives}, specs.Heads.FailsToReadRequest}
-use Rattle.gateway_relay.specs.Heads.{FailsToReadResponse, IsHeadFailure, IsRequestAt, IsResponseAt, ReadsRequestHead}
-use Rattle.gateway_relay.{specs.Heads.ReadsResponseHead, specs.declared.request.Request.Request}
+use Rattle.gateway_relay.specs.Heads.{FailsToReadRequest, FailsToReadResponse, IsHeadFailure, IsRequestAt, IsResponseAt}
+use Rattle.gateway_relay.specs.{Heads.{ReadsRequestHead, ReadsResponseHead}, declared.request.Request.Request}
 use Rattle.http1.specs.Server as Serving
 use Rattle.http1.specs.declared.conn.Reading.TheVariants as Reads
 use Rattle.gateway_relay.specs.declared.failure.Failure.TheVariants as Failed
 
 -- ---- failures
-
--- no read gave more
-unread : (is_cut has_no_map : Type 0) (is_malformed : ReadError → Type 0) (f : Failure) → IsReceiveFailure f
-    → IsHeadFailure is_cut has_no_map is_malformed f
-unread is_cut has_no_map is_malformed Failed.Reader is = tt
-unread is_cut has_no_map is_malformed Failed.OutOfMemory is = tt
-unread is_cut has_no_map is_malformed f is = absurd is
 
 -- the fields of a head have no map
 unmapped : (is_cut has_no_map : Type 0) (is_malformed : ReadError → Type 0) (fields : List Header) (f : Failure)
@@ -38,38 +29,10 @@ unmapped is_cut has_no_map is_malformed fields Failed.InvalidFields is because =
 unmapped is_cut has_no_map is_malformed fields Failed.OutOfMemory is because = tt
 unmapped is_cut has_no_map is_malformed fields f is because = absurd is
 
--- what was taken, and kept by a read that failed
-receives_kept : (before input : List ℕ) (left left_then left_now : Option (List ℕ)) (taken : List ℕ)
-    → Consumes left left_then taken → input ≡ before ++ taken → Keeps left_then left_now
-    → Receives before input left left_now
-receives_kept before input left left_then left_now taken received text keeps = record {
-  taken = taken;
-  received = Consumes-kept left left_then left_now taken received keeps;
-  input = text;
-}
-
 -- a call that fails so
 module _ {T : Type 0} (r : Result T Failure) {f y : Failure} (is : r ≡ Err y) (same : y ≡ f) where
   pub fails_as : (P : Failure → Type 0) → P f → IfErr r P
   fails_as P because = subst (λ (x : Result T Failure). IfErr x P) (sym is) (subst P (sym same) because)
-
-  pub request_fails : (limits : Limits) (before input : List ℕ) (left left_then left_now : Option (List ℕ))
-      (taken : List ℕ) → Consumes left left_then taken → input ≡ before ++ taken → Keeps left_then left_now
-      → IsReceiveFailure f → IfErr r (FailsToReadRequest limits before input left left_now)
-  request_fails limits before input left left_then left_now taken received text keeps none =
-      fails_as (FailsToReadRequest limits before input left left_now) (record {
-        receives = receives_kept before input left left_then left_now taken received text keeps;
-        because = unread _ _ _ f none;
-      })
-
-  pub response_fails : (client : Client) (before input : List ℕ) (left left_then left_now : Option (List ℕ))
-      (taken : List ℕ) → Consumes left left_then taken → input ≡ before ++ taken → Keeps left_then left_now
-      → IsReceiveFailure f → IfErr r (FailsToReadResponse client before input left left_now)
-  response_fails client before input left left_then left_now taken received text keeps none =
-      fails_as (FailsToReadResponse client before input left left_now) (record {
-        receives = receives_kept before input left left_then left_now taken received text keeps;
-        because = unread _ _ _ f none;
-      })
 
   pub request_has_no_map : (limits : Limits) (before input : List ℕ) (left left_now : Option (List ℕ))
       (taken : List ℕ) (head : RequestHead) (framing : Framing) (rest : List ℕ) → Consumes left left_now taken
@@ -92,11 +55,6 @@ module _ {T : Type 0} (r : Result T Failure) {f y : Failure} (is : r ≡ Err y) 
         receives = record { taken = taken; received = received; input = text };
         because = unmapped _ _ _ _ f none (λ is. (head, framing, rest, accepts, is));
       })
-
--- nothing is said of the value of an error
-pub no_value : {T E : Type 0} (P : T → Type 0) (r : Result T E) → IsErr r → IfOk r P
-no_value P (Ok value) error = cc
-no_value P (Err e) error = tt
 
 -- ---- requests
 
@@ -149,10 +107,8 @@ takes_head client old new input spans read r same reading writing reads is =
     let found : ReadsHead client input spans new read.consumed read.event =
     subst (λ x. ReadsFirst x client input spans new read) writing at_head in
     elim is [
-      | inl final ↦ (subst (λ
-          (x : Event ResponseSpans). ReadsHead client input spans new read.consumed x) final found).1
-      | inr interim ↦
-          (subst (λ (x : Event ResponseSpans). ReadsHead client input spans new read.consumed x) interim found).1
+      | inl final ↦ (rw final at found).1
+      | inr interim ↦ (rw interim at found).1
     ]
 
 -- its parts were taken

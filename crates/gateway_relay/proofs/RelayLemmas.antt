@@ -15,7 +15,7 @@ use Rattle.http1.{specs.declared.conn.Reading.Reading, specs.declared.conn.Writi
 use Rattle.http1.{specs.declared.decode.Decoded.Decoded, specs.declared.decode.Decoder.Decoder}
 use Rattle.http1.{specs.declared.encode.Encoder.Encoder, specs.declared.error.ReadError.ReadError}
 use Rattle.http1.{specs.declared.error.WriteError.WriteError, specs.declared.server.Server.Server, specs.Conn.Plan}
-use Rattle.http1.{specs.Conn.{after_data, data_refusal, data_text}, specs.Decoder.{AwaitsTrailers, Completes}}
+use Rattle.http1.{specs.Conn.{after_data, data_refusal, data_text}, specs.Decoder.Completes}
 use Rattle.http1.{specs.Decoder.{Continues, Ends, HasNoBody, Runs, Starves, with_front}, specs.Encoder.AreAccepted}
 use Rattle.http1.specs.Encoder.{after_piece, encoder_for, body_text, end_refusal, end_text, piece_refusal, piece_text}
 use Rattle.http1.specs.Head.{head_refusal, is_request_line, is_status_line, request_text, response_text}
@@ -50,8 +50,7 @@ pub within_rest : (text : List ℕ) (at count : ℕ) → at ≤ length text
     → count ≤ length (take (length text - at) (drop at text))
     → at + count ≤ length text
 within_rest text at count within bound =
-    let same = ap length (rest_of text at) in
-    omega (arith, length-drop at text, same, bound)
+    omega (arith, length-drop at text, ap length (rest_of text at))
 
 pub Appends-kept : (a b c : Option (List ℕ)) (bs : List ℕ) → Appends a b bs → Keeps b c → Appends a c bs
 Appends-kept None b c bs p q = tt
@@ -217,36 +216,23 @@ unfinished {first} {d} {stream} {input} given none body rest completes =
     none f.0 rest (rw (append-nil input) at f.2)
 
 -- a decoder of content that only the end of the connection ends, and no other, stays one
-runs_from : (d new : Decoder) (input : List ℕ) (len : ℕ) (piece : List ℕ) → Runs d input new len piece
-    → new ≡ UntilClose → d ≡ UntilClose
-runs_from (Length left) new input len piece runs until = absurd (cc)
-runs_from (Chunked chunks max_len) new input len piece runs until =
-    let is = runs.1 in absurd (cc)
-runs_from UntilClose new input len piece runs until = refl
+runs_same : (d new : Decoder) (input : List ℕ) (len : ℕ) (piece : List ℕ) → Runs d input new len piece
+    → (new ≡ UntilClose → d ≡ UntilClose) × (d ≡ UntilClose → new ≡ UntilClose)
+runs_same (Length left) new input len piece runs = (λ until. absurd (cc), λ until. absurd (cc))
+runs_same (Chunked chunks max_len) new input len piece runs =
+    (λ until. let is = runs.1 in absurd (cc), λ until. absurd (cc))
+runs_same UntilClose new input len piece runs = (λ until. refl, λ until. runs)
 
-runs_to : (d new : Decoder) (input : List ℕ) (len : ℕ) (piece : List ℕ) → Runs d input new len piece
-    → d ≡ UntilClose → new ≡ UntilClose
-runs_to (Length left) new input len piece runs until = absurd (cc)
-runs_to (Chunked chunks max_len) new input len piece runs until = absurd (cc)
-runs_to UntilClose new input len piece runs until = runs
-
-until_from : {first d : Decoder} {stream input : List ℕ} {pieces : List (List ℕ)} → Gives first stream pieces d input
-    → d ≡ UntilClose → first ≡ UntilClose
-until_from (begins input) until = until
-until_from (receives stream pieces d input added given) until = until_from given until
-until_from (waits stream pieces d new input len given continues) until =
-    until_from given (runs_from d new input len [] continues.runs until)
-until_from (reads stream pieces d new input len piece given continues) until =
-    until_from given (runs_from d new input len piece continues.runs until)
-
-until_to : {first d : Decoder} {stream input : List ℕ} {pieces : List (List ℕ)} → Gives first stream pieces d input
-    → first ≡ UntilClose → d ≡ UntilClose
-until_to (begins input) until = until
-until_to (receives stream pieces d input added given) until = until_to given until
-until_to (waits stream pieces d new input len given continues) until =
-    runs_to d new input len [] continues.runs (until_to given until)
-until_to (reads stream pieces d new input len piece given continues) until =
-    runs_to d new input len piece continues.runs (until_to given until)
+until_same : {first d : Decoder} {stream input : List ℕ} {pieces : List (List ℕ)} → Gives first stream pieces d input
+    → (d ≡ UntilClose → first ≡ UntilClose) × (first ≡ UntilClose → d ≡ UntilClose)
+until_same (begins input) = (λ until. until, λ until. until)
+until_same (receives stream pieces d input added given) = until_same given
+until_same (waits stream pieces d new input len given continues) =
+    let step = runs_same d new input len [] continues.runs in
+    (λ until. (until_same given).0 (step.0 until), λ until. step.1 ((until_same given).1 until))
+until_same (reads stream pieces d new input len piece given continues) =
+    let step = runs_same d new input len piece continues.runs in
+    (λ until. (until_same given).0 (step.0 until), λ until. step.1 ((until_same given).1 until))
 
 -- ---- a relay that goes on
 
@@ -358,11 +344,10 @@ module _ {d : Decoder} {e : Encoder} {before input : List ℕ} {left left_now he
         text = p.text;
       }
 
-  -- what was to be sent is sent
+  -- a first part of what was to be sent is sent
   unfoldable pub passing_sent : (sent unsent : List ℕ) (held_new : Option (List ℕ)) → pending ≡ sent ++ unsent
-      → Appends held_now held_new sent → unsent ≡ [] → Passing d e before input left left_now held held_new r w []
-  passing_sent sent unsent held_new is told all =
-      let same : pending ≡ sent = is ∙ ap (λ (t : List ℕ). sent ++ t) all ∙ append-nil sent in
+      → Appends held_now held_new sent → Passing d e before input left left_now held held_new r w unsent
+  passing_sent sent unsent held_new is told =
       record {
         taken = p.taken;
         received = p.received;
@@ -374,7 +359,7 @@ module _ {d : Decoder} {e : Encoder} {before input : List ℕ} {left left_now he
         is_writing = p.is_writing;
         sent = p.sent ++ sent;
         told = Appends-trans held held_now held_new p.sent sent p.told told;
-        text = p.text ∙ ap (λ (t : List ℕ). p.sent ++ t) same ∙ sym (append-nil (p.sent ++ sent));
+        text = p.text ∙ ap (λ (t : List ℕ). p.sent ++ t) is ∙ sym (append_assoc p.sent sent unsent);
       }
 
   -- bytes came
@@ -415,34 +400,6 @@ module _ {d : Decoder} {e : Encoder} {before input : List ℕ} {left left_now he
         sends = (p.sent, pending, p.text, p.told, tt);
         ends = tt;
         fails = because;
-        remains = remains;
-      })
-
-  -- sending fails
-  pub relays_unsent : (ends : Bool) (sent unsent : List ℕ) (held_new : Option (List ℕ))
-      (result : Result (Entries FieldValue) Failure) (after : List ℕ) (written : Writing) (failure : Failure)
-      → result ≡ Err failure → failure ≡ Failed.Writer → pending ≡ sent ++ unsent → Appends held_now held_new sent
-      → after ≡ input → Relays ends d e before after left left_now held held_new written result
-  relays_unsent ends sent unsent held_new result after written failure is writer text told remains =
-      subst (λ (x : Result (Entries FieldValue) Failure). Relays ends d e before after left left_now held held_new
-      written x) (sym (is ∙ ap Err writer))
-      (record {
-        taken = p.taken;
-        received = p.received;
-        pieces = p.pieces;
-        last = p.last;
-        unread = input;
-        gives = p.gives;
-        passed = p.passed;
-        sends = (
-          p.sent ++ sent,
-          unsent,
-          p.text ∙ ap (λ (t : List ℕ). p.sent ++ t) text ∙ sym (append_assoc p.sent sent unsent),
-          Appends-trans held held_now held_new p.sent sent p.told told,
-          tt,
-        );
-        ends = tt;
-        fails = tt;
         remains = remains;
       })
 
@@ -529,8 +486,7 @@ pub end_closed : (d : Decoder) (input : List ℕ) (trailers : Entries FieldValue
     → HasEnd d input trailers input
 end_closed d input trailers until none empty = (
   [],
-  subst (λ (s : List ℕ). Completes d s (body_of [] []) s) (sym none)
-      (subst (λ (x : Decoder). Completes x [] (body_of [] []) []) (sym until) (refl, refl, refl)),
+  rw (none, until) (refl, refl, refl),
   empty,
 )
 
@@ -542,27 +498,26 @@ module _ (turn : ℕ) (before taken input : List ℕ)
   pub counts_piece : (len : ℕ) (new : List ℕ) → 0 < len → len ≤ length input → new ≡ drop len input
       → (turn + 1) + length new ≤ length taken + length (before ++ taken)
   counts_piece len new some within is =
-      let dropped = length-drop len input in
-      let same = ap length is in
-      omega (arith, dropped, same, some, within, counted)
+      omega (arith, length-drop len input, ap length is)
 
   -- a turn that read more
   pub counts_read : (len : ℕ) (more new : List ℕ) → 0 < length more → new ≡ drop len input ++ more
       → (turn + 1) + length new ≤ length (taken ++ more) + length (before ++ (taken ++ more))
   counts_read len more new some is =
-      let dropped = length-drop len input in
-      let same = ap length is in
-      let all = length-append (drop len input) more in
-      let first = length-append taken more in
-      let second = length-append before (taken ++ more) in
-      let third = length-append before taken in
-      omega (arith, dropped, same, all, first, second, third, some, counted)
+      omega (
+        arith,
+        length-drop len input,
+        ap length is,
+        length-append (drop len input) more,
+        length-append taken more,
+        length-append before (taken ++ more),
+        length-append before taken,
+      )
 
   -- as many turns as are counted
   pub counts_all : 2 ^ 64 - 1 ≤ turn → 2 ^ 63 ≤ length (before ++ taken)
   counts_all many =
-      let all = length-append before taken in
-      omega (arith, all, many, counted)
+      omega (arith, length-append before taken)
 
 pub above : (start end : ℕ) → start < end → 0 < end
 above start end p = omega (arith, p)
@@ -572,8 +527,7 @@ some_more more count is some = omega (arith, is, some)
 
 pub counts_begin : (input : List ℕ) → 0 + length input ≤ 0 + length (input ++ [])
 counts_begin input =
-    let same = ap length (append-nil input) in
-    omega (arith, same)
+    omega (arith, ap length (append-nil input))
 
 -- a text of no bytes
 pub nothing_more : (more : List ℕ) → length more ≡ 0 → more ≡ []
@@ -594,17 +548,16 @@ module _ {d : Decoder} {e : Encoder} {before old_input input : List ℕ}
   none_left until = same_input ∙ ap (λ (m : List ℕ). drop len old_input ++ m) nothing ∙ append-nil (drop len old_input)
       ∙ elim starves.drained [
         | inl all ↦ ap (λ (n : ℕ). drop n old_input) all ∙ drop-length old_input
-        | inr awaits ↦
-            absurd (subst (λ (x : Decoder). AwaitsTrailers x (length (drop len old_input))) until awaits)
+        | inr awaits ↦ absurd (rw until at awaits)
       ]
 
   closed_early : (IsTrue ends → input ≡ [] → p.last ≢ UntilClose)
       → IsRelayFailure ends d e (before ++ p.taken) left_now p.pieces Failed.CutShort
   closed_early cut = (
     at_end,
-    λ is_ending until. cut is_ending (none_left (until_to p.gives until)) (until_to p.gives until),
+    λ is_ending until. cut is_ending (none_left ((until_same p.gives).1 until)) ((until_same p.gives).1 until),
     λ ends_alone body rest completes. unfinished old.gives
-        (starves.unfinished (λ until. ends_alone (until_from old.gives until))) body rest (rw
+        (starves.unfinished (λ until. ends_alone ((until_same old.gives).0 until))) body rest (rw
         (same_stream ∙ ap (λ (m : List ℕ). (before ++ old.taken) ++ m) nothing ∙ append-nil (before ++ old.taken)) at
         completes),
   )

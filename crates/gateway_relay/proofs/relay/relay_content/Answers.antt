@@ -6,7 +6,7 @@ use Rattle.gateway_relay.{specs.Content.map_of, proofs.RelayLemmas.{above, count
 use Rattle.gateway_relay.proofs.RelayLemmas.{copies_as, copies_more, copies_none, counts_read, some_more, content_fails}
 use Rattle.gateway_relay.proofs.RelayLemmas.{end_found, found, nothing_more, on_ok, passing_as, passing_begins}
 use Rattle.gateway_relay.proofs.RelayLemmas.{passing_piece, passing_received, passing_sent, passing_waits, piece_fails}
-use Rattle.gateway_relay.proofs.RelayLemmas.{receive_fails, relays_closed, relays_ended, relays_failed, relays_unsent}
+use Rattle.gateway_relay.proofs.RelayLemmas.{receive_fails, relays_closed, relays_ended, relays_failed}
 use Rattle.gateway_relay.proofs.RelayLemmas.{trailers_fail}
 use Rattle.gateway_relay.proofs.relay.relay_content.Goals as goal
 
@@ -46,8 +46,9 @@ returns-in_err-send-in-NeedMore-clause-relays g c d e reading writing =
     let y = err_from_is_err_and _ c.from_residual-in_err-send-in-NeedMore.ensures.1 in
     let p = (c.loop-turn.invariant.passing d e reading writing).0 in
     let f = found p _ _ _ _ _ c.in-Ok.ensures.ok c.as_slice.ensures c.in-NeedMore.is in
-    relays_unsent (passing_waits p f.0 _ _ f.1 f.2) _ s.0 s.1 _ _ _ _ _ (y.1 ∙ ap Err y.2)
-    c.in_err-send-in-NeedMore.ensures.err (sym c.as_slice-in-NeedMore.ensures ∙ s.2) s.3 c.advance.ensures.items
+    relays_failed (passing_sent (passing_waits p f.0 _ _ f.1 f.2) s.0 s.1 _ (sym c.as_slice-in-NeedMore.ensures ∙ s.2)
+    s.3) _ _ _ _ _ _ (y.1 ∙ ap Err (y.2 ∙ c.in_err-send-in-NeedMore.ensures.err)) (Keeps-refl _) tt
+    c.advance.ensures.items
 
 pub returns-in_err-receive_copied-in-NeedMore-clause-relays :
     goal.returns-in_err-receive_copied-in-NeedMore-clause-relays
@@ -56,7 +57,7 @@ returns-in_err-receive_copied-in-NeedMore-clause-relays g c d e reading writing 
     let old = (c.loop-turn.invariant.passing d e reading writing).0 in
     let f = found old _ _ _ _ _ c.in-Ok.ensures.ok c.as_slice.ensures c.in-NeedMore.is in
     let p = passing_sent (passing_waits old f.0 _ _ f.1 f.2) s.0 s.1 _ (sym c.as_slice-in-NeedMore.ensures
-    ∙ s.2) s.3 s.4 in
+    ∙ s.2) s.3 in
     let y = err_from_is_err_and _ c.from_residual-in_err-receive_copied-in-NeedMore.ensures.1 in
     relays_failed p _ _ _ _ _ _ (y.1 ∙ ap Err y.2) c.in_err-receive_copied-in-NeedMore.ensures.err.1
     (receive_fails p _ _ _ c.in_err-receive_copied-in-NeedMore.ensures.reason)
@@ -79,12 +80,12 @@ returns-then-branch-eq0-clause-relays g c d e reading writing =
     let s = c.in_ok-send-in-NeedMore.ensures.sends in
     let got = c.in_ok-receive_copied-in-NeedMore.ensures.ok in
     let sent = passing_sent (passing_waits p f.0 _ _ f.1 f.2) s.0 s.1 _ (sym c.as_slice-in-NeedMore.ensures
-    ∙ s.2) s.3 s.4 in
+    ∙ s.2) s.3 in
     let now = passing_received sent got.0 _ _ (got.2 ∙ ap (λ (t : List ℕ). t ++ got.0) c.advance.ensures.items) got.3 in
     let count = c.if-branch-eq0.true in
     let at_end = c.in_ok-receive_copied-in-NeedMore.ensures.end (ap Ok count) in
     relays_closed p now _ f.2 got.0 (nothing_more got.0 (got.1 ∙ count)) (sym (append_assoc _ p.taken got.0))
-    (got.2 ∙ ap (λ (t : List ℕ). t ++ got.0) c.advance.ensures.items) _ at_end _ refl c.end_of_input.ensures.fields
+    (got.2 ∙ ap (λ (t : List ℕ). t ++ got.0) c.advance.ensures.items) _ at_end _ s.4 c.end_of_input.ensures.fields
     c.end_of_input.ensures.read (c.end_of_input.ensures.until_close now.last now.is_reading)
     (c.end_of_input.ensures.cut now.last now.is_reading)
 
@@ -99,14 +100,15 @@ pub returns-in_err-send-in-End-clause-relays : goal.returns-in_err-send-in-End-c
 returns-in_err-send-in-End-clause-relays g c d e reading writing =
     let s = c.send-in-End.ensures.sends in
     let y = err_from_is_err_and _ c.from_residual-in_err-send-in-End.ensures.1 in
-    relays_unsent (c.loop-turn.invariant.passing d e reading writing).0 _ s.0 s.1 _ _ _ _ _ (y.1 ∙ ap Err y.2)
-    c.in_err-send-in-End.ensures.err (sym c.as_slice-in-End.ensures ∙ s.2) s.3 refl
+    relays_failed (passing_sent (c.loop-turn.invariant.passing d e reading writing).0 s.0 s.1 _
+    (sym c.as_slice-in-End.ensures ∙ s.2) s.3) _ _ _ _ _ _ (y.1 ∙ ap Err (y.2 ∙ c.in_err-send-in-End.ensures.err))
+    (Keeps-refl _) tt refl
 
 pub returns-in_err-fields-in-End-clause-relays : goal.returns-in_err-fields-in-End-clause-relays
 returns-in_err-fields-in-End-clause-relays g c d e reading writing =
     let s = c.in_ok-send-in-End.ensures.sends in
     let p = passing_sent (c.loop-turn.invariant.passing d e reading writing).0 s.0 s.1 _ (sym c.as_slice-in-End.ensures
-    ∙ s.2) s.3 s.4 in
+    ∙ s.2) s.3 in
     let f = found p _ _ _ _ _ c.in-Ok.ensures.ok c.as_slice.ensures c.in-End.is in
     let y = err_from_is_err_and _ c.from_residual-in_err-fields-in-End.ensures.1 in
     relays_failed p _ _ _ _ _ _ (y.1 ∙ ap Err y.2) (Keeps-refl _)
@@ -116,12 +118,12 @@ pub returns-in-End-clause-relays : goal.returns-in-End-clause-relays
 returns-in-End-clause-relays g c d e reading writing =
     let s = c.in_ok-send-in-End.ensures.sends in
     let sent = passing_sent (c.loop-turn.invariant.passing d e reading writing).0 s.0 s.1 _
-    (sym c.as_slice-in-End.ensures ∙ s.2) s.3 s.4 in
+    (sym c.as_slice-in-End.ensures ∙ s.2) s.3 in
     let f = found sent _ _ _ _ _ c.in-Ok.ensures.ok c.as_slice.ensures c.in-End.is in
     let fields = c.in_ok-fields-in-End.ensures.fields
     ∙ ap (λ (x : List ℕ). map_of
     (headers_at x c.read_content.new.trailers c.in-End.trailers)) c.as_slice-in-End-2.ensures in
-    relays_ended sent _ _ _ refl (rw (← c.advance-in-End.ensures.items) at (end_found sent.last _ _ _ _ _ f fields))
+    relays_ended sent _ _ _ s.4 (rw (← c.advance-in-End.ensures.items) at (end_found sent.last _ _ _ _ _ f fields))
 
 pub returns-in-End-clause-asked : goal.returns-in-End-clause-asked
 returns-in-End-clause-asked g c d e reading writing =
@@ -150,13 +152,13 @@ loop-turn-preserved g c = record {
             let s = w.in_ok-send-in-NeedMore.ensures.sends in
             let got = w.in_ok-receive_copied-in-NeedMore.ensures.ok in
             let sent = passing_sent (passing_waits p f.0 _ _ f.1 f.2) s.0 s.1 _
-            (sym w.as_slice-in-NeedMore.ensures ∙ s.2) s.3 s.4 in
+            (sym w.as_slice-in-NeedMore.ensures ∙ s.2) s.3 in
             let read = got.2 ∙ ap (λ (t : List ℕ). t ++ got.0) w.advance.ensures.items in
             let now = passing_received sent got.0 _ _ read got.3 in
             let input = ap (λ (b : Filled). b.items) w.input-is in (
               passing_as now _ _ _ _ _ input (ap g.R.Read.remaining w.reader-is)
                   (ap g.W.Write.contents w.writer-is) (ap g.T.ContentSink.writing w.sink-is)
-                  (ap (λ (b : Filled). b.items) w.output-is ∙ w.clear.ensures.items),
+                  (ap (λ (b : Filled). b.items) w.output-is ∙ w.clear.ensures.items ∙ sym s.4),
               counts_read _ _ p.taken _ counted _ got.0 _ (some_more got.0 _ got.1 w.if-branch-eq0.false)
                   (input ∙ read),
             )
