@@ -1,12 +1,12 @@
 -- Changes are only added.
-use Rattle.std.proofs.Common.{◌≡◌, ℕ, Bool, true, false, cond, List, [], ◌∷◌, ◌++◌, Option, Some, None, refl}
-use Rattle.std.proofs.Common.{sym, ap, ◌∙◌, append_assoc}
-use Rattle.updates.specs.Events.{Event, Guard, acts, happens, run, place_of, found_at, sends, sends_put, sends_stored}
-use Rattle.updates.specs.Events.{made_of, performs, refusal, answers_put}
+use Rattle.std.proofs.Common.{◌≡◌, ℕ, Bool, List, [], ◌∷◌, ◌++◌, Option, Some, None, refl}
+use Rattle.std.{proofs.Common.{sym, ap, ◌∙◌, append_assoc}, proofs.lemmas.Bool.cond_both}
+use Rattle.updates.specs.Events.{Event, Guard, acts, happens, run, place_of, found_at, sends_put, sends_stored}
+use Rattle.updates.specs.Events.{answers_put}
 use Rattle.updates.specs.Events.Event.{SendsPut, Serves, ServesTag, Freshens, Answers, Returns, Arrives, Forwards}
 use Rattle.updates.specs.Events.Event.{AnswersTag, Refuses}
 use Rattle.updates.specs.Worlds.{Version, Put, Request, Response, Hop, Message, Change, World, is_true}
-use Rattle.updates.{specs.Worlds.Request.{Get, Puts}, specs.Worlds.Response.{Status200, Status204, Status304}}
+use Rattle.updates.{specs.Worlds.Request.{Get, Puts}, specs.Worlds.Response.{Status200, Status304}}
 use Rattle.updates.specs.Worlds.Message.{Going, Coming}
 
 abbrev pub Keeps : World → World → Type 0
@@ -26,12 +26,7 @@ module _ (w : World) where
   put_answer-keeps : (etag : List ℕ) (says_applied : Bool) (passed : List Hop) (put : Put)
       → Keeps w (answers_put etag says_applied passed put w)
   put_answer-keeps etag says_applied passed put =
-      elim (is_true put.condition w.current) as (λ b. Keeps w (cond b
-      (sends (Coming passed (Puts put) (Status204 (made_of put etag w))) (performs put (made_of put etag w) w))
-      (sends (Coming passed (Puts put) (refusal says_applied put w.current)) w))) [
-        | true ↦ (_ ∷ [], refl)
-        | false ↦ ([], refl)
-      ]
+      cond_both (is_true put.condition w.current) _ _ (Keeps w) (λ e. (_ ∷ [], refl)) (λ e. ([], refl))
 
   acts-keeps : (event : Event) (o : Option Message) → Keeps w (acts event o w)
   acts-keeps (SendsPut client which guard content) o = put-keeps client guard content _
