@@ -1,14 +1,23 @@
+use Rattle.std.proofs.Common.{subst}
+use Rattle.cache_policy.{specs.Policies.tells, specs.Storing.IsShareable, specs.declared.Kind.Kind}
 use Rattle.chain.proofs.StoreLemmas.{StoreLaws, come, content_is, from, shareable}
 use Rattle.chain.proofs.laws.shared_caches_serve_nothing_private.Goals as goal
 
 pub returns-clause-private : goal.returns-clause-private
 returns-clause-private c site hops caching now target request reply is_shared f =
     let law : StoreLaws = (c.lookups_serve_what_calls_justify.ensures, c.calls_justify_what_is_stored.ensures) in
-    (rw is_shared at (shareable law f)).0
+    (subst (λ (k : Kind). IsShareable k (come law f).request.fields (tells caching.policy reply.fields)) is_shared
+    (shareable law f)).0
 
 pub returns-clause-credentials : goal.returns-clause-credentials
 returns-clause-credentials c site hops caching now target request reply is_shared f =
     let law : StoreLaws = (c.lookups_serve_what_calls_justify.ensures, c.calls_justify_what_is_stored.ensures) in
-    let came = from law f in
-    let may = rw is_shared at (shareable law f) in
-    (came.time, (come law f).request, came.reply, came.answered, content_is law f, may.1)
+    let came = from law f in (
+      came.time,
+      (come law f).request,
+      came.reply,
+      came.answered,
+      content_is law f,
+      (subst (λ (k : Kind). IsShareable k (come law f).request.fields (tells caching.policy reply.fields)) is_shared
+          (shareable law f)).1,
+    )
