@@ -1,15 +1,15 @@
 -- What a client receives through gateways and caches is what the resource says.
-use Rattle.std.proofs.Common.{◌≡◌, ◌≢◌, ◌⊎◌, ℕ, ◌-◌, ◌≤◌, Bool, true, false, List, [], ◌∷◌, Some, None, refl, sym, ◌∙◌}
+use Rattle.std.proofs.Common.{◌≡◌, ◌≢◌, ◌⊎◌, ℕ, ◌-◌, ◌≤◌, true, false, List, [], ◌∷◌, Some, None, refl, sym, ◌∙◌}
 use Rattle.std.{proofs.Common.{ap, subst, inl, inr, arith}, proofs.lemmas.Bool.{cases_Bool, cond_both}}
 use Rattle.std.{proofs.lemmas.Slice.Eq.bytes_eq-Decides, specs.Prelude.All}
-use Rattle.std.{specs.Prelude.{bytes_eq, codes, if◌then◌else◌}, specs.List.list_any}
+use Rattle.std.{specs.Prelude.{bytes_eq, codes}, specs.List.list_any}
 use Rattle.http_header.specs.Token.{lowercase}
 use Rattle.headers.{specs.LineMap.{fields_of, set_all}, specs.Lines.Line}
 use Rattle.cache_store.specs.Lookups.{freshness_of}
 use Rattle.decide_preconditions.specs.Preconditions.{IsGetOrHead}
 use Rattle.cache_policy.{specs.Fields.{age_of, age_value, capped}, specs.Requests.AllowsMethod}
 use Rattle.chain.specs.Caches.{Caching, HasComeFrom, IsFromStore, IsPlain, Origin, Reply, unless_head}
-use Rattle.chain.specs.Chains.{Hop, IsForwardedBack, IsGoodAt, IsOwn, IsTold, behind, meant}
+use Rattle.chain.specs.Chains.{Hop, IsForwardedBack, IsOwn, IsTold, behind, meant}
 use Rattle.chain.{specs.Chains.Hop.{Forwards, Stores}, specs.Ways.sent_directly, specs.Servers.IsCarried}
 use Rattle.chain.{specs.Servers.{SaysCloseAtMost, Server, sent_of}, proofs.ConnectionLemmas.crosses_if}
 use Rattle.chain.{proofs.ServerLemmas.{same_sent, says_close_at_most}, proofs.StoreLemmas.{StoreLaws, age_is}}

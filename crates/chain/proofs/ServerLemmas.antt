@@ -20,15 +20,12 @@ use Rattle.decide_resource.specs.{Requests.Request, declared.answer.Answer.Answe
 use Rattle.decide_resource.specs.{declared.reason.Reason.Reason, declared.representation.Representation.Representation}
 use Rattle.decide_resource.specs.{declared.resource.MethodRule.MethodRule, declared.resource.Resource.Resource}
 use Rattle.decide_resource.specs.{declared.resource.State.State}
-use Rattle.decide_resource.specs.declared.reason.Reason.TheVariants.{InvalidHost, Misdirected, Preflight, Denied}
-use Rattle.decide_resource.specs.declared.reason.Reason.TheVariants.{UnknownMethod, MethodNotAllowed, Options}
-use Rattle.decide_resource.specs.declared.reason.Reason.TheVariants.{UnmetExpectation}
+use Rattle.decide_resource.specs.declared.reason.Reason.TheVariants.{Denied}
+use Rattle.decide_resource.specs.declared.reason.Reason.TheVariants.{Options}
 use Rattle.decide_resource.specs.declared.denied.Denied.{Denied as Denial}
 use Rattle.decide_resource.specs.declared.denied.Denied.TheVariants as denied
-use Rattle.decide_resource.specs.declared.reason.Reason.TheVariants.{PartialContent, Moved, Gone, NotFound}
-use Rattle.decide_resource.specs.declared.reason.Reason.TheVariants.{LengthRequired, ContentTooLarge}
+use Rattle.decide_resource.specs.declared.reason.Reason.TheVariants.{Moved}
 use Rattle.decide_resource.specs.declared.reason.Reason.TheVariants.{UnsupportedMediaType, UnsupportedCoding}
-use Rattle.decide_resource.specs.declared.reason.Reason.TheVariants.{NotAcceptable, PreconditionRequired, Admitted}
 use Rattle.decide_resource.specs.declared.answer.Sends.TheVariants as sends
 use Rattle.decide_resource.specs.declared.resource.State.TheVariants as state
 

@@ -11,9 +11,8 @@ use Rattle.cache_store.{specs.Changes.{IsStoredAs, IsToStore}, specs.Contents.{C
 use Rattle.cache_store.{specs.Served.{IsRightlyServed, Serves}, specs.declared.limits.Limits.Limits}
 use Rattle.cache_store.{specs.declared.lookup.Lookup.Lookup, specs.Numbers.numbered, specs.History.{HasUnder, History}}
 use Rattle.cache_store.{specs.History.{IsJustified, Run}, specs.Lookups.{IsAnswer, IsFreshFor, age_of_stored}}
-use Rattle.cache_store.{specs.Lookups.freshness_of, specs.declared.lookup.Lookup.TheVariants.Serve}
-use Rattle.cache_store.specs.declared.lookup.Lookup.TheVariants.{ServeAndRevalidate, Validate, ValidateOrServe}
-use Rattle.cache_store.specs.declared.lookup.Lookup.TheVariants.{Unavailable, Forward}
+use Rattle.cache_store.{specs.Lookups.freshness_of}
+use Rattle.cache_store.specs.declared.lookup.Lookup.TheVariants.{ValidateOrServe}
 use Rattle.cache_store.{proofs.HistoryLemmas.HasUnder-responses_at, proofs.NumberLemmas.Has-numbered}
 use Rattle.cache_policy.{specs.Decisions.{IsGoodEnough, MayServeOnError}, specs.Age.{age_at, apparent_age}}
 use Rattle.cache_policy.{specs.Fields.{age_of, age_value, capped}, specs.Requests.AllowsMethod}
