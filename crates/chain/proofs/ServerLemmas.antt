@@ -20,15 +20,12 @@ use Rattle.decide_resource.specs.{Requests.Request, declared.answer.Answer.Answe
 use Rattle.decide_resource.specs.{declared.reason.Reason.Reason, declared.representation.Representation.Representation}
 use Rattle.decide_resource.specs.{declared.resource.MethodRule.MethodRule, declared.resource.Resource.Resource}
 use Rattle.decide_resource.specs.{declared.resource.State.State}
-use Rattle.decide_resource.specs.declared.reason.Reason.TheVariants.{InvalidHost, Misdirected, Preflight, Denied}
-use Rattle.decide_resource.specs.declared.reason.Reason.TheVariants.{UnknownMethod, MethodNotAllowed, Options}
-use Rattle.decide_resource.specs.declared.reason.Reason.TheVariants.{UnmetExpectation}
+use Rattle.decide_resource.specs.declared.reason.Reason.TheVariants.{Denied}
+use Rattle.decide_resource.specs.declared.reason.Reason.TheVariants.{Options}
 use Rattle.decide_resource.specs.declared.denied.Denied.{Denied as Denial}
 use Rattle.decide_resource.specs.declared.denied.Denied.TheVariants as denied
-use Rattle.decide_resource.specs.declared.reason.Reason.TheVariants.{PartialContent, Moved, Gone, NotFound}
-use Rattle.decide_resource.specs.declared.reason.Reason.TheVariants.{LengthRequired, ContentTooLarge}
+use Rattle.decide_resource.specs.declared.reason.Reason.TheVariants.{Moved}
 use Rattle.decide_resource.specs.declared.reason.Reason.TheVariants.{UnsupportedMediaType, UnsupportedCoding}
-use Rattle.decide_resource.specs.declared.reason.Reason.TheVariants.{NotAcceptable, PreconditionRequired, Admitted}
 use Rattle.decide_resource.specs.declared.answer.Sends.TheVariants as sends
 use Rattle.decide_resource.specs.declared.resource.State.TheVariants as state
 
@@ -69,10 +66,7 @@ keep m (f ∷ fields) h =
 
 located : (s : State) → are_other (location_fields s) ≡ true
 located (state.Moved redirect location) = refl
-located state.Current = refl
-located state.Absent = refl
-located state.Gone = refl
-located state.Server = refl
+located other = refl
 
 accepting : (b : Bool) (r : Option MethodRule)
     → are_other (types_fields (codes "accept") r ++ (if b then types_fields (codes "accept-patch") r else [])) ≡ true
@@ -93,35 +87,18 @@ offering (Some p) None = refl
 offering (Some p) (Some q) = refl
 
 denying : (why : Option Denial) → are_other (denied_fields why) ≡ true
-denying None = refl
-denying (Some (denied.Unauthenticated challenge)) = refl
-denying (Some denied.Forbidden) = refl
-denying (Some (denied.TooManyRequests None)) = refl
 denying (Some (denied.TooManyRequests (Some seconds))) = refl
-denying (Some (denied.Unavailable None)) = refl
 denying (Some (denied.Unavailable (Some seconds))) = refl
+denying other = refl
 
 explained : (resource : Resource) (request : Request) (reason : Reason)
     → are_other (reason_fields resource request reason) ≡ true
-explained resource request MethodNotAllowed = refl
 explained resource request Options = offering _ _
 explained resource request Moved = located _
 explained resource request UnsupportedMediaType = accepting _ _
 explained resource request UnsupportedCoding = accepting_coding _
-explained resource request InvalidHost = refl
-explained resource request Misdirected = refl
-explained resource request Preflight = refl
 explained resource request Denied = denying request.denied
-explained resource request UnknownMethod = refl
-explained resource request UnmetExpectation = refl
-explained resource request PartialContent = refl
-explained resource request Gone = refl
-explained resource request NotFound = refl
-explained resource request LengthRequired = refl
-explained resource request ContentTooLarge = refl
-explained resource request NotAcceptable = refl
-explained resource request PreconditionRequired = refl
-explained resource request Admitted = refl
+explained resource request other = refl
 
 described : (b : Bool) (representation : Representation) → are_other (metadata_fields b representation) ≡ true
 described true representation = refl

@@ -11,9 +11,8 @@ use Rattle.cache_store.{specs.Changes.{IsStoredAs, IsToStore}, specs.Contents.{C
 use Rattle.cache_store.{specs.Served.{IsRightlyServed, Serves}, specs.declared.limits.Limits.Limits}
 use Rattle.cache_store.{specs.declared.lookup.Lookup.Lookup, specs.Numbers.numbered, specs.History.{HasUnder, History}}
 use Rattle.cache_store.{specs.History.{IsJustified, Run}, specs.Lookups.{IsAnswer, IsFreshFor, age_of_stored}}
-use Rattle.cache_store.{specs.Lookups.freshness_of, specs.declared.lookup.Lookup.TheVariants.Serve}
-use Rattle.cache_store.specs.declared.lookup.Lookup.TheVariants.{ServeAndRevalidate, Validate, ValidateOrServe}
-use Rattle.cache_store.specs.declared.lookup.Lookup.TheVariants.{Unavailable, Forward}
+use Rattle.cache_store.{specs.Lookups.freshness_of}
+use Rattle.cache_store.specs.declared.lookup.Lookup.TheVariants.{ValidateOrServe}
 use Rattle.cache_store.{proofs.HistoryLemmas.HasUnder-responses_at, proofs.NumberLemmas.Has-numbered}
 use Rattle.cache_policy.{specs.Decisions.{IsGoodEnough, MayServeOnError}, specs.Age.{age_at, apparent_age}}
 use Rattle.cache_policy.{specs.Fields.{age_of, age_value, capped}, specs.Requests.AllowsMethod}
@@ -48,9 +47,8 @@ JustifiesWhatIsStored =
     → (target : List ℕ) (stored : StoredResponse) → HasUnder contents target stored
     → IsJustified policy target calls stored
 
-pub record StoreLaws : Type 0 where
-  pub serves : ServesWhatIsJustified
-  pub justifies : JustifiesWhatIsStored
+abbrev pub StoreLaws : Type 0
+StoreLaws = ServesWhatIsJustified × JustifiesWhatIsStored
 
 -- ---- keys
 
@@ -221,8 +219,8 @@ grows : (own given requested received shown start sent at came now time apparent
 grows own given requested received shown start sent at came now time apparent same e f g past after before over aged =
     omega (arith, same, e, f, g, past, after, before, over, aged)
 
-module _ (law : StoreLaws) (caching : Caching) (origin : Origin) (now : ℕ) (target : List ℕ)
-    (request : Request) (reply : Reply) (f : IsFromStore caching origin now target request reply) where
+module _ (law : StoreLaws) {caching : Caching} {origin : Origin} {now : ℕ} {target : List ℕ} {request : Request}
+    {reply : Reply} (f : IsFromStore caching origin now target request reply) where
   abbrev key : List ℕ
   key = key_of target request
 
@@ -246,7 +244,7 @@ module _ (law : StoreLaws) (caching : Caching) (origin : Origin) (now : ℕ) (ta
 
   at_once : Serves f.lookup f.number f.age → Right f.stored
   at_once serves =
-      let s = law.serves caching.policy caching.limits calls f.contents run key caching.most (asked request) shown
+      let s = law.0 caching.policy caching.limits calls f.contents run key caching.most (asked request) shown
       f.lookup f.sought.answer f.number f.age serves in
       let same : s.response ≡ f.stored = cc (sym s.at ∙ f.at) in
       subst Right same
@@ -263,7 +261,7 @@ module _ (law : StoreLaws) (caching : Caching) (origin : Origin) (now : ℕ) (ta
 
   under : IsJustified caching.policy key calls f.stored
   under =
-      law.justifies caching.policy caching.limits calls f.contents run key f.stored
+      law.1 caching.policy caching.limits calls f.contents run key f.stored
       (HasUnder-responses_at _ _ _ (Has-numbered _ _ _ f.at).0)
 
   on_error : (lookup : Lookup)
@@ -285,11 +283,7 @@ module _ (law : StoreLaws) (caching : Caching) (origin : Origin) (now : ℕ) (ta
         good = inr decided.2;
         aged = aged;
       }
-  on_error (Serve at age) answer here aged = absurd here
-  on_error (ServeAndRevalidate at age) answer here aged = absurd here
-  on_error (Validate at fields) answer here aged = absurd here
-  on_error Unavailable answer here aged = absurd here
-  on_error Forward answer here aged = absurd here
+  on_error other answer here aged = absurd here
 
   pub right : Right f.stored
   right = elim f.serves [

@@ -12,7 +12,7 @@ use Rattle.gateway_messages.specs.{declared.gateway.Gateway.Gateway, declared.pr
 use Rattle.gateway_messages.specs.{declared.request.ForwardedRequest.ForwardedRequest}
 use Rattle.gateway_messages.specs.HopByHop.{connection_options, hop_by_hop_fields, is_hop_by_hop, is_known}
 use Rattle.gateway_messages.specs.HopByHop.{proxy_fields}
-use Rattle.decide_resource.specs.{Answers.IsAnswer, Requests.Request, Vary.AreAlike, Vary.AskAlike, Vary.ChooseAlike}
+use Rattle.decide_resource.specs.{Answers.IsAnswer, Requests.Request, Vary.AreAlike, Vary.ChooseAlike}
 use Rattle.decide_resource.specs.{declared.answer.Answer.Answer, declared.resource.Resource.Resource}
 use Rattle.gateway_messages.proofs.SpellingLemmas.{well_spelt}
 
@@ -41,61 +41,77 @@ pub not_known : (name : List ℕ) → list_any (bytes_eq name) hop_by_hop_fields
 not_known name e f true = rw (e, f) refl
 not_known name e f false = rw e refl
 
+-- ---- fields that a resource reads
+
+-- a name that no gateway writes, and that is of no field of one connection
+abbrev pub IsRead : List ℕ → Type 0
+IsRead name =
+    (bytes_eq (codes "host") name ≡ false) × (list_any (bytes_eq name) own_names ≡ false) × (has_mark name ≡ false)
+    × (bytes_eq name (codes "transfer-encoding") ≡ false) × (list_any (bytes_eq name) hop_by_hop_fields ≡ false)
+    × (list_any (bytes_eq name) proxy_fields ≡ false)
+
+-- what a request asks and chooses by is in such fields
+module _ (r s : Request) (each : (name : List ℕ) → IsRead name → r.fields name ≡ s.fields name) where
+  pub alike_by : r.protocol ≡ s.protocol → r.method ≡ s.method → r.authority ≡ s.authority
+      → r.fields (codes "host") ≡ s.fields (codes "host") → r.content ≡ s.content → r.denied ≡ s.denied
+      → AreAlike r s
+  alike_by protocol method authority host content denied =
+      record {
+        protocol = protocol;
+        method = method;
+        authority = authority;
+        host = host;
+        expect = each (codes "expect") (refl, refl, refl, refl, refl, refl);
+        content = content;
+        denied = denied;
+        content_type = each (codes "content-type") (refl, refl, refl, refl, refl, refl);
+        content_encoding = each (codes "content-encoding") (refl, refl, refl, refl, refl, refl);
+        content_range = λ put. each (codes "content-range") (refl, refl, refl, refl, refl, refl);
+        asks =
+            record {
+              if_match = each (codes "if-match") (refl, refl, refl, refl, refl, refl);
+              if_none_match = each (codes "if-none-match") (refl, refl, refl, refl, refl, refl);
+              if_modified_since = each (codes "if-modified-since") (refl, refl, refl, refl, refl, refl);
+              if_unmodified_since = each (codes "if-unmodified-since") (refl, refl, refl, refl, refl, refl);
+              range = each (codes "range") (refl, refl, refl, refl, refl, refl);
+              if_range = each (codes "if-range") (refl, refl, refl, refl, refl, refl);
+            };
+      }
+
+  pub choose_by : ChooseAlike r.fields s.fields
+  choose_by =
+      record {
+        accept = each (codes "accept") (refl, refl, refl, refl, refl, refl);
+        accept_language = each (codes "accept-language") (refl, refl, refl, refl, refl, refl);
+        accept_encoding = each (codes "accept-encoding") (refl, refl, refl, refl, refl, refl);
+        origin = each (codes "origin") (refl, refl, refl, refl, refl, refl);
+        requested_method = each (codes "access-control-request-method") (refl, refl, refl, refl, refl, refl);
+      }
+
 -- ---- one gateway
 
-module _ (gateway : Gateway) (request next : Request) (sent : ForwardedRequest)
+module _ {gateway : Gateway} {request next : Request} {sent : ForwardedRequest}
     (forwarded : IsForwarded gateway (received request) sent) (passed : IsPassedOn request sent next) where
   -- a field that no gateway writes has the lines that are meant for the server
-  pub same_lines : (name : List ℕ) → bytes_eq (codes "host") name ≡ false → list_any (bytes_eq name) own_names ≡ false
-      → has_mark name ≡ false → bytes_eq name (codes "transfer-encoding") ≡ false
-      → end_to_end_lines gateway request name ≡ next.fields name
-  same_lines name other not_own unmarked not_coding =
+  pub same_lines : (name : List ℕ) → IsRead name → end_to_end_lines gateway request name ≡ next.fields name
+  same_lines name is =
       let options = connection_options request.fields in
       elim (cases_Bool (is_hop_by_hop gateway.consumes_credentials options name)) [
         | inl t ↦
-            rw (other, t)
-            (sym (passed.fields name ∙ forwarded.fields.hop_by_hop name t (apart name not_coding)))
+            rw (is.0, t)
+            (sym (passed.fields name ∙ forwarded.fields.hop_by_hop name t (apart name is.3)))
         | inr f ↦
-            rw (other, f) (sym (passed.fields name ∙ forwarded.fields.end_to_end name f (well_spelt _ _ unmarked)
-            (differs name own_names not_own)))
+            rw (is.0, f) (sym (passed.fields name ∙ forwarded.fields.end_to_end name f (well_spelt _ _ is.2)
+            (differs name own_names is.1)))
       ]
-
-  asks_alike : AskAlike (end_to_end_lines gateway request) next.fields
-  asks_alike =
-      record {
-        if_match = same_lines (codes "if-match") refl refl refl refl;
-        if_none_match = same_lines (codes "if-none-match") refl refl refl refl;
-        if_modified_since = same_lines (codes "if-modified-since") refl refl refl refl;
-        if_unmodified_since = same_lines (codes "if-unmodified-since") refl refl refl refl;
-        range = same_lines (codes "range") refl refl refl refl;
-        if_range = same_lines (codes "if-range") refl refl refl refl;
-      }
 
   pub alike : AreAlike (sent_directly gateway request) next
   alike =
-      record {
-        protocol = sym passed.protocol;
-        method = passed.method;
-        authority = sym passed.authority;
-        host = sym (passed.fields (codes "host") ∙ forwarded.fields.host);
-        expect = same_lines (codes "expect") refl refl refl refl;
-        content = passed.content;
-        denied = passed.denied;
-        content_type = same_lines (codes "content-type") refl refl refl refl;
-        content_encoding = same_lines (codes "content-encoding") refl refl refl refl;
-        content_range = λ put. same_lines (codes "content-range") refl refl refl refl;
-        asks = asks_alike;
-      }
+      alike_by (sent_directly gateway request) next same_lines (sym passed.protocol) passed.method
+      (sym passed.authority) (sym (passed.fields (codes "host") ∙ forwarded.fields.host)) passed.content passed.denied
 
   pub choose_alike : ChooseAlike (end_to_end_lines gateway request) next.fields
-  choose_alike =
-      record {
-        accept = same_lines (codes "accept") refl refl refl refl;
-        accept_language = same_lines (codes "accept-language") refl refl refl refl;
-        accept_encoding = same_lines (codes "accept-encoding") refl refl refl refl;
-        origin = same_lines (codes "origin") refl refl refl refl;
-        requested_method = same_lines (codes "access-control-request-method") refl refl refl refl;
-      }
+  choose_alike = choose_by (sent_directly gateway request) next same_lines
 
   pub no_options : connection_options next.fields ≡ []
   no_options =
@@ -107,52 +123,21 @@ module _ (gateway : Gateway) (request next : Request) (sent : ForwardedRequest)
 
 module _ (gateway : Gateway) (request : Request) (modern : request.protocol ≡ Http11)
     (origin : request.authority ≡ None) (none : connection_options request.fields ≡ []) where
-  pub crosses : (name : List ℕ) → bytes_eq (codes "host") name ≡ false
-      → list_any (bytes_eq name) hop_by_hop_fields ≡ false → list_any (bytes_eq name) proxy_fields ≡ false
-      → request.fields name ≡ end_to_end_lines gateway request name
-  crosses name other e f =
+  pub crosses : (name : List ℕ) → IsRead name → request.fields name ≡ end_to_end_lines gateway request name
+  crosses name is =
       let consumes = gateway.consumes_credentials in
       let end_to_end : is_hop_by_hop consumes (connection_options request.fields) name ≡ false
       = ap (λ (options : List Member). is_hop_by_hop consumes options name) none
-      ∙ ap (λ (b : Bool). b || false) (not_known name e f consumes) in
-      rw (other, end_to_end) refl
-
-  asks_direct : AskAlike request.fields (end_to_end_lines gateway request)
-  asks_direct =
-      record {
-        if_match = crosses (codes "if-match") refl refl refl;
-        if_none_match = crosses (codes "if-none-match") refl refl refl;
-        if_modified_since = crosses (codes "if-modified-since") refl refl refl;
-        if_unmodified_since = crosses (codes "if-unmodified-since") refl refl refl;
-        range = crosses (codes "range") refl refl refl;
-        if_range = crosses (codes "if-range") refl refl refl;
-      }
+      ∙ ap (λ (b : Bool). b || false) (not_known name is.4 is.5 consumes) in
+      rw (is.0, end_to_end) refl
 
   pub direct : AreAlike request (sent_directly gateway request)
   direct =
-      record {
-        protocol = modern;
-        method = refl;
-        authority = origin;
-        host = sym (ap (λ (o : Option Line). replaced o (request.fields (codes "host"))) origin);
-        expect = crosses (codes "expect") refl refl refl;
-        content = refl;
-        denied = refl;
-        content_type = crosses (codes "content-type") refl refl refl;
-        content_encoding = crosses (codes "content-encoding") refl refl refl;
-        content_range = λ put. crosses (codes "content-range") refl refl refl;
-        asks = asks_direct;
-      }
+      alike_by request (sent_directly gateway request) crosses modern refl origin
+      (sym (ap (λ (o : Option Line). replaced o (request.fields (codes "host"))) origin)) refl refl
 
   pub choose_direct : ChooseAlike request.fields (end_to_end_lines gateway request)
-  choose_direct =
-      record {
-        accept = crosses (codes "accept") refl refl refl;
-        accept_language = crosses (codes "accept-language") refl refl refl;
-        accept_encoding = crosses (codes "accept-encoding") refl refl refl;
-        origin = crosses (codes "origin") refl refl refl;
-        requested_method = crosses (codes "access-control-request-method") refl refl refl;
-      }
+  choose_direct = choose_by request (sent_directly gateway request) crosses
 
 -- ---- any gateways
 
@@ -166,39 +151,23 @@ module _ (reads : ReadsNoMore) (present : ℕ) (resource : Resource) (answer : A
   abbrev Gets : Request → Type 0
   Gets request = IsAnswer present resource request answer
 
-  both : (p q r : Request) → Gets p ↔ Gets q → Gets q ↔ Gets r → Gets p ↔ Gets r
-  both p q r e f = ((λ h. f.0 (e.0 h)), (λ h. e.1 (f.1 h)))
-
-  -- what one gateway passes on gets what its own request gets, sent directly
-  one : (gateway : Gateway) (request next : Request) (sent : ForwardedRequest)
-      → IsForwarded gateway (received request) sent → IsPassedOn request sent next
-      → Gets (sent_directly gateway request) ↔ Gets next
-  one gateway request next sent forwarded passed =
-      reads present resource (sent_directly gateway request) next answer
-      (alike gateway request next sent forwarded passed) (choose_alike gateway request next sent forwarded passed)
-
   behind : (p next last : Request) → Gets p ↔ Gets next → next.protocol ≡ Http11 → next.authority ≡ None
       → connection_options next.fields ≡ [] → (gateways : List Gateway) → Reaches gateways next last
       → Gets p ↔ Gets last
   behind p next last first modern origin none [] same = rw same at first
   behind p next last first modern origin none (gateway ∷ gateways) way =
-      let sent : ForwardedRequest = way.0 in
-      let after : Request = way.1 in
-      let forwarded : IsForwarded gateway (received next) sent = way.2 in
-      let passed : IsPassedOn next sent after = way.3 in
-      let direct_answer = reads present resource next (sent_directly gateway next) answer
+      let directly = reads present resource next (sent_directly gateway next) answer
       (direct gateway next modern origin none) (choose_direct gateway next modern origin none) in
-      let onward = both p next after first
-      (both next (sent_directly gateway next) after direct_answer (one gateway next after sent forwarded passed)) in
-      behind p after last onward passed.protocol passed.authority
-      (no_options gateway next after sent forwarded passed) gateways way.4
+      let onward = reads present resource (sent_directly gateway next) way.1 answer (alike way.2 way.3)
+      (choose_alike way.2 way.3) in
+      behind p way.1 last
+      ((λ h. onward.0 (directly.0 (first.0 h))), (λ h. first.1 (directly.1 (onward.1 h))))
+      way.3.protocol way.3.authority (no_options way.2 way.3) gateways way.4
 
   pub invisible : (gateway : Gateway) (gateways : List Gateway) (request last : Request)
       → Reaches (gateway ∷ gateways) request last → Gets (sent_directly gateway request) ↔ Gets last
   invisible gateway gateways request last way =
-      let sent : ForwardedRequest = way.0 in
-      let next : Request = way.1 in
-      let forwarded : IsForwarded gateway (received request) sent = way.2 in
-      let passed : IsPassedOn request sent next = way.3 in
-      behind (sent_directly gateway request) next last (one gateway request next sent forwarded passed)
-      passed.protocol passed.authority (no_options gateway request next sent forwarded passed) gateways way.4
+      behind (sent_directly gateway request) way.1 last
+      (reads present resource (sent_directly gateway request) way.1 answer (alike way.2 way.3)
+      (choose_alike way.2 way.3))
+      way.3.protocol way.3.authority (no_options way.2 way.3) gateways way.4

@@ -124,9 +124,7 @@ sent_on place = Going (record { cache = place.cache; which = place.which } ∷ p
 abbrev pub asks_on : Pass → Message
 asks_on (At place Waits) = sent_on place
 asks_on (At place GivesStored) = sent_on place
-asks_on (At place (Completes version date head)) = Nothing
-asks_on (At place (Gives given)) = Nothing
-asks_on Ended = Nothing
+asks_on other = Nothing
 
 abbrev pub place_of : Hop → List Hop → Asked → Place
 place_of hop left asked = record { cache = hop.cache; which = hop.which; left = left; asked = asked }
@@ -205,9 +203,7 @@ replies kind world whole (At place (Gives given)) =
     Coming place.left place.asked (reply_of whole (in_slot kind (world.nodes place.cache).slot given))
 replies kind world whole (At place GivesStored) =
     reply_stored place whole (found kind place.which (world.nodes place.cache))
-replies kind world whole (At place Waits) = Nothing
-replies kind world whole (At place (Completes version date head)) = Nothing
-replies kind world whole Ended = Nothing
+replies kind world whole other = Nothing
 
 -- ---- the origin server
 

@@ -1,35 +1,20 @@
 -- What runs show: a lost update, and a client that reads a version older than its own.
-use Rattle.std.proofs.Common.{◌≡◌, ℕ, List, [], ◌∷◌, codes, slice_get, Some, refl, arith, inl}
-use Rattle.updates.{specs.Events.{Guard, condition_on, run}, specs.Runs.{ann, bob, both_change, eggs, milk, numbered}}
-use Rattle.updates.{specs.Statements.{Has, LosesAnUpdate, ReadsOlder}, specs.Worlds.{Change, Put, Version, World}}
-use Rattle.updates.{specs.Worlds.start, specs.Worlds.Request.Get, specs.Worlds.Response.Status200}
+use Rattle.std.proofs.Common.{◌≡◌, ◌≢◌, ℕ, [], ◌∷◌, slice_get, Some, refl, arith, inl}
+use Rattle.updates.{specs.Runs.{ann, eggs, milk}, specs.Statements.{Has, LosesAnUpdate, ReadsOlder}}
+use Rattle.updates.{specs.Worlds.{Change, World}, specs.Worlds.Request.Get, specs.Worlds.Response.Status200}
 
-abbrev put_of : ℕ → Guard → List ℕ → Put
-put_of client guard content =
-    record { client = client; read = milk; condition = condition_on guard milk; content = content }
-
-abbrev bobs : Version
-bobs = numbered 2 (codes "2") (codes "milk, bread")
-
-abbrev pub anns_change : Guard → Change
-anns_change guard = record { put = put_of ann guard (codes "milk, eggs"); replaced = milk; made = eggs }
-
-abbrev pub bobs_change : Guard → Change
-bobs_change guard = record { put = put_of bob guard (codes "milk, bread"); replaced = eggs; made = bobs }
-
-pub loses : (guard : Guard) → slice_get (run (both_change guard) (start milk)).changes 1 ≡ Some (anns_change guard)
-    → slice_get (run (both_change guard) (start milk)).changes 0 ≡ Some (bobs_change guard)
-    → LosesAnUpdate (run (both_change guard) (start milk))
-loses guard first last =
+pub loses : {w : World} {change rival : Change} (place other : ℕ) → slice_get w.changes place ≡ Some change
+    → slice_get w.changes other ≡ Some rival → change.put.read ≡ rival.put.read → place ≢ other → LosesAnUpdate w
+loses {change = change} {rival = rival} place other at_place at_other same_base two =
     record {
-      place = 1;
-      other = 0;
-      change = anns_change guard;
-      rival = bobs_change guard;
-      at_place = first;
-      at_other = last;
-      same_base = refl;
-      two = λ same. omega (arith, same);
+      place = place;
+      other = other;
+      change = change;
+      rival = rival;
+      at_place = at_place;
+      at_other = at_other;
+      same_base = same_base;
+      two = two;
     }
 
 pub reads_milk : (w : World) → Has w.received (record { request = Get ann (eggs ∷ []); response = Status200 milk })

@@ -1,10 +1,10 @@
 -- What follows for changes, and for what clients get.
-use Rattle.std.proofs.Common.{◌≡◌, ℕ, zero, suc, ◌<◌, true, cond, List, [], ◌∷◌, slice_get, nat_eq, Some, refl, ap}
-use Rattle.std.{proofs.Common.{subst, arith, inl, inr}, proofs.lemmas.Bool.cond_both, proofs.lemmas.Option.same_Some}
+use Rattle.std.proofs.Common.{◌≡◌, ℕ, zero, suc, ◌<◌, cond, List, [], ◌∷◌, slice_get, nat_eq, Some, refl, ap}
+use Rattle.std.{proofs.Common.{arith, inl, inr}, proofs.lemmas.Bool.cond_both, proofs.lemmas.Option.same_Some}
 use Rattle.std.proofs.lemmas.Slice.Eq.{bytes_eq-Decides}
 use Rattle.updates.{specs.Statements.{Has, HasStrongTags, HasUniqueTags, IsGuarded, LeadsTo}, specs.Worlds.Version}
-use Rattle.updates.specs.Worlds.{Received, Change, World, client_of, given, shown, versions, is_true}
-use Rattle.updates.{proofs.Lists.{Has-append, Has-map}, proofs.Steps.{Holds, Links, shown-about}}
+use Rattle.updates.specs.Worlds.{Received, Change, World, client_of, given, shown, versions}
+use Rattle.updates.{proofs.Lists.{Has-append, Has-map}, proofs.Steps.{Holds, Links}}
 
 -- what has been given was in a response
 among : (client : ℕ) (received : List Received) (v : Version) → Has (given client received) v
@@ -19,35 +19,24 @@ among client (one ∷ earlier) v h =
       | inr r ↦ let on = among client earlier v r in (on.0, inr on.1, on.2)
     ]
 
--- what has been given is a version
-pub given-version : (first : Version) (w : World) → Holds first w → (client : ℕ) (v : Version)
-    → Has (given client w.received) v → Has (versions w) v
-given-version first w holds client v h =
-    let on = among client w.received v h in (holds.received on.0 on.1).0 v (shown-about on.0.response v on.2)
+module _ {first : Version} {w : World} (holds : Holds first w) (change : Change) (has : Has w.changes change) where
+  read-version : Has (versions w) change.put.read
+  read-version =
+      let on = among change.put.client w.received change.put.read (holds.changes change has).0 in
+      (holds.received on.0 on.1).0 change.put.read on.2
 
-pub replaced-version : (w : World) (change : Change) → Has w.changes change → Has (versions w) change.replaced
-replaced-version w change h = inr (Has-map (λ c. c.replaced) w.changes change h)
+  replaced-version : Has (versions w) change.replaced
+  replaced-version = inr (Has-map (λ c. c.replaced) w.changes change has)
 
--- the condition of a guarded change was true
-same-tag : (first : Version) (w : World) → Holds first w → (change : Change) → Has w.changes change
-    → IsGuarded change.put → change.put.read.etag ≡ change.replaced.etag
-same-tag first w holds change has guarded =
-    (bytes_eq-Decides change.put.read.etag change.replaced.etag).0
-    (subst (λ c. is_true c change.replaced ≡ true) guarded (holds.changes change has).1)
+  -- the condition of a guarded change was true
+  same-tag : IsGuarded change.put → change.put.read.etag ≡ change.replaced.etag
+  same-tag guarded = (bytes_eq-Decides _ _).0 (rw guarded at (holds.changes change has).1)
 
-pub swaps-content : (first : Version) (w : World) → Holds first w → (change : Change) → HasStrongTags w
-    → Has w.changes change → IsGuarded change.put → change.put.read.content ≡ change.replaced.content
-swaps-content first w holds change strong has guarded =
-    strong change.put.read change.replaced
-    (given-version first w holds change.put.client change.put.read (holds.changes change has).0)
-    (replaced-version w change has) (same-tag first w holds change has guarded)
+  pub swaps-content : HasStrongTags w → IsGuarded change.put → change.put.read.content ≡ change.replaced.content
+  swaps-content strong guarded = strong _ _ read-version replaced-version (same-tag guarded)
 
-pub swaps : (first : Version) (w : World) → Holds first w → (change : Change) → HasUniqueTags w → Has w.changes change
-    → IsGuarded change.put → change.put.read ≡ change.replaced
-swaps first w holds change unique has guarded =
-    unique change.put.read change.replaced
-    (given-version first w holds change.put.client change.put.read (holds.changes change has).0)
-    (replaced-version w change has) (same-tag first w holds change has guarded)
+  pub swaps : HasUniqueTags w → IsGuarded change.put → change.put.read ≡ change.replaced
+  swaps unique guarded = unique _ _ read-version replaced-version (same-tag guarded)
 
 -- ---- in line
 
@@ -56,11 +45,9 @@ below : (first : Version) (changes : List Change) (current : Version) → Links 
     (b : Change) → slice_get changes j ≡ Some b → b.replaced.number < current.number
 below first [] current links j b e = absurd (grind (arith, e))
 below first (change ∷ earlier) current links zero b e =
-    let number = ap (λ c. c.replaced.number) (same_Some change b e) in
-    let made = ap (λ v. v.number) links.0 in omega (arith, number, made, links.1)
+    omega (arith, ap (λ c. c.replaced.number) (same_Some change b e), ap (λ v. v.number) links.0, links.1)
 below first (change ∷ earlier) current links (suc j) b e =
-    let made = ap (λ v. v.number) links.0 in
-    let on = below first earlier change.replaced links.3 j b e in omega (arith, on, made, links.1)
+    omega (arith, below first earlier change.replaced links.3 j b e, ap (λ v. v.number) links.0, links.1)
 
 -- so no version is replaced twice
 pub once : (first : Version) (changes : List Change) (current : Version) → Links first changes current → (i j : ℕ)
@@ -68,13 +55,11 @@ pub once : (first : Version) (changes : List Change) (current : Version) → Lin
 once first [] current links i j a b at other same = absurd (grind (arith, at))
 once first (change ∷ earlier) current links zero zero a b at other same = refl
 once first (change ∷ earlier) current links zero (suc j) a b at other same =
-    let on = below first earlier change.replaced links.3 j b other in
-    let one = ap (λ c. c.replaced.number) (same_Some change a at) in let two = ap (λ v. v.number) same in
-    absurd (omega (arith, on, one, two))
+    let one = ap (λ c. c.replaced.number) (same_Some change a at) in
+    absurd (omega (arith, below first earlier _ links.3 j b other, one, ap (λ v. v.number) same))
 once first (change ∷ earlier) current links (suc i) zero a b at other same =
-    let on = below first earlier change.replaced links.3 i a at in
-    let one = ap (λ c. c.replaced.number) (same_Some change b other) in let two = ap (λ v. v.number) same in
-    absurd (omega (arith, on, one, two))
+    let one = ap (λ c. c.replaced.number) (same_Some change b other) in
+    absurd (omega (arith, below first earlier _ links.3 i a at, one, ap (λ v. v.number) same))
 once first (change ∷ earlier) current links (suc i) (suc j) a b at other same =
     ap suc (once first earlier change.replaced links.3 i j a b at other same)
 

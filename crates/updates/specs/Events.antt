@@ -62,55 +62,28 @@ sends_put client guard content (Some read) world =
       content = content;
     }))) world
 
-abbrev pub arrives : Option Message → World → World
-arrives (Some (Coming [] request response)) world =
-    record world { received = record { request = request; response = response } ∷ world.received }
-arrives other world = world
-
 -- ---- a gateway or a cache
-
-abbrev pub forwards : ℕ → Option Message → World → World
-forwards node (Some (Going passed request)) world =
-    sends (Going (record { node = node; removals = (world.nodes node).removals } ∷ passed) request) world
-forwards node other world = world
 
 -- a response about a version that a cache stores
 abbrev pub sends_stored : (Version → Response) → List Hop → Request → Option Version → World → World
 sends_stored response passed request None world = world
 sends_stored response passed request (Some version) world = sends (Coming passed request (response version)) world
 
--- only a GET is answered by a cache (RFC 9111, section 4)
-abbrev pub serves : (Version → Response) → ℕ → ℕ → Option Message → World → World
-serves response node which (Some (Going passed (Get client written))) world =
-    sends_stored response passed (Get client written) (slice_get (world.nodes node).stored which) world
-serves response node which other world = world
-
 -- what a cache has stored, if that has the tag of the 304
 abbrev pub with_tag : Version → Option Version → Option Version
 with_tag named None = None
 with_tag named (Some version) = if bytes_eq version.etag named.etag then Some version else None
 
-abbrev pub freshens : ℕ → Option Message → World → World
-freshens which (Some (Coming (hop ∷ left) request (Status304 named))) world =
-    sends_stored Status200 left request (with_tag named (slice_get (world.nodes hop.node).stored which)) world
-freshens which other world = world
-
 abbrev pub after_removing : Bool → Node → Node
 after_removing true node = record { stored = []; removals = suc node.removals }
 after_removing false node = node
 
-abbrev pub after_storing : Bool → Response → Node → Node
-after_storing true (Status200 version) node = record node { stored = version ∷ node.stored }
-after_storing stores response node = node
+abbrev pub after_storing : Response → Bool → Node → Node
+after_storing (Status200 version) true node = record node { stored = version ∷ node.stored }
+after_storing response stores node = node
 
 abbrev pub with_node : ℕ → Node → World → World
 with_node at node world = record world { nodes = λ n. if n == at then node else world.nodes n }
-
-abbrev pub returns : Bool → Bool → Option Message → World → World
-returns removes stores (Some (Coming (hop ∷ left) request response)) world =
-    sends (Coming left request response)
-    (with_node hop.node (after_storing stores response (after_removing removes (world.nodes hop.node))) world)
-returns removes stores other world = world
 
 -- ---- the origin server
 
@@ -139,40 +112,56 @@ answers_put etag says_applied passed put world =
     (performs put (made_of put etag world) world)
     else sends (Coming passed (Puts put) (refusal says_applied put world.current)) world
 
-abbrev pub answers : List ℕ → Bool → Option Message → World → World
-answers etag says_applied (Some (Going passed (Get client written))) world =
-    sends (Coming passed (Get client written) (Status200 world.current)) world
-answers etag says_applied (Some (Going passed (Puts put))) world = answers_put etag says_applied passed put world
-answers etag says_applied other world = world
-
-abbrev pub answers_tag : Option Message → World → World
-answers_tag (Some (Going passed (Get client written))) world =
-    sends (Coming passed (Get client written) (Status304 world.current)) world
-answers_tag other world = world
-
-abbrev pub refuses : ℕ → Option Message → World → World
-refuses status (Some (Going passed request)) world = sends (Coming passed request (Refused status)) world
-refuses status other world = world
-
 -- ---- whole runs
 
--- what an event makes of the world; one that can't happen leaves it
-abbrev pub happens : World → Event → World
-happens world Ticks = record world { now = suc world.now }
-happens world (SendsGet client) = sends (Going [] (Get client (written_by client world.received))) world
-happens world (SendsPut client which guard content) =
+-- the place of the message that it happens to
+abbrev pub place_of : Event → Option ℕ
+place_of (Forwards message node) = Some message
+place_of (Serves message node which) = Some message
+place_of (ServesTag message node which) = Some message
+place_of (AnswersTag message) = Some message
+place_of (Freshens message which) = Some message
+place_of (Answers message etag says_applied) = Some message
+place_of (Refuses message status) = Some message
+place_of (Returns message removes stores) = Some message
+place_of (Arrives message) = Some message
+place_of other = None
+
+abbrev pub found_at : Option ℕ → List Message → Option Message
+found_at None messages = None
+found_at (Some place) messages = slice_get messages place
+
+-- what an event makes of the world, given the message that it happens to; one that can't happen leaves it
+abbrev pub acts : Event → Option Message → World → World
+acts Ticks found world = record world { now = suc world.now }
+acts (SendsGet client) found world = sends (Going [] (Get client (written_by client world.received))) world
+acts (SendsPut client which guard content) found world =
     sends_put client guard content (slice_get (given client world.received) which) world
-happens world (Forwards message node) = forwards node (slice_get world.messages message) world
-happens world (Serves message node which) = serves Status200 node which (slice_get world.messages message) world
-happens world (ServesTag message node which) =
-    serves Status304 node which (slice_get world.messages message) world
-happens world (AnswersTag message) = answers_tag (slice_get world.messages message) world
-happens world (Freshens message which) = freshens which (slice_get world.messages message) world
-happens world (Answers message etag says_applied) =
-    answers etag says_applied (slice_get world.messages message) world
-happens world (Refuses message status) = refuses status (slice_get world.messages message) world
-happens world (Returns message removes stores) = returns removes stores (slice_get world.messages message) world
-happens world (Arrives message) = arrives (slice_get world.messages message) world
+acts (Forwards message node) (Some (Going passed request)) world =
+    sends (Going (record { node = node; removals = (world.nodes node).removals } ∷ passed) request) world
+-- only a GET is answered by a cache (RFC 9111, section 4)
+acts (Serves message node which) (Some (Going passed (Get client written))) world =
+    sends_stored Status200 passed (Get client written) (slice_get (world.nodes node).stored which) world
+acts (ServesTag message node which) (Some (Going passed (Get client written))) world =
+    sends_stored Status304 passed (Get client written) (slice_get (world.nodes node).stored which) world
+acts (AnswersTag message) (Some (Going passed (Get client written))) world =
+    sends (Coming passed (Get client written) (Status304 world.current)) world
+acts (Freshens message which) (Some (Coming (hop ∷ left) request (Status304 named))) world =
+    sends_stored Status200 left request (with_tag named (slice_get (world.nodes hop.node).stored which)) world
+acts (Answers message etag says_applied) (Some (Going passed (Get client written))) world =
+    sends (Coming passed (Get client written) (Status200 world.current)) world
+acts (Answers message etag says_applied) (Some (Going passed (Puts put))) world =
+    answers_put etag says_applied passed put world
+acts (Refuses message status) (Some (Going passed request)) world = sends (Coming passed request (Refused status)) world
+acts (Returns message removes stores) (Some (Coming (hop ∷ left) request response)) world =
+    sends (Coming left request response)
+    (with_node hop.node (after_storing response stores (after_removing removes (world.nodes hop.node))) world)
+acts (Arrives message) (Some (Coming [] request response)) world =
+    record world { received = record { request = request; response = response } ∷ world.received }
+acts other found world = world
+
+abbrev pub happens : World → Event → World
+happens world event = acts event (found_at (place_of event) world.messages) world
 
 abbrev pub run : List Event → World → World
 run [] world = world

@@ -1,6 +1,6 @@
 -- What is said of a world that some events have made.
 use Rattle.std.specs.Prelude.{◌≡◌, ◌≢◌, ◌⊎◌, ℕ, ◌<◌, Bool, true, List, [], ◌∷◌, slice_get, Option, Some, None, ⊤}
-use Rattle.updates.{specs.Events.{Event, happens}, specs.Events.Event.{Forwards, Serves, ServesTag, AnswersTag}}
+use Rattle.updates.{specs.Events.{Event, happens, found_at, place_of}, specs.Events.Event.{Forwards, Serves, ServesTag, AnswersTag}}
 use Rattle.updates.{specs.Events.Event.{Answers, Returns}, specs.Worlds.{Version, Put, Hop, Message, Change, World}}
 use Rattle.updates.{specs.Worlds.{client_of, versions}, specs.Worlds.Condition.IfMatch, specs.Worlds.Request.Get}
 use Rattle.updates.{specs.Worlds.Response.{Status200, Status204}, specs.Worlds.Message.{Going, Coming}}
@@ -81,36 +81,36 @@ abbrev pub ComesTo : Routes → Option ℕ → Option Message → Type 0
 ComesTo routes place (Some (Going passed request)) = next_after routes (client_of request) passed ≡ place
 ComesTo routes place other = ⊤
 
+-- what is asked of an event, by the message that it happens to
+abbrev pub Rule : Type 1
+Rule = Event → Option Message → World → Type 0
+
 -- requests go where the routes lead
-abbrev pub IsRouted : Routes → World → Event → Type 0
-IsRouted routes world (Forwards message node) = ComesTo routes (Some node) (slice_get world.messages message)
-IsRouted routes world (Serves message node which) = ComesTo routes (Some node) (slice_get world.messages message)
-IsRouted routes world (ServesTag message node which) = ComesTo routes (Some node) (slice_get world.messages message)
-IsRouted routes world (AnswersTag message) = ComesTo routes None (slice_get world.messages message)
-IsRouted routes world (Answers message etag says_applied) = ComesTo routes None (slice_get world.messages message)
-IsRouted routes world other = ⊤
+abbrev pub IsRouted : Routes → Rule
+IsRouted routes (Forwards message node) found world = ComesTo routes (Some node) found
+IsRouted routes (Serves message node which) found world = ComesTo routes (Some node) found
+IsRouted routes (ServesTag message node which) found world = ComesTo routes (Some node) found
+IsRouted routes (AnswersTag message) found world = ComesTo routes None found
+IsRouted routes (Answers message etag says_applied) found world = ComesTo routes None found
+IsRouted routes other found world = ⊤
 
 -- a success of an unsafe method removes what is stored (RFC 9111, section 4.4)
 abbrev pub InvalidatesOn : Bool → Option Message → Type 0
 InvalidatesOn removes (Some (Coming left request (Status204 version))) = removes ≡ true
 InvalidatesOn removes other = ⊤
 
-abbrev pub Invalidates : World → Event → Type 0
-Invalidates world (Returns message removes stores) = InvalidatesOn removes (slice_get world.messages message)
-Invalidates world other = ⊤
+abbrev pub Invalidates : Rule
+Invalidates (Returns message removes stores) found world = InvalidatesOn removes found
+Invalidates other found world = ⊤
 
 -- A response is stored only if nothing was removed since the cache sent the request on. RFC 9111 doesn't ask for this.
-abbrev pub IsCurrentAt : World → Bool → Option Message → Type 0
-IsCurrentAt world stores (Some (Coming (hop ∷ left) request response)) =
+abbrev pub StoresNoneFromBefore : Rule
+StoresNoneFromBefore (Returns message removes stores) (Some (Coming (hop ∷ left) request response)) world =
     stores ≡ true → hop.removals ≡ (world.nodes hop.node).removals
-IsCurrentAt world stores other = ⊤
-
-abbrev pub StoresNoneFromBefore : World → Event → Type 0
-StoresNoneFromBefore world (Returns message removes stores) =
-    IsCurrentAt world stores (slice_get world.messages message)
-StoresNoneFromBefore world other = ⊤
+StoresNoneFromBefore other found world = ⊤
 
 -- each event is so in the world in which it happens
-abbrev pub Throughout : (World → Event → Type 0) → List Event → World → Type 0
+abbrev pub Throughout : Rule → List Event → World → Type 0
 Throughout P [] world = ⊤
-Throughout P (event ∷ events) world = P world event × Throughout P events (happens world event)
+Throughout P (event ∷ events) world =
+    P event (found_at (place_of event) world.messages) world × Throughout P events (happens world event)

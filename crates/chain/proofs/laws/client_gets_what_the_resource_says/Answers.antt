@@ -1,12 +1,7 @@
-use Rattle.chain.proofs.{ChainLemmas.tells, StoreLemmas.StoreLaws}
+use Rattle.chain.proofs.ChainLemmas.{tells}
 use Rattle.chain.proofs.laws.client_gets_what_the_resource_says.Goals as goal
 
 pub returns : goal.returns
-returns c site hops now target request reply h =
-    let law : StoreLaws =
-    record {
-      serves = c.lookups_serve_what_calls_justify.ensures;
-      justifies = c.calls_justify_what_is_stored.ensures;
-    } in
+returns c =
     tells c.other_fields_change_nothing.ensures c.head_is_answered_as_get.ensures c.vary_is_sound.ensures
-    c.members_alone_select.ensures law site hops now target request reply h
+    c.members_alone_select.ensures (c.lookups_serve_what_calls_justify.ensures, c.calls_justify_what_is_stored.ensures)

@@ -1,14 +1,12 @@
-use Rattle.updates.{specs.Events.run, specs.Worlds.start, specs.Worlds.Message.Going, specs.Worlds.Request.Puts}
+use Rattle.updates.{specs.Worlds.Message.Going, specs.Worlds.Request.Puts}
 use Rattle.updates.{proofs.Steps.holds, proofs.Updates.{swaps, swaps-content}}
 use Rattle.updates.proofs.laws.if_match_is_compare_and_swap.Goals as goal
 
 pub returns-clause-version : goal.returns-clause-version
-returns-clause-version c first events change unique has guarded =
-    swaps first (run events (start first)) (holds first events) change unique has guarded
+returns-clause-version c first events change unique has = swaps (holds first events) change has unique
 
 pub returns-clause-content : goal.returns-clause-content
-returns-clause-content c first events change strong has guarded =
-    swaps-content first (run events (start first)) (holds first events) change strong has guarded
+returns-clause-content c first events change strong has = swaps-content (holds first events) change has strong
 
 pub returns-clause-read : goal.returns-clause-read
 returns-clause-read c first events change has = ((holds first events).changes change has).0

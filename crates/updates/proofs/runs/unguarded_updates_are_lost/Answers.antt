@@ -1,6 +1,6 @@
-use Rattle.std.proofs.Common.{refl}
-use Rattle.updates.{specs.Events.Guard.Not, proofs.Examples.loses}
+use Rattle.std.proofs.Common.{refl, arith}
+use Rattle.updates.proofs.Examples.{loses}
 use Rattle.updates.proofs.runs.unguarded_updates_are_lost.Goals as goal
 
 pub returns : goal.returns
-returns c = loses Not refl refl
+returns c = loses 1 0 refl refl refl (λ same. omega (arith, same))
