@@ -1,13 +1,16 @@
 -- The fields of an answer in place of those that a server has set.
 use Rattle.std.proofs.Common.{◌≡◌, ◌≢◌, ℕ, Bool, true, false, All, List, [], ◌∷◌, refl, sym, ap, ◌∙◌, subst, arith}
-use Rattle.std.{proofs.lemmas.{Bool.cases_Bool, Slice.Eq.bytes_eq-Decides}, specs.Prelude.{Option, ◌++◌, bytes_eq}}
-use Rattle.{std.specs.Prelude.{codes, decimal, if◌then◌else◌}, http_header.specs.FieldValue.FieldValue}
-use Rattle.headers.specs.{ContentBytes.content_text, Date.fixdate, LineMap.{Field, LineMap, set, set_all}, Lines.Line}
-use Rattle.decide_preconditions.specs.{Conditions.modified_of, Contents.is_divisible, Fields.IsModifiedBy}
-use Rattle.decide_preconditions.specs.Fields.{SendsFields, etag_of, etag_sent, fields_removed, fields_sent, is_whole}
-use Rattle.decide_preconditions.specs.Fields.{keeps_encoding, length_sent, lines_sent, modified_sent, not_after}
-use Rattle.decide_preconditions.specs.Fields.{range_sent, sent_names, type_sent, units_sent}
-use Rattle.decide_preconditions.specs.declared.{content.Content.Content, plan.Plan.Plan, resource.Resource.Resource}
+use Rattle.std.proofs.lemmas.{Bool.cases_Bool, Slice.Eq.bytes_eq-Decides}
+use Rattle.std.specs.Prelude.{Option, ◌++◌, bytes_eq, codes, decimal, if◌then◌else◌}
+use Rattle.{http_header.specs.FieldValue.FieldValue, headers.specs.ContentBytes.content_text}
+use Rattle.headers.specs.{Date.fixdate, LineMap.{Field, LineMap, set, set_all}}
+use Rattle.{headers.specs.Lines.Line, decide_preconditions.specs.Conditions.modified_of}
+use Rattle.decide_preconditions.specs.Contents.{is_divisible}
+use Rattle.decide_preconditions.specs.Fields.{IsModifiedBy, SendsFields, etag_of, etag_sent, fields_removed}
+use Rattle.decide_preconditions.specs.Fields.{fields_sent, is_whole, keeps_encoding, length_sent, lines_sent}
+use Rattle.decide_preconditions.specs.Fields.{modified_sent, not_after, range_sent, sent_names, type_sent, units_sent}
+use Rattle.decide_preconditions.specs.declared.{content.Content.Content, plan.Plan.Plan}
+use Rattle.decide_preconditions.specs.declared.resource.Resource.{Resource}
 
 -- another name keeps its field lines
 pub set-other : (before : LineMap) (field : Field) (name : List ℕ) → field.0 ≢ name
@@ -86,18 +89,7 @@ module _ (present : ℕ) (plan : Plan) (is_known : Bool) (resource : Resource) (
       → Sends (set_all with_type (fields_removed plan is_known))
   finished true true e w =
       subst (λ (l : List Field). Sends (set_all with_type l)) (sym (removed_by true true e w))
-      record {
-        etag = refl;
-        last_modified = refl;
-        accept_ranges = refl;
-        content_range = refl;
-        content_length = refl;
-        content_type = refl;
-        content_encoding = rw e refl;
-        content_digest = rw w refl;
-        content_md5 = rw w refl;
-        others = others;
-      }
+      (grind (arith, others))
   finished true false e w =
       subst (λ (l : List Field). Sends (set_all with_type l)) (sym (removed_by true false e w))
       record {
@@ -114,18 +106,7 @@ module _ (present : ℕ) (plan : Plan) (is_known : Bool) (resource : Resource) (
       }
   finished false true e w =
       subst (λ (l : List Field). Sends (set_all with_type l)) (sym (removed_by false true e w))
-      record {
-        etag = refl;
-        last_modified = refl;
-        accept_ranges = refl;
-        content_range = refl;
-        content_length = refl;
-        content_type = refl;
-        content_encoding = rw e refl;
-        content_digest = rw w refl;
-        content_md5 = rw w refl;
-        others = others_encoded;
-      }
+      (grind (arith, others_encoded))
   finished false false e w =
       subst (λ (l : List Field). Sends (set_all with_type l)) (sym (removed_by false false e w))
       record {
@@ -147,6 +128,6 @@ module _ (present : ℕ) (plan : Plan) (is_known : Bool) (resource : Resource) (
   dated : (modified : Option ℕ) → IsModifiedBy present (lines_sent fixdate (not_after present modified))
   dated modified = grind arith
 
-  pub modified_by-set_all : IsModifiedBy present
+  pub modified_by_set : IsModifiedBy present
       (set_all before (fields_sent present plan is_known resource content multipart) (codes "last-modified"))
-  modified_by-set_all = grind (arith, set_from_plan, dated)
+  modified_by_set = grind (arith, set_from_plan, dated)

@@ -4,10 +4,7 @@ pub mod HeadLemmas
 pub mod NumeralLemmas
 pub mod OnePlanLemmas
 pub mod PartLemmas
-pub mod PlanLemmas
 pub mod PreconditionLemmas
 pub mod RangeSetLemmas
 pub mod SelectionLemmas
-pub mod SomePlanLemmas
-pub mod SomeSelectionLemmas
 pub mod TagLemmas

@@ -1,37 +1,16 @@
 -- Parts that are in order, joined where they overlap or are close.
-use Rattle.std.proofs.Common.{◌≡◌, ℕ, suc, ◌+◌, ◌<◌, ◌≤◌, ◌↔◌, nat_le, nat_lt, max, List, [], ◌∷◌, length, get_or, refl}
-use Rattle.std.proofs.Common.{sym, ap, ◌∙◌, subst, arith, inl, inr, ◌⊎◌, ⊎_elim, All, Any, sum_by}
-use Rattle.std.proofs.lemmas.{Bool.{cases_Bool, leb-true, leb-false, ltb-true, ltb-false}, List.get_or_default}
-use Rattle.std.proofs.lemmas.List.{Elements.{All-nil, All-cons, All-head, All-tail, All-weaker}, Sums.sum_by-cons}
-use Rattle.std.proofs.lemmas.List.Sorted.{All-permutation, Contains-permutation, IsPermutation-sym}
-use Rattle.std.{proofs.lemmas.List.Sorted.IsNonDecreasingBy-drop, specs.Prelude.{AllPairs, Bool, ⊤, if◌then◌else◌}}
-use Rattle.std.specs.{Bool.MatchBool, List.{Retain.{DedupsFrom, IsDeduped}, Sorted.{IsPermutation, IsNonDecreasingBy}}}
-use Rattle.{headers.proofs.RangeLemmas.{any_cases, any_here, any_later}, decide_preconditions.specs.Merged.joined}
-use Rattle.decide_preconditions.specs.{Merged.{merged, merged_from}, Parts.{AreCoalesced, Holds, IsApartBefore}}
-use Rattle.decide_preconditions.specs.{Parts.{IsJoined, IsPartOf, part_size}, declared.part.Part.Part}
-
-any_moved : {X : Type 0} (P : X → Type 0) (xs ys : List X) → IsPermutation xs ys → Any P xs → Any P ys
-any_moved P xs ys h a =
-    let c = Contains-permutation xs ys a.1 h (a.0, a.2, a.3) in (c.0, a.1, c.1, c.2, a.4)
-
--- ---- parts in order of their first positions
-
--- no part begins before `low`, or before the part in front of it
-abbrev pub Rises : ℕ → List Part → Type 0
-Rises low [] = ⊤
-Rises low (part ∷ rest) = (low ≤ part.first) × Rises part.first rest
-
-rises_from : (part : Part) (rest : List Part) → IsNonDecreasingBy (λ (p : Part). p.first) (part ∷ rest)
-    → Rises part.first rest
-rises_from part [] up = tt
-rises_from part (next ∷ rest) up = (
-  up 0 1 part (omega arith) (omega arith),
-  rises_from next rest (IsNonDecreasingBy-drop (λ (p : Part). p.first) 1 (part ∷ next ∷ rest) up),
-)
-
-rises_lower : (low part : ℕ) (rest : List Part) → low ≤ part → Rises part rest → Rises low rest
-rises_lower low part [] l h = tt
-rises_lower low part (next ∷ rest) l h = let k = h.0 in (omega arith, h.1)
+use Rattle.std.proofs.Common.{◌≡◌, ℕ, suc, ◌+◌, ◌≤◌, ◌↔◌, nat_le, List, [], ◌∷◌, length, refl, sym, subst, arith, inl}
+use Rattle.std.proofs.Common.{inr, ◌⊎◌, ⊎_elim, All, Any, sum_by}
+use Rattle.std.proofs.lemmas.Bool.{cases_Bool, cases_lt, leb-true, leb-false}
+use Rattle.std.proofs.lemmas.List.{Elements.{All-cons, All-head, All-tail}, Sums.sum_by-cons}
+use Rattle.std.proofs.lemmas.List.Sorted.{All-permutation, Contains-permutation, IsPermutation-sym, IsPermutation-refl}
+use Rattle.std.proofs.lemmas.List.Sorted.{IsPermutation-cons, IsPermutation-trans, IsPermutation-insert}
+use Rattle.std.specs.{Prelude.{Bool, ⊤, if◌then◌else◌}, Bool.MatchBool}
+use Rattle.std.specs.List.{Retain.{DedupsFrom, IsDeduped}, Sorted.{IsPermutation, IsNonDecreasingBy}}
+use Rattle.headers.proofs.RangeLemmas.{any_cases, any_here, any_later}
+use Rattle.decide_preconditions.specs.Merged.{joined, merged, merged_from}
+use Rattle.decide_preconditions.specs.Parts.{AreCoalesced, Holds, IsJoined, IsPartOf, part_size}
+use Rattle.decide_preconditions.specs.declared.part.Part.{Part}
 
 -- ---- parts that are joined in place
 
@@ -60,242 +39,253 @@ module _ {F : Type 0} (R : F → Part → Part → Bool → F → Part → Part 
   pub merged_from_dedup : (xs ys : List Part) → IsDeduped R f xs ys → ys ≡ merged gap xs
   merged_from_dedup xs ys k = grind (arith, merged_after)
 
+-- ---- the facts about parts, by recursion
+
+-- P holds of some element
+abbrev pub Among : {X : Type 0} → (X → Type 0) → List X → Type 0
+Among P [] = ⊥
+Among P (x ∷ xs) = P x ⊎ Among P xs
+
+pub among : {X : Type 0} (P : X → Type 0) (xs : List X) → Any P xs → Among P xs
+among P [] a = let l = a.2 in absurd (omega (arith, l))
+among P (x ∷ xs) a = ⊎_elim (λ here. inl here) (λ later. inr (among P xs later)) (any_cases P x xs a)
+
+pub any_among : {X : Type 0} (P : X → Type 0) (xs : List X) → Among P xs → Any P xs
+any_among P [] i = absurd i
+any_among P (x ∷ xs) i =
+    ⊎_elim (any_here P x xs) (λ later. any_later P x xs (any_among P xs later)) i
+
+-- one of the parts holds the position
+abbrev In : ℕ → List Part → Type 0
+In p parts = Among (Holds p) parts
+
+-- no part begins before `low`, or before the part in front of it
+abbrev pub Rises : ℕ → List Part → Type 0
+Rises low [] = ⊤
+Rises low (part ∷ rest) = (low ≤ part.first) × Rises part.first rest
+
+pub rises : (low : ℕ) (parts : List Part) → All (λ part. low ≤ part.first) parts
+    → IsNonDecreasingBy (λ (part : Part). part.first) parts → Rises low parts
+rises low [] from up = tt
+rises low (part ∷ rest) from up = (
+  from 0 part (omega arith),
+  rises part.first rest (λ k d l. up 0 (suc k) d (omega arith) (omega arith))
+      (λ i j d l m. up (suc i) (suc j) d (omega arith) (omega arith)),
+)
+
+-- the parts lie in a representation of this length, from `low` on, and far enough apart
+abbrev Spread : ℕ → ℕ → ℕ → List Part → Type 0
+Spread len gap low [] = ⊤
+Spread len gap low (part ∷ rest) = (low ≤ part.first) × IsPartOf len part × Spread len gap (part.last + gap + 2) rest
+
+spread_lower : (len gap low more : ℕ) (parts : List Part) → low ≤ more → Spread len gap more parts
+    → Spread len gap low parts
+spread_lower len gap low more [] l h = tt
+spread_lower len gap low more (part ∷ rest) l h = (omega (arith, h.0), h.1, h.2)
+
+spread_from : (len gap low : ℕ) (parts : List Part) → All (λ part. low ≤ part.first) parts → AreCoalesced len gap parts
+    → Spread len gap low parts
+spread_from len gap low [] from h = tt
+spread_from len gap low (part ∷ rest) from h = (
+  from 0 part (omega arith),
+  h.within 0 part (omega arith),
+  spread_from len gap (part.last + gap + 2) rest
+      (λ k d l. let apart = h.apart 0 (suc k) d (omega arith) (omega arith) in omega (arith, apart))
+      record {
+        within = λ k d l. h.within (suc k) d (omega arith);
+        apart = λ i j d l m. h.apart (suc i) (suc j) d (omega arith) (omega arith);
+      },
+)
+
+-- of parts that lie anywhere
+spread : (len gap : ℕ) (parts : List Part) → AreCoalesced len gap parts → Spread len gap 0 parts
+spread len gap parts h = spread_from len gap 0 parts (λ k d l. omega arith) h
+
+starts : (len gap low : ℕ) (parts : List Part) → Spread len gap low parts → All (λ part. low ≤ part.first) parts
+starts len gap low [] h = λ k d l. absurd (omega (arith, l))
+starts len gap low (part ∷ rest) h =
+    All-cons (λ p. low ≤ p.first) part rest h.0
+    (starts len gap low rest (spread_lower len gap low (part.last + gap + 2) rest (omega arith) h.2))
+
+coalesced_by : (len gap low : ℕ) (parts : List Part) → Spread len gap low parts → AreCoalesced len gap parts
+coalesced_by len gap low [] h =
+    record { within = λ k d l. absurd (omega (arith, l)); apart = λ i j d l m. absurd (omega (arith, m)) }
+coalesced_by len gap low (part ∷ rest) h =
+    grind (arith, coalesced_by len gap (part.last + gap + 2) rest h.2, starts len gap (part.last + gap + 2) rest h.2)
+
 -- ---- joined parts
 
--- a position of parts that are joined lies in one of them, or between them
-joined_holds : (gap : ℕ) (P : ℕ → Type 0) (part next : Part) (p : ℕ) → next.first ≤ part.last + gap + 1
-    → ((q : ℕ) → Holds q part → IsJoined gap P q) → ((q : ℕ) → Holds q next → P q) → P part.last → P next.first
-    → Holds p (joined part next) → IsJoined gap P p
-joined_holds gap P part next p close covered follows last first h =
-    let low = h.0 in let high = h.1 in
-    elim (cases_Bool (nat_le p part.last)) [
-      | inl y ↦ covered p (low, leb-true _ _ y)
-      | inr n ↦
-          let past : part.last < p = leb-false _ _ n in
-          elim (cases_Bool (nat_le next.first p)) [
-            | inl y ↦
-                let from : next.first ≤ p = leb-true _ _ y in
-                let here : P p = follows p (from, omega arith) in
-                record {
-                  before = p;
-                  after = p;
-                  is_before = here;
-                  is_after = here;
-                  low = omega arith;
-                  high = omega arith;
-                  close = omega arith;
-                }
-            | inr m ↦
-                let ahead : p < next.first = leb-false _ _ m in
-                record {
-                  before = part.last;
-                  after = next.first;
-                  is_before = last;
-                  is_after = first;
-                  low = omega arith;
-                  high = omega arith;
-                  close = close;
-                }
-          ]
-    ]
+rises_lower : (low part : ℕ) (rest : List Part) → low ≤ part → Rises part rest → Rises low rest
+rises_lower low part [] l h = tt
+rises_lower low part (next ∷ rest) l h = (omega (arith, h.0), h.1)
+
+merged_spread : (len gap low : ℕ) (part : Part) (rest : List Part) → low ≤ part.first → IsPartOf len part
+    → Rises part.first rest → All (IsPartOf len) rest → Spread len gap low (merged_from gap part rest)
+merged_spread len gap low part [] l h up all = (l, h, tt)
+merged_spread len gap low part (next ∷ rest) l h up all =
+    grind (
+      arith,
+      cases_Bool,
+      nat_le,
+      leb-false,
+      rises_lower,
+      merged_spread len gap low (joined part next) rest,
+      merged_spread len gap (part.last + gap + 2) next rest,
+      All-head (IsPartOf len) next rest all,
+      All-tail (IsPartOf len) next rest all,
+    )
+
+-- joined parts hold what the parts do
+merged_holds : (gap p : ℕ) (part : Part) (rest : List Part) → Rises part.first rest → In p (part ∷ rest)
+    → In p (merged_from gap part rest)
+merged_holds gap p part [] up i = i
+merged_holds gap p part (next ∷ rest) up i =
+    grind (
+      arith,
+      cases_Bool,
+      nat_le,
+      rises_lower,
+      merged_holds gap p (joined part next) rest,
+      merged_holds gap p next rest,
+    )
 
 -- a position of which P holds is joined to itself
 pub joined_itself : (gap : ℕ) (P : ℕ → Type 0) (p : ℕ) → P p → IsJoined gap P p
 joined_itself gap P p h = grind (arith)
 
-abbrev IsOrdered : Part → Type 0
-IsOrdered part = part.first ≤ part.last
-
-last_of : (P : ℕ → Type 0) (part next : Part) → P part.last → P next.last → P (max part.last next.last)
-last_of P part next h k = grind (arith, cases_Bool, nat_le, leb-true, leb-false)
-
--- what joined parts hold is joined to positions of the parts
-merged_joins : (gap : ℕ) (P : ℕ → Type 0) (part : Part) (rest : List Part) (p : ℕ)
-    → ((q : ℕ) → Holds q part → IsJoined gap P q) → P part.last → ((q : ℕ) → Any (Holds q) rest → P q)
-    → All IsOrdered rest → Any (Holds p) (merged_from gap part rest) → IsJoined gap P p
-merged_joins gap P part [] p covered last follows ordered a =
-    ⊎_elim (λ here. covered p here) (λ later. let l = later.2 in absurd (omega (arith, l)))
-    (any_cases (Holds p) part [] a)
-merged_joins gap P part (next ∷ rest) p covered last follows ordered a =
-    let up : next.first ≤ next.last = All-head IsOrdered next rest ordered in
-    let others = All-tail IsOrdered next rest ordered in
-    let here : (q : ℕ) → Holds q next → P q = λ q h. follows q (any_here (Holds q) next rest h) in
-    let later : (q : ℕ) → Any (Holds q) rest → P q = λ q h. follows q (any_later (Holds q) next rest h) in
-    let first_next : P next.first = here next.first (omega arith, up) in
-    let last_next : P next.last = here next.last (up, omega arith) in
-    elim (cases_Bool (nat_le next.first (part.last + gap + 1))) [
-      | inl y ↦
-          let close : next.first ≤ part.last + gap + 1 = leb-true _ _ y in
-          let more : Any (Holds p) (merged_from gap (joined part next) rest) = rw y at a in
-          merged_joins gap P (joined part next) rest p
-          (λ q h. joined_holds gap P part next q close covered here last first_next h)
-          (last_of P part next last last_next) later others more
-      | inr n ↦
-          let more : Any (Holds p) (part ∷ merged_from gap next rest) = rw n at a in
-          ⊎_elim (λ h. covered p h)
-          (λ b. merged_joins gap P next rest p (λ q h. joined_itself gap P q (here q h)) last_next later others b)
-          (any_cases (Holds p) part (merged_from gap next rest) more)
-    ]
-
--- the parts are held by what they are joined to
-holds_joined : (p : ℕ) (part next : Part) → part.first ≤ next.first → Holds p part ⊎ Holds p next
-    → Holds p (joined part next)
-holds_joined p part next l h4 = grind arith
-
-pub merged_holds : (gap p : ℕ) (part : Part) (rest : List Part) → Rises part.first rest
-    → Any (Holds p) (part ∷ rest) → Any (Holds p) (merged_from gap part rest)
-merged_holds gap p part [] h a = a
-merged_holds gap p part (next ∷ rest) h a =
-    let l = h.0 in
-    elim (cases_Bool (nat_le next.first (part.last + gap + 1))) [
-      | inl y ↦
-          let both : Any (Holds p) (joined part next ∷ rest) =
-          ⊎_elim (λ here. any_here (Holds p) (joined part next) rest (holds_joined p part next l (inl here)))
-          (λ b. ⊎_elim (λ here. any_here (Holds p) (joined part next) rest (holds_joined p part next l (inr here)))
-          (λ later. any_later (Holds p) (joined part next) rest later) (any_cases (Holds p) next rest b))
-          (any_cases (Holds p) part (next ∷ rest) a) in
-          rw y (merged_holds gap p (joined part next) rest (rises_lower part.first next.first rest l h.1) both)
-      | inr n ↦
-          rw n (⊎_elim (λ here. any_here (Holds p) part (merged_from gap next rest) here)
-          (λ later. any_later (Holds p) part (merged_from gap next rest) (merged_holds gap p next rest h.1 later))
-          (any_cases (Holds p) part (next ∷ rest) a))
-    ]
-
-pub merged_within : (len gap : ℕ) (part : Part) (rest : List Part) → IsPartOf len part → All (IsPartOf len) rest
-    → All (IsPartOf len) (merged_from gap part rest)
-merged_within len gap part [] h all = All-cons (IsPartOf len) part [] h all
-merged_within len gap part (next ∷ rest) h all =
-    let k = All-head (IsPartOf len) next rest all in
-    let others = All-tail (IsPartOf len) next rest all in
-    elim (cases_Bool (nat_le next.first (part.last + gap + 1))) [
-      | inl y ↦
-          let a = h.0 in let b = h.1 in let c = k.1 in
-          let both : IsPartOf len (joined part next) = (omega arith, omega arith) in
-          rw y (merged_within len gap (joined part next) rest both others)
-      | inr n ↦
-          rw n (All-cons (IsPartOf len) part (merged_from gap next rest) h (merged_within len gap next rest k others))
-    ]
-
-abbrev StartsFrom : ℕ → Part → Type 0
-StartsFrom low part = low ≤ part.first
-
-merged_low : (low gap : ℕ) (part : Part) (rest : List Part) → low ≤ part.first → Rises part.first rest
-    → All (StartsFrom low) (merged_from gap part rest)
-merged_low low gap part [] l h = All-cons (StartsFrom low) part [] l (All-nil (StartsFrom low))
-merged_low low gap part (next ∷ rest) l h =
-    grind (
-      arith,
-      cases_Bool,
-      nat_le,
-      rises_lower,
-      merged_low low gap (joined part next) rest l (rises_lower part.first
-          next.first rest (h.0) h.1),
-      merged_low low gap next rest (omega arith) h.1,
-    )
-
-pub none_apart : (gap : ℕ) → AllPairs (IsApartBefore gap) []
-none_apart gap i j d l m = absurd (omega (arith, m))
-
-pub merged_apart : (gap : ℕ) (part : Part) (rest : List Part) → Rises part.first rest
-    → AllPairs (IsApartBefore gap) (merged_from gap part rest)
-merged_apart gap part [] h = grind (arith, none_apart)
-merged_apart gap part (next ∷ rest) h =
-    grind (
-      arith,
-      cases_Bool,
-      nat_le,
-      rises_lower,
-      leb-false,
-      merged_low,
-      merged_apart gap (joined part next) rest
-          (rises_lower part.first next.first rest (h.0) h.1),
-      merged_apart gap next rest h.1,
-    )
-
-abbrev InOrder : List Part → Type 0
-InOrder parts = IsNonDecreasingBy (λ (part : Part). part.first) parts
-
-merged_is_coalesced : (len gap : ℕ) (parts : List Part) → InOrder parts → All (IsPartOf len) parts
-    → AreCoalesced len gap (merged gap parts)
-merged_is_coalesced len gap [] up all = record { within = all; apart = none_apart gap }
-merged_is_coalesced len gap (part ∷ rest) up all =
-    record {
-      within = merged_within len gap part rest (All-head (IsPartOf len) part rest all)
-          (All-tail (IsPartOf len) part rest all);
-      apart = merged_apart gap part rest (rises_from part rest up);
-    }
-
--- what `coalesce` gives: the parts in another order, which rises, and then joined
-pub coalesced_from : (len gap : ℕ) (old new : List Part) → IsPermutation old new → InOrder new
-    → All (IsPartOf len) old → AreCoalesced len gap (merged gap new)
-coalesced_from len gap old new moved up all =
-    merged_is_coalesced len gap new up (All-permutation (IsPartOf len) old new moved all)
-
--- ---- which positions coalesced parts hold
-
-abbrev pub HeldBy : List Part → ℕ → Type 0
-HeldBy parts p = Any (Holds p) parts
-
-pub held_joins : (len gap : ℕ) (new : List Part) (P : ℕ → Type 0) → ((q : ℕ) → HeldBy new q → P q)
-    → All (IsPartOf len) new → (p : ℕ) → HeldBy (merged gap new) p → IsJoined gap P p
-held_joins len gap [] P is all p a = let l = a.2 in absurd (omega (arith, l))
-held_joins len gap (part ∷ rest) P is all p a =
-    let up = All-head (IsPartOf len) part rest all in
-    let low = up.0 in
-    let here : (q : ℕ) → Holds q part → P q = λ q h. is q (any_here (Holds q) part rest h) in
-    merged_joins gap P part rest p (λ q h. joined_itself gap P q (here q h)) (here part.last (low, omega arith))
-    (λ q h. is q (any_later (Holds q) part rest h))
-    (All-weaker (IsPartOf len) IsOrdered (λ q h. h.0) rest (All-tail (IsPartOf len) part rest all)) a
-
-held_still : (gap p : ℕ) (new : List Part) → InOrder new → HeldBy new p → HeldBy (merged gap new) p
-held_still gap p [] up a = a
-held_still gap p (part ∷ rest) up a = merged_holds gap p part rest (rises_from part rest up) a
-
--- parts that lie further apart hold both ends of a gap only in one of them, and so all of it
-one_of_two : (gap : ℕ) (xs : List Part) (s t : Part) (i j a b p : ℕ) → AllPairs (IsApartBefore gap) xs
-    → i < length xs → j < length xs → get_or xs i s ≡ s → get_or xs j t ≡ t → Holds a s → Holds b t
-    → a ≤ p → p ≤ b → b ≤ a + gap + 1 → Holds p s
-one_of_two gap xs s t i j a b p apart li lj es et ha hb low high close =
-    let a0 = ha.0 in
-    let b0 = hb.0 in
-    let b1 = hb.1 in
-    elim (cases_Bool (nat_lt i j)) [
-      | inl y ↦
-          let before : i < j = ltb-true _ _ y in
-          let far : s.last + gap + 1 < (get_or xs j s).first =
-          subst (λ (q : Part). q.last + gap + 1 < (get_or xs j s).first) es (apart i j s before lj) in
-          let same : get_or xs j s ≡ t = get_or_default xs j s t lj ∙ et in
-          let further : s.last + gap + 1 < t.first = subst (λ (q : Part). s.last + gap + 1 < q.first) same far in
-          let a1 = ha.1 in absurd (omega arith)
-      | inr n ↦
-          let not_before : j ≤ i = ltb-false _ _ n in
-          elim (cases_Bool (nat_lt j i)) [
-            | inl y ↦
-                let before : j < i = ltb-true _ _ y in
-                let far : t.last + gap + 1 < (get_or xs i t).first =
-                subst (λ (q : Part). q.last + gap + 1 < (get_or xs i t).first) et (apart j i t before li) in
-                let same : get_or xs i t ≡ s = get_or_default xs i t s li ∙ es in
-                let further : t.last + gap + 1 < s.first = subst (λ (q : Part). t.last + gap + 1 < q.first) same far in
-                absurd (omega arith)
-            | inr m ↦
-                let equal : i ≤ j = ltb-false _ _ m in
-                let place : i ≡ j = omega arith in
-                let same : s ≡ t = sym es ∙ get_or_default xs i s t li ∙ ap (λ k. get_or xs k t) place ∙ et in
-                let c : p ≤ s.last = subst (λ (q : Part). p ≤ q.last) (sym same) (omega arith) in (omega arith, c)
+-- what two close parts hold together is joined, if what each holds is
+joined_holds : (gap : ℕ) (P : ℕ → Type 0) (part next : Part) (p : ℕ) → next.first ≤ part.last + gap + 1
+    → ((q : ℕ) → Holds q part → IsJoined gap P q) → ((q : ℕ) → Holds q next → P q) → P part.last → P next.first
+    → Holds p (joined part next) → IsJoined gap P p
+joined_holds gap P part next p close covered follows last first h =
+    elim (cases_lt part.last p) [
+      | inr high ↦ covered p (omega arith, omega (arith, high))
+      | inl past ↦
+          elim (cases_lt p next.first) [
+            | inr from ↦ joined_itself gap P p (follows p (omega (arith, from), omega arith))
+            | inl ahead ↦
+                record {
+                  before = part.last;
+                  after = next.first;
+                  is_before = last;
+                  is_after = first;
+                  low = omega (arith, past);
+                  high = omega (arith, ahead);
+                  close = close;
+                }
           ]
     ]
 
-pub joined_held : (len gap : ℕ) (xs : List Part) → AreCoalesced len gap xs → (p : ℕ) → IsJoined gap (HeldBy xs) p
-    → HeldBy xs p
-joined_held len gap xs h p j =
-    let a = j.is_before in
-    let b = j.is_after in (
-      a.0,
-      a.1,
-      a.2,
-      a.3,
-      one_of_two gap xs a.1 b.1 a.0 b.0 j.before j.after p h.apart a.2 b.2 a.3 b.3 a.4 b.4 j.low j.high j.close,
+-- what joined parts hold is joined to positions of the parts
+merged_joins : (gap : ℕ) (P : ℕ → Type 0) (part : Part) (rest : List Part) (p : ℕ)
+    → ((q : ℕ) → Holds q part → IsJoined gap P q) → P part.last → ((q : ℕ) → In q rest → P q)
+    → All (λ q. q.first ≤ q.last) rest → In p (merged_from gap part rest) → IsJoined gap P p
+merged_joins gap P part [] p covered last follows ordered i = grind arith
+merged_joins gap P part (next ∷ rest) p covered last follows ordered i =
+    let up = ordered 0 next (omega arith) in
+    let others = All-tail (λ q. q.first ≤ q.last) next rest ordered in
+    let last_next : P next.last = follows next.last (inl (up, omega arith)) in
+    elim (cases_Bool (nat_le next.first (part.last + gap + 1))) [
+      | inl y ↦
+          merged_joins gap P (joined part next) rest p
+          (λ q h. joined_holds gap P part next q (leb-true _ _ y) covered (λ r k. follows r (inl k)) last
+          (follows next.first (inl (omega arith, up))) h)
+          (grind (arith, cases_Bool, nat_le, leb-true, leb-false)) (λ q k. follows q (inr k)) others (rw y at i)
+      | inr n ↦
+          let parts : In p (part ∷ merged_from gap next rest) = rw n at i in
+          ⊎_elim (covered p) (merged_joins gap P next rest p (λ q h. joined_itself gap P q (follows q (inl h)))
+          last_next (λ q k. follows q (inr k)) others) parts
+    ]
+
+-- ---- which positions coalesced parts hold
+
+-- parts from `low` on hold no position below it
+holds_from : (len gap low p : ℕ) (parts : List Part) → Spread len gap low parts → In p parts → low ≤ p
+holds_from len gap low p [] h i = absurd i
+holds_from len gap low p (part ∷ rest) h i = grind (arith, holds_from len gap (part.last + gap + 2) p rest)
+
+-- parts that lie further apart hold both ends of a gap only in one of them, and so all of it
+gap_held : (len gap low a b p : ℕ) (parts : List Part) → Spread len gap low parts → In a parts → In b parts → a ≤ p
+    → p ≤ b → b ≤ a + gap + 1 → In p parts
+gap_held len gap low a b p [] h i j l m close = i
+gap_held len gap low a b p (part ∷ rest) h i j l m close =
+    grind (
+      arith,
+      holds_from len gap (part.last + gap + 2) a rest,
+      holds_from len gap (part.last + gap + 2) b rest,
+      gap_held len gap (part.last + gap + 2) a b p rest,
     )
+
+pub sizes_from : (len gap low : ℕ) (parts : List Part) → Spread len gap low parts → low ≤ len
+    → low + sum_by part_size parts ≤ len
+sizes_from len gap low [] h l = omega arith
+sizes_from len gap low (part ∷ rest) h l =
+    let behind = spread_lower len gap (part.last + 1) (part.last + gap + 2) rest (omega arith) h.2 in
+    let more = sizes_from len gap (part.last + 1) rest behind (omega arith) in
+    omega (arith, more, sum_by-cons part_size part rest)
+
+-- ---- coalesced parts are the only ones that cover their positions
+
+-- of two lists, if the second holds what the first does, its first part reaches as far
+covers_first : (len gap l m : ℕ) (x y : Part) (xs ys : List Part) → Spread len gap l (x ∷ xs)
+    → Spread len gap m (y ∷ ys) → ((p : ℕ) → In p (x ∷ xs) → In p (y ∷ ys))
+    → (y.first ≤ x.first) × (x.first ≡ y.first → x.last ≤ y.last)
+covers_first len gap l m x y xs ys h k covers =
+    grind (
+      arith,
+      cases_lt y.last x.last,
+      covers x.first,
+      covers (y.last + 1),
+      holds_from len gap (y.last + gap + 2) x.first ys,
+      holds_from len gap (y.last + gap + 2) (y.last + 1) ys,
+    )
+
+covers_rest : (len gap l : ℕ) (x y : Part) (xs ys : List Part) → Spread len gap l (x ∷ xs) → x.last ≡ y.last
+    → ((p : ℕ) → In p (x ∷ xs) → In p (y ∷ ys)) → (p : ℕ) → In p xs → In p ys
+covers_rest len gap l x y xs ys h same covers p i = grind (arith, covers p, holds_from len gap (x.last + gap + 2) p xs)
+
+one_spread : (len gap l m : ℕ) (xs ys : List Part) → Spread len gap l xs → Spread len gap m ys
+    → ((p : ℕ) → In p xs → In p ys) → ((p : ℕ) → In p ys → In p xs) → xs ≡ ys
+one_spread len gap l m [] [] h k there back = refl
+one_spread len gap l m [] (y ∷ ys) h k there back = grind (arith, back y.first)
+one_spread len gap l m (x ∷ xs) [] h k there back = grind (arith, there x.first)
+one_spread len gap l m (x ∷ xs) (y ∷ ys) h k there back =
+    let a = covers_first len gap l m x y xs ys h k there in
+    let b = covers_first len gap m l y x ys xs k h back in
+    let first : x.first ≡ y.first = omega arith in
+    let last : x.last ≡ y.last = omega (arith, a.1 first, b.1 (sym first)) in
+    let rest = one_spread len gap (x.last + gap + 2) (y.last + gap + 2) xs ys h.2 k.2
+    (covers_rest len gap l x y xs ys h last there)
+    (covers_rest len gap m y x ys xs k (sym last) back) in
+    grind (arith, first, last, rest)
+
+pub coalesced_once : (len gap : ℕ) (xs ys : List Part) → AreCoalesced len gap xs → AreCoalesced len gap ys
+    → ((p : ℕ) → Any (Holds p) xs ↔ Any (Holds p) ys) → xs ≡ ys
+coalesced_once len gap xs ys h k same =
+    one_spread len gap 0 0 xs ys (spread len gap xs h) (spread len gap ys k)
+    (λ p i. among (Holds p) ys ((same p).0 (any_among (Holds p) xs i)))
+    (λ p i. among (Holds p) xs ((same p).1 (any_among (Holds p) ys i)))
+
+pub sizes_of_coalesced : (len gap : ℕ) (parts : List Part) → AreCoalesced len gap parts → sum_by part_size parts ≤ len
+sizes_of_coalesced len gap parts h =
+    let sizes = sizes_from len gap 0 parts (spread len gap parts h) (omega arith) in omega (arith, sizes)
+
+-- ---- what `coalesce` gives: the parts in another order, which rises, and then joined
+
+pub coalesced_from : (len gap : ℕ) (old new : List Part) → IsPermutation old new → Rises 0 new
+    → All (IsPartOf len) old → AreCoalesced len gap (merged gap new)
+coalesced_from len gap old new moved up all = by new up (All-permutation (IsPartOf len) old new moved all)
+  where
+    by : (parts : List Part) → Rises 0 parts → All (IsPartOf len) parts → AreCoalesced len gap (merged gap parts)
+    by [] up all = coalesced_by len gap 0 [] tt
+    by (part ∷ rest) up all =
+        coalesced_by len gap 0 (merged_from gap part rest)
+        (merged_spread len gap 0 part rest (omega arith) (All-head (IsPartOf len) part rest all) up.1
+        (All-tail (IsPartOf len) part rest all))
+
+any_moved : {X : Type 0} (P : X → Type 0) (xs ys : List X) → IsPermutation xs ys → Any P xs → Any P ys
+any_moved P xs ys h a =
+    let c = Contains-permutation xs ys a.1 h (a.0, a.2, a.3) in (c.0, a.1, c.1, c.2, a.4)
 
 pub joined_weaker : (gap : ℕ) (P Q : ℕ → Type 0) (p : ℕ) → ((q : ℕ) → P q → Q q) → IsJoined gap P p → IsJoined gap Q p
 joined_weaker gap P Q p is j = grind (arith)
@@ -304,128 +294,53 @@ pub IsJoined-same : (gap : ℕ) (P Q : ℕ → Type 0) (p : ℕ) → ((q : ℕ) 
 IsJoined-same gap P Q p same =
     (joined_weaker gap P Q p (λ q. (same q).0), joined_weaker gap Q P p (λ q. (same q).1))
 
-pub covers_from : (len gap p : ℕ) (old new : List Part) → IsPermutation old new → InOrder new
-    → All (IsPartOf len) old → Any (Holds p) (merged gap new) ↔ IsJoined gap (λ q. Any (Holds q) old) p
-covers_from len gap p old new moved up all =
-    let within = All-permutation (IsPartOf len) old new moved all in (
-      (λ a. held_joins len gap new (HeldBy old)
-          (λ q h. any_moved (Holds q) new old (IsPermutation-sym old new moved) h) within p a),
-      (λ j. joined_held len gap (merged gap new) (merged_is_coalesced len gap new up within) p
-          (joined_weaker gap (HeldBy old) (HeldBy (merged gap new)) p
-          (λ q h. held_still gap q new up (any_moved (Holds q) old new moved h)) j)),
+-- the positions of parts in order and of small gaps between them are those of the joined parts
+merged_is : (len gap p : ℕ) (parts : List Part) → Rises 0 parts → All (IsPartOf len) parts
+    → In p (merged gap parts) ↔ IsJoined gap (λ q. In q parts) p
+merged_is len gap p [] up all = grind arith
+merged_is len gap p (part ∷ rest) up all =
+    let h = All-head (IsPartOf len) part rest all in
+    let others = All-tail (IsPartOf len) part rest all in (
+      merged_joins gap (λ q. In q (part ∷ rest)) part rest p
+          (λ q held. joined_itself gap (λ r. In r (part ∷ rest)) q (inl held)) (inl (h.0, omega arith)) (λ q i. inr i)
+          (λ k d l. (others k d l).0),
+      λ j. gap_held len gap 0 j.before j.after p (merged_from gap part rest)
+          (merged_spread len gap 0 part rest (omega arith) h up.1 others)
+          (merged_holds gap j.before part rest up.1 j.is_before)
+          (merged_holds gap j.after part rest up.1 j.is_after) j.low j.high j.close,
     )
 
--- ---- how large coalesced parts are
+pub covers_from : (len gap p : ℕ) (old new : List Part) → IsPermutation old new → Rises 0 new
+    → All (IsPartOf len) old → Any (Holds p) (merged gap new) ↔ IsJoined gap (λ q. Any (Holds q) old) p
+covers_from len gap p old new moved up all =
+    let is = merged_is len gap p new up (All-permutation (IsPartOf len) old new moved all) in (
+      λ a. joined_weaker gap (λ q. In q new) (λ q. Any (Holds q) old) p
+          (λ q i. any_moved (Holds q) new old (IsPermutation-sym old new moved) (any_among (Holds q) new i))
+          (is.0 (among (Holds p) (merged gap new) a)),
+      λ j. any_among (Holds p) (merged gap new) (is.1 (joined_weaker gap (λ q. Any (Holds q) old) (λ q. In q new) p
+          (λ q a. among (Holds q) new (any_moved (Holds q) old new moved a)) j)),
+    )
 
-sizes_from : (low len gap : ℕ) (parts : List Part) → low ≤ len → All (StartsFrom low) parts
-    → All (IsPartOf len) parts → AllPairs (IsApartBefore gap) parts → low + sum_by part_size parts ≤ len
-sizes_from low len gap [] l from within apart = omega arith
-sizes_from low len gap (part ∷ rest) l from within apart =
-    let a = All-head (StartsFrom low) part rest from in
-    let b = All-head (IsPartOf len) part rest within in
-    let c = b.0 in
-    let d = b.1 in
-    let behind : All (StartsFrom (part.last + 1)) rest = λ k e m.
-    let f : part.last + gap + 1 < (get_or rest k e).first = apart 0 (suc k) e (omega arith) (omega arith) in
-    omega (arith, f) in
-    let more : part.last + 1 + sum_by part_size rest ≤ len =
-    sizes_from (part.last + 1) len gap rest (omega arith) behind (All-tail (IsPartOf len) part rest within)
-    (λ i j e m n. apart (suc i) (suc j) e (omega arith) (omega arith)) in
-    omega (arith, sum_by-cons part_size part rest)
+-- ---- every list has an order
 
-pub sizes_of_coalesced : (len gap : ℕ) (parts : List Part) → AreCoalesced len gap parts → sum_by part_size parts ≤ len
-sizes_of_coalesced len gap parts h =
-    let more : 0 + sum_by part_size parts ≤ len =
-    sizes_from 0 len gap parts (omega arith) (λ k d l. omega arith) h.within h.apart in omega arith
-
--- ---- coalesced parts are the only ones that cover their positions
-
-behind_first : (gap : ℕ) (x : Part) (xs : List Part) → AllPairs (IsApartBefore gap) (x ∷ xs)
-    → All (IsApartBefore gap x) xs
-behind_first gap x xs apart = λ k d l. apart 0 (suc k) d (omega arith) (omega arith)
-
-apart_rest : (gap : ℕ) (x : Part) (xs : List Part) → AllPairs (IsApartBefore gap) (x ∷ xs)
-    → AllPairs (IsApartBefore gap) xs
-apart_rest gap x xs apart = λ i j d l m. apart (suc i) (suc j) d (omega arith) (omega arith)
-
--- a position of the parts that follow lies past the part and one position more
-behind_past : (gap p : ℕ) (x : Part) (xs : List Part) → All (IsApartBefore gap x) xs → Any (Holds p) xs → x.last + 1 < p
-behind_past gap p x xs behind a = grind (arith)
-
-abbrev CoversAll : List Part → List Part → Type 0
-CoversAll xs ys = (p : ℕ) → Any (Holds p) xs → Any (Holds p) ys
-
-first_reaches : (len gap : ℕ) (x y : Part) (xs ys : List Part) → IsPartOf len x → IsPartOf len y
-    → All (IsApartBefore gap y) ys → CoversAll (x ∷ xs) (y ∷ ys) → y.first ≤ x.first
-first_reaches len gap x y xs ys v w behind covers =
-    let a = v.0 in
-    let b = w.0 in
-    let there : Any (Holds x.first) (x ∷ xs) = any_here (Holds x.first) x xs (omega arith, a) in
-    ⊎_elim (λ here. here.0) (λ later. let past = behind_past gap x.first y ys behind later in omega arith)
-    (any_cases (Holds x.first) y ys (covers x.first there))
-
-last_reaches : (len gap : ℕ) (x y : Part) (xs ys : List Part) → IsPartOf len y → x.first ≡ y.first
-    → All (IsApartBefore gap y) ys → CoversAll (x ∷ xs) (y ∷ ys) → x.last ≤ y.last
-last_reaches len gap x y xs ys w same behind covers =
-    let b = w.0 in
-    elim (cases_Bool (nat_le x.last y.last)) [
-      | inl y ↦ leb-true _ _ y
-      | inr n ↦
-          let shorter : y.last < x.last = leb-false _ _ n in
-          let there : Any (Holds (y.last + 1)) (x ∷ xs) =
-          any_here (Holds (y.last + 1)) x xs (omega arith, omega arith) in
-          ⊎_elim (λ here. let high = here.1 in omega arith)
-          (λ later. let past = behind_past gap (y.last + 1) y ys behind later in omega arith)
-          (any_cases (Holds (y.last + 1)) y ys (covers (y.last + 1) there))
+inserted : (low : ℕ) (x : Part) (ys : List Part) → low ≤ x.first → Rises low ys
+    → (zs : List Part) × IsPermutation (x ∷ ys) zs × Rises low zs
+inserted low x [] l up = (x ∷ [], IsPermutation-refl (x ∷ []), (l, tt))
+inserted low x (y ∷ ys) l up =
+    elim (cases_lt y.first x.first) [
+      | inr le ↦ (x ∷ y ∷ ys, IsPermutation-refl (x ∷ y ∷ ys), (l, (omega (arith, le), up.1)))
+      | inl less ↦
+          let rest = inserted y.first x ys (omega (arith, less)) up.1 in (
+            y ∷ rest.0,
+            IsPermutation-trans (x ∷ y ∷ ys) (y ∷ x ∷ ys) (y ∷ rest.0) (IsPermutation-insert (y ∷ ys) 1 x)
+                (IsPermutation-cons y (x ∷ ys) rest.0 rest.1),
+            (up.0, rest.2),
+          )
     ]
 
-rest_covers : (gap : ℕ) (x y : Part) (xs ys : List Part) → x.last ≡ y.last → All (IsApartBefore gap x) xs
-    → CoversAll (x ∷ xs) (y ∷ ys) → CoversAll xs ys
-rest_covers gap x y xs ys same behind covers p a =
-    let past = behind_past gap p x xs behind a in
-    ⊎_elim (λ here. let high = here.1 in absurd (omega arith)) (λ later. later)
-    (any_cases (Holds p) y ys (covers p (any_later (Holds p) x xs a)))
-
-same_part : (x y : Part) → x.first ≡ y.first → x.last ≡ y.last → x ≡ y
-same_part x y e f = grind (arith)
-
-none_covered : (len : ℕ) (x : Part) (xs : List Part) → IsPartOf len x → ¬ (CoversAll (x ∷ xs) [])
-none_covered len x xs w covers =
-    let a = w.0 in
-    let there = covers x.first (any_here (Holds x.first) x xs (omega arith, a)) in
-    let l = there.2 in omega (arith, l)
-
-pub coalesced_once : (len gap : ℕ) (xs ys : List Part) → AreCoalesced len gap xs → AreCoalesced len gap ys
-    → ((p : ℕ) → Any (Holds p) xs ↔ Any (Holds p) ys) → xs ≡ ys
-coalesced_once len gap [] [] h k same = refl
-coalesced_once len gap [] (y ∷ ys) h k same =
-    absurd (none_covered len y ys (All-head (IsPartOf len) y ys k.within) (λ p. (same p).1))
-coalesced_once len gap (x ∷ xs) [] h k same =
-    absurd (none_covered len x xs (All-head (IsPartOf len) x xs h.within) (λ p. (same p).0))
-coalesced_once len gap (x ∷ xs) (y ∷ ys) h k same =
-    let v = All-head (IsPartOf len) x xs h.within in
-    let w = All-head (IsPartOf len) y ys k.within in
-    let b = behind_first gap x xs h.apart in
-    let c = behind_first gap y ys k.apart in
-    let there : CoversAll (x ∷ xs) (y ∷ ys) = λ p. (same p).0 in
-    let back : CoversAll (y ∷ ys) (x ∷ xs) = λ p. (same p).1 in
-    let m = first_reaches len gap x y xs ys v w c there in
-    let n = first_reaches len gap y x ys xs w v b back in
-    let e : x.first ≡ y.first = omega arith in
-    let r = last_reaches len gap x y xs ys w e c there in
-    let s = last_reaches len gap y x ys xs v (sym e) b back in
-    let f : x.last ≡ y.last = omega arith in
-    let first : x ≡ y = same_part x y e f in
-    let rest : xs ≡ ys = coalesced_once len gap xs ys
-    (record { within = All-tail (IsPartOf len) x xs h.within; apart = apart_rest gap x xs h.apart })
-    (record { within = All-tail (IsPartOf len) y ys k.within; apart = apart_rest gap y ys k.apart })
-    (λ p. (rest_covers gap x y xs ys f b there p, rest_covers gap y x ys xs (sym f) c back p)) in
-    cc (first, rest)
-
--- parts of which there is one have a position
-pub some_position : (len : ℕ) (parts : List Part) → 0 < length parts → All (IsPartOf len) parts
-    → (p : ℕ) × Any (Holds p) parts
-some_position len [] l all = absurd (omega (arith, l))
-some_position len (x ∷ xs) l all =
-    let w = All-head (IsPartOf len) x xs all in
-    let a = w.0 in (x.first, any_here (Holds x.first) x xs (omega arith, a))
+pub ordered : (xs : List Part) → (ys : List Part) × IsPermutation xs ys × Rises 0 ys
+ordered [] = ([], IsPermutation-refl [], tt)
+ordered (x ∷ xs) =
+    let rest = ordered xs in
+    let all = inserted 0 x rest.0 (omega arith) rest.2 in
+    (all.0, IsPermutation-trans (x ∷ xs) (x ∷ rest.0) all.0 (IsPermutation-cons x xs rest.0 rest.1) all.1, all.2)

@@ -2,16 +2,18 @@
 use Rattle.std.proofs.Common.{◌≡◌, ℕ, ◌+◌, ◌<◌, ◌≤◌, ◌⊎◌, List, [], ◌∷◌, Option, refl, arith, IfSome, IsTrue, Bool}
 use Rattle.std.proofs.{Common.{true, inl, inr}, lemmas.Bool.{cases_Bool, both_ways, cases_lt}}
 use Rattle.std.{proofs.lemmas.Slice.Eq.bytes_eq-Decides, specs.Prelude.{IsSomeAnd, bytes_eq, codes}}
-use Rattle.{rfc_values.specs.Calendar.unix_epoch, headers.specs.{LineMap.LineMap, Lines.Line, Typed.HasLine}}
-use Rattle.{headers.specs.EntityTagRange.star, decide_preconditions.specs.Conditions.ModifiedSinceLets}
-use Rattle.decide_preconditions.specs.{Conditions.{UnmodifiedSinceLets, dates}, Preconditions.{Answers, AreIgnored}}
-use Rattle.decide_preconditions.specs.Preconditions.{IsGetOrHead, IsRead, IsUnconditional, MayBeThere, ReadsMissing}
-use Rattle.decide_preconditions.specs.Preconditions.{IsStoredByDate, IsStoredByTag, StateIsLost, StateIsKept}
-use Rattle.decide_preconditions.specs.{Preconditions.StepsAnswer, Tags.{names}}
-use Rattle.decide_preconditions.specs.declared.precondition.Precondition.{Precondition, TheVariants.Perform}
-use Rattle.decide_preconditions.specs.declared.precondition.Precondition.TheVariants.{NotModified, Failed}
-use Rattle.decide_preconditions.specs.declared.resource.Resource.{Resource, TheVariants.{Missing, Current}}
-use Rattle.decide_preconditions.specs.declared.{resource.Validators.Validators, tags.Comparison.Comparison}
+use Rattle.{rfc_values.specs.Calendar.unix_epoch, headers.specs.LineMap.LineMap}
+use Rattle.headers.specs.{Lines.Line, Typed.HasLine}
+use Rattle.headers.specs.EntityTagRange.{star}
+use Rattle.decide_preconditions.specs.Conditions.{ModifiedSinceLets, UnmodifiedSinceLets, dates}
+use Rattle.decide_preconditions.specs.Preconditions.{Answers, AreIgnored, IsGetOrHead, IsRead, IsUnconditional}
+use Rattle.decide_preconditions.specs.Preconditions.{MayBeThere, ReadsMissing, IsStoredByDate, IsStoredByTag}
+use Rattle.decide_preconditions.specs.{Preconditions.{StateIsLost, StateIsKept, StepsAnswer}, Tags.names}
+use Rattle.decide_preconditions.specs.declared.precondition.Precondition.{Precondition}
+use Rattle.decide_preconditions.specs.declared.precondition.Precondition.TheVariants.{Perform, NotModified, Failed}
+use Rattle.decide_preconditions.specs.declared.resource.Resource.{Resource}
+use Rattle.decide_preconditions.specs.declared.resource.{Resource.TheVariants.{Missing, Current}, Validators.Validators}
+use Rattle.decide_preconditions.specs.declared.tags.Comparison.{Comparison}
 use Rattle.decide_preconditions.specs.declared.tags.Comparison.TheVariants.{Weak}
 
 later_or_not : (both : Option (ℕ × ℕ)) → IsSomeAnd both (λ d. d.0 < unix_epoch + d.1)
@@ -53,42 +55,16 @@ same_or_not a b =
     ]
 
 pub read_or_not : (method : List ℕ) → IsGetOrHead method ⊎ ¬ (IsGetOrHead method)
-read_or_not method =
-    elim (same_or_not method (codes "GET")) [
-      | inl y ↦ inl (inl y)
-      | inr n ↦
-          elim (same_or_not method (codes "HEAD")) [
-            | inl y ↦ inl (inr y)
-            | inr m ↦
-                inr (λ h. elim h [
-                  | inl e ↦ n e
-                  | inr e ↦ m e
-                ])
-          ]
-    ]
+read_or_not method = grind (arith, same_or_not method (codes "GET"), same_or_not method (codes "HEAD"))
 
 unconditional_or_not : (method : List ℕ) → IsUnconditional method ⊎ ¬ (IsUnconditional method)
 unconditional_or_not method =
-    elim (same_or_not method (codes "CONNECT")) [
-      | inl y ↦ inl (inl y)
-      | inr n ↦
-          elim (same_or_not method (codes "OPTIONS")) [
-            | inl y ↦ inl (inr (inl y))
-            | inr m ↦
-                elim (same_or_not method (codes "TRACE")) [
-                  | inl y ↦ inl (inr (inr y))
-                  | inr o ↦
-                      inr (λ h. elim h [
-                        | inl e ↦ n e
-                        | inr k ↦
-                            elim k [
-                              | inl e ↦ m e
-                              | inr e ↦ o e
-                            ]
-                      ])
-                ]
-          ]
-    ]
+    grind (
+      arith,
+      same_or_not method (codes "CONNECT"),
+      same_or_not method (codes "OPTIONS"),
+      same_or_not method (codes "TRACE"),
+    )
 
 missing_or_not : (resource : Resource) (method : List ℕ)
     → ReadsMissing resource method ⊎ ¬ (ReadsMissing resource method)
@@ -97,19 +73,7 @@ missing_or_not (Current validators) method = inr (λ h. h)
 
 ignored_or_not : (resource : Resource) (method : List ℕ)
     → AreIgnored resource method ⊎ ¬ (AreIgnored resource method)
-ignored_or_not resource method =
-    elim (unconditional_or_not method) [
-      | inl is ↦ inl (inl is)
-      | inr n ↦
-          elim (missing_or_not resource method) [
-            | inl missing ↦ inl (inr missing)
-            | inr m ↦
-                inr (λ h. elim h [
-                  | inl is ↦ n is
-                  | inr missing ↦ m missing
-                ])
-          ]
-    ]
+ignored_or_not resource method = grind (arith, unconditional_or_not method, missing_or_not resource method)
 
 module _ (present : ℕ) (request : LineMap) (resource : Resource) where
   kept_or_lost : StateIsKept present request resource ⊎ StateIsLost present request resource
@@ -168,40 +132,17 @@ module _ (present : ℕ) (request : LineMap) (resource : Resource) where
 -- ---- at most one
 
 module _ (present : ℕ) (request : LineMap) (resource : Resource) (method : List ℕ) where
-  failed_or_not_modified : StepsAnswer present request resource method Failed
-      → ¬ (StepsAnswer present request resource method NotModified)
-  failed_or_not_modified h0 k = grind (arith, lost_or_kept)
-
-  failed_or_performed : StepsAnswer present request resource method Failed
-      → ¬ (StepsAnswer present request resource method Perform)
-  failed_or_performed h0 k = grind (arith, lost_or_kept)
-
-  stored_or_performed : StepsAnswer present request resource method NotModified
-      → ¬ (StepsAnswer present request resource method Perform)
-  stored_or_performed h k = grind (arith, earlier_or_not)
-
   one_step_answer : (a b : Precondition) → StepsAnswer present request resource method a
       → StepsAnswer present request resource method b → a ≡ b
-  one_step_answer a b h k = grind (arith, stored_or_performed, failed_or_performed, failed_or_not_modified)
-
-  -- what isn't performed is answered by the steps
-  stored_by_steps : Answers present request resource method NotModified → ¬ (AreIgnored resource method)
-  stored_by_steps h i = let e = h.unconditional i in cc e
-
-  failed_by_steps : Answers present request resource method Failed → ¬ (AreIgnored resource method)
-  failed_by_steps h i = let e = h.unconditional i in cc e
-
-  by_steps : (a b : Precondition) → (¬ (AreIgnored resource method)) → Answers present request resource method a
-      → Answers present request resource method b → a ≡ b
-  by_steps a b counts h k = one_step_answer a b (h.conditional counts) (k.conditional counts)
+  one_step_answer a b h k = grind (arith, lost_or_kept, earlier_or_not)
 
   pub one_answer : (a b : Precondition) → Answers present request resource method a
       → Answers present request resource method b → a ≡ b
-  one_answer Perform Perform h k = refl
-  one_answer Perform NotModified h k = by_steps Perform NotModified (stored_by_steps k) h k
-  one_answer Perform Failed h k = by_steps Perform Failed (failed_by_steps k) h k
-  one_answer NotModified b h k = by_steps NotModified b (stored_by_steps h) h k
-  one_answer Failed b h k = by_steps Failed b (failed_by_steps h) h k
+  one_answer a b h k =
+      elim (ignored_or_not resource method) [
+        | inl i ↦ cc (h.unconditional i, k.unconditional i)
+        | inr counts ↦ one_step_answer a b (h.conditional counts) (k.conditional counts)
+      ]
 
   modified_lets : request (codes "if-modified-since") ≡ [] → ModifiedSinceLets present request resource
   modified_lets c = rw c tt

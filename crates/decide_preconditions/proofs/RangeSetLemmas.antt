@@ -1,14 +1,15 @@
 -- Cuts, elements and parts of a range-set.
-use Rattle.std.proofs.Common.{◌≡◌, ℕ, ◌↔◌, Bool, true, false, not, ◌==◌, nat_lt, nat_le, List, [], ◌∷◌, Option, Some}
-use Rattle.std.proofs.Common.{None, MatchOption, sym, arith, inl, inr, ⊎_elim, All, Any, filter_map}
+use Rattle.std.proofs.Common.{◌≡◌, ℕ, ◌<◌, ◌↔◌, ◌⊎◌, Bool, true, false, not, ◌==◌, nat_lt, nat_le, List, [], ◌∷◌}
+use Rattle.std.proofs.Common.{length, Option, Some, None, MatchOption, refl, arith, All, Any, filter_map}
 use Rattle.std.proofs.lemmas.{Bool.{cases_Bool, leb-true, leb-false, ltb-true, ltb-false}, List.Elements.All-nil}
 use Rattle.std.proofs.lemmas.List.{Splits.{slice_split_first, slice_split_none}, Sums.fails_before_first}
-use Rattle.std.specs.{Bool.MatchBool, Prelude.is_some, List.{cons_option, list_any, position_or_len, before_first}}
-use Rattle.{std.specs.{List.after_first, Option.option_and_then}, headers.specs.ByteRanges.pieces}
-use Rattle.{headers.proofs.RangeLemmas.{any_cases, any_here, any_later}, rfc_fields.specs.Cuts.cut}
-use Rattle.decide_preconditions.specs.{Parts.{Holds, IsPartOf}, RangeSets.{RangeSpec, part_in, part_of, spec_of}}
-use Rattle.decide_preconditions.specs.RangeSets.{Covers, selects_some, RangeSpec.{Between, From, Suffix}}
-use Rattle.decide_preconditions.specs.declared.part.Part.{Part}
+use Rattle.std.specs.{Bool.MatchBool, List.{after_first, before_first, cons_option, list_any, position_or_len}}
+use Rattle.{std.specs.Option.option_and_then, headers.specs.ByteRanges.pieces}
+use Rattle.{headers.proofs.RangeLemmas.any_here, rfc_fields.specs.Cuts.cut}
+use Rattle.decide_preconditions.specs.Parts.{Holds, IsPartOf}
+use Rattle.decide_preconditions.specs.RangeSets.{RangeSpec, part_in, part_of, spec_of, Covers, selects_some}
+use Rattle.decide_preconditions.specs.{RangeSets.RangeSpec.{Between, From, Suffix}, declared.part.Part.Part}
+use Rattle.decide_preconditions.proofs.PartLemmas.{Among, among, any_among}
 
 -- ---- cuts
 
@@ -55,36 +56,31 @@ selects_last len n = grind (arith, cases_Bool, nat_lt, ltb-true, ltb-false)
 selects_covered : (len : ℕ) (spec : RangeSpec) → SelectsCovered len spec (part_of len spec)
 selects_covered len spec = grind (arith, selects_to, selects_from, selects_last)
 
--- one spec before others
-part_first : (len p : ℕ) (spec : RangeSpec) (others : List RangeSpec) (found : Option Part) (parts : List Part)
-    → SelectsCovered len spec found → (Any (Holds p) parts ↔ Any (Covers len p) others)
-    → Any (Holds p) (cons_option found parts) ↔ Any (Covers len p) (spec ∷ others)
-part_first len p spec others None parts h same = (
-  (λ a. any_later (Covers len p) spec others (same.0 a)),
-  (λ a. ⊎_elim (λ here. absurd (h p here)) (λ later. same.1 later) (any_cases (Covers len p) spec others a)),
-)
-part_first len p spec others (Some part) parts h same = (
-  (λ a. ⊎_elim (λ here. any_here (Covers len p) spec others ((h.1 p).0 here))
-      (λ later. any_later (Covers len p) spec others (same.0 later)) (any_cases (Holds p) part parts a)),
-  (λ a. ⊎_elim (λ here. any_here (Holds p) part parts ((h.1 p).1 here))
-      (λ later. any_later (Holds p) part parts (same.1 later)) (any_cases (Covers len p) spec others a)),
-)
-
 -- an element before others, by the spec that it is
-element_first : (len p : ℕ) (spec : Option RangeSpec) (others : List RangeSpec) (parts : List Part)
-    → (Any (Holds p) parts ↔ Any (Covers len p) others)
-    → Any (Holds p) (cons_option (option_and_then (part_of len) spec) parts)
-    ↔ Any (Covers len p) (cons_option spec others)
-element_first len p None others parts same = same
-element_first len p (Some spec) others parts same =
-    part_first len p spec others (part_of len spec) parts (selects_covered len spec) same
+part_first : (len p : ℕ) (spec : Option RangeSpec) (others : List RangeSpec) (parts : List Part)
+    → Among (Holds p) parts ↔ Among (Covers len p) others
+    → Among (Holds p) (cons_option (option_and_then (part_of len) spec) parts)
+    ↔ Among (Covers len p) (cons_option spec others)
+part_first len p None others parts same = same
+part_first len p (Some spec) others parts same = by (part_of len spec) (selects_covered len spec)
+  where
+    by : (found : Option Part) → SelectsCovered len spec found
+        → Among (Holds p) (cons_option found parts) ↔ (Covers len p spec ⊎ Among (Covers len p) others)
+    by found h = grind arith
+
+parts_are : (len p : ℕ) (es : List (List ℕ))
+    → Among (Holds p) (filter_map (part_in len) es) ↔ Among (Covers len p) (filter_map spec_of es)
+parts_are len p [] = ((λ a. a), (λ a. a))
+parts_are len p (e ∷ es) =
+    part_first len p (spec_of e) (filter_map spec_of es) (filter_map (part_in len) es) (parts_are len p es)
 
 pub parts_cover : (len p : ℕ) (es : List (List ℕ))
     → Any (Holds p) (filter_map (part_in len) es) ↔ Any (Covers len p) (filter_map spec_of es)
-parts_cover len p [] =
-    ((λ a. let l = a.2 in absurd (omega (arith, l))), (λ a. let l = a.2 in absurd (omega (arith, l))))
-parts_cover len p (e ∷ es) =
-    element_first len p (spec_of e) (filter_map spec_of es) (filter_map (part_in len) es) (parts_cover len p es)
+parts_cover len p es =
+    let same = parts_are len p es in (
+      (λ a. any_among (Covers len p) _ (same.0 (among (Holds p) _ a))),
+      (λ a. any_among (Holds p) _ (same.1 (among (Covers len p) _ a))),
+    )
 
 part_within : (len : ℕ) (spec : RangeSpec) (found : Option Part) (parts : List Part) → SelectsCovered len spec found
     → All (IsPartOf len) parts → All (IsPartOf len) (cons_option found parts)
@@ -100,54 +96,34 @@ parts_within len (e ∷ es) = element_within len (spec_of e) (filter_map (part_i
 
 -- ---- whether a position is asked for
 
-first_covers : (len : ℕ) (spec : Option RangeSpec) (others : List RangeSpec)
-    → is_some (option_and_then (part_of len) spec) ≡ true → (p : ℕ) × Any (Covers len p) (cons_option spec others)
-first_covers len None others e = absurd (cc e)
-first_covers len (Some spec) others e = by (part_of len spec) (selects_covered len spec) e
+-- the parts that are selected are some, or none
+some_part : (len : ℕ) (es : List (List ℕ)) (b : Bool) → b ≡ list_any (selects_some len) es
+    → MatchBool b (0 < length (filter_map (part_in len) es)) (filter_map (part_in len) es ≡ [])
+some_part len [] b e = rw e refl
+some_part len (x ∷ es) b e = by (part_in len x) refl (some_part len es b)
   where
-    by : (found : Option Part) → SelectsCovered len spec found → is_some found ≡ true
-        → (p : ℕ) × Any (Covers len p) (spec ∷ others)
-    by None h e = absurd (cc e)
-    by (Some part) h e =
-        let low = h.0.0 in
-        (part.first, any_here (Covers len part.first) spec others ((h.1 part.first).0 (omega arith, low)))
-
-first_covers_none : (len p : ℕ) (spec : Option RangeSpec) (others : List RangeSpec)
-    → is_some (option_and_then (part_of len) spec) ≡ false → ¬ (Any (Covers len p) others)
-    → ¬ (Any (Covers len p) (cons_option spec others))
-first_covers_none len p None others e none = none
-first_covers_none len p (Some spec) others e none = grind (arith, selects_covered, is_some, any_cases)
-
-later_covers : (len p : ℕ) (spec : Option RangeSpec) (others : List RangeSpec) → Any (Covers len p) others
-    → Any (Covers len p) (cons_option spec others)
-later_covers len p None others a = a
-later_covers len p (Some spec) others a = any_later (Covers len p) spec others a
-
-some_covers : (len : ℕ) (es : List (List ℕ)) → list_any (selects_some len) es ≡ true
-    → (p : ℕ) × Any (Covers len p) (filter_map spec_of es)
-some_covers len [] e = absurd (cc e)
-some_covers len (x ∷ es) e =
-    elim (cases_Bool (selects_some len x)) [
-      | inl y ↦ first_covers len (spec_of x) (filter_map spec_of es) y
-      | inr n ↦
-          let rest : list_any (selects_some len) es ≡ true = rw n at e in
-          let some = some_covers len es rest in
-          (some.0, later_covers len some.0 (spec_of x) (filter_map spec_of es) some.1)
-    ]
-
-none_covers : (len p : ℕ) (es : List (List ℕ)) → list_any (selects_some len) es ≡ false
-    → ¬ (Any (Covers len p) (filter_map spec_of es))
-none_covers len p [] e = λ a. let l = a.2 in omega (arith, l)
-none_covers len p (x ∷ es) e =
-    elim (cases_Bool (selects_some len x)) [
-      | inl y ↦ let yes_too : true ≡ false = rw y at e in absurd (cc yes_too)
-      | inr n ↦
-          let rest : list_any (selects_some len) es ≡ false = rw n at e in
-          first_covers_none len p (spec_of x) (filter_map spec_of es) n (none_covers len p es rest)
-    ]
+    by : (found : Option Part) → part_in len x ≡ found → (b ≡ list_any (selects_some len) es
+        → MatchBool b (0 < length (filter_map (part_in len) es)) (filter_map (part_in len) es ≡ []))
+        → MatchBool b (0 < length (cons_option found (filter_map (part_in len) es)))
+        (cons_option found (filter_map (part_in len) es) ≡ [])
+    by None f rest = rest (rw f at e)
+    by (Some part) f rest = let yes : b ≡ true = rw f at e in rw yes (omega arith)
 
 pub asked_or_not : (len : ℕ) (es : List (List ℕ)) (b : Bool) → b ≡ list_any (selects_some len) es
     → MatchBool (not b) ((p : ℕ) → ¬ (Any (Covers len p) (filter_map spec_of es)))
     ((p : ℕ) × Any (Covers len p) (filter_map spec_of es))
-asked_or_not len es true e = some_covers len es (sym e)
-asked_or_not len es false e = λ p. none_covers len p es (sym e)
+asked_or_not len es true e = by (filter_map (part_in len) es) refl (some_part len es true e)
+  where
+    by : (parts : List Part) → filter_map (part_in len) es ≡ parts → 0 < length parts
+        → (p : ℕ) × Any (Covers len p) (filter_map spec_of es)
+    by [] f l = absurd (omega (arith, l))
+    by (part ∷ parts) f l =
+        let within : All (IsPartOf len) (part ∷ parts) = rw f at (parts_within len es) in
+        let low = within 0 part l in (
+          part.first,
+          (parts_cover len part.first es).0
+              (rw f (any_here (Holds part.first) part parts (omega arith, low.0))),
+        )
+asked_or_not len es false e = λ p a.
+    let none = some_part len es false e in
+    let there : Among (Holds p) [] = rw none at (among (Holds p) _ ((parts_cover len p es).1 a)) in there

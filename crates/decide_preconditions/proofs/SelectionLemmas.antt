@@ -1,25 +1,18 @@
 -- What follows from the rows of `Selects`.
-use Rattle.std.proofs.Common.{◌≡◌, ℕ, ◌+◌, ◌*◌, ◌<◌, ◌≤◌, Bool, true, false, ◌||◌, List, ap, ◌∙◌, subst, ◌↔◌, Any, inl}
-use Rattle.std.proofs.{Common.{inr, length, arith, sum_by, nat_lt}, Math.Bool.or-true, lemmas.Bool.cases_Bool}
-use Rattle.{std.proofs.lemmas.Bool.{both_ways, and_from, lt-ltb, ltb-false}, headers.specs.LineMap.LineMap}
-use Rattle.decide_preconditions.specs.{Limits.are_too_many, Parts.{AreCoalesced, Holds, IsJoined, part_size}}
-use Rattle.decide_preconditions.specs.Selection.{Applies, ArePartsAsked, AsksFor, AsksForTooMany, IsAsked}
-use Rattle.decide_preconditions.specs.{Selection.{IsSameSelection, Selects}, declared.limits.RangeLimits.RangeLimits}
-use Rattle.decide_preconditions.specs.declared.{part.Part.Part, resource.Validators.Validators}
-use Rattle.decide_preconditions.{specs.declared.selection.Selection.Selection, proofs.PartLemmas.coalesced_once}
-use Rattle.decide_preconditions.proofs.PartLemmas.{joined_itself, sizes_of_coalesced, some_position}
-
-pub same_parts : (len gap : ℕ) (set : List ℕ) (xs ys : List Part) → ArePartsAsked len gap set xs
-    → ArePartsAsked len gap set ys → xs ≡ ys
-same_parts len gap set xs ys h k =
-    coalesced_once len gap xs ys h.coalesced k.coalesced
-    (λ p. ((λ a. (k.covers p).1 ((h.covers p).0 a)), (λ a. (h.covers p).1 ((k.covers p).0 a))))
-
-pub some_asked : (len gap : ℕ) (set : List ℕ) (xs : List Part) → ArePartsAsked len gap set xs
-    → (p : ℕ) × IsAsked len set p
-some_asked len gap set xs h =
-    let some = some_position len xs h.some h.coalesced.within in
-    let joined = (h.covers some.0).0 some.1 in (joined.before, joined.is_before)
+use Rattle.std.proofs.Common.{◌≡◌, ◌↔◌, ◌⊎◌, ℕ, ◌+◌, ◌*◌, ◌<◌, ◌≤◌, true, false, List, [], Option, Some, None, Any}
+use Rattle.std.proofs.Common.{length, filter_map, sum_by, refl, ap, inl, inr, arith}
+use Rattle.std.proofs.lemmas.Bool.{cases_Bool, cases_lt}
+use Rattle.std.{proofs.lemmas.Bool.Decides.nat_tests, specs.Prelude.codes}
+use Rattle.{headers.specs.LineMap.LineMap, decide_preconditions.specs.Limits.are_too_many}
+use Rattle.decide_preconditions.specs.{Merged.merged, Parts.{AreCoalesced, Holds, IsJoined, part_size}}
+use Rattle.decide_preconditions.specs.RangeSets.{elements, part_in}
+use Rattle.decide_preconditions.specs.Selection.{Applies, AsksFor, HasSelection, IsAsked, IsIgnored, IsSameSelection}
+use Rattle.decide_preconditions.specs.Selection.{Selects, if_range_lets, set_asked}
+use Rattle.decide_preconditions.specs.declared.{limits.RangeLimits.RangeLimits, part.Part.Part}
+use Rattle.decide_preconditions.specs.declared.{resource.Validators.Validators, selection.Selection.Selection}
+use Rattle.decide_preconditions.proofs.PartLemmas.{coalesced_from, coalesced_once, covers_from, IsJoined-same}
+use Rattle.decide_preconditions.proofs.PartLemmas.{joined_itself, ordered, sizes_of_coalesced}
+use Rattle.decide_preconditions.proofs.{PreconditionLemmas.same_or_not, RangeSetLemmas.{parts_cover, parts_within}}
 
 -- where no part is left, no position is asked for
 pub none_asked : (len gap : ℕ) (set : List ℕ) (xs : List Part) → length xs ≡ 0
@@ -49,63 +42,144 @@ module _ (present : ℕ) (method : List ℕ) (request : LineMap) (current : Vali
         asked = record { coalesced = coalesced; some = omega (arith, l); covers = covers };
       }
 
+  -- the parts are coalesced and not too many, and hold what is asked for; there may be none
+  pub record SomeParts (parts : List Part) : Type 0 where
+    pub set : List ℕ
+    pub applies : Applies present method request current len set
+    pub coalesced : AreCoalesced len limits.gap parts
+    pub covers : (p : ℕ) → Any (Holds p) parts ↔ IsJoined limits.gap (IsAsked len set) p
+    pub few : are_too_many limits len parts ≡ false
+
   -- what is asked for in one set is asked for in no other way
-  pub same_asked : (l m : List ℕ) (xs ys : List Part) → Asks l xs → Asks m ys → xs ≡ ys
-  same_asked l m xs ys h k =
-      let e = same_set l m h.applies k.applies in
-      same_parts len limits.gap m xs ys (subst (λ (s : List ℕ). ArePartsAsked len limits.gap s xs) e h.asked) k.asked
+  same_asked : (l m : List ℕ) (xs ys : List Part) → l ≡ m → AreCoalesced len limits.gap xs
+      → AreCoalesced len limits.gap ys → ((p : ℕ) → Any (Holds p) xs ↔ IsJoined limits.gap (IsAsked len l) p)
+      → ((p : ℕ) → Any (Holds p) ys ↔ IsJoined limits.gap (IsAsked len m) p) → xs ≡ ys
+  same_asked l m xs ys e h k covers others =
+      let there : (p : ℕ) → Any (Holds p) ys ↔ IsJoined limits.gap (IsAsked len l) p = rw e others in
+      coalesced_once len limits.gap xs ys h k
+      (λ p. ((λ a. (there p).1 ((covers p).0 a)), (λ a. (covers p).1 ((there p).0 a))))
 
-  -- parts aren't both too many and not
-  pub many_or_few : (h : AsksForTooMany present method request current len limits) (m : List ℕ) (ys : List Part)
-      → Asks m ys → ¬ (are_too_many limits len ys ≡ false)
-  many_or_few h m ys k few =
-      let same = same_asked h.0 m h.1 ys h.2 k in
-      both_ways (are_too_many limits len ys) few
-      (subst (λ (parts : List Part). are_too_many limits len parts ≡ true) same h.3)
+  -- all is selected, or these parts
+  abbrev pub Covers : Option (List Part) → Type 0
+  Covers None = Selects present method request current len limits Selection.Whole
+  Covers (Some parts) = SomeParts parts
 
-  pub some_or_none : (l m : List ℕ) (xs : List Part) → Asks l xs → Applies present method request current len m
-      → ¬ ((p : ℕ) → ¬ (IsAsked len m p))
-  some_or_none l m xs h k none =
-      let e = same_set l m h.applies k in
-      let some = some_asked len limits.gap l xs h.asked in
-      none some.0 (subst (λ (s : List ℕ). IsAsked len s some.0) e some.1)
+  whole_or_some : (ys : List Part) → Covers None → ¬ (SomeParts ys)
+  whole_or_some ys (inl ignored) k = ignored k.set k.applies
+  whole_or_some ys (inr many) k =
+      let same : many.1 ≡ ys = same_asked many.0 k.set many.1 ys (same_set many.0 k.set many.2.applies k.applies)
+      many.2.asked.coalesced k.coalesced many.2.asked.covers k.covers in
+      let too_many : are_too_many limits len ys ≡ true = rw same at many.3 in let few = k.few in cc (too_many, few)
 
-  whole_or_none : Selects present method request current len limits Selection.Whole
-      → ¬ (Selects present method request current len limits Selection.Unsatisfiable)
-  whole_or_none (inl ignored) k = ignored k.0 k.1
-  whole_or_none (inr many) k = some_or_none many.0 k.0 many.1 many.2 k.1 k.2
+  pub same_covers : (xs ys : Option (List Part)) → Covers xs → Covers ys → xs ≡ ys
+  same_covers None None h k = refl
+  same_covers None (Some ys) h k = absurd (whole_or_some ys h k)
+  same_covers (Some xs) None h k = absurd (whole_or_some xs k h)
+  same_covers (Some xs) (Some ys) h k =
+      ap (λ (l : List Part). Some l) (same_asked h.set k.set xs ys (same_set h.set k.set h.applies k.applies)
+      h.coalesced k.coalesced h.covers k.covers)
 
-  whole_or_parts : (set : List ℕ) (ys : List Part)
-      → Selects present method request current len limits Selection.Whole → Asks set ys
-      → ¬ (are_too_many limits len ys ≡ false)
-  whole_or_parts set ys (inl ignored) k few = ignored set k.applies
-  whole_or_parts set ys (inr many) k few = many_or_few many set ys k few
+  pub none_covered : Selects present method request current len limits Selection.Unsatisfiable → SomeParts []
+  none_covered h =
+      record {
+        set = h.0;
+        applies = h.1;
+        coalesced =
+            record { within = λ k d l. absurd (omega (arith, l)); apart = λ i j d l m. absurd (omega (arith, m)) };
+        covers = λ p. ((λ a. let l = a.2 in absurd (omega (arith, l))), (λ j. absurd (h.2 j.before j.is_before)));
+        few = refl;
+      }
+
+  pub some_covered : (set : List ℕ) (parts : List Part) → Asks set parts → are_too_many limits len parts ≡ false
+      → SomeParts parts
+  some_covered set parts h few =
+      record {
+        set = set;
+        applies = h.applies;
+        coalesced = h.asked.coalesced;
+        covers = h.asked.covers;
+        few = few;
+      }
+
+  -- the parts of a selection, if it isn't all
+  abbrev parts_of : Selection → Option (List Part)
+  parts_of Selection.Whole = None
+  parts_of Selection.Unsatisfiable = Some []
+  parts_of (Selection.Parts parts) = Some parts.items
+
+  covered : (s : Selection) → Selects present method request current len limits s → Covers (parts_of s)
+  covered Selection.Whole h = h
+  covered Selection.Unsatisfiable h = none_covered h
+  covered (Selection.Parts parts) h = some_covered h.0 parts.items h.1 h.2
 
   pub one_selection : (s t : Selection) → Selects present method request current len limits s
       → Selects present method request current len limits t → IsSameSelection s t
-  one_selection Selection.Whole Selection.Whole h k = tt
-  one_selection Selection.Whole Selection.Unsatisfiable h k = whole_or_none h k
-  one_selection Selection.Whole (Selection.Parts ys) h k = whole_or_parts k.0 ys.items h k.1 k.2
-  one_selection Selection.Unsatisfiable Selection.Whole h k = whole_or_none k h
-  one_selection Selection.Unsatisfiable Selection.Unsatisfiable h k = tt
-  one_selection Selection.Unsatisfiable (Selection.Parts ys) h k = some_or_none k.0 h.0 ys.items k.1 h.1 h.2
-  one_selection (Selection.Parts xs) Selection.Whole h k = whole_or_parts h.0 xs.items k h.1 h.2
-  one_selection (Selection.Parts xs) Selection.Unsatisfiable h k = some_or_none h.0 k.0 xs.items h.1 k.1 k.2
-  one_selection (Selection.Parts xs) (Selection.Parts ys) h k = same_asked h.0 k.0 xs.items ys.items h.1 k.1
+  one_selection s t h k = by s t h k (same_covers (parts_of s) (parts_of t) (covered s h) (covered t k))
+    where
+      by : (s t : Selection) → Selects present method request current len limits s
+          → Selects present method request current len limits t → parts_of s ≡ parts_of t → IsSameSelection s t
+      by Selection.Whole Selection.Whole h k e = tt
+      by Selection.Unsatisfiable Selection.Unsatisfiable h k e = tt
+      by (Selection.Parts xs) (Selection.Parts ys) h k e = cc e
+      by s t h k e = grind arith
 
   -- several parts that aren't too many cost no more than the whole has bytes
   pub parts_twice : (set : List ℕ) (parts : List Part) → Asks set parts → are_too_many limits len parts ≡ false
       → 1 < length parts → sum_by part_size parts + length parts * limits.head ≤ len + len
   parts_twice set parts h few more =
       let sizes = sizes_of_coalesced len limits.gap parts h.asked.coalesced in
-      let several : nat_lt 1 (length parts) ≡ true = lt-ltb 1 (length parts) more in
-      elim (cases_Bool (nat_lt len (length parts * limits.head))) [
-        | inl y ↦
-            let either : (nat_lt limits.parts (length parts)
-            || nat_lt len (length parts * limits.head)) ≡ true =
-            ap (λ (b : Bool). nat_lt limits.parts (length parts) || b) y
-            ∙ or-true (nat_lt limits.parts (length parts)) in
-            let bad : are_too_many limits len parts ≡ true = and_from _ _ several either in
-            absurd (both_ways (are_too_many limits len parts) few bad)
-        | inr n ↦ let heads = ltb-false _ _ n in omega (arith, sizes, heads)
+      grind (arith, nat_tests, sizes)
+
+-- ---- every request has a selection
+
+module _ (present : ℕ) (method : List ℕ) (request : LineMap) (current : Validators) (len : ℕ)
+    (limits : RangeLimits) where
+  some_of_set : (set : List ℕ) → Applies present method request current len set
+      → HasSelection present method request current len limits
+  some_of_set set applies =
+      let xs = filter_map (part_in len) (elements set) in
+      let new = ordered xs in
+      let parts = merged limits.gap new.0 in
+      let within = parts_within len (elements set) in
+      let covers : (p : ℕ) → Any (Holds p) parts ↔ IsJoined limits.gap (IsAsked len set) p = λ p.
+      let own = covers_from len limits.gap p xs new.0 new.1 new.2 within in
+      let same = IsJoined-same limits.gap (λ q. Any (Holds q) xs) (IsAsked len set) p
+      (λ q. parts_cover len q (elements set)) in
+      ((λ a. same.0 (own.0 a)), (λ j. own.1 (same.1 j))) in
+      elim (cases_lt 0 (length parts)) [
+        | inl l ↦
+            let coalesced = coalesced_from len limits.gap xs new.0 new.1 new.2 within in
+            let asks : AsksFor present method request current len limits set parts =
+            record { applies = applies; asked = record { coalesced = coalesced; some = l; covers = covers } } in
+            elim (cases_Bool (are_too_many limits len parts)) [
+              | inl many ↦ inl (inr (set, parts, asks, many))
+              | inr few ↦ inr (inr (set, parts, asks, few))
+            ]
+        | inr l ↦
+            inr (inl (set, applies, none_asked len limits.gap set parts (omega (arith, l)) covers))
+      ]
+
+  applies_or_not : (found : Option (List ℕ)) → set_asked request ≡ found
+      → ((set : List ℕ) × Applies present method request current len set)
+      ⊎ IsIgnored present method request current len limits
+  applies_or_not None e = inr (λ set h. cc (h.asked, e))
+  applies_or_not (Some set) e =
+      elim (same_or_not method (codes "GET")) [
+        | inr other ↦ inr (λ s h. other h.is_get)
+        | inl get ↦
+            elim (cases_Bool (if_range_lets present request current)) [
+              | inr fails ↦ inr (λ s h. cc (fails, h.if_range))
+              | inl lets ↦
+                  elim (cases_lt 0 len) [
+                    | inl some ↦ inl (set, record { is_get = get; asked = e; if_range = lets; content = some })
+                    | inr none ↦ inr (λ s h. omega (arith, none, h.content))
+                  ]
+            ]
+      ]
+
+  pub some_selection : HasSelection present method request current len limits
+  some_selection =
+      elim (applies_or_not (set_asked request) refl) [
+        | inl applies ↦ some_of_set applies.0 applies.1
+        | inr ignored ↦ inl (inl ignored)
       ]

@@ -35,12 +35,9 @@ unless_known is_known value = if is_known then None else value
 
 -- ETag: of 200, 206 (section 15.3.7) and 304 (section 15.4.5)
 abbrev pub etag_sent : Plan → Option FieldValue → Option FieldValue
-etag_sent Full etag = etag
-etag_sent (Single part) etag = etag
-etag_sent (Multiple parts) etag = etag
-etag_sent NotModified etag = etag
 etag_sent Failed etag = None
 etag_sent Unsatisfiable etag = None
+etag_sent plan etag = etag
 
 -- the second, if there is no tag
 abbrev pub modified_without : Option FieldValue → Option ℕ → Option ℕ
@@ -54,8 +51,7 @@ modified_sent Full is_known etag modified = modified
 modified_sent (Single part) is_known etag modified = unless_known is_known modified
 modified_sent (Multiple parts) is_known etag modified = unless_known is_known modified
 modified_sent NotModified is_known etag modified = modified_without etag modified
-modified_sent Failed is_known etag modified = None
-modified_sent Unsatisfiable is_known etag modified = None
+modified_sent plan is_known etag modified = None
 
 -- a date of modification that is later than the response is replaced by the time of the response (section 8.8.2.1)
 abbrev pub not_after : ℕ → Option ℕ → Option ℕ
@@ -63,12 +59,9 @@ not_after present modified = option_map (min present) modified
 
 -- Accept-Ranges (section 14.3): of the responses that a range could have changed, if the server sends ranges
 abbrev pub units_sent : Plan → Bool → Option Line
-units_sent Full divisible = if divisible then Some (codes "bytes") else None
-units_sent (Single part) divisible = if divisible then Some (codes "bytes") else None
-units_sent (Multiple parts) divisible = if divisible then Some (codes "bytes") else None
 units_sent NotModified divisible = None
 units_sent Failed divisible = None
-units_sent Unsatisfiable divisible = if divisible then Some (codes "bytes") else None
+units_sent plan divisible = if divisible then Some (codes "bytes") else None
 
 -- the Content-Range of a part, and that of no part, in a representation of this length
 abbrev pub range_of : Part → ℕ → ContentBytes
@@ -80,12 +73,9 @@ no_range len = record { range = None; length = Some len }
 -- Content-Range (section 14.4): of 206 with one part, which it names, and of 416, where it has the length alone. A
 -- response with several parts has none (section 15.3.7.2).
 abbrev pub range_sent : Plan → Option ℕ → Option ContentBytes
-range_sent Full len = None
 range_sent (Single part) len = option_map (range_of part) len
-range_sent (Multiple parts) len = None
-range_sent NotModified len = None
-range_sent Failed len = None
 range_sent Unsatisfiable len = option_map no_range len
+range_sent plan len = None
 
 -- Content-Length (section 8.6): of 200, if it is known, and of 206 with one part; 412 and 416 have no content here. The
 -- length of several parts is that of their encoding, and 304 has none.
@@ -104,19 +94,12 @@ length_sent Unsatisfiable len = Some 0
 abbrev pub keeps_encoding : Plan → Bool → Bool
 keeps_encoding Full is_known = true
 keeps_encoding (Single part) is_known = not is_known
-keeps_encoding (Multiple parts) is_known = false
-keeps_encoding NotModified is_known = false
-keeps_encoding Failed is_known = false
-keeps_encoding Unsatisfiable is_known = false
+keeps_encoding plan is_known = false
 
 -- The content is all of the representation, so a digest of that content is true of it (sections 15.3.7 and 15.4.5).
 abbrev pub is_whole : Plan → Bool
 is_whole Full = true
-is_whole (Single part) = false
-is_whole (Multiple parts) = false
-is_whole NotModified = false
-is_whole Failed = false
-is_whole Unsatisfiable = false
+is_whole plan = false
 
 -- Content-Type (section 8.3): that of the representation for 200, and for 206 with one part unless the client knows it
 -- (section 15.3.7), and `multipart/byteranges` with the boundary for several parts (section 15.3.7.2)
@@ -124,9 +107,7 @@ abbrev pub type_sent : Plan → Bool → Option FieldValue → FieldValue → Op
 type_sent Full is_known media_type multipart = media_type
 type_sent (Single part) is_known media_type multipart = unless_known is_known media_type
 type_sent (Multiple parts) is_known media_type multipart = Some multipart
-type_sent NotModified is_known media_type multipart = None
-type_sent Failed is_known media_type multipart = None
-type_sent Unsatisfiable is_known media_type multipart = None
+type_sent plan is_known media_type multipart = None
 
 -- ---- the field lines of each field
 

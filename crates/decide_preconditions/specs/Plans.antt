@@ -68,14 +68,10 @@ IsSentAs (selection.Parts parts) plan = ⊥
 abbrev pub parts_sent : Plan → List Part
 parts_sent (Single part) = part ∷ []
 parts_sent (Multiple parts) = parts.items
-parts_sent Full = []
-parts_sent NotModified = []
-parts_sent Failed = []
-parts_sent Unsatisfiable = []
+parts_sent plan = []
 
 -- both are no plan, or have the same status and the same parts
 abbrev pub IsSamePlan : Option Plan → Option Plan → Type 0
 IsSamePlan None None = ⊤
 IsSamePlan (Some p) (Some q) = (status_of p ≡ status_of q) × (parts_sent p ≡ parts_sent q)
-IsSamePlan None (Some q) = ⊥
-IsSamePlan (Some p) None = ⊥
+IsSamePlan p q = ⊥

@@ -17,6 +17,7 @@ ghost use Rattle.decide_preconditions.specs.declared.tags.Comparison.TheVariants
 
 /// Theorem: every request has exactly one answer by the definition `Answers`; `evaluate` returns
 /// it.
+#[tactic(auto, using(crate::proofs::PreconditionLemmas::some_answer, crate::proofs::PreconditionLemmas::one_answer))]
 pub fn request_has_one_answer()
     ensures some { (present : ℕ) (request : LineMap) (resource : Resource) (method : List ℕ)
         → (answer : Precondition) × Answers present request resource method answer }
@@ -52,6 +53,7 @@ pub fn star_goes_by_existence()
 
 /// Theorem: entity tags are compared by their parts (RFC 9110, section 8.8.3.2). Strongly, neither
 /// is weak and their opaque parts are equal; weakly, their opaque parts are equal.
+#[tactic(auto, using(crate::proofs::TagLemmas::strongly_equal, crate::proofs::TagLemmas::weakly_equal))]
 pub fn tags_are_compared_by_their_parts()
     ensures strong { (a b : Line) → IsTrue (are_equal Strong a b) ↔ AreTags StronglyEqual a b }
     ensures weak { (a b : Line) → IsTrue (are_equal Weak a b) ↔ AreTags WeaklyEqual a b }
@@ -117,6 +119,7 @@ pub fn response_sets_its_fields()
 
 /// Theorem: Last-Modified is never later than the response (RFC 9110, section 8.8.2.1), whatever
 /// date the resource has and whatever fields the server had set.
+#[tactic(auto, using(crate::proofs::FieldLemmas::modified_by_set))]
 pub fn date_is_not_after_present()
     ensures { (present : ℕ) (plan : Plan) (is_known : Bool) (resource : Resource) (content : Content)
         (multipart : FieldValue) (before : LineMap)

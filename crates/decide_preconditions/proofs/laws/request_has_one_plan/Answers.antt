@@ -1,4 +1,4 @@
-use Rattle.decide_preconditions.proofs.{OnePlanLemmas.one_plan, SomePlanLemmas.some_plan}
+use Rattle.decide_preconditions.proofs.OnePlanLemmas.{one_plan, some_plan}
 use Rattle.decide_preconditions.proofs.laws.request_has_one_plan.Goals as goal
 
 pub returns-clause-some : goal.returns-clause-some

@@ -1,4 +1,4 @@
-use Rattle.decide_preconditions.proofs.{SelectionLemmas.one_selection, SomeSelectionLemmas.some_selection}
+use Rattle.decide_preconditions.proofs.SelectionLemmas.{one_selection, some_selection}
 use Rattle.decide_preconditions.proofs.laws.request_has_one_selection.Goals as goal
 
 pub returns-clause-some : goal.returns-clause-some

@@ -1,6 +1,6 @@
 use Rattle.{std.proofs.Common.{inl, rules}, headers.specs.LineMap.lines_at}
 use Rattle.decide_preconditions.specs.{Contents.{divisible_len, limits_of}, Plans.IsPlan, Responses.IsPlannedAtAll}
-use Rattle.decide_preconditions.proofs.PlanLemmas.{sized-from_plan}
+use Rattle.decide_preconditions.proofs.OnePlanLemmas.{sized-from_plan}
 use Rattle.decide_preconditions.proofs.response.respond.Goals as goal
 
 pub fields-requires : goal.fields-requires
