@@ -1,12 +1,10 @@
 -- What is stored of a response that passed on.
-use Rattle.std.proofs.Common.{◌≡◌, ◌⊎◌, ℕ, Bool, true, false, ◌∷◌, Option, Some, None, List, refl, subst, inl, inr}
-use Rattle.std.{proofs.Common.{Result, Ok, Err}, specs.Bool.MatchBool, specs.declared.alloc.AllocError.AllocError}
-use Rattle.cache_rules.specs.declared.storing.Reception.TheVariants.{Complete}
-use Rattle.cache_rules.specs.declared.stored.StoredResponse.{StoredResponse}
+use Rattle.std.proofs.Common.{◌∷◌, ◌≡◌, ◌⊎◌, Bool, false, List, None, Option, refl, Some, subst, true, ℕ}
+use Rattle.std.{proofs.Common.{Err, inl, inr, Ok, Result}, specs.{Bool.MatchBool, declared.alloc.AllocError.AllocError}}
+use Rattle.cache_rules.specs.declared.{stored.StoredResponse.StoredResponse, storing.Reception.TheVariants.Complete}
 use Rattle.cache_store.specs.Changes.{FitsAlone, IsInserted, IsStoredAs, IsTooLarge, IsTooSmallToStore, IsToStore}
-use Rattle.cache_store.{specs.Contents.size_at, specs.History.{History, Step}, specs.History.Call.Arrived}
-use Rattle.cache_pass.specs.{Effects.{DoAll, Kept, Settings}, Keeping.{AreDescribing, IsKept, IsLeft, IsNumbered}}
-use Rattle.cache_pass.specs.Keeping.{IsPast}
+use Rattle.{cache_pass.specs.Effects.DoAll, cache_store.specs.{Contents.size_at, History.{Call.Arrived, History, Step}}}
+use Rattle.cache_pass.specs.{Effects.{Kept, Settings}, Keeping.{AreDescribing, IsKept, IsLeft, IsNumbered, IsPast}}
 
 pub past-or-late : (Past Late : Type 0) (late : Bool) → ¬ Past → MatchBool late Late (¬ Late)
     → MatchBool late (Past ⊎ Late) (¬ (Past ⊎ Late))

@@ -1,7 +1,7 @@
 -- What is remembered before the first removal.
-use Rattle.std.proofs.Common.{◌≡◌, ◌∙◌, ℕ, List, zero, suc, replicate, refl, ap, inl, inr, arith}
+use Rattle.std.proofs.Common.{◌∙◌, ◌≡◌, ap, arith, inl, inr, List, refl, replicate, suc, zero, ℕ}
 use Rattle.std.specs.List.{slice_index}
-use Rattle.cache_pass.{specs.Removals.{HasNone, group_of, last_of}, specs.declared.removals.Removals.Removals}
+use Rattle.cache_pass.specs.{declared.removals.Removals.Removals, Removals.{group_of, HasNone, last_of}}
 
 zero-at : (n i : ℕ) → slice_index (replicate n 0) i ≡ 0
 zero-at zero i = refl

@@ -1,21 +1,17 @@
 -- What replies show.
-use Rattle.std.proofs.Common.{◌≡◌, ◌⊎◌, ℕ, List, Option, Some, None, refl, sym, subst, inl, inr, ◌∙◌}
-use Rattle.std.{proofs.Common.{Result, Ok, Err}, proofs.lemmas.Option.same_Some}
-use Rattle.std.{specs.Prelude.{IfOk, IsSomeAnd, MatchOption}, specs.declared.alloc.AllocError.AllocError}
-use Rattle.headers.{specs.LineMap.LineMap, specs.declared.Encoded.Encoded}
-use Rattle.cache_policy.{specs.Requests.Request, specs.declared.decision.Decision.Decision}
-use Rattle.cache_policy.specs.declared.decision.Decision.TheVariants as decisions
-use Rattle.cache_rules.{specs.Conditions.IsForCache, specs.declared.freshening.Exchange.Exchange}
-use Rattle.cache_rules.specs.declared.stored.StoredResponse.{StoredResponse}
-use Rattle.cache_store.{specs.Changes.IsRestored, specs.Contents.responses_at, specs.Lookups.{HasFields, IsAnswer}}
-use Rattle.cache_store.{specs.Lookups.IsFound, specs.Numbers.numbered, specs.declared.lookup.Lookup.Lookup}
-use Rattle.cache_store.specs.declared.lookup.Lookup.TheVariants as lookup
-use Rattle.cache_store.proofs.NumberLemmas.{Has-numbered}
-use Rattle.cache_pass.{proofs.CallLemmas.none-some, specs.Answers.IsShownAfter, specs.Effects.{Kept, Settings}}
+use Rattle.cache_rules.specs.declared.{freshening.Exchange.Exchange, stored.StoredResponse.StoredResponse}
+use Rattle.{cache_rules.specs.Conditions.IsForCache, headers.specs.{declared.Encoded.Encoded, LineMap.LineMap}}
+use Rattle.cache_pass.specs.{declared.replying.{First.First, Reply.Reply}, Effects.{Kept, Settings}}
 use Rattle.cache_pass.specs.Replies.{IsAlone, IsFirst, IsNoneOnError, IsOnError, IsReplyTo, IsShown, number_on_error}
-use Rattle.cache_pass.specs.declared.replying.First.{First}
+use Rattle.cache_pass.{proofs.CallLemmas.none-some, specs.Answers.IsShownAfter}
+use Rattle.cache_store.specs.{Changes.IsRestored, declared.lookup.Lookup.Lookup, Lookups.{HasFields, IsAnswer, IsFound}}
+use Rattle.cache_store.{proofs.NumberLemmas.Has-numbered, specs.{Contents.responses_at, Numbers.numbered}}
+use Rattle.{cache_policy.specs.{declared.decision.Decision.Decision, Requests.Request}, std.specs.Prelude.MatchOption}
+use Rattle.std.{proofs.lemmas.Option.same_Some, specs.{declared.alloc.AllocError.AllocError, Prelude.{IfOk, IsSomeAnd}}}
+use Rattle.std.proofs.Common.{◌∙◌, ◌≡◌, ◌⊎◌, Err, inl, inr, List, None, Ok, Option, refl, Result, Some, subst, sym, ℕ}
+use Rattle.cache_policy.specs.declared.decision.Decision.TheVariants as decisions
+use Rattle.cache_store.specs.declared.lookup.Lookup.TheVariants as lookup
 use Rattle.cache_pass.specs.declared.replying.First.TheVariants as first
-use Rattle.cache_pass.specs.declared.replying.Reply.{Reply}
 
 some-and : {X : Type 0} (o : Option X) (P : X → Type 0) → IsSomeAnd o P → (x : X) × (o ≡ Some x) × P x
 some-and None P none = absurd none
@@ -82,11 +78,9 @@ module _ (settings : Settings) (request : Request) (now : ℕ) (responses : List
 
   alone-first : (number : ℕ) (decision : Decision) → IsFoundBy number decision → IsNoReply number → (given : First)
       → IsAlone request given → IsFirst settings request now responses given
-  alone-first number decision by missing (first.Reply reply) none = absurd none
-  alone-first number decision by missing (first.ReplyAndValidate reply) none = absurd none
   alone-first number decision by missing first.Ask is = (is, inr (not-shown by.shown missing))
-  alone-first number decision by missing (first.Validate fields) none = absurd none
   alone-first number decision by missing first.Unavailable is = inr (is, inr (not-shown by.shown missing))
+  alone-first number decision by missing given none = absurd none
 
   pub serve-shows : (number : ℕ) (field : Encoded) → Answers (lookup.Serve number field) → (reply : Reply)
       → Replies number reply → IsFirst settings request now responses (first.Reply reply)
@@ -118,19 +112,15 @@ module _ (settings : Settings) (request : Request) (now : ℕ) (responses : List
   error-fields (lookup.ServeAndRevalidate other field) is number same = meanwhile-fields other field is
   error-fields (lookup.ValidateOrServe other fields) is number same =
       (decisions.RevalidateOrServe, is.place, is.found, λ same. (cc))
-  error-fields (lookup.Validate other fields) is number same = absurd (none-some same)
-  error-fields lookup.Unavailable is number same = absurd (none-some same)
-  error-fields lookup.Forward is number same = absurd (none-some same)
+  error-fields found is number same = absurd (none-some same)
 
   pub error-none : (found : Lookup) → Answers found → number_on_error found ≡ None
       → IsNoneOnError settings request now responses
-  error-none (lookup.Serve other field) is same = absurd (none-some (sym same))
-  error-none (lookup.ServeAndRevalidate other field) is same = absurd (none-some (sym same))
-  error-none (lookup.ValidateOrServe other fields) is same = absurd (none-some (sym same))
   error-none (lookup.Validate other fields) is same = inr (inr (is.place, inl is.found))
   error-none lookup.Unavailable (inl is) same = inr (inr (is.0, inr is.1))
   error-none lookup.Unavailable (inr is) same = inl is.0
   error-none lookup.Forward is same = inl is.0
+  error-none found is same = absurd (none-some (sym same))
 
   -- what is decided about a response that may be served if the origin failed
   abbrev Serves : Decision → Type 0
@@ -156,9 +146,7 @@ module _ (settings : Settings) (request : Request) (now : ℕ) (responses : List
         record { place = is.place; found = is.found; shown = is.shown },
         inr (inr (inr refl)),
       )
-  error-found (lookup.Validate other fields) is number same = absurd (none-some same)
-  error-found lookup.Unavailable is number same = absurd (none-some same)
-  error-found lookup.Forward is number same = absurd (none-some same)
+  error-found found is number same = absurd (none-some same)
 
   pub error-reply : (found : Lookup) → Answers found → (number : ℕ) → number_on_error found ≡ Some number
       → (reply : Result (Option Reply) AllocError)

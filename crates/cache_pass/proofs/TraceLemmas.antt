@@ -1,15 +1,11 @@
 -- What a response that isn't stored leaves.
-use Rattle.std.proofs.Common.{◌≡◌, ℕ, true, false, refl, subst, inl, inr, ◌∙◌, Result, Ok, Err}
+use Rattle.std.proofs.Common.{◌∙◌, ◌≡◌, inl, inr, Ok, refl, Result, subst, true, ℕ}
 use Rattle.std.specs.declared.alloc.AllocError.{AllocError}
-use Rattle.http_header.{specs.FieldValue.FieldValue, specs.HeaderMap.Entries}
-use Rattle.headers.specs.LineMap.{lines_at}
-use Rattle.cache_policy.specs.Requests.{IsSafe}
-use Rattle.cache_rules.specs.Errors.{IsFailure}
-use Rattle.cache_store.specs.History.{History}
-use Rattle.cache_pass.{specs.Effects.{DoAll, kept_of, settings_of}, specs.Keeping.IsWanted, specs.Origin.IsPassedOn}
-use Rattle.cache_pass.{specs.Passes.{key_of, phase_after, request_of_pass}, specs.Steps.HasCome}
-use Rattle.cache_pass.{specs.declared.cache.Cache.Cache, specs.declared.pass.Asked.Asked, specs.declared.pass.Pass.Pass}
-use Rattle.cache_pass.{specs.declared.pass.Phase.TheVariants.Ended, specs.declared.revalidating.Next.Next}
+use Rattle.{headers.specs.LineMap.lines_at, http_header.specs.{FieldValue.FieldValue, HeaderMap.Entries}}
+use Rattle.{cache_policy.specs.Requests.IsSafe, cache_rules.specs.Errors.IsFailure, cache_store.specs.History.History}
+use Rattle.cache_pass.specs.{Effects.{DoAll, kept_of, settings_of}, Keeping.IsWanted, Origin.IsPassedOn}
+use Rattle.cache_pass.specs.{declared.cache.Cache.Cache, Passes.{key_of, phase_after, request_of_pass}, Steps.HasCome}
+use Rattle.cache_pass.specs.declared.{pass.{Asked.Asked, Pass.Pass, Phase.TheVariants.Ended}, revalidating.Next.Next}
 use Rattle.cache_pass.specs.declared.revalidating.Next.TheVariants as next
 
 module _ (old : Pass) (before : Cache) (status : ℕ) (response : Entries FieldValue) (now : ℕ) (new : Pass)
@@ -18,12 +14,9 @@ module _ (old : Pass) (before : Cache) (status : ℕ) (response : Entries FieldV
   passed-ended : (given : Result Next AllocError)
       → IsPassedOn (settings_of before) (key_of old) (request_of_pass old) status (lines_at response) given
       → (asked : Asked) (clock : ℕ) → phase_after given asked status response now clock ≡ Ended
-  passed-ended (Ok (next.Reply reply)) none asked clock = absurd none
-  passed-ended (Ok (next.Once fresh answer)) none asked clock = absurd none
   passed-ended (Ok next.Ask) none asked clock = absurd none
   passed-ended (Ok (next.PassOn true)) wanted asked clock = absurd (unwanted wanted)
-  passed-ended (Ok (next.PassOn false)) isnt asked clock = refl
-  passed-ended (Err error) none asked clock = absurd none
+  passed-ended given is asked clock = refl
 
   pub leaves-nothing : (given : Result Next AllocError) → (h : HasCome old before status response now new after given)
       → IsSafe old.method → ¬ (IsFailure status) → ¬ (status ≡ 304)

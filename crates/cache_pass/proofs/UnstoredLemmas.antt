@@ -1,20 +1,15 @@
 -- Runs that differ only in what the origin answered, where that isn't to be stored.
-use Rattle.std.proofs.Common.{◌≡◌, ◌↔◌, ℕ, List, [], ◌∷◌, ◌++◌, map, true, false, refl, sym, ap, subst, inl, inr}
-use Rattle.std.{proofs.Common.{◌∙◌, Result, Ok, Err}, specs.declared.alloc.AllocError.AllocError}
-use Rattle.http_header.{specs.FieldValue.FieldValue, specs.HeaderMap.Entries}
-use Rattle.headers.specs.LineMap.{lines_at}
-use Rattle.cache_policy.specs.Requests.{Request}
-use Rattle.cache_rules.specs.Errors.{IsFailure}
-use Rattle.cache_store.specs.History.{History}
-use Rattle.cache_pass.specs.{Effects.{Kept, Settings, kept_of, settings_of}, Origin.{IsFailing, IsNext, IsPassedOn}}
-use Rattle.cache_pass.{specs.Passes.{IsSameRequest, key_of, phase_after, request_of_pass}}
-use Rattle.cache_pass.specs.{Unstored.{AreAlike, AreUnstored, IsUnstored}, Worlds.{Acts, Deed, IsStep, Log, Reaches}}
-use Rattle.cache_pass.{specs.Worlds.{World, asked_in}, specs.Worlds.Deed.{Begins, Comes, Fails, Ends, Apart}}
-use Rattle.cache_pass.specs.Worlds.Event.{Calls}
-use Rattle.cache_pass.{specs.declared.cache.Cache.Cache, specs.declared.pass.Asked.Asked, specs.declared.pass.Pass.Pass}
-use Rattle.cache_pass.specs.declared.revalidating.Next.{Next}
+use Rattle.http_header.specs.{FieldValue.FieldValue, HeaderMap.Entries}
+use Rattle.cache_pass.specs.declared.{cache.Cache.Cache, pass.{Asked.Asked, Pass.Pass}, revalidating.Next.Next}
+use Rattle.cache_pass.specs.{Effects.{Kept, kept_of, Settings, settings_of}, Origin.{IsFailing, IsNext, IsPassedOn}}
+use Rattle.cache_pass.specs.Worlds.{Acts, Deed, Deed.{Apart, Begins, Comes, Ends, Fails}, IsStep, Reaches, World}
+use Rattle.cache_pass.specs.{Unstored.{AreAlike, AreUnstored, IsUnstored}, Worlds.{asked_in, Event.Calls, Log}}
+use Rattle.cache_pass.{proofs.CallLemmas.reached, specs.Passes.{IsSameRequest, key_of, phase_after, request_of_pass}}
+use Rattle.{cache_rules.specs.Errors.IsFailure, headers.specs.LineMap.lines_at}
+use Rattle.std.{proofs.Common.{[], ◌∷◌, inr}, specs.declared.alloc.AllocError.AllocError}
+use Rattle.std.proofs.Common.{◌++◌, ◌↔◌, ◌∙◌, ◌≡◌, ap, false, inl, List, map, Ok, refl, Result, subst, sym, true, ℕ}
+use Rattle.{cache_policy.specs.Requests.Request, cache_store.specs.History.History}
 use Rattle.cache_pass.specs.declared.revalidating.Next.TheVariants as next
-use Rattle.cache_pass.proofs.CallLemmas.{reached}
 
 -- ---- a response in place of another one
 
@@ -25,21 +20,15 @@ module _ (settings : Settings) (key : List ℕ) (request : Request) (now : ℕ) 
   passed-too : (given : Result Next AllocError)
       → IsPassedOn settings key request status (lines_at response) given
       → IsPassedOn settings key request other_status (lines_at other) given
-  passed-too (Ok (next.Reply reply)) none = absurd none
-  passed-too (Ok (next.Once fresh answer)) none = absurd none
-  passed-too (Ok next.Ask) none = absurd none
   passed-too (Ok (next.PassOn true)) wanted = absurd (isnt.unwanted wanted)
   passed-too (Ok (next.PassOn false)) unwanted = other_isnt.unwanted
-  passed-too (Err error) none = absurd none
+  passed-too given none = absurd none
 
   failing-too : (after : Kept) (given : Result Next AllocError)
       → IsFailing settings key request status (lines_at response) now after given
       → IsFailing settings key request other_status (lines_at other) now after given
-  failing-too after (Ok (next.Reply reply)) is = is
-  failing-too after (Ok (next.Once fresh answer)) none = absurd none
-  failing-too after (Ok next.Ask) none = absurd none
   failing-too after (Ok (next.PassOn kept)) is = (is.0, passed-too (Ok (next.PassOn kept)) is.1)
-  failing-too after (Err error) is = is
+  failing-too after given is = is
 
   next-too : (asked : Asked) (before after : Kept) (calls : History) (given : Result Next AllocError)
       → IsNext settings key request asked status (lines_at response) now before after calls given
@@ -66,21 +55,14 @@ module _ (settings : Settings) (key : List ℕ) (request : Request) (now : ℕ) 
   passed-phase : (asked : Asked) (clock : ℕ) (given : Result Next AllocError)
       → IsPassedOn settings key request status (lines_at response) given
       → phase_after given asked status response now clock ≡ phase_after given asked other_status other now clock
-  passed-phase asked clock (Ok (next.Reply reply)) none = absurd none
-  passed-phase asked clock (Ok (next.Once fresh answer)) none = absurd none
-  passed-phase asked clock (Ok next.Ask) none = absurd none
   passed-phase asked clock (Ok (next.PassOn true)) wanted = absurd (isnt.unwanted wanted)
-  passed-phase asked clock (Ok (next.PassOn false)) unwanted = refl
-  passed-phase asked clock (Err error) none = absurd none
+  passed-phase asked clock given is = refl
 
   failing-phase : (asked : Asked) (clock : ℕ) (after : Kept) (given : Result Next AllocError)
       → IsFailing settings key request status (lines_at response) now after given
       → phase_after given asked status response now clock ≡ phase_after given asked other_status other now clock
-  failing-phase asked clock after (Ok (next.Reply reply)) is = refl
-  failing-phase asked clock after (Ok (next.Once fresh answer)) none = absurd none
-  failing-phase asked clock after (Ok next.Ask) none = absurd none
   failing-phase asked clock after (Ok (next.PassOn kept)) is = passed-phase asked clock (Ok (next.PassOn kept)) is.1
-  failing-phase asked clock after (Err error) is = refl
+  failing-phase asked clock after given is = refl
 
   next-phase : (asked : Asked) (clock : ℕ) (before after : Kept) (calls : History) (given : Result Next AllocError)
       → IsNext settings key request asked status (lines_at response) now before after calls given
@@ -99,12 +81,12 @@ request_by method fields = record { method = method; fields = lines_at fields }
 
 module _ (pass : Pass) (before : Cache) (new : Pass) (after : Cache) (calls : History) where
   step-same : (deed : Deed) → IsStep deed pass before new after calls → IsSameRequest pass new
+  step-same (Apart call) (apart, does, set, kept, same) =
+      subst (IsSameRequest pass) (sym kept) (record { key = refl; method = refl; request = refl })
   step-same (Begins now first) (h, same) = h.same
   step-same (Comes status response now given) (h, same) = h.same
   step-same (Fails now found) (h, same) = h.same
   step-same (Ends content reception now number) (h, same) = h.same
-  step-same (Apart call) (apart, does, set, kept, same) =
-      subst (IsSameRequest pass) (sym kept) (record { key = refl; method = refl; request = refl })
 
   step-request : (deed : Deed) → IsStep deed pass before new after calls → request_of_pass pass ≡ request_of_pass new
   step-request deed is =

@@ -1,6 +1,5 @@
 -- When targets were last removed (RFC 9111, section 4.4).
-use Rattle.std.specs.Prelude.{◌≡◌, ◌⊎◌, ℕ, ◌+◌, ◌*◌, ◌-◌, ◌%◌, ◌^◌, ◌<◌, ◌≤◌, min, List, [], ◌∷◌}
-use Rattle.std.specs.List.{slice_index}
+use Rattle.std.specs.{List.slice_index, Prelude.{[], ◌%◌, ◌*◌, ◌+◌, ◌-◌, ◌<◌, ◌^◌, ◌∷◌, ◌≡◌, ◌≤◌, ◌⊎◌, List, min, ℕ}}
 use Rattle.cache_pass.specs.declared.removals.Removals.{Removals}
 
 -- the group of a target, if that of what is before these bytes is known

@@ -1,22 +1,16 @@
 -- What may be sent to a client (RFC 9111, section 4; RFC 5861).
-use Rattle.std.specs.Prelude.{◌≡◌, ◌⊎◌, ⊤, ℕ, List, Some, Ok, true}
-use Rattle.http_header.{specs.FieldValue.FieldValue, specs.HeaderMap.Entries}
-use Rattle.headers.specs.LineMap.{LineMap, lines_at}
-use Rattle.cache_policy.{specs.Decisions.{IsGoodEnough, MayServeOnError}, specs.Policies.{MayStoreUnder, asks, tells}}
-use Rattle.cache_policy.specs.Requests.{Request}
-use Rattle.cache_rules.{specs.Conditions.IsStoredAnswer, specs.Errors.IsFailure, specs.Freshening.IsFreshened}
-use Rattle.cache_rules.{specs.Selection.IsCandidate, specs.Stored.{fields_of_stored, request_of_stored}}
-use Rattle.cache_rules.specs.declared.freshening.Exchange.{Exchange}
-use Rattle.cache_rules.specs.declared.stored.StoredResponse.{StoredResponse}
-use Rattle.cache_store.{specs.Changes.IsStoredAs, specs.History.IsJustified, specs.Numbers.numbered}
-use Rattle.cache_store.specs.Lookups.{IsFreshFor, freshness_of}
-use Rattle.cache_pass.{specs.Effects.{Settings, stored_at}, specs.Keeping.IsLate, specs.Passes.{IsReceived, asked_of}}
-use Rattle.cache_pass.{specs.Passes.{key_of, request_of_pass}, specs.Replies.IsReplyTo, specs.Worlds.{Deed, World}}
-use Rattle.cache_pass.{specs.Worlds.calls_of, specs.Worlds.Deed.{Begins, Comes, Fails, Ends}}
-use Rattle.cache_pass.{specs.declared.cache.Cache.Cache, specs.declared.pass.Asked.Asked, specs.declared.pass.Pass.Pass}
-use Rattle.cache_pass.specs.declared.pass.Phase.TheVariants.{Passing}
+use Rattle.cache_pass.specs.Worlds.{calls_of, Deed, Deed.{Begins, Comes, Ends, Fails}, World}
+use Rattle.cache_pass.specs.{declared.pass.{Asked.Asked, Pass.Pass}, Effects.{Settings, stored_at}, Keeping.IsLate}
+use Rattle.cache_pass.specs.declared.{cache.Cache.Cache, pass.Phase.TheVariants.Passing, replying.Reply.Reply}
+use Rattle.cache_pass.specs.{Passes.{asked_of, IsReceived, key_of, request_of_pass}, Replies.IsReplyTo}
+use Rattle.cache_store.specs.{History.IsJustified, Lookups.{freshness_of, IsFreshFor}, Numbers.numbered}
+use Rattle.{cache_rules.specs.{Freshening.IsFreshened, Stored.fields_of_stored}, cache_store.specs.Changes.IsStoredAs}
+use Rattle.cache_rules.specs.{declared.stored.StoredResponse.StoredResponse, Errors.IsFailure, Stored.request_of_stored}
+use Rattle.cache_rules.specs.{Conditions.IsStoredAnswer, declared.freshening.Exchange.Exchange, Selection.IsCandidate}
+use Rattle.{headers.specs.LineMap.{LineMap, lines_at}, http_header.specs.{FieldValue.FieldValue, HeaderMap.Entries}}
+use Rattle.cache_policy.specs.{Decisions.{IsGoodEnough, MayServeOnError}, Policies.tells, Requests.Request}
+use Rattle.{cache_policy.specs.Policies.{asks, MayStoreUnder}, std.specs.Prelude.{⊤, ◌≡◌, ◌⊎◌, List, Ok, Some, true, ℕ}}
 use Rattle.cache_pass.specs.declared.replying.First.TheVariants as first
-use Rattle.cache_pass.specs.declared.replying.Reply.{Reply}
 use Rattle.cache_pass.specs.declared.revalidating.Next.TheVariants as next
 
 module _ (settings : Settings) (request : Request) (now : ℕ) (stored : StoredResponse) where

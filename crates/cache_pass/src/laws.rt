@@ -1,14 +1,11 @@
 //! Theorems about every run of passes over one cache. To cite one in a proof, call it.
-ghost use Rattle.std.{specs.Prelude.{◌≡◌, ℕ, List, Result}, specs.declared.alloc.AllocError.AllocError};
-ghost use Rattle.http_header.{specs.FieldValue.FieldValue, specs.HeaderMap.Entries};
-ghost use Rattle.headers.specs.LineMap.{lines_at};
-ghost use Rattle.cache_policy.specs.Requests.{IsSafe};
-ghost use Rattle.cache_rules.specs.Errors.{IsFailure};
-ghost use Rattle.cache_pass.{specs.Effects.{Settings, kept_of, settings_of}, specs.Keeping.IsWanted};
-ghost use Rattle.cache_pass.{specs.Passes.request_of_pass, specs.Right.IsRight, specs.Steps.HasCome};
-ghost use Rattle.cache_pass.{specs.declared.cache.Cache.Cache, specs.declared.pass.Pass.Pass};
-ghost use Rattle.cache_pass.{specs.declared.pass.Phase.TheVariants.Ended, specs.declared.revalidating.Next.Next};
-ghost use Rattle.cache_pass.{specs.Unstored.AreAlike, specs.Worlds.{Acts, AreCurrent, Deed, Reaches, World}};
+ghost use Rattle.cache_pass.specs.{Effects.{kept_of, Settings, settings_of}, Passes.request_of_pass, Right.IsRight};
+ghost use Rattle.cache_pass.specs.{declared.{cache.Cache.Cache, pass.Pass.Pass}, Steps.HasCome, Unstored.AreAlike};
+ghost use Rattle.cache_pass.specs.{declared.{pass.Phase.TheVariants.Ended, revalidating.Next.Next}, Keeping.IsWanted};
+ghost use Rattle.{cache_pass.specs.Worlds.{Acts, AreCurrent, Deed, Reaches, World}, headers.specs.LineMap.lines_at};
+ghost use Rattle.std.specs.Prelude.{◌≡◌, List, Result, ℕ};
+ghost use Rattle.{cache_policy.specs.Requests.IsSafe, std.specs.declared.alloc.AllocError.AllocError};
+ghost use Rattle.{cache_rules.specs.Errors.IsFailure, http_header.specs.{FieldValue.FieldValue, HeaderMap.Entries}};
 
 /// Theorem: whatever steps of whatever passes come before, in any order, with look-ups and removals between them,
 /// what a step answers is right for its pass. A stored response that it names is stored under the target of this

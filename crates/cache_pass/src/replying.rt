@@ -1,10 +1,8 @@
 //! What a request gets first.
-ghost use Rattle.std.specs.Prelude.{◌≡◌, ◌⊎◌, None, IfOk, IsSomeAnd, MatchOption};
-ghost use Rattle.cache_policy.specs.Requests.{request_of};
-ghost use Rattle.cache_rules.specs.Conditions.{IsForCache};
-ghost use Rattle.cache_store.{specs.History.Call.Looked, specs.Numbers.numbered};
-ghost use Rattle.cache_pass.{specs.Effects.{Does, kept_of, settings_of, stored_at}, specs.Replies.{IsAlone, IsFirstOf}};
-ghost use Rattle.cache_pass.specs.Replies.{IsReplyTo};
+ghost use Rattle.{cache_policy.specs.Requests.request_of, cache_store.specs.{History.Call.Looked, Numbers.numbered}};
+ghost use Rattle.{cache_pass.specs.Replies.{IsAlone, IsFirstOf, IsReplyTo}, cache_rules.specs.Conditions.IsForCache};
+ghost use Rattle.cache_pass.specs.Effects.{Does, kept_of, settings_of, stored_at};
+ghost use Rattle.std.specs.Prelude.{◌≡◌, ◌⊎◌, IfOk, IsSomeAnd, MatchOption, None};
 
 use crate::cache::Cache;
 use cache_policy::{Decision, RequestHead, decide_unstored};

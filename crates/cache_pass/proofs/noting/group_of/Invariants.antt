@@ -1,5 +1,4 @@
-use Rattle.std.proofs.Common.{◌≡◌, ◌<◌, drop}
-use Rattle.cache_pass.specs.Removals.{group_from, group_of}
+use Rattle.{cache_pass.specs.Removals.{group_from, group_of}, std.proofs.Common.{◌<◌, ◌≡◌, drop}}
 use Rattle.cache_pass.proofs.noting.group_of.Given as goal
 
 abbrev pub invariant-loop-byte : goal.invariant-loop-byte

@@ -1,5 +1,4 @@
-use Rattle.cache_policy.specs.Requests.{request_of}
-use Rattle.cache_pass.specs.Effects.{settings_of, stored_at}
+use Rattle.{cache_pass.specs.Effects.{settings_of, stored_at}, cache_policy.specs.Requests.request_of}
 use Rattle.cache_pass.proofs.ReplyLemmas.{meanwhile-alone, meanwhile-shows, serve-alone, serve-shows}
 use Rattle.cache_pass.proofs.cache.Cache.first.Goals as goal
 

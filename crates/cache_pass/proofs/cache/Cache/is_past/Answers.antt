@@ -1,7 +1,6 @@
-use Rattle.std.{proofs.Common.{List, subst}, specs.Bool.MatchBool}
-use Rattle.cache_rules.specs.declared.stored.StoredResponse.{StoredResponse}
-use Rattle.cache_store.{specs.Contents.responses_at, specs.Kept.contents_of}
-use Rattle.cache_pass.{specs.Keeping.IsLate, specs.Removals.IsOutdated, proofs.KeepLemmas.past-or-late}
+use Rattle.{cache_store.specs.{Contents.responses_at, Kept.contents_of}, std.proofs.Common.{List, subst}}
+use Rattle.{cache_rules.specs.declared.stored.StoredResponse.StoredResponse, std.specs.Bool.MatchBool}
+use Rattle.cache_pass.{proofs.KeepLemmas.past-or-late, specs.{Keeping.IsLate, Removals.IsOutdated}}
 use Rattle.cache_pass.proofs.cache.Cache.is_past.Goals as goal
 
 pub returns-else-is_outdated : goal.returns-else-is_outdated

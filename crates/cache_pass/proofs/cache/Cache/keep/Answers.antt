@@ -1,5 +1,5 @@
-use Rattle.std.proofs.Common.{Ok, Err, refl, ap}
-use Rattle.cache_pass.{specs.Effects.{kept_of, settings_of}, proofs.KeepLemmas.{keeps, keeps-full, keeps-none}}
+use Rattle.std.proofs.Common.{ap, Err, Ok, refl}
+use Rattle.cache_pass.{proofs.KeepLemmas.{keeps, keeps-full, keeps-none}, specs.Effects.{kept_of, settings_of}}
 use Rattle.cache_pass.proofs.cache.Cache.keep.Goals as goal
 
 pub returns-in-Ok-clause-kept : goal.returns-in-Ok-clause-kept

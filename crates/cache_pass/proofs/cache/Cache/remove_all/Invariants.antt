@@ -1,6 +1,5 @@
 use Rattle.std.proofs.Common.{◌≡◌, map, take}
-use Rattle.url.specs.Parts.{serialize}
-use Rattle.cache_pass.specs.Effects.{DoAll, kept_of, removals, settings_of}
+use Rattle.{cache_pass.specs.Effects.{DoAll, kept_of, removals, settings_of}, url.specs.Parts.serialize}
 use Rattle.cache_pass.proofs.cache.Cache.remove_all.Given as goal
 
 abbrev pub invariant-loop-url : goal.invariant-loop-url

@@ -1,4 +1,4 @@
-use Rattle.std.proofs.Common.{rules, refl}
+use Rattle.std.proofs.Common.{refl, rules}
 use Rattle.cache_pass.proofs.queue.Queue.enter.Goals as goal
 
 pub returns : goal.returns

@@ -1,5 +1,4 @@
-use Rattle.std.proofs.Common.{rules, refl}
-use Rattle.std.proofs.lemmas.Fn.{filter_same}
+use Rattle.std.proofs.{Common.{refl, rules}, lemmas.Fn.filter_same}
 use Rattle.cache_pass.proofs.queue.Queue.leave.Goals as goal
 
 pub returns : goal.returns

@@ -1,5 +1,4 @@
-use Rattle.std.proofs.Common.{refl}
-use Rattle.cache_pass.proofs.RemovalLemmas.{none-noted}
+use Rattle.{cache_pass.proofs.RemovalLemmas.none-noted, std.proofs.Common.refl}
 use Rattle.cache_pass.proofs.removals.Removals.new.Goals as goal
 
 pub returns : goal.returns
