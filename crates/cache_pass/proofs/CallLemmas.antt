@@ -60,8 +60,7 @@ calls-asked-in deed pass phase log = calls-asked pass phase log
 -- ---- a step
 
 module _ (old : Pass) (before : Cache) (new : Pass) (after : Cache) (calls : History) where
-  pub step-settings : (deed : Deed) → IsStep deed old before new after calls
-      → settings_of after ≡ settings_of before
+  pub step-settings : (deed : Deed) → IsStep deed old before new after calls → settings_of after ≡ settings_of before
   step-settings (Begins now first) (h, same) = h.settings
   step-settings (Comes status response now next) (h, same) = h.settings
   step-settings (Fails now found) (h, same) = h.settings
@@ -93,8 +92,7 @@ module _ (old : Pass) (before : Cache) (new : Pass) (after : Cache) (calls : His
 pub acts-log : (pass : ℕ) (deed : Deed) (old new : World) (acts : Acts pass deed old new)
     → calls_of new.log ≡ acts.calls ++ calls_of old.log
 acts-log pass deed old new acts =
-    ap calls_of acts.log
-    ∙ calls-asked-in deed pass (new.passes pass).phase (map (Calls pass) acts.calls ++ old.log)
+    ap calls_of acts.log ∙ calls-asked-in deed pass (new.passes pass).phase (map (Calls pass) acts.calls ++ old.log)
     ∙ calls-made pass acts.calls old.log
 
 -- what a world has stored comes of the calls that its log has

@@ -1,17 +1,17 @@
 -- What is stored was asked since its target was last removed.
-use Rattle.cache_pass.specs.Worlds.{Acts, asked_in, asks_of, Event.{Asks, Calls}, Reaches, StoresAt, World}
-use Rattle.cache_pass.specs.Worlds.{AreCurrent, Deed, Deed.{Apart, Begins, Comes, Ends, Fails}, IsCurrent, IsStep, Log}
-use Rattle.cache_pass.specs.declared.pass.{Asked.Asked, Pass.Pass, Phase.{Phase, TheVariants.{Asking, Ended, Passing}}}
-use Rattle.cache_pass.specs.declared.{cache.Cache.Cache, removals.Removals.Removals, revalidating.Next.Next}
-use Rattle.cache_pass.specs.{declared.replying.First.First, Passes.{asked_of, key_of, phase_after, phase_first}}
-use Rattle.cache_pass.specs.{Effects.{DoAll, Does, Kept, kept_of, removals, Settings, settings_of}, Removals.IsOutdated}
-use Rattle.cache_pass.{proofs.CallLemmas.{none-some, step-does}, specs.{Removals.IsNoted, Steps.{HasCome, HasEnded}}}
-use Rattle.std.proofs.Common.{[], ◌++◌, ◌∙◌, ◌∷◌, ◌≤◌, ap, false, map, Option, refl, sym, true, ℕ}
-use Rattle.std.proofs.{Common.{◌≡◌, ◌⊎◌, arith, inl, inr, List, None, Ok, Result, Some, subst}, lemmas.Option.same_Some}
-use Rattle.std.specs.{declared.alloc.AllocError.AllocError, Prelude.⊤}
 use Rattle.{cache_rules.specs.declared.storing.Reception.{Reception, TheVariants.Complete}, url.specs.Parts.serialize}
 use Rattle.cache_store.specs.History.{Call, Call.{Answered, Arrived, Looked, Removed}, History, Removes}
 use Rattle.http_header.specs.{FieldValue.FieldValue, HeaderMap.Entries}
+use Rattle.std.{proofs.lemmas.Option.same_Some, specs.{declared.alloc.AllocError.AllocError, Prelude.⊤}}
+use Rattle.std.proofs.Common.{◌++◌, ◌≡◌, ◌≤◌, ◌⊎◌, ap, arith, false, inl, map, None, Ok, refl, Result, subst, true, ℕ}
+use Rattle.{cache_pass.specs.declared.cache.Cache.Cache, std.proofs.Common.{[], ◌∙◌, ◌∷◌, inr, List, Option, Some, sym}}
+use Rattle.cache_pass.specs.declared.pass.{Asked.Asked, Pass.Pass, Phase.{Phase, TheVariants.{Asking, Ended, Passing}}}
+use Rattle.cache_pass.specs.declared.{removals.Removals.Removals, replying.First.First, revalidating.Next.Next}
+use Rattle.cache_pass.specs.{Steps.{HasCome, HasEnded}, Worlds.{asked_in, asks_of, IsCurrent, IsStep, Log, StoresAt}}
+use Rattle.cache_pass.specs.Worlds.{Acts, AreCurrent, Deed, Deed.{Apart, Begins, Comes, Ends, Fails}, Reaches, World}
+use Rattle.cache_pass.specs.{Effects.{DoAll, Does, Kept, removals, Settings, settings_of}, Worlds.Event.{Asks, Calls}}
+use Rattle.cache_pass.specs.{Effects.kept_of, Passes.{asked_of, key_of, phase_after, phase_first}}
+use Rattle.cache_pass.{proofs.CallLemmas.{none-some, step-does}, specs.Removals.{IsNoted, IsOutdated}}
 use Rattle.cache_pass.specs.declared.replying.First.TheVariants as first
 use Rattle.cache_pass.specs.declared.revalidating.Next.TheVariants as next
 
@@ -123,8 +123,7 @@ module _ (pass : ℕ) (old : Pass) (before : Cache) (new : Pass) (after : Cache)
       → ¬ (IsOutdated before.removals (key_of old) asked.clock) → (target : List ℕ) → key_of old ≡ target
       → IsCurrent pass target log
   own-current asked is fine target same =
-      subst (λ (t : List ℕ). IsCurrent pass t log) same
-      ((d.dated pass asked.clock (own ∙ is)).1 (key_of old) fine)
+      subst (λ (t : List ℕ). IsCurrent pass t log) same ((d.dated pass asked.clock (own ∙ is)).1 (key_of old) fine)
 
   come-guarded : (status : ℕ) (response : Entries FieldValue) (now : ℕ) (given : Result Next AllocError)
       → (h : HasCome old before status response now new after given) → Guarded h.calls
@@ -145,8 +144,7 @@ module _ (pass : ℕ) (old : Pass) (before : Cache) (new : Pass) (after : Cache)
     | inl (complete, (came, received, inl (past, none, same, unnamed))) ↦ subst Guarded (sym none) tt
     | inl (complete, (came, received, inr (timely, storing))) ↦
         let current = own-current h.asked (ap clock_of h.passing) (λ outdated. timely (inl outdated)) in
-        subst Guarded (sym storing.all)
-        (elim storing.describing [
+        subst Guarded (sym storing.all) (elim storing.describing [
           | inl (is, one) ↦ subst (λ (made : History). Guarded (Arrived (key_of old) came Complete ∷ made)) (sym one)
               ((λ target same. ((λ none. none), current target same)), ((λ target same. current target same), tt))
           | inr (isnt, none) ↦ subst (λ (made : History). Guarded (Arrived (key_of old) came Complete ∷ made))
@@ -170,15 +168,13 @@ module _ (pass : ℕ) (old : Pass) (before : Cache) (new : Pass) (after : Cache)
 -- a pass that shows the clock has asked just now, or showed it before
 abbrev HasClock : ℕ → ℕ → ℕ → Phase → Phase → Type 0
 HasClock pass noted clock old new =
-    clock_of new ≡ Some clock
-    → ((asks_of pass new ≡ Asks pass ∷ []) × (clock ≡ noted))
+    clock_of new ≡ Some clock → ((asks_of pass new ≡ Asks pass ∷ []) × (clock ≡ noted))
     ⊎ ((asks_of pass new ≡ []) × (clock_of old ≡ Some clock))
 
 -- the same of a step
 abbrev HasClockIn : Deed → ℕ → ℕ → ℕ → Phase → Phase → Type 0
 HasClockIn deed pass noted clock old new =
-    clock_of new ≡ Some clock
-    → ((asked_in deed pass new ≡ Asks pass ∷ []) × (clock ≡ noted))
+    clock_of new ≡ Some clock → ((asked_in deed pass new ≡ Asks pass ∷ []) × (clock ≡ noted))
     ⊎ ((asked_in deed pass new ≡ []) × (clock_of old ≡ Some clock))
 
 module _ (pass : ℕ) (noted clock : ℕ) where
@@ -271,15 +267,14 @@ module _ (pass : ℕ) (deed : Deed) (old new : World) (acts : Acts pass deed old
   acts-dated : IsDated new.log new.cache.removals (clocks_of new)
   acts-dated = record {
     current = subst AreCurrent (sym acts.log) (current-asked deed pass (new.passes pass).phase made between.current);
-    dated = λ p clock is. subst (Holds p clock) (sym acts.log)
-        (elim (acts.others p) [
-          | inl same ↦ subst (λ (q : ℕ). Holds q clock (asked_in deed pass (new.passes pass).phase ++ made)) (sym same)
-              (own-dated clock (subst (λ (q : ℕ). clocks_of new q ≡ Some clock) same is))
-          | inr same ↦ let was = between.dated p clock (ap (λ (q : Pass). clock_of q.phase) (sym same) ∙ is) in (
-            was.0,
-            λ target fine. current-further deed p target pass (new.passes pass).phase made (was.1 target fine),
-          )
-        ]);
+    dated = λ p clock is. subst (Holds p clock) (sym acts.log) (elim (acts.others p) [
+      | inl same ↦ subst (λ (q : ℕ). Holds q clock (asked_in deed pass (new.passes pass).phase ++ made)) (sym same)
+          (own-dated clock (subst (λ (q : ℕ). clocks_of new q ≡ Some clock) same is))
+      | inr same ↦ let was = between.dated p clock (ap (λ (q : Pass). clock_of q.phase) (sym same) ∙ is) in (
+        was.0,
+        λ target fine. current-further deed p target pass (new.passes pass).phase made (was.1 target fine),
+      )
+    ]);
   }
 
 dated : (settings : Settings) (deeds : List (ℕ × Deed)) (world : World) → Reaches settings deeds world

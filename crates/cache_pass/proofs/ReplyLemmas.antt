@@ -1,14 +1,15 @@
 -- What replies show.
+use Rattle.headers.specs.{declared.Encoded.Encoded, LineMap.{Field, field_of, LineMap}}
 use Rattle.cache_rules.specs.declared.{freshening.Exchange.Exchange, stored.StoredResponse.StoredResponse}
-use Rattle.{cache_rules.specs.Conditions.IsForCache, headers.specs.{declared.Encoded.Encoded, LineMap.LineMap}}
-use Rattle.cache_pass.specs.{declared.replying.{First.First, Reply.Reply}, Effects.{Kept, Settings}}
-use Rattle.cache_pass.specs.Replies.{IsAlone, IsFirst, IsNoneOnError, IsOnError, IsReplyTo, IsShown, number_on_error}
-use Rattle.cache_pass.{proofs.CallLemmas.none-some, specs.Answers.IsShownAfter}
-use Rattle.cache_store.specs.{Changes.IsRestored, declared.lookup.Lookup.Lookup, Lookups.{HasFields, IsAnswer, IsFound}}
-use Rattle.cache_store.{proofs.NumberLemmas.Has-numbered, specs.{Contents.responses_at, Numbers.numbered}}
-use Rattle.{cache_policy.specs.{declared.decision.Decision.Decision, Requests.Request}, std.specs.Prelude.MatchOption}
-use Rattle.std.{proofs.lemmas.Option.same_Some, specs.{declared.alloc.AllocError.AllocError, Prelude.{IfOk, IsSomeAnd}}}
+use Rattle.{cache_pass.specs.{Answers.IsShownAfter, Effects.{Kept, Settings}}, cache_rules.specs.Conditions.IsForCache}
+use Rattle.cache_pass.specs.{declared.replying.{First.First, Reply.Reply}, Replies.{IsAlone, IsFirst, number_on_error}}
+use Rattle.cache_pass.{proofs.CallLemmas.none-some, specs.Replies.{IsNoneOnError, IsOnError, IsReplyTo, IsShown}}
+use Rattle.std.specs.{declared.alloc.AllocError.AllocError, Prelude.{IfOk, IsSomeAnd, MatchOption}}
 use Rattle.std.proofs.Common.{◌∙◌, ◌≡◌, ◌⊎◌, Err, inl, inr, List, None, Ok, Option, refl, Result, Some, subst, sym, ℕ}
+use Rattle.{cache_store.proofs.NumberLemmas.Has-numbered, std.proofs.lemmas.Option.same_Some}
+use Rattle.cache_store.specs.{Changes.IsRestored, Lookups.{age_of_stored, HasFields, IsAnswer}, Numbers.numbered}
+use Rattle.cache_store.specs.{Contents.responses_at, declared.lookup.Lookup.Lookup, Lookups.IsServed}
+use Rattle.cache_policy.specs.{declared.decision.Decision.Decision, Requests.Request}
 use Rattle.cache_policy.specs.declared.decision.Decision.TheVariants as decisions
 use Rattle.cache_store.specs.declared.lookup.Lookup.TheVariants as lookup
 use Rattle.cache_pass.specs.declared.replying.First.TheVariants as first
@@ -26,18 +27,15 @@ module _ (settings : Settings) (request : Request) (now : ℕ) (responses : List
   -- the reply by a number: the request is evaluated, and the response with the number is shown
   abbrev Replies : ℕ → Reply → Type 0
   Replies number reply =
-      IsForCache request
-      × IsSomeAnd (numbered number responses) (λ stored. IsReplyTo request now stored reply)
+      IsForCache request × IsSomeAnd (numbered number responses) (λ stored. IsReplyTo request now stored reply)
 
   -- the response with a number is the one that is selected for the request, and this is decided about it
-  record IsFoundBy (number : ℕ) (decision : Decision) : Type 0 where
-    place : ℕ
-    found : IsFound settings.policy settings.guess request now responses decision place
-    shown : numbered number responses ≡ Some found.selected.response
+  abbrev IsFoundBy : ℕ → Decision → Field → Type 0
+  IsFoundBy number decision line = IsServed settings.policy settings.guess request now responses decision number line
 
-  shows : (number : ℕ) (decision : Decision) → IsFoundBy number decision → (reply : Reply) → Replies number reply
-      → IsShown settings request now responses decision reply
-  shows number decision by reply is =
+  shows : (number : ℕ) (decision : Decision) (line : Field) → IsFoundBy number decision line → (reply : Reply)
+      → Replies number reply → IsShown settings request now responses decision reply
+  shows number decision line by reply is =
       let stored = by.found.selected.response in
       let replies : IsReplyTo request now stored reply =
       subst (λ (o : Option StoredResponse). IsSomeAnd o (λ s. IsReplyTo request now s reply)) by.shown is.1 in
@@ -53,15 +51,6 @@ module _ (settings : Settings) (request : Request) (now : ℕ) (responses : List
   abbrev Answers : Lookup → Type 0
   Answers = IsAnswer settings.policy settings.guess request now responses
 
-  by-serve : (number : ℕ) (field : Encoded) → Answers (lookup.Serve number field)
-      → IsFoundBy number decisions.Serve ⊎ IsFoundBy number decisions.ServeStale
-  by-serve number field (inl is) = inl (record { place = is.place; found = is.found; shown = is.shown })
-  by-serve number field (inr is) = inr (record { place = is.place; found = is.found; shown = is.shown })
-
-  by-meanwhile : (number : ℕ) (field : Encoded) → Answers (lookup.ServeAndRevalidate number field)
-      → IsFoundBy number decisions.ServeAndRevalidate
-  by-meanwhile number field is = record { place = is.place; found = is.found; shown = is.shown }
-
   abbrev Fields : Type 0
   Fields = HasFields settings.policy settings.guess request now responses
 
@@ -76,34 +65,33 @@ module _ (settings : Settings) (request : Request) (now : ℕ) (responses : List
   abbrev IsNoReply : ℕ → Type 0
   IsNoReply number = (numbered number responses ≡ None) ⊎ (¬ (IsForCache request))
 
-  alone-first : (number : ℕ) (decision : Decision) → IsFoundBy number decision → IsNoReply number → (given : First)
-      → IsAlone request given → IsFirst settings request now responses given
-  alone-first number decision by missing first.Ask is = (is, inr (not-shown by.shown missing))
-  alone-first number decision by missing first.Unavailable is = inr (is, inr (not-shown by.shown missing))
-  alone-first number decision by missing given none = absurd none
+  alone-first : (number : ℕ) (decision : Decision) (line : Field) → IsFoundBy number decision line → IsNoReply number
+      → (given : First) → IsAlone request given → IsFirst settings request now responses given
+  alone-first number decision line by missing first.Ask is = (is, inr (not-shown by.shown missing))
+  alone-first number decision line by missing first.Unavailable is = inr (is, inr (not-shown by.shown missing))
+  alone-first number decision line by missing given none = absurd none
 
   pub serve-shows : (number : ℕ) (field : Encoded) → Answers (lookup.Serve number field) → (reply : Reply)
       → Replies number reply → IsFirst settings request now responses (first.Reply reply)
-  serve-shows number field is reply replies = elim (by-serve number field is) [
-    | inl by ↦ inl (shows number decisions.Serve by reply replies)
-    | inr by ↦ inr (shows number decisions.ServeStale by reply replies)
+  serve-shows number field is reply replies = elim is [
+    | inl by ↦ inl (shows number decisions.Serve (field_of field) by reply replies)
+    | inr by ↦ inr (shows number decisions.ServeStale (field_of field) by reply replies)
   ]
 
   pub meanwhile-shows : (number : ℕ) (field : Encoded) → Answers (lookup.ServeAndRevalidate number field)
       → (reply : Reply) → Replies number reply → IsFirst settings request now responses (first.ReplyAndValidate reply)
-  meanwhile-shows number field is = shows number decisions.ServeAndRevalidate (by-meanwhile number field is)
+  meanwhile-shows number field is = shows number decisions.ServeAndRevalidate (field_of field) is
 
   pub serve-alone : (number : ℕ) (field : Encoded) → Answers (lookup.Serve number field) → IsNoReply number
       → (given : First) → IsAlone request given → IsFirst settings request now responses given
-  serve-alone number field is none given alone = elim (by-serve number field is) [
-    | inl by ↦ alone-first number decisions.Serve by none given alone
-    | inr by ↦ alone-first number decisions.ServeStale by none given alone
+  serve-alone number field is none given alone = elim is [
+    | inl by ↦ alone-first number decisions.Serve (field_of field) by none given alone
+    | inr by ↦ alone-first number decisions.ServeStale (field_of field) by none given alone
   ]
 
   pub meanwhile-alone : (number : ℕ) (field : Encoded) → Answers (lookup.ServeAndRevalidate number field)
       → IsNoReply number → (given : First) → IsAlone request given → IsFirst settings request now responses given
-  meanwhile-alone number field is =
-      alone-first number decisions.ServeAndRevalidate (by-meanwhile number field is)
+  meanwhile-alone number field is = alone-first number decisions.ServeAndRevalidate (field_of field) is
 
   -- ---- if the origin fails
 
@@ -129,21 +117,21 @@ module _ (settings : Settings) (request : Request) (now : ℕ) (responses : List
       ⊎ (decision ≡ decisions.RevalidateOrServe)
 
   abbrev Found : ℕ → Type 0
-  Found number = (decision : Decision) × IsFoundBy number decision × Serves decision
+  Found number = (decision : Decision) × (line : Field) × IsFoundBy number decision line × Serves decision
 
   error-found : (found : Lookup) → Answers found → (number : ℕ) → number_on_error found ≡ Some number → Found number
   error-found (lookup.Serve other field) is number same =
-      subst Found (same_Some other number same) (elim (by-serve other field is) [
-        | inl by ↦ (decisions.Serve, by, inl refl)
-        | inr by ↦ (decisions.ServeStale, by, inr (inl refl))
+      subst Found (same_Some other number same) (elim is [
+        | inl by ↦ (decisions.Serve, field_of field, by, inl refl)
+        | inr by ↦ (decisions.ServeStale, field_of field, by, inr (inl refl))
       ])
   error-found (lookup.ServeAndRevalidate other field) is number same =
-      subst Found (same_Some other number same)
-      (decisions.ServeAndRevalidate, by-meanwhile other field is, inr (inr (inl refl)))
+      subst Found (same_Some other number same) (decisions.ServeAndRevalidate, field_of field, is, inr (inr (inl refl)))
   error-found (lookup.ValidateOrServe other fields) is number same =
       subst Found (same_Some other number same) (
         decisions.RevalidateOrServe,
-        record { place = is.place; found = is.found; shown = is.shown },
+        age_of_stored is.found.selected.response now,
+        record { place = is.place; found = is.found; shown = is.shown; age = refl },
         inr (inr (inr refl)),
       )
   error-found found is number same = absurd (none-some same)
@@ -153,9 +141,9 @@ module _ (settings : Settings) (request : Request) (now : ℕ) (responses : List
       → IfOk reply (λ shown. MatchOption shown (IsNoReply number) (Replies number))
       → IsOnError settings request now responses reply
   error-reply found answers number same (Ok None) missing =
-      inr (inl (not-shown (error-found found answers number same).1.shown missing))
+      inr (inl (not-shown (error-found found answers number same).2.shown missing))
   error-reply found answers number same (Ok (Some reply)) replies =
-      let is = error-found found answers number same in (is.0, shows number is.0 is.1 reply replies, is.2)
+      let is = error-found found answers number same in (is.0, shows number is.0 is.1 is.2 reply replies, is.3)
   error-reply found answers number same (Err error) lost = error-fields found answers number same
 
 -- ---- after a 304

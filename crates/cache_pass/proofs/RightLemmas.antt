@@ -1,24 +1,24 @@
 -- What a step answers is right.
-use Rattle.cache_pass.specs.declared.{cache.Cache.Cache, replying.{First.First, Reply.Reply}, revalidating.Next.Next}
-use Rattle.cache_pass.specs.{declared.pass.{Asked.Asked, Pass.Pass}, Replies.{IsFirst, IsReplyTo, IsShownOnError}}
-use Rattle.cache_pass.specs.{Passes.{asked_of, key_of, request_of_pass}, Replies.IsShown, Worlds.Acts}
-use Rattle.cache_pass.specs.Worlds.{calls_of, Deed, Deed.{Apart, Begins, Comes, Ends, Fails}, IsStep, Reaches, World}
-use Rattle.cache_pass.specs.{Answers.IsShownAfter, Effects.{kept_of, Settings, settings_of, stored_at}, Origin.IsNext}
-use Rattle.cache_pass.specs.{Right.IsRightOnError, Steps.{HasBegun, HasCome, HasEnded, HasFailed}}
-use Rattle.cache_pass.{proofs.CallLemmas.acts-run, specs.Right.{IsOfStored, IsRight, IsRightReply, IsRightValidated}}
-use Rattle.{cache_pass.proofs.CallLemmas.{HasRun, reached, some-unkept}, cache_rules.specs.Selection.IsCandidate}
-use Rattle.cache_rules.specs.{Conditions.IsStoredAnswer, declared.freshening.Exchange.Exchange, Freshening.IsFreshened}
-use Rattle.cache_rules.specs.declared.storing.Reception.{Reception, TheVariants.Incomplete}
-use Rattle.cache_rules.specs.declared.{conditions.StoredAnswer.StoredAnswer, stored.StoredResponse.StoredResponse}
-use Rattle.cache_store.specs.{History.{History, IsJustified}, Kept.contents_of, Numbers.numbered}
-use Rattle.cache_store.specs.{Changes.{IsLetGo, IsRestored}, Contents.{Contents, responses_at, without}}
-use Rattle.cache_store.proofs.HistoryLemmas.{Has-slice_get, HasUnder-responses_at, run-justified}
-use Rattle.cache_store.proofs.{LawLemmas.stored-may-be, NumberLemmas.{distinct-at, Has-numbered, numbered-at}}
-use Rattle.{headers.specs.LineMap.{LineMap, lines_at}, http_header.specs.{FieldValue.FieldValue, HeaderMap.Entries}}
+use Rattle.std.proofs.{Common.{◌∷◌, ◌≡◌, length, List, Ok, refl}, lemmas.Slice.Eq.bytes_eq-Decides}
+use Rattle.std.proofs.Common.{[], ◌++◌, ◌∙◌, ap, arith, inl, inr, Option, Result, slice_get, Some, subst, sym, true, ℕ}
 use Rattle.std.specs.{declared.alloc.AllocError.AllocError, Prelude.IsSomeAnd}
-use Rattle.std.proofs.Common.{◌∙◌, ◌∷◌, arith, inl, length, Ok, Option, Some, subst, sym, true, ℕ}
-use Rattle.std.proofs.{Common.{[], ◌++◌, ◌≡◌, ap, inr, List, refl, Result, slice_get}, lemmas.Slice.Eq.bytes_eq-Decides}
-use Rattle.cache_policy.specs.{declared.decision.Decision.Decision, Requests.Request}
+use Rattle.cache_rules.specs.{declared.stored.StoredResponse.StoredResponse, Freshening.IsFreshened}
+use Rattle.cache_rules.specs.declared.{conditions.StoredAnswer.StoredAnswer, freshening.Exchange.Exchange}
+use Rattle.cache_rules.specs.{Conditions.IsStoredAnswer, declared.storing.Reception.{Reception, TheVariants.Incomplete}}
+use Rattle.{cache_rules.specs.Selection.IsCandidate, http_header.specs.{FieldValue.FieldValue, HeaderMap.Entries}}
+use Rattle.cache_store.specs.{Contents.{Contents, responses_at, without}, History.{History, IsJustified}}
+use Rattle.cache_store.specs.{Changes.{IsLetGo, IsRestored}, Kept.contents_of, Numbers.numbered}
+use Rattle.cache_store.proofs.{LawLemmas.stored-may-be, NumberLemmas.{distinct-at, Has-numbered, numbered-at}}
+use Rattle.cache_store.proofs.HistoryLemmas.{Has-slice_get, HasUnder-responses_at, run-justified}
+use Rattle.cache_pass.specs.{Replies.{IsFirst, IsReplyTo, IsShown, IsShownOnError}, Steps.HasFailed}
+use Rattle.cache_pass.specs.{Effects.{kept_of, Settings, settings_of, stored_at}, Steps.{HasBegun, HasCome, HasEnded}}
+use Rattle.cache_pass.specs.declared.{cache.Cache.Cache, replying.{First.First, Reply.Reply}, revalidating.Next.Next}
+use Rattle.cache_pass.specs.declared.pass.{Asked.Asked, Pass.Pass}
+use Rattle.cache_pass.specs.{Origin.IsNext, Passes.{asked_of, key_of, request_of_pass}, Worlds.{Acts, IsStep, World}}
+use Rattle.cache_pass.specs.{Right.IsRight, Worlds.{calls_of, Deed, Deed.{Apart, Begins, Comes, Ends, Fails}, Reaches}}
+use Rattle.cache_pass.specs.{Answers.IsShownAfter, Right.{IsOfStored, IsRightOnError, IsRightReply, IsRightValidated}}
+use Rattle.{cache_pass.proofs.CallLemmas.{acts-run, HasRun, reached, some-unkept}, headers.specs.LineMap.lines_at}
+use Rattle.{cache_policy.specs.{declared.decision.Decision.Decision, Requests.Request}, headers.specs.LineMap.LineMap}
 use Rattle.cache_policy.specs.declared.decision.Decision.TheVariants as decisions
 use Rattle.cache_pass.specs.declared.replying.First.TheVariants as first
 use Rattle.cache_pass.specs.declared.revalidating.Next.TheVariants as next
@@ -43,8 +43,7 @@ module _ (settings : Settings) (world : World) (ran : HasRun settings world) (pa
         }
 
     abbrev Shown : Decision → Type 0
-    Shown decision =
-        IsShown settings (request_of_pass pass) now (stored_at (key_of pass) world.cache) decision reply
+    Shown decision = IsShown settings (request_of_pass pass) now (stored_at (key_of pass) world.cache) decision reply
 
     of-shown : (decision : Decision) → (s : Shown decision)
         → IsOfStored settings world pass now reply s.found.selected.response
@@ -95,11 +94,7 @@ module _ (settings : Settings) (world : World) (ran : HasRun settings world) (pa
         let is = subst Shown same s in (
           is.found.selected.response,
           of-shown decisions.RevalidateOrServe is,
-          inr (record {
-            lifetime = is.found.lifetime;
-            fresh_for = is.found.fresh_for;
-            good = is.found.decided.2;
-          }),
+          inr (record { lifetime = is.found.lifetime; fresh_for = is.found.fresh_for; good = is.found.decided.2 }),
         )
 
 -- ---- the response that a 304 updated
@@ -164,8 +159,7 @@ module _ (settings : Settings) (before world : World) (pass : Pass) (new : Pass)
 
     validated-right : (reply : Reply)
         → IsShownAfter settings (key_of pass) (request_of_pass pass) (lines_at response) made (kept_of before.cache)
-        (kept_of world.cache) reply
-        → IsRightValidated settings world pass now (lines_at response) asked reply
+        (kept_of world.cache) reply → IsRightValidated settings world pass now (lines_at response) asked reply
     validated-right reply is =
         let fresh = is.restored.fresh in
         let named : numbered reply.number (stored_at (key_of pass) world.cache) ≡ Some fresh =

@@ -1,14 +1,14 @@
 -- What a request gets after the origin has answered it (RFC 9111, sections 4.3.3, 4.3.4 and 4.4; RFC 5861, section 4).
+use Rattle.http_header.specs.{FieldValue.FieldValue, HeaderMap.Entries}
+use Rattle.cache_rules.specs.{declared.freshening.Exchange.Exchange, Freshening.renewing_fields, Selection.IsSomewhere}
+use Rattle.cache_rules.specs.{Conditions.{IsForCache, IsStoredAnswer}, Identifying.IsIdentified}
+use Rattle.{cache_policy.specs.Requests.Request, headers.specs.LineMap.{LineMap, lines_at}}
+use Rattle.cache_store.specs.declared.freshening.Refreshed.TheVariants.{Absent, Unchanged}
+use Rattle.cache_store.specs.{Changes.{IsLetGo, IsRefreshed, IsRestored}, Numbers.numbered, Updates.IsOneTooSmallFor}
+use Rattle.{cache_store.specs.Contents.{responses_at, without}, std.specs.declared.alloc.AllocError.AllocError}
+use Rattle.std.specs.Prelude.{◌≡◌, ◌⊎◌, Err, IsSomeAnd, List, Ok, Result, true, ℕ}
 use Rattle.cache_pass.specs.{declared.replying.Reply.Reply, Effects.{Kept, Settings}, Replies.IsReplyTo}
 use Rattle.cache_pass.specs.declared.revalidating.Next.{Next, TheVariants.{Ask, Once, PassOn, Reply as Replies}}
-use Rattle.cache_rules.specs.{declared.freshening.Exchange.Exchange, Freshening.renewing_fields}
-use Rattle.cache_rules.specs.{Conditions.{IsForCache, IsStoredAnswer}, Identifying.IsIdentified, Selection.IsSomewhere}
-use Rattle.std.specs.Prelude.{◌≡◌, ◌⊎◌, Err, IsSomeAnd, List, Ok, Result, true, ℕ}
-use Rattle.{headers.specs.LineMap.{LineMap, lines_at}, std.specs.declared.alloc.AllocError.AllocError}
-use Rattle.{cache_policy.specs.Requests.Request, http_header.specs.{FieldValue.FieldValue, HeaderMap.Entries}}
-use Rattle.cache_store.specs.{Changes.{IsLetGo, IsRefreshed, IsRestored}, Numbers.numbered, Updates.IsOneTooSmallFor}
-use Rattle.cache_store.specs.declared.freshening.Refreshed.TheVariants.{Absent, Unchanged}
-use Rattle.cache_store.specs.Contents.{responses_at, without}
 
 module _ (settings : Settings) (key : List ℕ) (request : Request) (update : LineMap) (exchange : Exchange)
     (old new : Kept) where

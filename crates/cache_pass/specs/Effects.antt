@@ -12,8 +12,7 @@ pub record Settings : Type 0 where
   pub guess : ℕ
 
 abbrev pub settings_of : Cache → Settings
-settings_of cache =
-    record { policy = policy_of_store cache.store; limits = cache.store.limits; guess = cache.guess }
+settings_of cache = record { policy = policy_of_store cache.store; limits = cache.store.limits; guess = cache.guess }
 
 -- what a cache has stored, and what it remembers of removals
 pub record Kept : Type 0 where

@@ -19,8 +19,7 @@ pub record IsWanted (policy : Policy) (request : Request) (status : ℕ) (respon
 -- time of the request.
 pub record IsNewer (came stored : StoredResponse) : Type 0 where
   pub matches : IsCandidate (request_of_stored came) stored
-  pub later : (made_at came < made_at stored)
-      ⊎ ((made_at came ≡ made_at stored) × (came.requested < stored.requested))
+  pub later : (made_at came < made_at stored) ⊎ ((made_at came ≡ made_at stored) × (came.requested < stored.requested))
 
 -- A newer one is stored that its request matches. It isn't stored then, since a cache uses the most recent of those
 -- that match (section 4).
@@ -55,8 +54,7 @@ module _ (settings : Settings) (key : List ℕ) (came : StoredResponse) where
       × (stored.number ≡ number) × IsInserted settings.limits key stored old.contents new.contents
   IsNumbered old new (Ok None) =
       (((¬ (IsToStore settings.policy came Complete)) ⊎ IsTooLarge settings.limits key came)
-      × (new.contents ≡ old.contents))
-      ⊎ (IsTooSmallToStore came × IsLeft old new)
+      × (new.contents ≡ old.contents)) ⊎ (IsTooSmallToStore came × IsLeft old new)
   IsNumbered old new (Err error) =
       IsToStore settings.policy came Complete × FitsAlone settings.limits 1 (size_at key came) × IsLeft old new
 

@@ -16,10 +16,8 @@ IsValidation asked status = (asked.validates ≡ true) × (status ≡ 304)
 -- names, unless memory runs out for these.
 abbrev pub IsInvalidation : List ℕ → List ℕ → ℕ → LineMap → History → Type 0
 IsInvalidation key method status response calls =
-    (Invalidates method status
-    × ((named : List Parts) × (AreNamed key response named ⊎ (named ≡ []))
-    × (calls ≡ removals (key ∷ map serialize named))))
-    ⊎ ((¬ (Invalidates method status)) × (calls ≡ []))
+    (Invalidates method status × ((named : List Parts) × (AreNamed key response named ⊎ (named ≡ []))
+    × (calls ≡ removals (key ∷ map serialize named)))) ⊎ ((¬ (Invalidates method status)) × (calls ≡ []))
 
 module _ (settings : Settings) (key : List ℕ) where
   module _ (request : Request) where
@@ -54,6 +52,5 @@ module _ (settings : Settings) (key : List ℕ) where
           × (calls ≡ Validated key request response exchange ∷ [])
           × IsRevalidated settings key request response exchange old new next)
           ⊎ ((¬ (IsValidation asked status)) × IsFailure status × (calls ≡ Looked key ∷ [])
-          × IsFailing status response now new next)
-          ⊎ ((¬ (IsValidation asked status)) × (¬ (IsFailure status))
+          × IsFailing status response now new next) ⊎ ((¬ (IsValidation asked status)) × (¬ (IsFailure status))
           × IsInvalidation key request.method status response calls × IsPassedOn status response next)

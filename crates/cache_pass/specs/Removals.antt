@@ -30,6 +30,5 @@ pub record IsNoted (target : List ℕ) (old new : Removals) : Type 0 where
   pub rises : old.clock ≤ new.clock
   pub outdates : (asked : ℕ) → asked ≤ old.clock → IsOutdated new target asked
   pub stays : (other : List ℕ) (asked : ℕ) → IsOutdated old other asked → IsOutdated new other asked
-  pub others : (other : List ℕ) (asked : ℕ) → IsOutdated new other asked
-      → IsOutdated old other asked
+  pub others : (other : List ℕ) (asked : ℕ) → IsOutdated new other asked → IsOutdated old other asked
       ⊎ ((group_of other ≡ group_of target) × ((asked < new.clock) ⊎ (new.clock ≡ 2 ^ 64 - 1)))

@@ -50,8 +50,7 @@ module _ (settings : Settings) (request : Request) (now : ℕ) (responses : List
   IsFirst (ReplyAndValidate reply) = IsShown decisions.ServeAndRevalidate reply
   IsFirst Ask = AnswersUnstored request decisions.Fetch × IsAsUnmatched
   IsFirst (Validate fields) =
-      IsForCache request
-      × ((number : ℕ)
+      IsForCache request × ((number : ℕ)
       × (IsAsked settings.policy settings.guess request now responses decisions.Revalidate number
       (fields_of fields.items)
       ⊎ IsAsked settings.policy settings.guess request now responses decisions.RevalidateOrServe number
@@ -77,8 +76,7 @@ module _ (settings : Settings) (request : Request) (now : ℕ) (responses : List
   -- request is answered by the origin alone.
   abbrev pub IsNoneOnError : Type 0
   IsNoneOnError =
-      IsUnmatched settings.policy settings.guess request now responses ⊎ (¬ (IsForCache request))
-      ⊎ ((place : ℕ)
+      IsUnmatched settings.policy settings.guess request now responses ⊎ (¬ (IsForCache request)) ⊎ ((place : ℕ)
       × (IsFound settings.policy settings.guess request now responses decisions.Revalidate place
       ⊎ IsFound settings.policy settings.guess request now responses decisions.Unavailable place))
 

@@ -6,13 +6,8 @@ use Rattle.cache_pass.specs.{declared.pass.{Pass.Pass, Phase.TheVariants.Began},
 -- what a client asks for itself alone: by conditions (RFC 9110, section 13.1), or for a range (section 14.2)
 abbrev pub own_names : List (List ℕ)
 own_names =
-    codes "if-match"
-    ∷ codes "if-modified-since"
-    ∷ codes "if-none-match"
-    ∷ codes "if-range"
-    ∷ codes "if-unmodified-since"
-    ∷ codes "range"
-    ∷ []
+    codes "if-match" ∷ codes "if-modified-since" ∷ codes "if-none-match" ∷ codes "if-range"
+    ∷ codes "if-unmodified-since" ∷ codes "range" ∷ []
 
 -- No stored response is the answer (RFC 9111, section 5.2.1.4), and none is stored if the client forbids that (section
 -- 5.2.1.5). Its other directives say which stored response it takes.

@@ -1,12 +1,12 @@
 -- Passes over one cache, whose steps interleave.
-use Rattle.{cache_store.specs.Kept.contents_of, http_header.specs.{FieldValue.FieldValue, HeaderMap.Entries}}
-use Rattle.cache_store.specs.History.{Call, Call.{Arrived, Described, Looked, Validated}, History, Removes}
 use Rattle.{cache_rules.specs.declared.storing.Reception.Reception, std.specs.declared.alloc.AllocError.AllocError}
 use Rattle.std.specs.Prelude.{[], ⊤, ◌++◌, ◌∷◌, ◌≡◌, ◌⊎◌, List, map, Option, Result, ℕ}
-use Rattle.cache_pass.specs.declared.pass.{Pass.Pass, Phase.{Phase, TheVariants.{Asking, Began}}}
+use Rattle.cache_pass.specs.Effects.{Does, kept_of, Settings, settings_of}
 use Rattle.cache_pass.specs.declared.{cache.Cache.Cache, replying.{First.First, Reply.Reply}, revalidating.Next.Next}
-use Rattle.cache_pass.specs.Steps.{HasBegun, HasCome, HasEnded, HasFailed}
-use Rattle.cache_pass.specs.{Effects.{Does, kept_of, Settings, settings_of}, Passes.key_of}
+use Rattle.cache_pass.specs.declared.pass.{Pass.Pass, Phase.{Phase, TheVariants.{Asking, Began}}}
+use Rattle.cache_pass.specs.{Passes.key_of, Steps.{HasBegun, HasCome, HasEnded, HasFailed}}
+use Rattle.cache_store.specs.History.{Call, Call.{Arrived, Described, Looked, Validated}, History, Removes}
+use Rattle.{cache_store.specs.Kept.contents_of, http_header.specs.{FieldValue.FieldValue, HeaderMap.Entries}}
 
 -- ---- what happens
 

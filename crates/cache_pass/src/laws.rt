@@ -33,8 +33,7 @@ pub fn what_is_stored_was_asked_since_the_last_removal()
 /// neither that the origin failed nor that what is stored is still good.
 pub fn what_is_not_stored_leaves_nothing()
     ensures { (old : Pass) (before : Cache) (status : ℕ) (response : Entries FieldValue) (now : ℕ) (new : Pass)
-        (after : Cache) (next : Result Next AllocError)
-        → HasCome old before status response now new after next
+        (after : Cache) (next : Result Next AllocError) → HasCome old before status response now new after next
         → ¬ (IsWanted (settings_of before).policy (request_of_pass old) status (lines_at response))
         → IsSafe old.method → ¬ (IsFailure status) → ¬ (status ≡ 304)
         → (kept_of after ≡ kept_of before) × (new.phase ≡ Ended) }
@@ -46,6 +45,5 @@ pub fn what_is_not_stored_leaves_nothing()
 /// responses is a 304, and if one says that the origin failed, so does the one in its place.
 pub fn what_is_not_stored_changes_no_other_answer()
     ensures { (settings : Settings) (ones others : List (ℕ × Deed)) (world : World) → Reaches settings ones world
-        → AreAlike settings (λ pass. request_of_pass (world.passes pass)) ones others
-        → Reaches settings others world }
+        → AreAlike settings (λ pass. request_of_pass (world.passes pass)) ones others → Reaches settings others world }
 {}

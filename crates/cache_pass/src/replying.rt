@@ -76,8 +76,7 @@ impl Cache {
     ) -> Result<Option<Reply>, AllocError>
         ensures { IfOk result (λ found. MatchOption found
             ((numbered number (stored_at key.now self.now) ≡ None) ⊎ (¬ (IsForCache (request_of request.now))))
-            (λ reply. IsForCache (request_of request.now)
-            × IsSomeAnd (numbered number (stored_at key.now self.now))
+            (λ reply. IsForCache (request_of request.now) × IsSomeAnd (numbered number (stored_at key.now self.now))
             (λ stored. IsReplyTo (request_of request.now) now stored reply))) }
     {
         if !is_for_cache(request) {

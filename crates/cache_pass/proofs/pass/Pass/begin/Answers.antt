@@ -1,6 +1,6 @@
 use Rattle.{cache_policy.specs.Requests.{Request, request_of}, std.proofs.Common.{◌∙◌, ap, List, refl, subst, ℕ}}
-use Rattle.{cache_pass.specs.Effects.{Does, kept_of, settings_of, stored_at}, cache_store.specs.History.Call.Looked}
-use Rattle.cache_pass.specs.{Passes.{key_of, phase_first}, Replies.IsFirstOf}
+use Rattle.cache_pass.specs.Effects.{Does, kept_of, settings_of, stored_at}
+use Rattle.{cache_pass.specs.{Passes.{key_of, phase_first}, Replies.IsFirstOf}, cache_store.specs.History.Call.Looked}
 use Rattle.cache_pass.proofs.pass.Pass.begin.Goals as goal
 
 pub returns-clause-ok : goal.returns-clause-ok
