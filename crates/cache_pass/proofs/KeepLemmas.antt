@@ -48,7 +48,8 @@ module _ (settings later : Settings) (same : later ≡ settings) (key : List ℕ
       → (calls : History) × IsKept settings key came clock old new calls (Ok None)
   keeps-full small left = keeps-as (Ok None) (inr (small, left))
 
-  pub keeps-none : (error : AllocError) → IsToStore later.policy came Complete × FitsAlone later.limits 1 (size_at key came)
+  pub keeps-none : (error : AllocError)
+      → IsToStore later.policy came Complete × FitsAlone later.limits 1 (size_at key came)
       → IsLeft settings key came described new
       → (calls : History) × IsKept settings key came clock old new calls (Err error)
   keeps-none error fit left = keeps-as (Err error) (fit.0, fit.1, left)

@@ -4,12 +4,14 @@ use Rattle.cache_pass.proofs.cache.Cache.first.Goals as goal
 
 pub returns-in-Some-clause-first : goal.returns-in-Some-clause-first
 returns-in-Some-clause-first c =
-    serve-shows (settings_of c.args.self.now) _ _ _ _ c.in-Serve.field-1 (rw c.in-Serve.is at c.in_ok-number.ensures.answer) c.in-Some.reply
+    serve-shows (settings_of c.args.self.now) _ _ _ _ c.in-Serve.field-1
+    (rw c.in-Serve.is at c.in_ok-number.ensures.answer) c.in-Some.reply
     (rw c.in-Some.is at c.in_ok-reply-in-Serve.ensures)
 
 pub returns-in-Serve-clause-first : goal.returns-in-Serve-clause-first
 returns-in-Serve-clause-first c =
-    serve-alone (settings_of c.args.self.now) _ _ _ _ c.in-Serve.field-1 (rw c.in-Serve.is at c.in_ok-number.ensures.answer)
+    serve-alone (settings_of c.args.self.now) _ _ _ _ c.in-Serve.field-1
+    (rw c.in-Serve.is at c.in_ok-number.ensures.answer)
     (rw c.in-None.is at c.in_ok-reply-in-Serve.ensures) c.unstored.result c.unstored.ensures
 
 pub returns-in-Some-2-clause-first : goal.returns-in-Some-2-clause-first
