@@ -1,15 +1,12 @@
 -- What calls make of a cache, one after the other.
-use Rattle.std.proofs.Common.{◌≡◌, ℕ, List, [], ◌∷◌, ◌++◌, map, Option, Some, None, refl, sym, ap, subst, inl, inr, ◌∙◌}
-use Rattle.std.{proofs.Common.{Result, Ok}, specs.declared.alloc.AllocError.AllocError}
-use Rattle.cache_store.{specs.History.{Call, History, Run}, specs.History.Call.Removed, specs.Kept.contents_of}
-use Rattle.cache_pass.specs.Effects.{DoAll, Does, Kept, Settings, kept_of, removals, settings_of}
-use Rattle.cache_rules.specs.declared.storing.Reception.{Reception}
-use Rattle.cache_rules.specs.declared.storing.Reception.TheVariants.{Complete, Incomplete}
-use Rattle.cache_pass.specs.Steps.{HasEnded, unkept}
-use Rattle.cache_pass.specs.Worlds.{Acts, Deed, IsStep, Log, Reaches, World, asked_in, asks_of, calls_of}
-use Rattle.cache_pass.{specs.Worlds.Deed.{Begins, Comes, Fails, Ends, Apart}, specs.Worlds.Event.Calls}
-use Rattle.cache_pass.{specs.declared.cache.Cache.Cache, specs.declared.pass.Pass.Pass, specs.declared.pass.Phase.Phase}
-use Rattle.cache_pass.specs.declared.pass.Phase.TheVariants.{Began, Asking, Passing, Ended}
+use Rattle.cache_pass.specs.Worlds.{Acts, asked_in, asks_of, calls_of, Deed, IsStep, Log, Reaches, World}
+use Rattle.cache_pass.specs.{Steps.{HasEnded, unkept}, Worlds.{Deed.{Apart, Begins, Comes, Ends, Fails}, Event.Calls}}
+use Rattle.cache_pass.specs.Effects.{DoAll, Does, Kept, kept_of, removals, Settings, settings_of}
+use Rattle.cache_pass.specs.declared.{cache.Cache.Cache, pass.{Pass.Pass, Phase.{Phase, TheVariants.Asking}}}
+use Rattle.cache_rules.specs.declared.storing.Reception.{Reception, TheVariants.{Complete, Incomplete}}
+use Rattle.cache_store.specs.{History.{Call.Removed, History, Run}, Kept.contents_of}
+use Rattle.std.{proofs.Common.{◌++◌, ap, None}, specs.declared.alloc.AllocError.AllocError}
+use Rattle.std.proofs.Common.{[], ◌∙◌, ◌∷◌, ◌≡◌, inl, inr, List, map, Ok, Option, refl, Result, Some, subst, sym, ℕ}
 
 pub none-some : {X : Type 0} {x : X} → None ≡ Some x → ⊥
 none-some {X = X} {x = x} h = cc
@@ -22,19 +19,14 @@ some-unkept number Incomplete same = cc
 module _ (settings : Settings) where
   pub do-both : (later earlier : History) (old between new : Kept) → DoAll settings earlier old between
       → DoAll settings later between new → DoAll settings (later ++ earlier) old new
-  do-both [] earlier old between new first same =
-      subst (λ (k : Kept). DoAll settings earlier old k) (sym same) first
+  do-both [] earlier old between new first same = rw same first
   do-both (call ∷ later) earlier old between new first (before, done, does) =
       (before, do-both later earlier old between before first done, does)
-
-  pub do-one : (call : Call) (old new : Kept) → Does settings call old new → DoAll settings (call ∷ []) old new
-  do-one call old new does = (old, refl, does)
 
   pub run-further : (calls earlier : History) (old new : Kept)
       → Run settings.policy settings.limits earlier old.contents → DoAll settings calls old new
       → Run settings.policy settings.limits (calls ++ earlier) new.contents
-  run-further [] earlier old new ran same =
-      subst (λ (k : Kept). Run settings.policy settings.limits earlier k.contents) (sym same) ran
+  run-further [] earlier old new ran same = rw same ran
   run-further (call ∷ calls) earlier old new ran (before, done, does) =
       (before.contents, run-further calls earlier old before ran done, does.step)
 
@@ -43,9 +35,7 @@ pub removes-with : (settings later : Settings) (key : List ℕ) (targets : List 
     → later ≡ settings → Does settings (Removed key) old between → DoAll later (removals targets) between new
     → DoAll settings (removals (key ∷ targets)) old new
 removes-with settings later key targets old between new same first rest =
-    do-both settings (removals targets) (Removed key ∷ []) old between new
-    (do-one settings (Removed key) old between first)
-    (subst (λ (s : Settings). DoAll s (removals targets) between new) same rest)
+    do-both settings (removals targets) (Removed key ∷ []) old between new (old, refl, first) (rw same at rest)
 
 -- one more target is removed
 pub removals-append : (targets : List (List ℕ)) (last : List ℕ)
@@ -59,24 +49,18 @@ calls-made pass [] log = refl
 calls-made pass (call ∷ calls) log = ap (λ (l : History). call ∷ l) (calls-made pass calls log)
 
 pub calls-asked : (pass : ℕ) (phase : Phase) (log : Log) → calls_of (asks_of pass phase ++ log) ≡ calls_of log
-calls-asked pass Began log = refl
 calls-asked pass (Asking asked) log = refl
-calls-asked pass (Passing asked status response) log = refl
-calls-asked pass Ended log = refl
+calls-asked pass phase log = refl
 
 calls-asked-in : (deed : Deed) (pass : ℕ) (phase : Phase) (log : Log)
     → calls_of (asked_in deed pass phase ++ log) ≡ calls_of log
-calls-asked-in (Begins now first) pass phase log = calls-asked pass phase log
-calls-asked-in (Comes status response now next) pass phase log = calls-asked pass phase log
-calls-asked-in (Fails now found) pass phase log = calls-asked pass phase log
-calls-asked-in (Ends content reception now number) pass phase log = calls-asked pass phase log
 calls-asked-in (Apart call) pass phase log = refl
+calls-asked-in deed pass phase log = calls-asked pass phase log
 
 -- ---- a step
 
 module _ (old : Pass) (before : Cache) (new : Pass) (after : Cache) (calls : History) where
-  pub step-settings : (deed : Deed) → IsStep deed old before new after calls
-      → settings_of after ≡ settings_of before
+  pub step-settings : (deed : Deed) → IsStep deed old before new after calls → settings_of after ≡ settings_of before
   step-settings (Begins now first) (h, same) = h.settings
   step-settings (Comes status response now next) (h, same) = h.settings
   step-settings (Fails now found) (h, same) = h.settings
@@ -96,23 +80,19 @@ module _ (old : Pass) (before : Cache) (new : Pass) (after : Cache) (calls : His
   ]
 
   pub step-does : (deed : Deed) → IsStep deed old before new after calls → Done calls
-  step-does (Begins now first) (h, same) =
-      subst Done (sym same) (do-one (settings_of before) _ (kept_of before) (kept_of after) h.does)
   step-does (Comes status response now next) (h, same) = subst Done (sym same) h.does
-  step-does (Fails now found) (h, same) =
-      subst Done (sym same) (do-one (settings_of before) _ (kept_of before) (kept_of after) h.does)
   step-does (Ends content reception now number) (h, same) =
       subst Done (sym same) (by-ended content reception now number h)
-  step-does (Apart call) (apart, does, set, kept, same) =
-      subst Done (sym same) (do-one (settings_of before) call (kept_of before) (kept_of after) does)
+  step-does (Apart call) (apart, does, set, kept, same) = subst Done (sym same) (kept_of before, refl, does)
+  step-does (Begins now first) (h, same) = subst Done (sym same) (kept_of before, refl, h.does)
+  step-does (Fails now found) (h, same) = subst Done (sym same) (kept_of before, refl, h.does)
 
 -- ---- a run
 
 pub acts-log : (pass : ℕ) (deed : Deed) (old new : World) (acts : Acts pass deed old new)
     → calls_of new.log ≡ acts.calls ++ calls_of old.log
 acts-log pass deed old new acts =
-    ap calls_of acts.log
-    ∙ calls-asked-in deed pass (new.passes pass).phase (map (Calls pass) acts.calls ++ old.log)
+    ap calls_of acts.log ∙ calls-asked-in deed pass (new.passes pass).phase (map (Calls pass) acts.calls ++ old.log)
     ∙ calls-made pass acts.calls old.log
 
 -- what a world has stored comes of the calls that its log has

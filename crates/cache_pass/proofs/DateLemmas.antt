@@ -1,39 +1,29 @@
 -- What is stored was asked since its target was last removed.
-use Rattle.std.proofs.Common.{◌≡◌, ◌⊎◌, ℕ, ◌≤◌, List, [], ◌∷◌, ◌++◌, map, Option, Some, None, refl, sym, ap, true}
-use Rattle.std.{proofs.Common.{false, subst, inl, inr, ◌∙◌, arith}, specs.Prelude.⊤, proofs.lemmas.Option.same_Some}
-use Rattle.std.{proofs.Common.{Result, Ok, Err}, specs.declared.alloc.AllocError.AllocError}
-use Rattle.http_header.{specs.FieldValue.FieldValue, specs.HeaderMap.Entries}
-use Rattle.url.specs.Parts.{serialize}
-use Rattle.cache_rules.specs.declared.storing.Reception.{Reception}
-use Rattle.cache_rules.specs.declared.storing.Reception.TheVariants.{Complete}
-use Rattle.cache_store.{specs.History.{Call, History, Removes}, specs.History.Call.{Looked, Arrived, Validated}}
-use Rattle.cache_store.specs.History.Call.{Described, Answered, Removed}
-use Rattle.cache_pass.specs.Effects.{DoAll, Does, Kept, Settings, kept_of, removals, settings_of}
-use Rattle.cache_pass.{specs.Passes.{asked_of, key_of, phase_after, phase_first}, specs.Removals.{IsNoted, IsOutdated}}
-use Rattle.cache_pass.{specs.Steps.{HasCome, HasEnded}, specs.Worlds.{Acts, AreCurrent, Deed, IsCurrent, IsStep, Log}}
-use Rattle.cache_pass.specs.Worlds.{Reaches, StoresAt, World, asked_in, asks_of}
-use Rattle.cache_pass.specs.Worlds.Deed.{Begins, Comes, Fails, Ends, Apart}
-use Rattle.cache_pass.{specs.Worlds.Event.{Asks, Calls}, specs.declared.cache.Cache.Cache}
-use Rattle.cache_pass.{specs.declared.pass.Asked.Asked, specs.declared.pass.Pass.Pass, specs.declared.pass.Phase.Phase}
-use Rattle.cache_pass.specs.declared.pass.Phase.TheVariants.{Began, Asking, Passing, Ended}
-use Rattle.cache_pass.{specs.declared.removals.Removals.Removals, specs.declared.replying.First.First}
+use Rattle.{cache_rules.specs.declared.storing.Reception.{Reception, TheVariants.Complete}, url.specs.Parts.serialize}
+use Rattle.cache_store.specs.History.{Call, Call.{Answered, Arrived, Looked, Removed}, History, Removes}
+use Rattle.http_header.specs.{FieldValue.FieldValue, HeaderMap.Entries}
+use Rattle.std.{proofs.lemmas.Option.same_Some, specs.{declared.alloc.AllocError.AllocError, Prelude.⊤}}
+use Rattle.std.proofs.Common.{◌++◌, ◌≡◌, ◌≤◌, ◌⊎◌, ap, arith, false, inl, map, None, Ok, refl, Result, subst, true, ℕ}
+use Rattle.{cache_pass.specs.declared.cache.Cache.Cache, std.proofs.Common.{[], ◌∙◌, ◌∷◌, inr, List, Option, Some, sym}}
+use Rattle.cache_pass.specs.declared.pass.{Asked.Asked, Pass.Pass, Phase.{Phase, TheVariants.{Asking, Ended, Passing}}}
+use Rattle.cache_pass.specs.declared.{removals.Removals.Removals, replying.First.First, revalidating.Next.Next}
+use Rattle.cache_pass.specs.{Steps.{HasCome, HasEnded}, Worlds.{asked_in, asks_of, IsCurrent, IsStep, Log, StoresAt}}
+use Rattle.cache_pass.specs.Worlds.{Acts, AreCurrent, Deed, Deed.{Apart, Begins, Comes, Ends, Fails}, Reaches, World}
+use Rattle.cache_pass.specs.{Effects.{DoAll, Does, Kept, removals, Settings, settings_of}, Worlds.Event.{Asks, Calls}}
+use Rattle.cache_pass.specs.{Effects.kept_of, Passes.{asked_of, key_of, phase_after, phase_first}}
+use Rattle.cache_pass.{proofs.CallLemmas.{none-some, step-does}, specs.Removals.{IsNoted, IsOutdated}}
 use Rattle.cache_pass.specs.declared.replying.First.TheVariants as first
-use Rattle.cache_pass.specs.declared.revalidating.Next.{Next}
 use Rattle.cache_pass.specs.declared.revalidating.Next.TheVariants as next
-use Rattle.cache_pass.proofs.CallLemmas.{none-some, step-does}
 
 -- what the clock showed when the pass asked last, if what it asked for may still be stored
 abbrev clock_of : Phase → Option ℕ
-clock_of Began = None
 clock_of (Asking asked) = Some asked.clock
 clock_of (Passing asked status response) = Some asked.clock
-clock_of Ended = None
+clock_of other = None
 
 asking-clock : (phase : Phase) (asked : Asked) → asked_of phase ≡ Some asked → clock_of phase ≡ Some asked.clock
-asking-clock Began asked is = absurd (none-some is)
 asking-clock (Asking other) asked is = ap (λ (a : Asked). Some a.clock) (same_Some other asked is)
-asking-clock (Passing other status response) asked is = absurd (none-some is)
-asking-clock Ended asked is = absurd (none-some is)
+asking-clock phase asked is = absurd (none-some is)
 
 -- Passes that show these clocks asked when they showed that, and a target that isn't outdated for one wasn't removed
 -- since.
@@ -51,12 +41,8 @@ module _ (settings : Settings) (clocks : ℕ → Option ℕ) (pass : ℕ) where
   unnoted call log old new keeps same d guard = record {
     current = (guard, d.current);
     dated = λ p clock is. let was = d.dated p clock is in (
-      subst (λ (r : Removals). clock ≤ r.clock) (sym same) was.0,
-      λ target fine. (
-        keeps target,
-        was.1 target (λ out. fine (subst (λ (r : Removals). IsOutdated r target clock)
-            (sym same) out)),
-      ),
+      rw same was.0,
+      λ target fine. (keeps target, was.1 target (λ out. fine (rw same out))),
     );
   }
 
@@ -79,21 +65,13 @@ module _ (settings : Settings) (clocks : ℕ → Option ℕ) (pass : ℕ) where
   after-call : (call : Call) (log : Log) (old new : Kept) → Does settings call old new
       → IsDated log old.removals clocks → ((target : List ℕ) → StoresAt target call → IsCurrent pass target log)
       → IsDated (Calls pass call ∷ log) new.removals clocks
-  after-call (Looked at) log old new does d guard =
-      unnoted (Looked at) log old.removals new.removals (λ target none. none) does.noted d guard
-  after-call (Arrived at came reception) log old new does d guard =
-      unnoted (Arrived at came reception) log old.removals new.removals (λ target none. none) does.noted d guard
-  after-call (Validated at request update exchange) log old new does d guard =
-      unnoted (Validated at request update exchange) log old.removals new.removals (λ target none. none) does.noted d
-      guard
-  after-call (Described at request update exchange) log old new does d guard =
-      unnoted (Described at request update exchange) log old.removals new.removals (λ target none. none) does.noted d
-      guard
   after-call (Answered at method status) log old new does d guard =
       noted (Answered at method status) at log old.removals new.removals (λ target removes. removes.0) does.noted d
       guard
   after-call (Removed at) log old new does d guard =
       noted (Removed at) at log old.removals new.removals (λ target removes. removes) does.noted d guard
+  after-call call log old new does d guard =
+      unnoted call log old.removals new.removals (λ target none. none) does.noted d guard
 
 -- each call that stores is of a pass that has asked since the target was last removed
 abbrev AreGuarded : ℕ → History → Log → Type 0
@@ -145,8 +123,7 @@ module _ (pass : ℕ) (old : Pass) (before : Cache) (new : Pass) (after : Cache)
       → ¬ (IsOutdated before.removals (key_of old) asked.clock) → (target : List ℕ) → key_of old ≡ target
       → IsCurrent pass target log
   own-current asked is fine target same =
-      subst (λ (t : List ℕ). IsCurrent pass t log) same
-      ((d.dated pass asked.clock (own ∙ is)).1 (key_of old) fine)
+      subst (λ (t : List ℕ). IsCurrent pass t log) same ((d.dated pass asked.clock (own ∙ is)).1 (key_of old) fine)
 
   come-guarded : (status : ℕ) (response : Entries FieldValue) (now : ℕ) (given : Result Next AllocError)
       → (h : HasCome old before status response now new after given) → Guarded h.calls
@@ -167,8 +144,7 @@ module _ (pass : ℕ) (old : Pass) (before : Cache) (new : Pass) (after : Cache)
     | inl (complete, (came, received, inl (past, none, same, unnamed))) ↦ subst Guarded (sym none) tt
     | inl (complete, (came, received, inr (timely, storing))) ↦
         let current = own-current h.asked (ap clock_of h.passing) (λ outdated. timely (inl outdated)) in
-        subst Guarded (sym storing.all)
-        (elim storing.describing [
+        subst Guarded (sym storing.all) (elim storing.describing [
           | inl (is, one) ↦ subst (λ (made : History). Guarded (Arrived (key_of old) came Complete ∷ made)) (sym one)
               ((λ target same. ((λ none. none), current target same)), ((λ target same. current target same), tt))
           | inr (isnt, none) ↦ subst (λ (made : History). Guarded (Arrived (key_of old) came Complete ∷ made))
@@ -178,29 +154,27 @@ module _ (pass : ℕ) (old : Pass) (before : Cache) (new : Pass) (after : Cache)
   ]
 
   step-guarded : (calls : History) (deed : Deed) → IsStep deed old before new after calls → Guarded calls
-  step-guarded calls (Begins now given) (h, same) = looked calls same
   step-guarded calls (Comes status response now given) (h, same) =
       subst Guarded (sym same) (come-guarded status response now given h)
-  step-guarded calls (Fails now found) (h, same) = looked calls same
   step-guarded calls (Ends content reception now number) (h, same) =
       subst Guarded (sym same) (ended-guarded content reception now number h)
   step-guarded calls (Apart call) (apart, does, set, kept, same) =
       subst Guarded (sym same) ((λ target stores. absurd (apart target stores)), tt)
+  step-guarded calls (Begins now given) (h, same) = looked calls same
+  step-guarded calls (Fails now found) (h, same) = looked calls same
 
 -- ---- how far passes are
 
 -- a pass that shows the clock has asked just now, or showed it before
 abbrev HasClock : ℕ → ℕ → ℕ → Phase → Phase → Type 0
 HasClock pass noted clock old new =
-    clock_of new ≡ Some clock
-    → ((asks_of pass new ≡ Asks pass ∷ []) × (clock ≡ noted))
+    clock_of new ≡ Some clock → ((asks_of pass new ≡ Asks pass ∷ []) × (clock ≡ noted))
     ⊎ ((asks_of pass new ≡ []) × (clock_of old ≡ Some clock))
 
 -- the same of a step
 abbrev HasClockIn : Deed → ℕ → ℕ → ℕ → Phase → Phase → Type 0
 HasClockIn deed pass noted clock old new =
-    clock_of new ≡ Some clock
-    → ((asked_in deed pass new ≡ Asks pass ∷ []) × (clock ≡ noted))
+    clock_of new ≡ Some clock → ((asked_in deed pass new ≡ Asks pass ∷ []) × (clock ≡ noted))
     ⊎ ((asked_in deed pass new ≡ []) × (clock_of old ≡ Some clock))
 
 module _ (pass : ℕ) (noted clock : ℕ) where
@@ -212,77 +186,54 @@ module _ (pass : ℕ) (noted clock : ℕ) where
 
   first-clock : (old : Phase) (given : Result First AllocError) (now : ℕ)
       → HasClock pass noted clock old (phase_first given now noted)
-  first-clock old (Ok (first.Reply reply)) now = ended-clock old
-  first-clock old (Ok (first.ReplyAndValidate reply)) now = ended-clock old
   first-clock old (Ok first.Ask) now =
       asked-clock old (record { requested = now; clock = noted; validates = false }) refl
   first-clock old (Ok (first.Validate fields)) now =
       asked-clock old (record { requested = now; clock = noted; validates = true }) refl
-  first-clock old (Ok first.Unavailable) now = ended-clock old
-  first-clock old (Err error) now = ended-clock old
+  first-clock old given now = ended-clock old
 
   next-clock : (old : Phase) (given : Result Next AllocError) (asked : Asked) (status : ℕ)
       (response : Entries FieldValue) (now : ℕ) → clock_of old ≡ Some asked.clock
       → HasClock pass noted clock old (phase_after given asked status response now noted)
-  next-clock old (Ok (next.Reply reply)) asked status response now was = ended-clock old
-  next-clock old (Ok (next.Once fresh answer)) asked status response now was = ended-clock old
   next-clock old (Ok next.Ask) asked status response now was =
       asked-clock old (record { requested = now; clock = noted; validates = false }) refl
   next-clock old (Ok (next.PassOn true)) asked status response now was = λ is. inr (refl, was ∙ is)
-  next-clock old (Ok (next.PassOn false)) asked status response now was = ended-clock old
-  next-clock old (Err error) asked status response now was = ended-clock old
+  next-clock old given asked status response now was = ended-clock old
 
   step-clock : (old : Pass) (before : Cache) (new : Pass) (after : Cache) (calls : History) (deed : Deed)
       → after.removals.clock ≡ noted → IsStep deed old before new after calls
       → HasClockIn deed pass noted clock old.phase new.phase
   step-clock old before new after calls (Begins now given) shows (h, same) =
-      subst (λ (p : Phase). HasClock pass noted clock old.phase p) (sym h.phase)
-      (subst (λ (n : ℕ). HasClock pass noted clock old.phase (phase_first given now n)) (sym shows)
-      (first-clock old.phase given now))
+      rw (h.phase, shows) (first-clock old.phase given now)
   step-clock old before new after calls (Comes status response now given) shows (h, same) =
-      subst (λ (p : Phase). HasClock pass noted clock old.phase p) (sym h.phase)
-      (subst (λ (n : ℕ). HasClock pass noted clock old.phase (phase_after given h.asked status response now n))
-      (sym shows)
-      (next-clock old.phase given h.asked status response now (asking-clock old.phase h.asked h.asking)))
-  step-clock old before new after calls (Fails now found) shows (h, same) =
-      subst (λ (p : Phase). HasClock pass noted clock old.phase p) (sym h.phase) (ended-clock old.phase)
-  step-clock old before new after calls (Ends content reception now number) shows (h, same) =
-      subst (λ (p : Phase). HasClock pass noted clock old.phase p) (sym h.phase) (ended-clock old.phase)
+      rw (h.phase, shows)
+      (next-clock old.phase given h.asked status response now (asking-clock old.phase h.asked h.asking))
   step-clock old before new after calls (Apart call) shows (apart, does, set, kept, same) =
       λ is. inr (refl, ap (λ (p : Pass). clock_of p.phase) (sym kept) ∙ is)
+  step-clock old before new after calls (Fails now found) shows (h, same) = rw h.phase (ended-clock old.phase)
+  step-clock old before new after calls (Ends content reception now number) shows (h, same) =
+      rw h.phase (ended-clock old.phase)
 
 -- ---- what is asked
 
 current-asks : (pass : ℕ) (phase : Phase) (log : Log) → AreCurrent log → AreCurrent (asks_of pass phase ++ log)
-current-asks pass Began log are = are
 current-asks pass (Asking asked) log are = are
-current-asks pass (Passing asked status response) log are = are
-current-asks pass Ended log are = are
+current-asks pass phase log are = are
 
 current-more : (other : ℕ) (target : List ℕ) (pass : ℕ) (phase : Phase) (log : Log) → IsCurrent other target log
     → IsCurrent other target (asks_of pass phase ++ log)
-current-more other target pass Began log is = is
 current-more other target pass (Asking asked) log is = inr is
-current-more other target pass (Passing asked status response) log is = is
-current-more other target pass Ended log is = is
+current-more other target pass phase log is = is
 
 current-asked : (deed : Deed) (pass : ℕ) (phase : Phase) (log : Log) → AreCurrent log
     → AreCurrent (asked_in deed pass phase ++ log)
-current-asked (Begins now given) pass phase log are = current-asks pass phase log are
-current-asked (Comes status response now given) pass phase log are = current-asks pass phase log are
-current-asked (Fails now found) pass phase log are = current-asks pass phase log are
-current-asked (Ends content reception now number) pass phase log are = current-asks pass phase log are
 current-asked (Apart call) pass phase log are = are
+current-asked deed pass phase log are = current-asks pass phase log are
 
 current-further : (deed : Deed) (other : ℕ) (target : List ℕ) (pass : ℕ) (phase : Phase) (log : Log)
     → IsCurrent other target log → IsCurrent other target (asked_in deed pass phase ++ log)
-current-further (Begins now given) other target pass phase log is = current-more other target pass phase log is
-current-further (Comes status response now given) other target pass phase log is =
-    current-more other target pass phase log is
-current-further (Fails now found) other target pass phase log is = current-more other target pass phase log is
-current-further (Ends content reception now number) other target pass phase log is =
-    current-more other target pass phase log is
 current-further (Apart call) other target pass phase log is = is
+current-further deed other target pass phase log is = current-more other target pass phase log is
 
 -- ---- a run
 
@@ -309,23 +260,21 @@ module _ (pass : ℕ) (deed : Deed) (old new : World) (acts : Acts pass deed old
       → Holds pass clock (asked_in deed pass (new.passes pass).phase ++ made)
   own-dated clock is = elim (step-clock pass new.cache.removals.clock clock (old.passes pass) old.cache
       (new.passes pass) new.cache acts.calls deed refl acts.step is) [
-        | inl (asks, same) ↦ subst (λ (l : Log). Holds pass clock (l ++ made)) (sym asks)
-            (omega (arith, same), λ target fine. inl refl)
-        | inr (asks, was) ↦ subst (λ (l : Log). Holds pass clock (l ++ made)) (sym asks) (between.dated pass clock was)
+        | inl (asks, same) ↦ rw asks (omega (arith, same), λ target fine. inl refl)
+        | inr (asks, was) ↦ rw asks (between.dated pass clock was)
       ]
 
   acts-dated : IsDated new.log new.cache.removals (clocks_of new)
   acts-dated = record {
     current = subst AreCurrent (sym acts.log) (current-asked deed pass (new.passes pass).phase made between.current);
-    dated = λ p clock is. subst (Holds p clock) (sym acts.log)
-        (elim (acts.others p) [
-          | inl same ↦ subst (λ (q : ℕ). Holds q clock (asked_in deed pass (new.passes pass).phase ++ made)) (sym same)
-              (own-dated clock (subst (λ (q : ℕ). clocks_of new q ≡ Some clock) same is))
-          | inr same ↦ let was = between.dated p clock (ap (λ (q : Pass). clock_of q.phase) (sym same) ∙ is) in (
-            was.0,
-            λ target fine. current-further deed p target pass (new.passes pass).phase made (was.1 target fine),
-          )
-        ]);
+    dated = λ p clock is. subst (Holds p clock) (sym acts.log) (elim (acts.others p) [
+      | inl same ↦ subst (λ (q : ℕ). Holds q clock (asked_in deed pass (new.passes pass).phase ++ made)) (sym same)
+          (own-dated clock (subst (λ (q : ℕ). clocks_of new q ≡ Some clock) same is))
+      | inr same ↦ let was = between.dated p clock (ap (λ (q : Pass). clock_of q.phase) (sym same) ∙ is) in (
+        was.0,
+        λ target fine. current-further deed p target pass (new.passes pass).phase made (was.1 target fine),
+      )
+    ]);
   }
 
 dated : (settings : Settings) (deeds : List (ℕ × Deed)) (world : World) → Reaches settings deeds world

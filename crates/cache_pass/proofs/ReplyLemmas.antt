@@ -1,21 +1,18 @@
 -- What replies show.
-use Rattle.std.proofs.Common.{◌≡◌, ◌⊎◌, ℕ, List, Option, Some, None, refl, sym, subst, inl, inr, ◌∙◌}
-use Rattle.std.{proofs.Common.{Result, Ok, Err}, proofs.lemmas.Option.same_Some}
-use Rattle.std.{specs.Prelude.{IfOk, IsSomeAnd, MatchOption}, specs.declared.alloc.AllocError.AllocError}
-use Rattle.headers.{specs.LineMap.LineMap, specs.declared.Encoded.Encoded}
-use Rattle.cache_policy.{specs.Requests.Request, specs.declared.decision.Decision.Decision}
+use Rattle.headers.specs.{declared.Encoded.Encoded, LineMap.{Field, field_of, LineMap}}
+use Rattle.cache_rules.specs.declared.{freshening.Exchange.Exchange, stored.StoredResponse.StoredResponse}
+use Rattle.{cache_pass.specs.{Answers.IsShownAfter, Effects.{Kept, Settings}}, cache_rules.specs.Conditions.IsForCache}
+use Rattle.cache_pass.specs.{declared.replying.{First.First, Reply.Reply}, Replies.{IsAlone, IsFirst, number_on_error}}
+use Rattle.cache_pass.{proofs.CallLemmas.none-some, specs.Replies.{IsNoneOnError, IsOnError, IsReplyTo, IsShown}}
+use Rattle.std.specs.{declared.alloc.AllocError.AllocError, Prelude.{IfOk, IsSomeAnd, MatchOption}}
+use Rattle.std.proofs.Common.{◌∙◌, ◌≡◌, ◌⊎◌, Err, inl, inr, List, None, Ok, Option, refl, Result, Some, subst, sym, ℕ}
+use Rattle.{cache_store.proofs.NumberLemmas.Has-numbered, std.proofs.lemmas.Option.same_Some}
+use Rattle.cache_store.specs.{Changes.IsRestored, Lookups.{age_of_stored, HasFields, IsAnswer}, Numbers.numbered}
+use Rattle.cache_store.specs.{Contents.responses_at, declared.lookup.Lookup.Lookup, Lookups.IsServed}
+use Rattle.cache_policy.specs.{declared.decision.Decision.Decision, Requests.Request}
 use Rattle.cache_policy.specs.declared.decision.Decision.TheVariants as decisions
-use Rattle.cache_rules.{specs.Conditions.IsForCache, specs.declared.freshening.Exchange.Exchange}
-use Rattle.cache_rules.specs.declared.stored.StoredResponse.{StoredResponse}
-use Rattle.cache_store.{specs.Changes.IsRestored, specs.Contents.responses_at, specs.Lookups.{HasFields, IsAnswer}}
-use Rattle.cache_store.{specs.Lookups.IsFound, specs.Numbers.numbered, specs.declared.lookup.Lookup.Lookup}
 use Rattle.cache_store.specs.declared.lookup.Lookup.TheVariants as lookup
-use Rattle.cache_store.proofs.NumberLemmas.{Has-numbered}
-use Rattle.cache_pass.{proofs.CallLemmas.none-some, specs.Answers.IsShownAfter, specs.Effects.{Kept, Settings}}
-use Rattle.cache_pass.specs.Replies.{IsAlone, IsFirst, IsNoneOnError, IsOnError, IsReplyTo, IsShown, number_on_error}
-use Rattle.cache_pass.specs.declared.replying.First.{First}
 use Rattle.cache_pass.specs.declared.replying.First.TheVariants as first
-use Rattle.cache_pass.specs.declared.replying.Reply.{Reply}
 
 some-and : {X : Type 0} (o : Option X) (P : X → Type 0) → IsSomeAnd o P → (x : X) × (o ≡ Some x) × P x
 some-and None P none = absurd none
@@ -30,18 +27,15 @@ module _ (settings : Settings) (request : Request) (now : ℕ) (responses : List
   -- the reply by a number: the request is evaluated, and the response with the number is shown
   abbrev Replies : ℕ → Reply → Type 0
   Replies number reply =
-      IsForCache request
-      × IsSomeAnd (numbered number responses) (λ stored. IsReplyTo request now stored reply)
+      IsForCache request × IsSomeAnd (numbered number responses) (λ stored. IsReplyTo request now stored reply)
 
   -- the response with a number is the one that is selected for the request, and this is decided about it
-  record IsFoundBy (number : ℕ) (decision : Decision) : Type 0 where
-    place : ℕ
-    found : IsFound settings.policy settings.guess request now responses decision place
-    shown : numbered number responses ≡ Some found.selected.response
+  abbrev IsFoundBy : ℕ → Decision → Field → Type 0
+  IsFoundBy number decision line = IsServed settings.policy settings.guess request now responses decision number line
 
-  shows : (number : ℕ) (decision : Decision) → IsFoundBy number decision → (reply : Reply) → Replies number reply
-      → IsShown settings request now responses decision reply
-  shows number decision by reply is =
+  shows : (number : ℕ) (decision : Decision) (line : Field) → IsFoundBy number decision line → (reply : Reply)
+      → Replies number reply → IsShown settings request now responses decision reply
+  shows number decision line by reply is =
       let stored = by.found.selected.response in
       let replies : IsReplyTo request now stored reply =
       subst (λ (o : Option StoredResponse). IsSomeAnd o (λ s. IsReplyTo request now s reply)) by.shown is.1 in
@@ -57,15 +51,6 @@ module _ (settings : Settings) (request : Request) (now : ℕ) (responses : List
   abbrev Answers : Lookup → Type 0
   Answers = IsAnswer settings.policy settings.guess request now responses
 
-  by-serve : (number : ℕ) (field : Encoded) → Answers (lookup.Serve number field)
-      → IsFoundBy number decisions.Serve ⊎ IsFoundBy number decisions.ServeStale
-  by-serve number field (inl is) = inl (record { place = is.place; found = is.found; shown = is.shown })
-  by-serve number field (inr is) = inr (record { place = is.place; found = is.found; shown = is.shown })
-
-  by-meanwhile : (number : ℕ) (field : Encoded) → Answers (lookup.ServeAndRevalidate number field)
-      → IsFoundBy number decisions.ServeAndRevalidate
-  by-meanwhile number field is = record { place = is.place; found = is.found; shown = is.shown }
-
   abbrev Fields : Type 0
   Fields = HasFields settings.policy settings.guess request now responses
 
@@ -80,36 +65,33 @@ module _ (settings : Settings) (request : Request) (now : ℕ) (responses : List
   abbrev IsNoReply : ℕ → Type 0
   IsNoReply number = (numbered number responses ≡ None) ⊎ (¬ (IsForCache request))
 
-  alone-first : (number : ℕ) (decision : Decision) → IsFoundBy number decision → IsNoReply number → (given : First)
-      → IsAlone request given → IsFirst settings request now responses given
-  alone-first number decision by missing (first.Reply reply) none = absurd none
-  alone-first number decision by missing (first.ReplyAndValidate reply) none = absurd none
-  alone-first number decision by missing first.Ask is = (is, inr (not-shown by.shown missing))
-  alone-first number decision by missing (first.Validate fields) none = absurd none
-  alone-first number decision by missing first.Unavailable is = inr (is, inr (not-shown by.shown missing))
+  alone-first : (number : ℕ) (decision : Decision) (line : Field) → IsFoundBy number decision line → IsNoReply number
+      → (given : First) → IsAlone request given → IsFirst settings request now responses given
+  alone-first number decision line by missing first.Ask is = (is, inr (not-shown by.shown missing))
+  alone-first number decision line by missing first.Unavailable is = inr (is, inr (not-shown by.shown missing))
+  alone-first number decision line by missing given none = absurd none
 
   pub serve-shows : (number : ℕ) (field : Encoded) → Answers (lookup.Serve number field) → (reply : Reply)
       → Replies number reply → IsFirst settings request now responses (first.Reply reply)
-  serve-shows number field is reply replies = elim (by-serve number field is) [
-    | inl by ↦ inl (shows number decisions.Serve by reply replies)
-    | inr by ↦ inr (shows number decisions.ServeStale by reply replies)
+  serve-shows number field is reply replies = elim is [
+    | inl by ↦ inl (shows number decisions.Serve (field_of field) by reply replies)
+    | inr by ↦ inr (shows number decisions.ServeStale (field_of field) by reply replies)
   ]
 
   pub meanwhile-shows : (number : ℕ) (field : Encoded) → Answers (lookup.ServeAndRevalidate number field)
       → (reply : Reply) → Replies number reply → IsFirst settings request now responses (first.ReplyAndValidate reply)
-  meanwhile-shows number field is = shows number decisions.ServeAndRevalidate (by-meanwhile number field is)
+  meanwhile-shows number field is = shows number decisions.ServeAndRevalidate (field_of field) is
 
   pub serve-alone : (number : ℕ) (field : Encoded) → Answers (lookup.Serve number field) → IsNoReply number
       → (given : First) → IsAlone request given → IsFirst settings request now responses given
-  serve-alone number field is none given alone = elim (by-serve number field is) [
-    | inl by ↦ alone-first number decisions.Serve by none given alone
-    | inr by ↦ alone-first number decisions.ServeStale by none given alone
+  serve-alone number field is none given alone = elim is [
+    | inl by ↦ alone-first number decisions.Serve (field_of field) by none given alone
+    | inr by ↦ alone-first number decisions.ServeStale (field_of field) by none given alone
   ]
 
   pub meanwhile-alone : (number : ℕ) (field : Encoded) → Answers (lookup.ServeAndRevalidate number field)
       → IsNoReply number → (given : First) → IsAlone request given → IsFirst settings request now responses given
-  meanwhile-alone number field is =
-      alone-first number decisions.ServeAndRevalidate (by-meanwhile number field is)
+  meanwhile-alone number field is = alone-first number decisions.ServeAndRevalidate (field_of field) is
 
   -- ---- if the origin fails
 
@@ -118,19 +100,15 @@ module _ (settings : Settings) (request : Request) (now : ℕ) (responses : List
   error-fields (lookup.ServeAndRevalidate other field) is number same = meanwhile-fields other field is
   error-fields (lookup.ValidateOrServe other fields) is number same =
       (decisions.RevalidateOrServe, is.place, is.found, λ same. (cc))
-  error-fields (lookup.Validate other fields) is number same = absurd (none-some same)
-  error-fields lookup.Unavailable is number same = absurd (none-some same)
-  error-fields lookup.Forward is number same = absurd (none-some same)
+  error-fields found is number same = absurd (none-some same)
 
   pub error-none : (found : Lookup) → Answers found → number_on_error found ≡ None
       → IsNoneOnError settings request now responses
-  error-none (lookup.Serve other field) is same = absurd (none-some (sym same))
-  error-none (lookup.ServeAndRevalidate other field) is same = absurd (none-some (sym same))
-  error-none (lookup.ValidateOrServe other fields) is same = absurd (none-some (sym same))
   error-none (lookup.Validate other fields) is same = inr (inr (is.place, inl is.found))
   error-none lookup.Unavailable (inl is) same = inr (inr (is.0, inr is.1))
   error-none lookup.Unavailable (inr is) same = inl is.0
   error-none lookup.Forward is same = inl is.0
+  error-none found is same = absurd (none-some (sym same))
 
   -- what is decided about a response that may be served if the origin failed
   abbrev Serves : Decision → Type 0
@@ -139,35 +117,33 @@ module _ (settings : Settings) (request : Request) (now : ℕ) (responses : List
       ⊎ (decision ≡ decisions.RevalidateOrServe)
 
   abbrev Found : ℕ → Type 0
-  Found number = (decision : Decision) × IsFoundBy number decision × Serves decision
+  Found number = (decision : Decision) × (line : Field) × IsFoundBy number decision line × Serves decision
 
   error-found : (found : Lookup) → Answers found → (number : ℕ) → number_on_error found ≡ Some number → Found number
   error-found (lookup.Serve other field) is number same =
-      subst Found (same_Some other number same) (elim (by-serve other field is) [
-        | inl by ↦ (decisions.Serve, by, inl refl)
-        | inr by ↦ (decisions.ServeStale, by, inr (inl refl))
+      subst Found (same_Some other number same) (elim is [
+        | inl by ↦ (decisions.Serve, field_of field, by, inl refl)
+        | inr by ↦ (decisions.ServeStale, field_of field, by, inr (inl refl))
       ])
   error-found (lookup.ServeAndRevalidate other field) is number same =
-      subst Found (same_Some other number same)
-      (decisions.ServeAndRevalidate, by-meanwhile other field is, inr (inr (inl refl)))
+      subst Found (same_Some other number same) (decisions.ServeAndRevalidate, field_of field, is, inr (inr (inl refl)))
   error-found (lookup.ValidateOrServe other fields) is number same =
       subst Found (same_Some other number same) (
         decisions.RevalidateOrServe,
-        record { place = is.place; found = is.found; shown = is.shown },
+        age_of_stored is.found.selected.response now,
+        record { place = is.place; found = is.found; shown = is.shown; age = refl },
         inr (inr (inr refl)),
       )
-  error-found (lookup.Validate other fields) is number same = absurd (none-some same)
-  error-found lookup.Unavailable is number same = absurd (none-some same)
-  error-found lookup.Forward is number same = absurd (none-some same)
+  error-found found is number same = absurd (none-some same)
 
   pub error-reply : (found : Lookup) → Answers found → (number : ℕ) → number_on_error found ≡ Some number
       → (reply : Result (Option Reply) AllocError)
       → IfOk reply (λ shown. MatchOption shown (IsNoReply number) (Replies number))
       → IsOnError settings request now responses reply
   error-reply found answers number same (Ok None) missing =
-      inr (inl (not-shown (error-found found answers number same).1.shown missing))
+      inr (inl (not-shown (error-found found answers number same).2.shown missing))
   error-reply found answers number same (Ok (Some reply)) replies =
-      let is = error-found found answers number same in (is.0, shows number is.0 is.1 reply replies, is.2)
+      let is = error-found found answers number same in (is.0, shows number is.0 is.1 is.2 reply replies, is.3)
   error-reply found answers number same (Err error) lost = error-fields found answers number same
 
 -- ---- after a 304

@@ -1,33 +1,27 @@
 -- What a step answers is right.
-use Rattle.std.proofs.Common.{◌≡◌, ℕ, List, [], ◌∷◌, ◌++◌, Option, Some, None, refl, sym, ap, subst, inl, inr, ◌∙◌}
-use Rattle.std.{proofs.Common.{true, length, slice_get, arith}, proofs.lemmas.Slice.Eq.bytes_eq-Decides}
-use Rattle.std.{proofs.Common.{Result, Ok, Err}, specs.Prelude.IsSomeAnd, specs.declared.alloc.AllocError.AllocError}
-use Rattle.http_header.{specs.FieldValue.FieldValue, specs.HeaderMap.Entries}
-use Rattle.headers.specs.LineMap.{LineMap, lines_at}
-use Rattle.cache_policy.specs.Requests.{Request}
-use Rattle.cache_policy.specs.declared.decision.Decision.{Decision}
-use Rattle.cache_policy.specs.declared.decision.Decision.TheVariants as decisions
-use Rattle.cache_rules.{specs.Conditions.IsStoredAnswer, specs.Selection.IsCandidate}
-use Rattle.cache_rules.specs.declared.conditions.StoredAnswer.{StoredAnswer}
-use Rattle.cache_rules.{specs.declared.stored.StoredResponse.StoredResponse, specs.Freshening.IsFreshened}
-use Rattle.cache_rules.{specs.declared.freshening.Exchange.Exchange, specs.declared.storing.Reception.Reception}
-use Rattle.cache_store.{specs.Changes.{IsLetGo, IsRestored}, specs.Contents.{Contents, responses_at, without}, specs.History.History}
-use Rattle.cache_store.{specs.History.IsJustified, specs.Kept.contents_of, specs.Numbers.numbered}
+use Rattle.std.proofs.{Common.{◌∷◌, ◌≡◌, length, List, Ok, refl}, lemmas.Slice.Eq.bytes_eq-Decides}
+use Rattle.std.proofs.Common.{[], ◌++◌, ◌∙◌, ap, arith, inl, inr, Option, Result, slice_get, Some, subst, sym, true, ℕ}
+use Rattle.std.specs.{declared.alloc.AllocError.AllocError, Prelude.IsSomeAnd}
+use Rattle.cache_rules.specs.{declared.stored.StoredResponse.StoredResponse, Freshening.IsFreshened}
+use Rattle.cache_rules.specs.declared.{conditions.StoredAnswer.StoredAnswer, freshening.Exchange.Exchange}
+use Rattle.cache_rules.specs.{Conditions.IsStoredAnswer, declared.storing.Reception.{Reception, TheVariants.Incomplete}}
+use Rattle.{cache_rules.specs.Selection.IsCandidate, http_header.specs.{FieldValue.FieldValue, HeaderMap.Entries}}
+use Rattle.cache_store.specs.{Contents.{Contents, responses_at, without}, History.{History, IsJustified}}
+use Rattle.cache_store.specs.{Changes.{IsLetGo, IsRestored}, Kept.contents_of, Numbers.numbered}
+use Rattle.cache_store.proofs.{LawLemmas.stored-may-be, NumberLemmas.{distinct-at, Has-numbered, numbered-at}}
 use Rattle.cache_store.proofs.HistoryLemmas.{Has-slice_get, HasUnder-responses_at, run-justified}
-use Rattle.cache_store.{proofs.LawLemmas.stored-may-be, proofs.NumberLemmas.{Has-numbered, distinct-at, numbered-at}}
-use Rattle.cache_pass.{specs.Answers.IsShownAfter, specs.Effects.{Settings, kept_of, settings_of, stored_at}}
-use Rattle.cache_pass.{specs.Origin.IsNext, specs.Passes.{asked_of, key_of, request_of_pass}, specs.Replies.IsFirst}
-use Rattle.cache_pass.{specs.Replies.{IsReplyTo, IsShown, IsShownOnError}, specs.Right.{IsGood, IsGoodOnError}}
-use Rattle.cache_pass.specs.Right.{IsOfStored, IsRight, IsRightOnError, IsRightReply, IsRightValidated}
-use Rattle.cache_pass.{specs.Steps.{HasBegun, HasCome, HasEnded, HasFailed}, specs.Worlds.{Acts, Deed, IsStep, Reaches}}
-use Rattle.cache_pass.{specs.Worlds.{World, calls_of}, specs.Worlds.Deed.{Begins, Comes, Fails, Ends, Apart}}
-use Rattle.cache_pass.{specs.declared.cache.Cache.Cache, specs.declared.pass.Asked.Asked, specs.declared.pass.Pass.Pass}
-use Rattle.cache_pass.specs.declared.replying.First.{First}
+use Rattle.cache_pass.specs.{Replies.{IsFirst, IsReplyTo, IsShown, IsShownOnError}, Steps.HasFailed}
+use Rattle.cache_pass.specs.{Effects.{kept_of, Settings, settings_of, stored_at}, Steps.{HasBegun, HasCome, HasEnded}}
+use Rattle.cache_pass.specs.declared.{cache.Cache.Cache, replying.{First.First, Reply.Reply}, revalidating.Next.Next}
+use Rattle.cache_pass.specs.declared.pass.{Asked.Asked, Pass.Pass}
+use Rattle.cache_pass.specs.{Origin.IsNext, Passes.{asked_of, key_of, request_of_pass}, Worlds.{Acts, IsStep, World}}
+use Rattle.cache_pass.specs.{Right.IsRight, Worlds.{calls_of, Deed, Deed.{Apart, Begins, Comes, Ends, Fails}, Reaches}}
+use Rattle.cache_pass.specs.{Answers.IsShownAfter, Right.{IsOfStored, IsRightOnError, IsRightReply, IsRightValidated}}
+use Rattle.{cache_pass.proofs.CallLemmas.{acts-run, HasRun, reached, some-unkept}, headers.specs.LineMap.lines_at}
+use Rattle.{cache_policy.specs.{declared.decision.Decision.Decision, Requests.Request}, headers.specs.LineMap.LineMap}
+use Rattle.cache_policy.specs.declared.decision.Decision.TheVariants as decisions
 use Rattle.cache_pass.specs.declared.replying.First.TheVariants as first
-use Rattle.cache_pass.{specs.declared.replying.Reply.Reply, specs.declared.revalidating.Next.Next}
 use Rattle.cache_pass.specs.declared.revalidating.Next.TheVariants as next
-use Rattle.cache_rules.specs.declared.storing.Reception.TheVariants.{Incomplete}
-use Rattle.cache_pass.proofs.CallLemmas.{HasRun, acts-run, reached, some-unkept}
 
 module _ (settings : Settings) (world : World) (ran : HasRun settings world) (pass : Pass) (now : ℕ) (reply : Reply)
   where
@@ -49,50 +43,44 @@ module _ (settings : Settings) (world : World) (ran : HasRun settings world) (pa
         }
 
     abbrev Shown : Decision → Type 0
-    Shown decision =
-        IsShown settings (request_of_pass pass) now (stored_at (key_of pass) world.cache) decision reply
+    Shown decision = IsShown settings (request_of_pass pass) now (stored_at (key_of pass) world.cache) decision reply
 
     of-shown : (decision : Decision) → (s : Shown decision)
         → IsOfStored settings world pass now reply s.found.selected.response
     of-shown decision s = of-stored s.found.selected.response s.named s.found.selected.is.0 s.replies
 
-    abbrev Good : StoredResponse → Type 0
-    Good stored = IsGood settings (request_of_pass pass) now stored
-
-    good-serve : (s : Shown decisions.Serve) → Good s.found.selected.response
-    good-serve s = record {
-      lifetime = s.found.lifetime;
-      fresh_for = s.found.fresh_for;
-      good = (s.found.decided.0, inl s.found.decided.1);
-    }
-
-    good-stale : (s : Shown decisions.ServeStale) → Good s.found.selected.response
-    good-stale s = record {
-      lifetime = s.found.lifetime;
-      fresh_for = s.found.fresh_for;
-      good = (s.found.decided.0, inr (inr s.found.decided.3));
-    }
-
-    good-meanwhile : (s : Shown decisions.ServeAndRevalidate) → Good s.found.selected.response
-    good-meanwhile s = record {
-      lifetime = s.found.lifetime;
-      fresh_for = s.found.fresh_for;
-      good = (s.found.decided.0, inr (inl s.found.decided.2));
-    }
-
-    good-error : (s : Shown decisions.RevalidateOrServe)
-        → IsGoodOnError settings (request_of_pass pass) now s.found.selected.response
-    good-error s =
-        record { lifetime = s.found.lifetime; fresh_for = s.found.fresh_for; good = s.found.decided.2 }
-
     right-serve : Shown decisions.Serve → IsRightReply settings world pass now reply
-    right-serve s = (s.found.selected.response, of-shown decisions.Serve s, good-serve s)
+    right-serve s = (
+      s.found.selected.response,
+      of-shown decisions.Serve s,
+      record {
+        lifetime = s.found.lifetime;
+        fresh_for = s.found.fresh_for;
+        good = (s.found.decided.0, inl s.found.decided.1);
+      },
+    )
 
     right-stale : Shown decisions.ServeStale → IsRightReply settings world pass now reply
-    right-stale s = (s.found.selected.response, of-shown decisions.ServeStale s, good-stale s)
+    right-stale s = (
+      s.found.selected.response,
+      of-shown decisions.ServeStale s,
+      record {
+        lifetime = s.found.lifetime;
+        fresh_for = s.found.fresh_for;
+        good = (s.found.decided.0, inr (inr s.found.decided.3));
+      },
+    )
 
     right-meanwhile : Shown decisions.ServeAndRevalidate → IsRightReply settings world pass now reply
-    right-meanwhile s = (s.found.selected.response, of-shown decisions.ServeAndRevalidate s, good-meanwhile s)
+    right-meanwhile s = (
+      s.found.selected.response,
+      of-shown decisions.ServeAndRevalidate s,
+      record {
+        lifetime = s.found.lifetime;
+        fresh_for = s.found.fresh_for;
+        good = (s.found.decided.0, inr (inl s.found.decided.2));
+      },
+    )
 
     as-on-error : IsRightReply settings world pass now reply → IsRightOnError settings world pass now reply
     as-on-error (stored, is, good) = (stored, is, inl good)
@@ -103,8 +91,11 @@ module _ (settings : Settings) (world : World) (ran : HasRun settings world) (pa
     right-error (decision, s, inr (inl same)) = as-on-error (right-stale (subst Shown same s))
     right-error (decision, s, inr (inr (inl same))) = as-on-error (right-meanwhile (subst Shown same s))
     right-error (decision, s, inr (inr (inr same))) =
-        let is = subst Shown same s in
-        (is.found.selected.response, of-shown decisions.RevalidateOrServe is, inr (good-error is))
+        let is = subst Shown same s in (
+          is.found.selected.response,
+          of-shown decisions.RevalidateOrServe is,
+          inr (record { lifetime = is.found.lifetime; fresh_for = is.found.fresh_for; good = is.found.decided.2 }),
+        )
 
 -- ---- the response that a 304 updated
 
@@ -152,18 +143,14 @@ module _ (settings : Settings) (before world : World) (pass : Pass) (new : Pass)
   begun-right now (Ok (first.ReplyAndValidate reply)) h = right-meanwhile settings world ran pass now reply
       (subst (λ (s : Settings). IsFirst s (request_of_pass pass) now (stored_at (key_of pass) world.cache)
       (first.ReplyAndValidate reply)) are h.answer)
-  begun-right now (Ok first.Ask) h = tt
-  begun-right now (Ok (first.Validate fields)) h = tt
-  begun-right now (Ok first.Unavailable) h = tt
-  begun-right now (Err error) h = tt
+  begun-right now given h = tt
 
   failed-right : (now : ℕ) (found : Result (Option Reply) AllocError)
       → HasFailed pass before.cache now new world.cache found → Right (Fails now found)
-  failed-right now (Ok None) h = tt
-  failed-right now (Err error) h = tt
   failed-right now (Ok (Some reply)) h = right-error settings world ran pass now reply
       (subst (λ (s : Settings). IsShownOnError s (request_of_pass pass) now (stored_at (key_of pass) world.cache) reply)
       are h.answer)
+  failed-right now found h = tt
 
   module _ (status : ℕ) (response : Entries FieldValue) (now : ℕ) (asked : Asked)
       (asking : asked_of pass.phase ≡ Some asked) where
@@ -172,8 +159,7 @@ module _ (settings : Settings) (before world : World) (pass : Pass) (new : Pass)
 
     validated-right : (reply : Reply)
         → IsShownAfter settings (key_of pass) (request_of_pass pass) (lines_at response) made (kept_of before.cache)
-        (kept_of world.cache) reply
-        → IsRightValidated settings world pass now (lines_at response) asked reply
+        (kept_of world.cache) reply → IsRightValidated settings world pass now (lines_at response) asked reply
     validated-right reply is =
         let fresh = is.restored.fresh in
         let named : numbered reply.number (stored_at (key_of pass) world.cache) ≡ Some fresh =
@@ -223,9 +209,7 @@ module _ (settings : Settings) (before world : World) (pass : Pass) (new : Pass)
         (validates.1, (asked, asking, once-right fresh answer is.0 is.1))
     next-right calls (Ok (next.Once fresh answer)) (inr (inr (inl (other, failed, one, is)))) = absurd is
     next-right calls (Ok (next.Once fresh answer)) (inr (inr (inr (other, unfailed, removed, is)))) = absurd is
-    next-right calls (Ok next.Ask) is = tt
-    next-right calls (Ok (next.PassOn kept)) is = tt
-    next-right calls (Err error) is = tt
+    next-right calls given is = tt
 
   come-right : (status : ℕ) (response : Entries FieldValue) (now : ℕ) (given : Result Next AllocError)
       → HasCome pass before.cache status response now new world.cache given → Right (Comes status response now given)
@@ -236,8 +220,6 @@ module _ (settings : Settings) (before world : World) (pass : Pass) (new : Pass)
   ended-right : (content : List ℕ) (reception : Reception) (now : ℕ) (number : Result (Option ℕ) AllocError)
       → HasEnded pass before.cache content reception now new world.cache number
       → Right (Ends content reception now number)
-  ended-right content reception now (Ok None) h = tt
-  ended-right content reception now (Err error) h = tt
   ended-right content reception now (Ok (Some number)) h = elim h.closed [
     | inl (complete, (came, received, inl (past, none, same, unnamed))) ↦ absurd (some-unkept number Incomplete unnamed)
     | inl (complete, (came, received, inr (timely, storing))) ↦
@@ -257,6 +239,7 @@ module _ (settings : Settings) (before world : World) (pass : Pass) (new : Pass)
         }
     | inr (same, none, unnamed) ↦ absurd (some-unkept number reception unnamed)
   ]
+  ended-right content reception now number h = tt
 
   step-right : (calls : History) (deed : Deed) → IsStep deed pass before.cache new world.cache calls → Right deed
   step-right calls (Begins now given) (h, same) = begun-right now given h

@@ -1,20 +1,16 @@
 -- Runs that differ only in what the origin answered, where that isn't to be stored.
-use Rattle.std.proofs.Common.{◌≡◌, ◌↔◌, ℕ, List, [], ◌∷◌, ◌++◌, map, true, false, refl, sym, ap, subst, inl, inr}
-use Rattle.std.{proofs.Common.{◌∙◌, Result, Ok, Err}, specs.declared.alloc.AllocError.AllocError}
-use Rattle.http_header.{specs.FieldValue.FieldValue, specs.HeaderMap.Entries}
-use Rattle.headers.specs.LineMap.{lines_at}
-use Rattle.cache_policy.specs.Requests.{Request}
-use Rattle.cache_rules.specs.Errors.{IsFailure}
-use Rattle.cache_store.specs.History.{History}
-use Rattle.cache_pass.specs.{Effects.{Kept, Settings, kept_of, settings_of}, Origin.{IsFailing, IsNext, IsPassedOn}}
-use Rattle.cache_pass.{specs.Passes.{IsSameRequest, key_of, phase_after, request_of_pass}}
-use Rattle.cache_pass.specs.{Unstored.{AreAlike, AreUnstored, IsUnstored}, Worlds.{Acts, Deed, IsStep, Log, Reaches}}
-use Rattle.cache_pass.{specs.Worlds.{World, asked_in}, specs.Worlds.Deed.{Begins, Comes, Fails, Ends, Apart}}
-use Rattle.cache_pass.specs.Worlds.Event.{Calls}
-use Rattle.cache_pass.{specs.declared.cache.Cache.Cache, specs.declared.pass.Asked.Asked, specs.declared.pass.Pass.Pass}
-use Rattle.cache_pass.specs.declared.revalidating.Next.{Next}
+use Rattle.cache_pass.specs.Worlds.{Acts, asked_in, Deed, Deed.{Apart, Begins, Comes, Ends, Fails}, Log, Reaches}
+use Rattle.cache_pass.specs.{declared.{cache.Cache.Cache, revalidating.Next.Next}, Worlds.{Event.Calls, IsStep, World}}
+use Rattle.cache_pass.specs.{declared.pass.{Asked.Asked, Pass.Pass, Phase.TheVariants.Ended}, Steps.HasCome}
+use Rattle.cache_pass.specs.{Keeping.IsWanted, Origin.IsPassedOn, Unstored.{AreAlike, AreUnstored, IsUnstored}}
+use Rattle.cache_pass.specs.{Origin.{IsFailing, IsNext}, Passes.{IsSameRequest, key_of, phase_after, request_of_pass}}
+use Rattle.cache_pass.{proofs.CallLemmas.reached, specs.Effects.{DoAll, Kept, kept_of, Settings, settings_of}}
+use Rattle.{cache_rules.specs.Errors.IsFailure, headers.specs.LineMap.lines_at}
+use Rattle.std.{proofs.Common.{[], ◌++◌}, specs.declared.alloc.AllocError.AllocError}
+use Rattle.std.proofs.Common.{◌↔◌, ◌∙◌, ◌∷◌, ◌≡◌, ap, false, inl, inr, List, map, Ok, refl, Result, subst, sym, true, ℕ}
+use Rattle.http_header.specs.{FieldValue.FieldValue, HeaderMap.Entries}
+use Rattle.{cache_policy.specs.Requests.{IsSafe, Request}, cache_store.specs.History.History}
 use Rattle.cache_pass.specs.declared.revalidating.Next.TheVariants as next
-use Rattle.cache_pass.proofs.CallLemmas.{reached}
 
 -- ---- a response in place of another one
 
@@ -22,24 +18,17 @@ module _ (settings : Settings) (key : List ℕ) (request : Request) (now : ℕ) 
     (response other : Entries FieldValue) (isnt : IsUnstored settings request status (lines_at response))
     (other_isnt : IsUnstored settings request other_status (lines_at other))
     (failures : IsFailure status ↔ IsFailure other_status) where
-  passed-too : (given : Result Next AllocError)
-      → IsPassedOn settings key request status (lines_at response) given
+  passed-too : (given : Result Next AllocError) → IsPassedOn settings key request status (lines_at response) given
       → IsPassedOn settings key request other_status (lines_at other) given
-  passed-too (Ok (next.Reply reply)) none = absurd none
-  passed-too (Ok (next.Once fresh answer)) none = absurd none
-  passed-too (Ok next.Ask) none = absurd none
   passed-too (Ok (next.PassOn true)) wanted = absurd (isnt.unwanted wanted)
   passed-too (Ok (next.PassOn false)) unwanted = other_isnt.unwanted
-  passed-too (Err error) none = absurd none
+  passed-too given none = absurd none
 
   failing-too : (after : Kept) (given : Result Next AllocError)
       → IsFailing settings key request status (lines_at response) now after given
       → IsFailing settings key request other_status (lines_at other) now after given
-  failing-too after (Ok (next.Reply reply)) is = is
-  failing-too after (Ok (next.Once fresh answer)) none = absurd none
-  failing-too after (Ok next.Ask) none = absurd none
   failing-too after (Ok (next.PassOn kept)) is = (is.0, passed-too (Ok (next.PassOn kept)) is.1)
-  failing-too after (Err error) is = is
+  failing-too after given is = is
 
   next-too : (asked : Asked) (before after : Kept) (calls : History) (given : Result Next AllocError)
       → IsNext settings key request asked status (lines_at response) now before after calls given
@@ -63,34 +52,16 @@ module _ (settings : Settings) (key : List ℕ) (request : Request) (now : ℕ) 
   ]
 
   -- how far the pass is then
-  passed-phase : (asked : Asked) (clock : ℕ) (given : Result Next AllocError)
-      → IsPassedOn settings key request status (lines_at response) given
-      → phase_after given asked status response now clock ≡ phase_after given asked other_status other now clock
-  passed-phase asked clock (Ok (next.Reply reply)) none = absurd none
-  passed-phase asked clock (Ok (next.Once fresh answer)) none = absurd none
-  passed-phase asked clock (Ok next.Ask) none = absurd none
-  passed-phase asked clock (Ok (next.PassOn true)) wanted = absurd (isnt.unwanted wanted)
-  passed-phase asked clock (Ok (next.PassOn false)) unwanted = refl
-  passed-phase asked clock (Err error) none = absurd none
-
-  failing-phase : (asked : Asked) (clock : ℕ) (after : Kept) (given : Result Next AllocError)
-      → IsFailing settings key request status (lines_at response) now after given
-      → phase_after given asked status response now clock ≡ phase_after given asked other_status other now clock
-  failing-phase asked clock after (Ok (next.Reply reply)) is = refl
-  failing-phase asked clock after (Ok (next.Once fresh answer)) none = absurd none
-  failing-phase asked clock after (Ok next.Ask) none = absurd none
-  failing-phase asked clock after (Ok (next.PassOn kept)) is = passed-phase asked clock (Ok (next.PassOn kept)) is.1
-  failing-phase asked clock after (Err error) is = refl
-
   next-phase : (asked : Asked) (clock : ℕ) (before after : Kept) (calls : History) (given : Result Next AllocError)
       → IsNext settings key request asked status (lines_at response) now before after calls given
       → phase_after given asked status response now clock ≡ phase_after given asked other_status other now clock
-  next-phase asked clock before after calls given is = elim is [
+  next-phase asked clock before after calls (Ok (next.PassOn true)) is = elim is [
     | inl (validates, outdated, none, asks) ↦ absurd (isnt.unvalidated validates.1)
     | inr (inl (validates, current, one, updated)) ↦ absurd (isnt.unvalidated validates.1)
-    | inr (inr (inl (another, failed, one, shown))) ↦ failing-phase asked clock after given shown
-    | inr (inr (inr (another, unfailed, removed, passed))) ↦ passed-phase asked clock given passed
+    | inr (inr (inl (another, failed, one, shown))) ↦ absurd (isnt.unwanted shown.1)
+    | inr (inr (inr (another, unfailed, removed, passed))) ↦ absurd (isnt.unwanted passed)
   ]
+  next-phase asked clock before after calls given is = refl
 
 -- ---- a step
 
@@ -99,18 +70,17 @@ request_by method fields = record { method = method; fields = lines_at fields }
 
 module _ (pass : Pass) (before : Cache) (new : Pass) (after : Cache) (calls : History) where
   step-same : (deed : Deed) → IsStep deed pass before new after calls → IsSameRequest pass new
+  step-same (Apart call) (apart, does, set, kept, same) =
+      subst (IsSameRequest pass) (sym kept) (record { key = refl; method = refl; request = refl })
   step-same (Begins now first) (h, same) = h.same
   step-same (Comes status response now given) (h, same) = h.same
   step-same (Fails now found) (h, same) = h.same
   step-same (Ends content reception now number) (h, same) = h.same
-  step-same (Apart call) (apart, does, set, kept, same) =
-      subst (IsSameRequest pass) (sym kept) (record { key = refl; method = refl; request = refl })
 
   step-request : (deed : Deed) → IsStep deed pass before new after calls → request_of_pass pass ≡ request_of_pass new
   step-request deed is =
       let same = step-same deed is in
-      ap (λ (m : List ℕ). request_by m pass.request) (sym same.method)
-      ∙ ap (request_by new.method) (sym same.request)
+      ap (λ (m : List ℕ). request_by m pass.request) (sym same.method) ∙ ap (request_by new.method) (sym same.request)
 
   step-too : (one other : Deed) → AreUnstored (settings_of before) (request_of_pass pass) one other
       → IsStep one pass before new after calls → IsStep other pass before new after calls
@@ -177,3 +147,29 @@ module _ (settings : Settings) (requests : ℕ → Request) where
               (acts-too one.0 one.1 other.1 before world (reached settings ones before were).0 earlier differ acts)
         ],
       )
+
+-- ---- what a response that isn't stored leaves
+
+module _ (old : Pass) (before : Cache) (status : ℕ) (response : Entries FieldValue) (now : ℕ) (new : Pass)
+    (after : Cache)
+    (unwanted : ¬ (IsWanted (settings_of before).policy (request_of_pass old) status (lines_at response))) where
+  passed-ended : (given : Result Next AllocError)
+      → IsPassedOn (settings_of before) (key_of old) (request_of_pass old) status (lines_at response) given
+      → (asked : Asked) (clock : ℕ) → phase_after given asked status response now clock ≡ Ended
+  passed-ended (Ok next.Ask) none asked clock = absurd none
+  passed-ended (Ok (next.PassOn true)) wanted asked clock = absurd (unwanted wanted)
+  passed-ended given is asked clock = refl
+
+  pub leaves-nothing : (given : Result Next AllocError) → (h : HasCome old before status response now new after given)
+      → IsSafe old.method → ¬ (IsFailure status) → ¬ (status ≡ 304)
+      → (kept_of after ≡ kept_of before) × (new.phase ≡ Ended)
+  leaves-nothing given h safe fine other = elim h.answer [
+    | inl (validates, outdated, none, asks) ↦ absurd (other validates.1)
+    | inr (inl (validates, current, one, is)) ↦ absurd (other validates.1)
+    | inr (inr (inl (another, failed, one, is))) ↦ absurd (fine failed)
+    | inr (inr (inr (another, unfailed, inl (unsafe, removed), is))) ↦ absurd (unsafe.0 safe)
+    | inr (inr (inr (another, unfailed, inr (valid, none), is))) ↦ (
+      subst (λ (calls : History). DoAll (settings_of before) calls (kept_of before) (kept_of after)) none h.does,
+      h.phase ∙ passed-ended given is h.asked after.removals.clock,
+    )
+  ]

@@ -1,18 +1,14 @@
 -- What a request gets after the origin has answered it (RFC 9111, sections 4.3.3, 4.3.4 and 4.4; RFC 5861, section 4).
-use Rattle.std.specs.Prelude.{◌≡◌, ◌⊎◌, ℕ, List, true, IsSomeAnd, Result, Ok, Err}
-use Rattle.std.specs.declared.alloc.AllocError.{AllocError}
-use Rattle.http_header.{specs.FieldValue.FieldValue, specs.HeaderMap.Entries}
-use Rattle.headers.specs.LineMap.{LineMap, lines_at}
-use Rattle.cache_policy.specs.Requests.{Request}
-use Rattle.cache_rules.{specs.Conditions.{IsForCache, IsStoredAnswer}, specs.Freshening.renewing_fields}
-use Rattle.cache_rules.{specs.Identifying.IsIdentified, specs.Selection.IsSomewhere}
-use Rattle.cache_rules.specs.declared.freshening.Exchange.{Exchange}
-use Rattle.cache_store.{specs.Changes.{IsLetGo, IsRefreshed, IsRestored}, specs.Contents.{responses_at, without}}
-use Rattle.cache_store.{specs.Numbers.numbered, specs.Updates.IsOneTooSmallFor}
+use Rattle.http_header.specs.{FieldValue.FieldValue, HeaderMap.Entries}
+use Rattle.cache_rules.specs.{declared.freshening.Exchange.Exchange, Freshening.renewing_fields, Selection.IsSomewhere}
+use Rattle.cache_rules.specs.{Conditions.{IsForCache, IsStoredAnswer}, Identifying.IsIdentified}
+use Rattle.{cache_policy.specs.Requests.Request, headers.specs.LineMap.{LineMap, lines_at}}
 use Rattle.cache_store.specs.declared.freshening.Refreshed.TheVariants.{Absent, Unchanged}
-use Rattle.cache_pass.{specs.Effects.{Kept, Settings}, specs.Replies.IsReplyTo, specs.declared.replying.Reply.Reply}
-use Rattle.cache_pass.specs.declared.revalidating.Next.{Next}
-use Rattle.cache_pass.specs.declared.revalidating.Next.TheVariants.{Reply as Replies, Once, Ask, PassOn}
+use Rattle.cache_store.specs.{Changes.{IsLetGo, IsRefreshed, IsRestored}, Numbers.numbered, Updates.IsOneTooSmallFor}
+use Rattle.{cache_store.specs.Contents.{responses_at, without}, std.specs.declared.alloc.AllocError.AllocError}
+use Rattle.std.specs.Prelude.{◌≡◌, ◌⊎◌, Err, IsSomeAnd, List, Ok, Result, true, ℕ}
+use Rattle.cache_pass.specs.{declared.replying.Reply.Reply, Effects.{Kept, Settings}, Replies.IsReplyTo}
+use Rattle.cache_pass.specs.declared.revalidating.Next.{Next, TheVariants.{Ask, Once, PassOn, Reply as Replies}}
 
 module _ (settings : Settings) (key : List ℕ) (request : Request) (update : LineMap) (exchange : Exchange)
     (old new : Kept) where

@@ -1,12 +1,9 @@
 -- What the steps of passes make of a cache.
-use Rattle.std.specs.Prelude.{◌≡◌, ℕ, List, [], ◌∷◌, ◌++◌}
-use Rattle.cache_policy.specs.Policies.{Policy}
-use Rattle.cache_store.{specs.Contents.{Contents, responses_at}, specs.History.{Call, History, Step}}
-use Rattle.cache_store.specs.History.Call.{Looked, Arrived, Validated, Described, Answered, Removed}
-use Rattle.cache_store.{specs.Kept.{contents_of, policy_of_store}, specs.declared.limits.Limits.Limits}
-use Rattle.cache_rules.specs.declared.stored.StoredResponse.{StoredResponse}
-use Rattle.cache_pass.{specs.Removals.IsNoted, specs.declared.cache.Cache.Cache}
-use Rattle.cache_pass.specs.declared.removals.Removals.{Removals}
+use Rattle.cache_pass.specs.{declared.{cache.Cache.Cache, removals.Removals.Removals}, Removals.IsNoted}
+use Rattle.std.specs.Prelude.{[], ◌++◌, ◌∷◌, ◌≡◌, List, ℕ}
+use Rattle.cache_store.specs.{Contents.{Contents, responses_at}, Kept.{contents_of, policy_of_store}}
+use Rattle.cache_store.specs.{declared.limits.Limits.Limits, History.{Call, Call.{Answered, Removed}, History, Step}}
+use Rattle.{cache_policy.specs.Policies.Policy, cache_rules.specs.declared.stored.StoredResponse.StoredResponse}
 
 -- how a cache decides, what it holds at most, and how many seconds it guesses at most
 pub record Settings : Type 0 where
@@ -15,8 +12,7 @@ pub record Settings : Type 0 where
   pub guess : ℕ
 
 abbrev pub settings_of : Cache → Settings
-settings_of cache =
-    record { policy = policy_of_store cache.store; limits = cache.store.limits; guess = cache.guess }
+settings_of cache = record { policy = policy_of_store cache.store; limits = cache.store.limits; guess = cache.guess }
 
 -- what a cache has stored, and what it remembers of removals
 pub record Kept : Type 0 where
@@ -32,12 +28,9 @@ stored_at target cache = responses_at target (contents_of cache.store)
 
 -- a removal is noted, and nothing else is
 abbrev pub IsNotedBy : Call → Removals → Removals → Type 0
-IsNotedBy (Looked target) old new = new ≡ old
-IsNotedBy (Arrived target came reception) old new = new ≡ old
-IsNotedBy (Validated target request update exchange) old new = new ≡ old
-IsNotedBy (Described target request head exchange) old new = new ≡ old
 IsNotedBy (Answered target method status) old new = IsNoted target old new
 IsNotedBy (Removed target) old new = IsNoted target old new
+IsNotedBy other old new = new ≡ old
 
 -- what a call of its store makes of a cache
 pub record Does (settings : Settings) (call : Call) (old new : Kept) : Type 0 where

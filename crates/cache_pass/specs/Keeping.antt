@@ -1,17 +1,14 @@
 -- What is stored of a response that passed on (RFC 9111, sections 3, 4.3.5 and 4.4).
-use Rattle.std.specs.Prelude.{◌≡◌, ◌⊎◌, ◌<◌, ℕ, List, [], ◌∷◌, Option, Some, None, Result, Ok, Err, codes}
-use Rattle.std.specs.declared.alloc.AllocError.{AllocError}
-use Rattle.headers.{specs.LineMap.LineMap, specs.Typed.HasLine}
-use Rattle.cache_policy.{specs.Policies.Policy, specs.Requests.Request, specs.declared.Kind.TheVariants.Shared}
-use Rattle.cache_rules.{specs.Selection.{IsAt, IsCandidate, IsSomewhere}, specs.Storing.IsStored}
-use Rattle.cache_rules.specs.Stored.{fields_of_stored, made_at, request_of_stored}
-use Rattle.cache_rules.specs.declared.storing.Reception.TheVariants.{Complete}
-use Rattle.cache_rules.specs.declared.stored.StoredResponse.{StoredResponse}
+use Rattle.std.specs.Prelude.{[], ◌<◌, ◌∷◌, ◌≡◌, ◌⊎◌, codes, Err, List, None, Ok, Option, Result, Some, ℕ}
+use Rattle.{headers.specs.{LineMap.LineMap, Typed.HasLine}, std.specs.declared.alloc.AllocError.AllocError}
+use Rattle.cache_policy.specs.{declared.Kind.TheVariants.Shared, Policies.Policy, Requests.Request}
+use Rattle.cache_rules.specs.Selection.{IsAt, IsCandidate, IsSomewhere}
+use Rattle.cache_rules.specs.{Stored.{fields_of_stored, made_at, request_of_stored}, Storing.IsStored}
+use Rattle.cache_rules.specs.declared.{stored.StoredResponse.StoredResponse, storing.Reception.TheVariants.Complete}
 use Rattle.cache_store.specs.Changes.{FitsAlone, IsFront, IsInserted, IsStoredAs, IsTooLarge, IsTooSmallToStore}
-use Rattle.cache_store.{specs.Changes.IsToStore, specs.Contents.{responses_at, size_at, without}}
-use Rattle.cache_store.specs.History.{History}
-use Rattle.cache_store.{specs.History.Call.{Arrived, Described}, specs.Parts.Combining.exchange_of}
-use Rattle.cache_pass.{specs.Effects.{DoAll, Does, Kept, Settings}, specs.Removals.IsOutdated}
+use Rattle.cache_store.specs.{Changes.IsToStore, Contents.{responses_at, size_at, without}}
+use Rattle.cache_store.specs.{History.{Call.{Arrived, Described}, History}, Parts.Combining.exchange_of}
+use Rattle.cache_pass.specs.{Effects.{DoAll, Does, Kept, Settings}, Removals.IsOutdated}
 
 -- a response is to be stored once all of it has come, and in a shared cache sets no cookie
 pub record IsWanted (policy : Policy) (request : Request) (status : ℕ) (response : LineMap) : Type 0 where
@@ -22,8 +19,7 @@ pub record IsWanted (policy : Policy) (request : Request) (status : ℕ) (respon
 -- time of the request.
 pub record IsNewer (came stored : StoredResponse) : Type 0 where
   pub matches : IsCandidate (request_of_stored came) stored
-  pub later : (made_at came < made_at stored)
-      ⊎ ((made_at came ≡ made_at stored) × (came.requested < stored.requested))
+  pub later : (made_at came < made_at stored) ⊎ ((made_at came ≡ made_at stored) × (came.requested < stored.requested))
 
 -- A newer one is stored that its request matches. It isn't stored then, since a cache uses the most recent of those
 -- that match (section 4).
@@ -58,8 +54,7 @@ module _ (settings : Settings) (key : List ℕ) (came : StoredResponse) where
       × (stored.number ≡ number) × IsInserted settings.limits key stored old.contents new.contents
   IsNumbered old new (Ok None) =
       (((¬ (IsToStore settings.policy came Complete)) ⊎ IsTooLarge settings.limits key came)
-      × (new.contents ≡ old.contents))
-      ⊎ (IsTooSmallToStore came × IsLeft old new)
+      × (new.contents ≡ old.contents)) ⊎ (IsTooSmallToStore came × IsLeft old new)
   IsNumbered old new (Err error) =
       IsToStore settings.policy came Complete × FitsAlone settings.limits 1 (size_at key came) × IsLeft old new
 

@@ -1,17 +1,12 @@
 -- What a cache does with a response of the origin (RFC 9111, sections 4.3 and 4.4; RFC 5861, section 4).
-use Rattle.std.specs.Prelude.{◌≡◌, ◌⊎◌, ℕ, List, [], ◌∷◌, map, true, Some, None, Result, Ok, Err}
-use Rattle.std.{specs.Bool.MatchBool, specs.declared.alloc.AllocError.AllocError}
-use Rattle.url.specs.Parts.{Parts, serialize}
-use Rattle.headers.specs.LineMap.{LineMap}
-use Rattle.cache_policy.specs.Requests.{Request}
-use Rattle.cache_rules.{specs.Errors.IsFailure, specs.Invalidation.Invalidates}
-use Rattle.cache_rules.specs.declared.freshening.Exchange.{Exchange}
-use Rattle.cache_store.{specs.Contents.responses_at, specs.History.History, specs.History.Call.{Looked, Validated}}
-use Rattle.cache_store.specs.Named.{AreNamed}
-use Rattle.cache_pass.{specs.Answers.IsRevalidated, specs.Effects.{Kept, Settings, removals}, specs.Keeping.IsWanted}
-use Rattle.cache_pass.{specs.Removals.IsOutdated, specs.Replies.IsOnError, specs.declared.pass.Asked.Asked}
-use Rattle.cache_pass.{specs.declared.revalidating.Next.Next, specs.declared.revalidating.Next.TheVariants.Reply}
-use Rattle.cache_pass.specs.declared.revalidating.Next.TheVariants.{Ask, PassOn}
+use Rattle.std.specs.Prelude.{[], ◌∷◌, ◌≡◌, ◌⊎◌, Err, List, map, None, Ok, Result, Some, true, ℕ}
+use Rattle.std.specs.{Bool.MatchBool, declared.alloc.AllocError.AllocError}
+use Rattle.{cache_policy.specs.Requests.Request, headers.specs.LineMap.LineMap, url.specs.Parts.{Parts, serialize}}
+use Rattle.cache_rules.specs.{declared.freshening.Exchange.Exchange, Errors.IsFailure, Invalidation.Invalidates}
+use Rattle.cache_store.specs.{Contents.responses_at, History.{Call.{Looked, Validated}, History}, Named.AreNamed}
+use Rattle.cache_pass.specs.{Answers.IsRevalidated, Effects.{Kept, removals, Settings}}
+use Rattle.cache_pass.specs.{Keeping.IsWanted, Removals.IsOutdated, Replies.IsOnError}
+use Rattle.cache_pass.specs.declared.{pass.Asked.Asked, revalidating.Next.{Next, TheVariants.{Ask, PassOn, Reply}}}
 
 -- the response is to a request that validates, and says that what is stored is still good
 abbrev pub IsValidation : Asked → ℕ → Type 0
@@ -21,10 +16,8 @@ IsValidation asked status = (asked.validates ≡ true) × (status ≡ 304)
 -- names, unless memory runs out for these.
 abbrev pub IsInvalidation : List ℕ → List ℕ → ℕ → LineMap → History → Type 0
 IsInvalidation key method status response calls =
-    (Invalidates method status
-    × ((named : List Parts) × (AreNamed key response named ⊎ (named ≡ []))
-    × (calls ≡ removals (key ∷ map serialize named))))
-    ⊎ ((¬ (Invalidates method status)) × (calls ≡ []))
+    (Invalidates method status × ((named : List Parts) × (AreNamed key response named ⊎ (named ≡ []))
+    × (calls ≡ removals (key ∷ map serialize named)))) ⊎ ((¬ (Invalidates method status)) × (calls ≡ []))
 
 module _ (settings : Settings) (key : List ℕ) where
   module _ (request : Request) where
@@ -59,6 +52,5 @@ module _ (settings : Settings) (key : List ℕ) where
           × (calls ≡ Validated key request response exchange ∷ [])
           × IsRevalidated settings key request response exchange old new next)
           ⊎ ((¬ (IsValidation asked status)) × IsFailure status × (calls ≡ Looked key ∷ [])
-          × IsFailing status response now new next)
-          ⊎ ((¬ (IsValidation asked status)) × (¬ (IsFailure status))
+          × IsFailing status response now new next) ⊎ ((¬ (IsValidation asked status)) × (¬ (IsFailure status))
           × IsInvalidation key request.method status response calls × IsPassedOn status response next)

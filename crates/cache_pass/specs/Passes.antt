@@ -1,15 +1,11 @@
 -- What a pass is of, and how far it comes.
-use Rattle.std.specs.Prelude.{◌≡◌, ℕ, List, ⊤, Option, Some, None, Result, Ok, true, false, string_bytes}
+use Rattle.cache_pass.specs.declared.pass.{Asked.Asked, Pass.Pass, Phase.{Phase, TheVariants.{Asking, Ended, Passing}}}
+use Rattle.cache_pass.specs.declared.{cache.Cache.Cache, replying.First.First, revalidating.Next.Next}
 use Rattle.std.specs.declared.alloc.AllocError.{AllocError}
-use Rattle.http_header.{specs.FieldValue.FieldValue, specs.HeaderMap.Entries}
-use Rattle.headers.specs.LineMap.{lines_at}
-use Rattle.cache_policy.specs.Requests.{Request}
-use Rattle.cache_rules.specs.declared.stored.StoredResponse.{StoredResponse}
-use Rattle.cache_pass.{specs.declared.cache.Cache.Cache, specs.declared.pass.Asked.Asked, specs.declared.pass.Pass.Pass}
-use Rattle.cache_pass.{specs.declared.pass.Phase.Phase, specs.declared.pass.Phase.TheVariants.{Began, Asking, Passing}}
-use Rattle.cache_pass.{specs.declared.pass.Phase.TheVariants.Ended, specs.declared.replying.First.First}
+use Rattle.std.specs.Prelude.{⊤, ◌≡◌, false, List, None, Ok, Option, Result, Some, string_bytes, true, ℕ}
+use Rattle.{cache_policy.specs.Requests.Request, http_header.specs.{FieldValue.FieldValue, HeaderMap.Entries}}
+use Rattle.{cache_rules.specs.declared.stored.StoredResponse.StoredResponse, headers.specs.LineMap.lines_at}
 use Rattle.cache_pass.specs.declared.replying.First.TheVariants as first
-use Rattle.cache_pass.specs.declared.revalidating.Next.{Next}
 use Rattle.cache_pass.specs.declared.revalidating.Next.TheVariants as next
 
 -- the request
@@ -33,17 +29,13 @@ pub record IsUnchanged (old : Pass) (before : Cache) (new : Pass) (after : Cache
 
 -- when the origin was asked and how, if it is asked now
 abbrev pub asked_of : Phase → Option Asked
-asked_of Began = None
 asked_of (Asking asked) = Some asked
-asked_of (Passing asked status response) = None
-asked_of Ended = None
+asked_of other = None
 
 -- no response passes on that is to be stored
 abbrev pub IsNotPassing : Phase → Type 0
-IsNotPassing Began = ⊤
-IsNotPassing (Asking asked) = ⊤
 IsNotPassing (Passing asked status response) = ⊥
-IsNotPassing Ended = ⊤
+IsNotPassing other = ⊤
 
 -- how far the pass is after its first step, at this time and when the clock shows this
 abbrev pub phase_first : Result First AllocError → ℕ → ℕ → Phase

@@ -1,10 +1,9 @@
 -- Requests for which the origin is asked now: others for the same may wait for one of them (RFC 9111, section 4).
-use Rattle.std.specs.Prelude.{◌≡◌, ◌==◌, ℕ, ◌+◌, ◌-◌, ◌^◌, ◌<◌, ◌&&◌, Bool, List, [], ◌∷◌, ◌++◌, Option, Some, None}
-use Rattle.std.specs.Prelude.{IsSome, filter, find, is_some, nat_le, nat_lt, not, option_map, string_bytes, bytes_eq}
-use Rattle.std.{specs.Prelude.{Result, Ok, Err}, specs.declared.alloc.AllocError.AllocError}
-use Rattle.cache_store.specs.Parts.Answering.{IsForWhole}
-use Rattle.cache_pass.{specs.Passes.{asked_of, request_of_pass}, specs.declared.pass.Pass.Pass}
-use Rattle.cache_pass.{specs.declared.queue.Entry.Entry, specs.declared.queue.Queue.Queue}
+use Rattle.{cache_pass.specs.Passes.{asked_of, request_of_pass}, cache_store.specs.Parts.Answering.IsForWhole}
+use Rattle.cache_pass.specs.declared.{pass.Pass.Pass, queue.{Entry.Entry, Queue.Queue}}
+use Rattle.std.specs.{declared.alloc.AllocError.AllocError, Prelude.{◌==◌, find, Some}}
+use Rattle.std.specs.Prelude.{[], ◌&&◌, ◌+◌, ◌∷◌, Bool, bytes_eq, is_some, IsSome, None, not, Ok, Option, option_map}
+use Rattle.std.specs.Prelude.{◌++◌, ◌-◌, ◌<◌, ◌^◌, ◌≡◌, Err, filter, List, nat_le, nat_lt, Result, string_bytes, ℕ}
 
 -- the pass asks the origin for the whole representation
 pub record Collapses (pass : Pass) : Type 0 where

@@ -1,6 +1,5 @@
 -- When targets were last removed (RFC 9111, section 4.4).
-use Rattle.std.specs.Prelude.{◌≡◌, ◌⊎◌, ℕ, ◌+◌, ◌*◌, ◌-◌, ◌%◌, ◌^◌, ◌<◌, ◌≤◌, min, List, [], ◌∷◌}
-use Rattle.std.specs.List.{slice_index}
+use Rattle.std.specs.{List.slice_index, Prelude.{[], ◌%◌, ◌*◌, ◌+◌, ◌-◌, ◌<◌, ◌^◌, ◌∷◌, ◌≡◌, ◌≤◌, ◌⊎◌, List, min, ℕ}}
 use Rattle.cache_pass.specs.declared.removals.Removals.{Removals}
 
 -- the group of a target, if that of what is before these bytes is known
@@ -31,6 +30,5 @@ pub record IsNoted (target : List ℕ) (old new : Removals) : Type 0 where
   pub rises : old.clock ≤ new.clock
   pub outdates : (asked : ℕ) → asked ≤ old.clock → IsOutdated new target asked
   pub stays : (other : List ℕ) (asked : ℕ) → IsOutdated old other asked → IsOutdated new other asked
-  pub others : (other : List ℕ) (asked : ℕ) → IsOutdated new other asked
-      → IsOutdated old other asked
+  pub others : (other : List ℕ) (asked : ℕ) → IsOutdated new other asked → IsOutdated old other asked
       ⊎ ((group_of other ≡ group_of target) × ((asked < new.clock) ⊎ (new.clock ≡ 2 ^ 64 - 1)))

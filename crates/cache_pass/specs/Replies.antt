@@ -1,18 +1,14 @@
 -- What a request gets of a cache (RFC 9111, section 4; RFC 5861).
-use Rattle.std.specs.Prelude.{◌≡◌, ◌⊎◌, ℕ, List, Option, Some, None, Result, Ok, Err, true}
-use Rattle.std.specs.declared.alloc.AllocError.{AllocError}
-use Rattle.headers.specs.LineMap.{field_of, fields_of}
-use Rattle.cache_policy.{specs.Decisions.AnswersUnstored, specs.Requests.Request}
-use Rattle.cache_policy.specs.declared.decision.Decision.{Decision}
+use Rattle.cache_policy.specs.{Decisions.AnswersUnstored, declared.decision.Decision.Decision, Requests.Request}
+use Rattle.{headers.specs.LineMap.{field_of, fields_of}, std.specs.declared.alloc.AllocError.AllocError}
+use Rattle.std.specs.Prelude.{◌≡◌, ◌⊎◌, Err, List, None, Ok, Option, Result, Some, true, ℕ}
+use Rattle.cache_pass.specs.declared.replying.First.TheVariants.{Ask, Reply as Replies, ReplyAndValidate, Validate}
+use Rattle.cache_pass.specs.{declared.replying.{First.{First, TheVariants.Unavailable}, Reply.Reply}, Effects.Settings}
+use Rattle.cache_store.specs.Lookups.{age_of_stored, HasFields, IsAsked, IsFound, IsUnmatched}
+use Rattle.cache_store.specs.{declared.lookup.Lookup.Lookup, Numbers.numbered}
+use Rattle.cache_rules.specs.{Conditions.{IsForCache, IsStoredAnswer}, declared.stored.StoredResponse.StoredResponse}
 use Rattle.cache_policy.specs.declared.decision.Decision.TheVariants as decisions
-use Rattle.cache_rules.specs.Conditions.{IsForCache, IsStoredAnswer}
-use Rattle.cache_rules.specs.declared.stored.StoredResponse.{StoredResponse}
-use Rattle.cache_store.{specs.Lookups.{HasFields, IsAsked, IsFound, IsUnmatched, age_of_stored}, specs.Numbers.numbered}
-use Rattle.cache_store.specs.declared.lookup.Lookup.{Lookup}
 use Rattle.cache_store.specs.declared.lookup.Lookup.TheVariants as lookup
-use Rattle.cache_pass.{specs.Effects.Settings, specs.declared.replying.First.First}
-use Rattle.cache_pass.specs.declared.replying.First.TheVariants.{Reply as Replies, ReplyAndValidate, Ask, Validate}
-use Rattle.cache_pass.{specs.declared.replying.First.TheVariants.Unavailable, specs.declared.replying.Reply.Reply}
 
 -- The reply shows the stored response, with its age, as it answers the client's own conditions and ranges (sections
 -- 4.3.2 and 5.1).
@@ -23,20 +19,16 @@ pub record IsReplyTo (request : Request) (now : ℕ) (stored : StoredResponse) (
 
 -- what is done with a request that no stored response answers (section 5.2.1.7)
 abbrev pub IsAlone : Request → First → Type 0
-IsAlone request (Replies reply) = ⊥
-IsAlone request (ReplyAndValidate reply) = ⊥
 IsAlone request Ask = AnswersUnstored request decisions.Fetch
-IsAlone request (Validate fields) = ⊥
 IsAlone request Unavailable = AnswersUnstored request decisions.Unavailable
+IsAlone request other = ⊥
 
 -- the number of the response that a lookup serves, or lets serve on an error
 abbrev pub number_on_error : Lookup → Option ℕ
 number_on_error (lookup.Serve number age) = Some number
 number_on_error (lookup.ServeAndRevalidate number age) = Some number
-number_on_error (lookup.Validate number fields) = None
 number_on_error (lookup.ValidateOrServe number fields) = Some number
-number_on_error lookup.Unavailable = None
-number_on_error lookup.Forward = None
+number_on_error other = None
 
 module _ (settings : Settings) (request : Request) (now : ℕ) (responses : List StoredResponse) where
   -- The reply shows the response that is selected for the request now, and this is decided about it now.
@@ -58,8 +50,7 @@ module _ (settings : Settings) (request : Request) (now : ℕ) (responses : List
   IsFirst (ReplyAndValidate reply) = IsShown decisions.ServeAndRevalidate reply
   IsFirst Ask = AnswersUnstored request decisions.Fetch × IsAsUnmatched
   IsFirst (Validate fields) =
-      IsForCache request
-      × ((number : ℕ)
+      IsForCache request × ((number : ℕ)
       × (IsAsked settings.policy settings.guess request now responses decisions.Revalidate number
       (fields_of fields.items)
       ⊎ IsAsked settings.policy settings.guess request now responses decisions.RevalidateOrServe number
@@ -85,8 +76,7 @@ module _ (settings : Settings) (request : Request) (now : ℕ) (responses : List
   -- request is answered by the origin alone.
   abbrev pub IsNoneOnError : Type 0
   IsNoneOnError =
-      IsUnmatched settings.policy settings.guess request now responses ⊎ (¬ (IsForCache request))
-      ⊎ ((place : ℕ)
+      IsUnmatched settings.policy settings.guess request now responses ⊎ (¬ (IsForCache request)) ⊎ ((place : ℕ)
       × (IsFound settings.policy settings.guess request now responses decisions.Revalidate place
       ⊎ IsFound settings.policy settings.guess request now responses decisions.Unavailable place))
 

@@ -1,22 +1,16 @@
 -- What may be sent to a client (RFC 9111, section 4; RFC 5861).
-use Rattle.std.specs.Prelude.{◌≡◌, ◌⊎◌, ⊤, ℕ, List, Some, Ok, true}
-use Rattle.http_header.{specs.FieldValue.FieldValue, specs.HeaderMap.Entries}
-use Rattle.headers.specs.LineMap.{LineMap, lines_at}
-use Rattle.cache_policy.{specs.Decisions.{IsGoodEnough, MayServeOnError}, specs.Policies.{MayStoreUnder, asks, tells}}
-use Rattle.cache_policy.specs.Requests.{Request}
-use Rattle.cache_rules.{specs.Conditions.IsStoredAnswer, specs.Errors.IsFailure, specs.Freshening.IsFreshened}
-use Rattle.cache_rules.{specs.Selection.IsCandidate, specs.Stored.{fields_of_stored, request_of_stored}}
-use Rattle.cache_rules.specs.declared.freshening.Exchange.{Exchange}
-use Rattle.cache_rules.specs.declared.stored.StoredResponse.{StoredResponse}
-use Rattle.cache_store.{specs.Changes.IsStoredAs, specs.History.IsJustified, specs.Numbers.numbered}
-use Rattle.cache_store.specs.Lookups.{IsFreshFor, freshness_of}
-use Rattle.cache_pass.{specs.Effects.{Settings, stored_at}, specs.Keeping.IsLate, specs.Passes.{IsReceived, asked_of}}
-use Rattle.cache_pass.{specs.Passes.{key_of, request_of_pass}, specs.Replies.IsReplyTo, specs.Worlds.{Deed, World}}
-use Rattle.cache_pass.{specs.Worlds.calls_of, specs.Worlds.Deed.{Begins, Comes, Fails, Ends}}
-use Rattle.cache_pass.{specs.declared.cache.Cache.Cache, specs.declared.pass.Asked.Asked, specs.declared.pass.Pass.Pass}
-use Rattle.cache_pass.specs.declared.pass.Phase.TheVariants.{Passing}
+use Rattle.cache_pass.specs.{Keeping.IsLate, Worlds.{calls_of, Deed, Deed.{Begins, Comes, Ends, Fails}, World}}
+use Rattle.cache_pass.specs.declared.{cache.Cache.Cache, pass.Phase.TheVariants.Passing, replying.Reply.Reply}
+use Rattle.cache_pass.specs.{declared.pass.{Asked.Asked, Pass.Pass}, Effects.{Settings, stored_at}, Replies.IsReplyTo}
+use Rattle.{cache_pass.specs.Passes.{asked_of, IsReceived, key_of, request_of_pass}, cache_rules.specs.Errors.IsFailure}
+use Rattle.cache_rules.specs.{Conditions.IsStoredAnswer, Freshening.IsFreshened, Selection.IsCandidate}
+use Rattle.cache_rules.specs.declared.{freshening.Exchange.Exchange, stored.StoredResponse.StoredResponse}
+use Rattle.{cache_rules.specs.Stored.{fields_of_stored, request_of_stored}, headers.specs.LineMap.{LineMap, lines_at}}
+use Rattle.{cache_policy.specs.Decisions.MayServeOnError, http_header.specs.{FieldValue.FieldValue, HeaderMap.Entries}}
+use Rattle.cache_policy.specs.{Decisions.IsGoodEnough, Policies.{asks, MayStoreUnder, tells}, Requests.Request}
+use Rattle.{cache_store.specs.Numbers.numbered, std.specs.Prelude.{⊤, ◌≡◌, ◌⊎◌, List, Ok, Some, true, ℕ}}
+use Rattle.cache_store.specs.{Changes.IsStoredAs, History.IsJustified, Lookups.{freshness_of, IsFreshFor}}
 use Rattle.cache_pass.specs.declared.replying.First.TheVariants as first
-use Rattle.cache_pass.specs.declared.replying.Reply.{Reply}
 use Rattle.cache_pass.specs.declared.revalidating.Next.TheVariants as next
 
 module _ (settings : Settings) (request : Request) (now : ℕ) (stored : StoredResponse) where
@@ -89,13 +83,11 @@ IsRight settings before world pass (Begins now (Ok (first.Reply reply))) = IsRig
 IsRight settings before world pass (Begins now (Ok (first.ReplyAndValidate reply))) =
     IsRightReply settings world pass now reply
 IsRight settings before world pass (Comes status response now (Ok (next.Reply reply))) =
-    ((status ≡ 304)
-    × ((asked : Asked) × (asked_of pass.phase ≡ Some asked)
+    ((status ≡ 304) × ((asked : Asked) × (asked_of pass.phase ≡ Some asked)
     × IsRightValidated settings world pass now (lines_at response) asked reply))
     ⊎ (IsFailure status × IsRightOnError settings world pass now reply)
 IsRight settings before world pass (Comes status response now (Ok (next.Once fresh answer))) =
-    (status ≡ 304)
-    × ((asked : Asked) × (asked_of pass.phase ≡ Some asked)
+    (status ≡ 304) × ((asked : Asked) × (asked_of pass.phase ≡ Some asked)
     × ((old : StoredResponse) × IsJustified settings.policy (key_of pass) (calls_of before.log) old
     × IsCandidate (request_of_pass pass) old
     × IsFreshened old (lines_at response) (record { requested = asked.requested; received = now }) fresh

@@ -1,19 +1,14 @@
 -- The steps of a pass: what each answers, how far the pass is then, and what becomes of the cache.
-use Rattle.std.specs.Prelude.{◌≡◌, ◌⊎◌, ℕ, List, [], Option, Some, None, Result, Ok, Err, alloc_error}
-use Rattle.std.specs.declared.alloc.AllocError.{AllocError}
-use Rattle.http_header.{specs.FieldValue.FieldValue, specs.HeaderMap.Entries}
-use Rattle.headers.specs.LineMap.{lines_at}
-use Rattle.cache_rules.specs.declared.storing.Reception.{Reception}
-use Rattle.cache_rules.specs.declared.storing.Reception.TheVariants.{Complete, Incomplete}
-use Rattle.cache_rules.specs.declared.stored.StoredResponse.{StoredResponse}
-use Rattle.cache_store.{specs.History.History, specs.History.Call.Looked}
-use Rattle.cache_pass.{specs.Effects.{DoAll, Does, kept_of, settings_of, stored_at}, specs.Keeping.IsKept}
-use Rattle.cache_pass.{specs.Origin.IsNext, specs.Passes.{IsReceived, IsSameRequest, asked_of, key_of, phase_after}}
-use Rattle.cache_pass.{specs.Passes.{phase_first, request_of_pass}, specs.Replies.{IsFirstOf, IsOnError}}
-use Rattle.cache_pass.{specs.declared.cache.Cache.Cache, specs.declared.pass.Asked.Asked}
-use Rattle.cache_pass.{specs.declared.pass.Pass.Pass, specs.declared.pass.Phase.TheVariants.{Began, Passing, Ended}}
-use Rattle.cache_pass.{specs.declared.replying.First.First, specs.declared.replying.Reply.Reply}
-use Rattle.cache_pass.specs.declared.revalidating.Next.{Next}
+use Rattle.{cache_store.specs.History.{Call.Looked, History}, std.specs.Prelude.{[], Err, Result, Some}}
+use Rattle.std.specs.{declared.alloc.AllocError.AllocError, Prelude.{◌≡◌, ◌⊎◌, alloc_error, List, None, Ok, Option, ℕ}}
+use Rattle.cache_rules.specs.declared.storing.Reception.{Reception, TheVariants.{Complete, Incomplete}}
+use Rattle.{cache_rules.specs.declared.stored.StoredResponse.StoredResponse, headers.specs.LineMap.lines_at}
+use Rattle.cache_pass.specs.Effects.{DoAll, Does, kept_of, settings_of, stored_at}
+use Rattle.cache_pass.specs.Passes.{asked_of, IsReceived, key_of, phase_after, phase_first, request_of_pass}
+use Rattle.cache_pass.specs.{Keeping.IsKept, Origin.IsNext, Passes.IsSameRequest, Replies.{IsFirstOf, IsOnError}}
+use Rattle.cache_pass.specs.declared.pass.{Asked.Asked, Pass.Pass, Phase.TheVariants.{Began, Ended, Passing}}
+use Rattle.cache_pass.specs.declared.{cache.Cache.Cache, replying.{First.First, Reply.Reply}, revalidating.Next.Next}
+use Rattle.http_header.specs.{FieldValue.FieldValue, HeaderMap.Entries}
 
 -- what is answered of a response that isn't kept: it didn't come whole, or memory ran out for it
 abbrev pub unkept : Reception → Result (Option ℕ) AllocError

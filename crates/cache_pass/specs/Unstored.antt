@@ -1,12 +1,9 @@
 -- Runs that differ only in what the origin answered, where that isn't to be stored.
-use Rattle.std.specs.Prelude.{◌≡◌, ◌≢◌, ◌⊎◌, ◌↔◌, ⊤, ℕ, List, [], ◌∷◌, Result}
-use Rattle.std.specs.declared.alloc.AllocError.{AllocError}
-use Rattle.http_header.{specs.FieldValue.FieldValue, specs.HeaderMap.Entries}
-use Rattle.headers.specs.LineMap.{LineMap, lines_at}
-use Rattle.cache_policy.specs.{Requests.IsSafe, Requests.Request}
-use Rattle.cache_rules.specs.Errors.{IsFailure}
-use Rattle.cache_pass.{specs.Effects.Settings, specs.Keeping.IsWanted, specs.Worlds.Deed, specs.Worlds.Deed.Comes}
-use Rattle.cache_pass.specs.declared.revalidating.Next.{Next}
+use Rattle.std.specs.{declared.alloc.AllocError.AllocError, Prelude.{[], ⊤, ◌↔◌, ◌∷◌, ◌≡◌, ◌≢◌, ◌⊎◌, List, Result, ℕ}}
+use Rattle.http_header.specs.{FieldValue.FieldValue, HeaderMap.Entries}
+use Rattle.{cache_policy.specs.Requests.{IsSafe, Request}, headers.specs.LineMap.{LineMap, lines_at}}
+use Rattle.cache_pass.specs.{declared.revalidating.Next.Next, Effects.Settings, Keeping.IsWanted}
+use Rattle.{cache_pass.specs.Worlds.{Deed, Deed.Comes}, cache_rules.specs.Errors.IsFailure}
 
 module _ (settings : Settings) where
   -- The response isn't to be stored, and changes nothing that is: its request is safe (section 4.4), and it doesn't say
@@ -37,5 +34,4 @@ module _ (settings : Settings) where
   AreAlike requests [] (other ∷ others) = ⊥
   AreAlike requests (one ∷ ones) [] = ⊥
   AreAlike requests (one ∷ ones) (other ∷ others) =
-      ((one ≡ other) ⊎ ((one.0 ≡ other.0) × AreUnstored (requests one.0) one.1 other.1))
-      × AreAlike requests ones others
+      ((one ≡ other) ⊎ ((one.0 ≡ other.0) × AreUnstored (requests one.0) one.1 other.1)) × AreAlike requests ones others

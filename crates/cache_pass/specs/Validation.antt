@@ -1,20 +1,13 @@
 -- The request by which what was served stale is validated for nobody (RFC 5861, section 3).
-use Rattle.std.specs.Prelude.{◌≡◌, ℕ, List, [], ◌∷◌, map, codes, if◌then◌else◌}
-use Rattle.headers.specs.{LineMap.{Field, LineMap, lines_at, set_all}, Lines.Line}
-use Rattle.cache_fields.specs.Directives.{directed}
-use Rattle.cache_pass.{specs.Passes.key_of, specs.declared.pass.Pass.Pass}
-use Rattle.cache_pass.specs.declared.pass.Phase.TheVariants.{Began}
+use Rattle.{cache_fields.specs.Directives.directed, headers.specs.LineMap.{Field, LineMap, lines_at, set_all}}
+use Rattle.{headers.specs.Lines.Line, std.specs.Prelude.{[], ◌∷◌, ◌≡◌, codes, if◌then◌else◌, List, map, ℕ}}
+use Rattle.cache_pass.specs.{declared.pass.{Pass.Pass, Phase.TheVariants.Began}, Passes.key_of}
 
 -- what a client asks for itself alone: by conditions (RFC 9110, section 13.1), or for a range (section 14.2)
 abbrev pub own_names : List (List ℕ)
 own_names =
-    codes "if-match"
-    ∷ codes "if-modified-since"
-    ∷ codes "if-none-match"
-    ∷ codes "if-range"
-    ∷ codes "if-unmodified-since"
-    ∷ codes "range"
-    ∷ []
+    codes "if-match" ∷ codes "if-modified-since" ∷ codes "if-none-match" ∷ codes "if-range"
+    ∷ codes "if-unmodified-since" ∷ codes "range" ∷ []
 
 -- No stored response is the answer (RFC 9111, section 5.2.1.4), and none is stored if the client forbids that (section
 -- 5.2.1.5). Its other directives say which stored response it takes.

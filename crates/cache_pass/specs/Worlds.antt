@@ -1,16 +1,12 @@
 -- Passes over one cache, whose steps interleave.
-use Rattle.std.specs.Prelude.{◌≡◌, ◌⊎◌, ⊤, ℕ, List, [], ◌∷◌, ◌++◌, map, Option, Result}
-use Rattle.std.specs.declared.alloc.AllocError.{AllocError}
-use Rattle.http_header.{specs.FieldValue.FieldValue, specs.HeaderMap.Entries}
-use Rattle.cache_rules.specs.declared.storing.Reception.{Reception}
-use Rattle.cache_store.{specs.History.{Call, History, Removes}, specs.History.Call.{Looked, Arrived, Validated}}
-use Rattle.cache_store.{specs.History.Call.{Described, Answered, Removed}, specs.Kept.contents_of}
-use Rattle.cache_pass.{specs.Effects.{Does, Settings, kept_of, settings_of}, specs.Passes.key_of}
-use Rattle.cache_pass.{specs.Steps.{HasBegun, HasCome, HasEnded, HasFailed}, specs.declared.cache.Cache.Cache}
-use Rattle.cache_pass.{specs.declared.pass.Pass.Pass, specs.declared.pass.Phase.Phase}
-use Rattle.cache_pass.specs.declared.pass.Phase.TheVariants.{Began, Asking, Passing, Ended}
-use Rattle.cache_pass.{specs.declared.replying.First.First, specs.declared.replying.Reply.Reply}
-use Rattle.cache_pass.specs.declared.revalidating.Next.{Next}
+use Rattle.{cache_rules.specs.declared.storing.Reception.Reception, std.specs.declared.alloc.AllocError.AllocError}
+use Rattle.std.specs.Prelude.{[], ⊤, ◌++◌, ◌∷◌, ◌≡◌, ◌⊎◌, List, map, Option, Result, ℕ}
+use Rattle.cache_pass.specs.Effects.{Does, kept_of, Settings, settings_of}
+use Rattle.cache_pass.specs.declared.{cache.Cache.Cache, replying.{First.First, Reply.Reply}, revalidating.Next.Next}
+use Rattle.cache_pass.specs.declared.pass.{Pass.Pass, Phase.{Phase, TheVariants.{Asking, Began}}}
+use Rattle.cache_pass.specs.{Passes.key_of, Steps.{HasBegun, HasCome, HasEnded, HasFailed}}
+use Rattle.cache_store.specs.History.{Call, Call.{Arrived, Described, Looked, Validated}, History, Removes}
+use Rattle.{cache_store.specs.Kept.contents_of, http_header.specs.{FieldValue.FieldValue, HeaderMap.Entries}}
 
 -- ---- what happens
 
@@ -31,12 +27,10 @@ calls_of (Calls pass call ∷ log) = call ∷ calls_of log
 
 -- the call stores or updates responses under the target
 abbrev pub StoresAt : List ℕ → Call → Type 0
-StoresAt target (Looked other) = ⊥
 StoresAt target (Arrived other came reception) = other ≡ target
 StoresAt target (Validated other request update exchange) = other ≡ target
 StoresAt target (Described other request head exchange) = other ≡ target
-StoresAt target (Answered other method status) = ⊥
-StoresAt target (Removed other) = ⊥
+StoresAt target other = ⊥
 
 -- the pass has asked, and nothing since then removed the target
 abbrev pub IsCurrent : ℕ → List ℕ → Log → Type 0
@@ -87,18 +81,13 @@ IsStep (Apart call) old before new after calls =
 
 -- a pass that asks after its step asked in it
 abbrev pub asks_of : ℕ → Phase → Log
-asks_of pass Began = []
 asks_of pass (Asking asked) = Asks pass ∷ []
-asks_of pass (Passing asked status response) = []
-asks_of pass Ended = []
+asks_of pass other = []
 
 -- ... and by no call apart
 abbrev pub asked_in : Deed → ℕ → Phase → Log
-asked_in (Begins now first) pass phase = asks_of pass phase
-asked_in (Comes status response now next) pass phase = asks_of pass phase
-asked_in (Fails now found) pass phase = asks_of pass phase
-asked_in (Ends content reception now number) pass phase = asks_of pass phase
 asked_in (Apart call) pass phase = []
+asked_in deed pass phase = asks_of pass phase
 
 -- a step of the pass with this name; no other pass changes
 pub record Acts (pass : ℕ) (deed : Deed) (old new : World) : Type 0 where

@@ -1,11 +1,9 @@
 //! What a cache does with a response of the origin.
-ghost use Rattle.std.{specs.Prelude.{◌≡◌, map}, specs.Bool.MatchBool};
-ghost use Rattle.url.specs.Parts.{serialize};
-ghost use Rattle.headers.specs.LineMap.{lines_at};
-ghost use Rattle.cache_policy.specs.Requests.{request_of};
-ghost use Rattle.cache_store.{specs.History.History, specs.History.Call.Looked};
-ghost use Rattle.cache_pass.{specs.Effects.{DoAll, Does, kept_of, removals, settings_of}, specs.Origin.IsFailing};
-ghost use Rattle.cache_pass.specs.Origin.{IsInvalidation, IsNext, IsValidation};
+ghost use Rattle.std.specs.Prelude.{◌≡◌, map};
+ghost use Rattle.{headers.specs.LineMap.lines_at, std.specs.Bool.MatchBool, url.specs.Parts.serialize};
+ghost use Rattle.{cache_policy.specs.Requests.request_of, cache_store.specs.History.{Call.Looked, History}};
+ghost use Rattle.cache_pass.specs.Effects.{DoAll, Does, kept_of, removals, settings_of};
+ghost use Rattle.cache_pass.specs.Origin.{IsFailing, IsInvalidation, IsNext, IsValidation};
 
 use crate::cache::Cache;
 use crate::pass::Asked;

@@ -1,7 +1,6 @@
 //! What a request gets if the origin fails.
 ghost use Rattle.std.specs.Prelude.{◌≡◌};
-ghost use Rattle.cache_policy.specs.Requests.{request_of};
-ghost use Rattle.cache_store.specs.History.Call.{Looked};
+ghost use Rattle.{cache_policy.specs.Requests.request_of, cache_store.specs.History.Call.Looked};
 ghost use Rattle.cache_pass.specs.Effects.{Does, kept_of, settings_of, stored_at};
 ghost use Rattle.cache_pass.specs.Replies.{IsOnError, number_on_error};
 

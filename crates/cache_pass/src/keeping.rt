@@ -1,11 +1,9 @@
 //! What is stored of what passed on.
-ghost use Rattle.std.{specs.Prelude.◌≡◌, specs.Bool.MatchBool};
-ghost use Rattle.headers.specs.LineMap.{lines_at};
-ghost use Rattle.cache_policy.specs.Requests.{request_of};
-ghost use Rattle.cache_store.specs.History.{History};
-ghost use Rattle.cache_rules.specs.Stored.{made_at};
-ghost use Rattle.cache_pass.{specs.Effects.{DoAll, kept_of, settings_of}, specs.Keeping.{AreDescribing, IsKept}};
-ghost use Rattle.cache_pass.specs.Keeping.{IsLate, IsNewer, IsPast, IsWanted};
+ghost use Rattle.std.specs.Prelude.{◌≡◌};
+ghost use Rattle.{cache_policy.specs.Requests.request_of, headers.specs.LineMap.lines_at, std.specs.Bool.MatchBool};
+ghost use Rattle.{cache_rules.specs.Stored.made_at, cache_store.specs.History.History};
+ghost use Rattle.cache_pass.specs.Effects.{DoAll, kept_of, settings_of};
+ghost use Rattle.cache_pass.specs.Keeping.{AreDescribing, IsKept, IsLate, IsNewer, IsPast, IsWanted};
 
 use crate::cache::Cache;
 use cache_policy::{Kind, RequestHead, date, matches};

@@ -1,14 +1,11 @@
 //! Theorems about every run of passes over one cache. To cite one in a proof, call it.
-ghost use Rattle.std.{specs.Prelude.{◌≡◌, ℕ, List, Result}, specs.declared.alloc.AllocError.AllocError};
-ghost use Rattle.http_header.{specs.FieldValue.FieldValue, specs.HeaderMap.Entries};
-ghost use Rattle.headers.specs.LineMap.{lines_at};
-ghost use Rattle.cache_policy.specs.Requests.{IsSafe};
-ghost use Rattle.cache_rules.specs.Errors.{IsFailure};
-ghost use Rattle.cache_pass.{specs.Effects.{Settings, kept_of, settings_of}, specs.Keeping.IsWanted};
-ghost use Rattle.cache_pass.{specs.Passes.request_of_pass, specs.Right.IsRight, specs.Steps.HasCome};
-ghost use Rattle.cache_pass.{specs.declared.cache.Cache.Cache, specs.declared.pass.Pass.Pass};
-ghost use Rattle.cache_pass.{specs.declared.pass.Phase.TheVariants.Ended, specs.declared.revalidating.Next.Next};
-ghost use Rattle.cache_pass.{specs.Unstored.AreAlike, specs.Worlds.{Acts, AreCurrent, Deed, Reaches, World}};
+ghost use Rattle.cache_pass.specs.{Effects.{kept_of, Settings, settings_of}, Passes.request_of_pass, Right.IsRight};
+ghost use Rattle.cache_pass.specs.{declared.{cache.Cache.Cache, pass.Pass.Pass}, Steps.HasCome, Unstored.AreAlike};
+ghost use Rattle.cache_pass.specs.{declared.{pass.Phase.TheVariants.Ended, revalidating.Next.Next}, Keeping.IsWanted};
+ghost use Rattle.{cache_pass.specs.Worlds.{Acts, AreCurrent, Deed, Reaches, World}, headers.specs.LineMap.lines_at};
+ghost use Rattle.std.specs.Prelude.{◌≡◌, List, Result, ℕ};
+ghost use Rattle.{cache_policy.specs.Requests.IsSafe, std.specs.declared.alloc.AllocError.AllocError};
+ghost use Rattle.{cache_rules.specs.Errors.IsFailure, http_header.specs.{FieldValue.FieldValue, HeaderMap.Entries}};
 
 /// Theorem: whatever steps of whatever passes come before, in any order, with look-ups and removals between them,
 /// what a step answers is right for its pass. A stored response that it names is stored under the target of this
@@ -36,8 +33,7 @@ pub fn what_is_stored_was_asked_since_the_last_removal()
 /// neither that the origin failed nor that what is stored is still good.
 pub fn what_is_not_stored_leaves_nothing()
     ensures { (old : Pass) (before : Cache) (status : ℕ) (response : Entries FieldValue) (now : ℕ) (new : Pass)
-        (after : Cache) (next : Result Next AllocError)
-        → HasCome old before status response now new after next
+        (after : Cache) (next : Result Next AllocError) → HasCome old before status response now new after next
         → ¬ (IsWanted (settings_of before).policy (request_of_pass old) status (lines_at response))
         → IsSafe old.method → ¬ (IsFailure status) → ¬ (status ≡ 304)
         → (kept_of after ≡ kept_of before) × (new.phase ≡ Ended) }
@@ -49,6 +45,5 @@ pub fn what_is_not_stored_leaves_nothing()
 /// responses is a 304, and if one says that the origin failed, so does the one in its place.
 pub fn what_is_not_stored_changes_no_other_answer()
     ensures { (settings : Settings) (ones others : List (ℕ × Deed)) (world : World) → Reaches settings ones world
-        → AreAlike settings (λ pass. request_of_pass (world.passes pass)) ones others
-        → Reaches settings others world }
+        → AreAlike settings (λ pass. request_of_pass (world.passes pass)) ones others → Reaches settings others world }
 {}

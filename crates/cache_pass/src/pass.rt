@@ -1,9 +1,7 @@
 //! A pass.
 ghost use Rattle.std.specs.Prelude.{◌≡◌, string_bytes};
-ghost use Rattle.headers.specs.LineMap.{lines_at};
-ghost use Rattle.cache_policy.specs.Requests.{request_of};
-ghost use Rattle.cache_pass.specs.Passes.{IsSameRequest, request_of_pass};
-ghost use Rattle.cache_pass.specs.declared.pass.Phase.TheVariants.{Began};
+ghost use Rattle.{cache_policy.specs.Requests.request_of, headers.specs.LineMap.lines_at};
+ghost use Rattle.cache_pass.specs.{declared.pass.Phase.TheVariants.Began, Passes.{IsSameRequest, request_of_pass}};
 
 use cache_policy::RequestHead;
 use headers::HeaderMap;

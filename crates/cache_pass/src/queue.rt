@@ -1,10 +1,8 @@
 //! Requests for which the origin is asked now, so that others for the same wait (RFC 9111, section 4).
-ghost use Rattle.std.specs.Prelude.{◌≡◌, [], ◌∷◌, ◌++◌, if◌then◌else◌, filter, find, option_copied};
-ghost use Rattle.std.specs.Bool.{MatchBool};
-ghost use Rattle.cache_store.specs.Parts.Answering.{IsForWhole};
-ghost use Rattle.cache_policy.specs.Requests.{request_of};
-ghost use Rattle.cache_pass.specs.Queue.{Collapses, Enters, HasLeft, is_ahead, is_named, is_open, is_within};
-ghost use Rattle.cache_pass.specs.Queue.{number_ahead};
+ghost use Rattle.std.specs.Prelude.{[], ◌++◌, ◌∷◌, ◌≡◌, filter, find, if◌then◌else◌, option_copied};
+ghost use Rattle.{cache_store.specs.Parts.Answering.IsForWhole, std.specs.Bool.MatchBool};
+ghost use Rattle.{cache_pass.specs.Queue.Collapses, cache_policy.specs.Requests.request_of};
+ghost use Rattle.cache_pass.specs.Queue.{Enters, HasLeft, is_ahead, is_named, is_open, is_within, number_ahead};
 
 use crate::pass::Pass;
 use cache_policy::RequestHead;

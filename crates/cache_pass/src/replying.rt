@@ -1,10 +1,8 @@
 //! What a request gets first.
-ghost use Rattle.std.specs.Prelude.{◌≡◌, ◌⊎◌, None, IfOk, IsSomeAnd, MatchOption};
-ghost use Rattle.cache_policy.specs.Requests.{request_of};
-ghost use Rattle.cache_rules.specs.Conditions.{IsForCache};
-ghost use Rattle.cache_store.{specs.History.Call.Looked, specs.Numbers.numbered};
-ghost use Rattle.cache_pass.{specs.Effects.{Does, kept_of, settings_of, stored_at}, specs.Replies.{IsAlone, IsFirstOf}};
-ghost use Rattle.cache_pass.specs.Replies.{IsReplyTo};
+ghost use Rattle.{cache_policy.specs.Requests.request_of, cache_store.specs.{History.Call.Looked, Numbers.numbered}};
+ghost use Rattle.{cache_pass.specs.Replies.{IsAlone, IsFirstOf, IsReplyTo}, cache_rules.specs.Conditions.IsForCache};
+ghost use Rattle.cache_pass.specs.Effects.{Does, kept_of, settings_of, stored_at};
+ghost use Rattle.std.specs.Prelude.{◌≡◌, ◌⊎◌, IfOk, IsSomeAnd, MatchOption, None};
 
 use crate::cache::Cache;
 use cache_policy::{Decision, RequestHead, decide_unstored};
@@ -78,8 +76,7 @@ impl Cache {
     ) -> Result<Option<Reply>, AllocError>
         ensures { IfOk result (λ found. MatchOption found
             ((numbered number (stored_at key.now self.now) ≡ None) ⊎ (¬ (IsForCache (request_of request.now))))
-            (λ reply. IsForCache (request_of request.now)
-            × IsSomeAnd (numbered number (stored_at key.now self.now))
+            (λ reply. IsForCache (request_of request.now) × IsSomeAnd (numbered number (stored_at key.now self.now))
             (λ stored. IsReplyTo (request_of request.now) now stored reply))) }
     {
         if !is_for_cache(request) {

@@ -1,9 +1,8 @@
 //! What a request gets after the origin has answered.
 ghost use Rattle.std.specs.Prelude.{◌≡◌};
 ghost use Rattle.headers.specs.LineMap.{lines_at};
-ghost use Rattle.cache_policy.specs.Requests.{request_of};
-ghost use Rattle.cache_store.specs.History.Call.{Validated};
-ghost use Rattle.cache_pass.{specs.Effects.{Does, kept_of, settings_of}, specs.Answers.IsRevalidated};
+ghost use Rattle.{cache_policy.specs.Requests.request_of, cache_store.specs.History.Call.Validated};
+ghost use Rattle.cache_pass.specs.{Answers.IsRevalidated, Effects.{Does, kept_of, settings_of}};
 
 use crate::cache::Cache;
 use crate::replying::Reply;

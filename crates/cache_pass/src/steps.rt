@@ -1,8 +1,8 @@
 //! The steps of a pass.
-ghost use Rattle.std.{specs.Prelude.{◌≡◌, ◌≢◌, IfErr, IfOk, None}, specs.Bool.MatchBool};
-ghost use Rattle.cache_pass.specs.Passes.{IsNotPassing, IsReceived, IsUnchanged, asked_of, phase_after, phase_first};
+ghost use Rattle.std.specs.Prelude.{◌≡◌, ◌≢◌, IfErr, IfOk, None};
+ghost use Rattle.{cache_pass.specs.declared.pass.Phase.TheVariants.Began, std.specs.Bool.MatchBool};
 ghost use Rattle.cache_pass.specs.Steps.{HasBegun, HasCome, HasEnded, HasFailed};
-ghost use Rattle.cache_pass.specs.declared.pass.Phase.TheVariants.{Began};
+ghost use Rattle.cache_pass.specs.Passes.{asked_of, IsNotPassing, IsReceived, IsUnchanged, phase_after, phase_first};
 
 use crate::cache::Cache;
 use crate::pass::{Asked, Pass, Phase};

@@ -1,8 +1,7 @@
 //! The validation of what was served stale.
-ghost use Rattle.std.specs.Prelude.{◌≡◌, [], IfOk, IsErrOf};
-ghost use Rattle.headers.specs.LineMap.{field_of, fields_of, lines_at};
-ghost use Rattle.cache_rules.specs.Fields.{IsTooSmallFor};
-ghost use Rattle.cache_pass.specs.Validation.{IsValidationOf, control_line, fields_alone};
+ghost use Rattle.std.specs.Prelude.{[], ◌≡◌, IfOk, IsErrOf};
+ghost use Rattle.{cache_rules.specs.Fields.IsTooSmallFor, headers.specs.LineMap.{field_of, fields_of, lines_at}};
+ghost use Rattle.cache_pass.specs.Validation.{control_line, fields_alone, IsValidationOf};
 
 use crate::pass::Pass;
 use cache_policy::read_directives;

@@ -1,6 +1,5 @@
-use Rattle.std.{proofs.Common.{None, length, refl, arith}, proofs.lemmas.Option.{slice_get_read, slice_get_within}}
-use Rattle.cache_rules.proofs.SelectionLemmas.{step_out}
-use Rattle.cache_pass.specs.Keeping.{IsNewer}
+use Rattle.std.proofs.{Common.{arith, length, None, refl}, lemmas.Option.{slice_get_read, slice_get_within}}
+use Rattle.{cache_pass.specs.Keeping.IsNewer, cache_rules.proofs.SelectionLemmas.step_out}
 use Rattle.cache_pass.proofs.keeping.is_late.Goals as goal
 
 pub loop-one-preserved : goal.loop-one-preserved

@@ -1,6 +1,4 @@
-use Rattle.std.proofs.Common.{None}
-use Rattle.cache_rules.proofs.SelectionLemmas.{LeadsOf}
-use Rattle.cache_pass.specs.Keeping.{IsNewer}
+use Rattle.{cache_pass.specs.Keeping.IsNewer, cache_rules.proofs.SelectionLemmas.LeadsOf, std.proofs.Common.None}
 use Rattle.cache_pass.proofs.keeping.is_late.Given as goal
 
 -- none of the stored responses so far is newer

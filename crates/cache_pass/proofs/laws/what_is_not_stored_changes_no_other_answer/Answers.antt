@@ -1,5 +1,4 @@
-use Rattle.std.proofs.Common.{refl}
-use Rattle.cache_pass.{specs.Passes.request_of_pass, proofs.UnstoredLemmas.alike}
+use Rattle.{cache_pass.{proofs.UnstoredLemmas.alike, specs.Passes.request_of_pass}, std.proofs.Common.refl}
 use Rattle.cache_pass.proofs.laws.what_is_not_stored_changes_no_other_answer.Goals as goal
 
 pub returns : goal.returns

@@ -1,4 +1,4 @@
-use Rattle.cache_pass.proofs.TraceLemmas.{leaves-nothing}
+use Rattle.cache_pass.proofs.UnstoredLemmas.{leaves-nothing}
 use Rattle.cache_pass.proofs.laws.what_is_not_stored_leaves_nothing.Goals as goal
 
 pub returns : goal.returns

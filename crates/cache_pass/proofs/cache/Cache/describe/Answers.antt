@@ -1,8 +1,6 @@
-use Rattle.std.proofs.Common.{[], ◌∷◌, refl, ap, inl, rules, sym, ◌∙◌}
-use Rattle.cache_policy.specs.Requests.{Request, request_of}
-use Rattle.cache_rules.specs.Stored.{fields_of_stored}
-use Rattle.cache_store.{specs.History.Call.Described, specs.Parts.Combining.exchange_of}
-use Rattle.cache_pass.specs.Effects.{kept_of}
+use Rattle.std.proofs.Common.{[], ◌∙◌, ◌∷◌, ap, inl, refl, rules, sym}
+use Rattle.{cache_policy.specs.Requests.{Request, request_of}, cache_rules.specs.Stored.fields_of_stored}
+use Rattle.{cache_pass.specs.Effects.kept_of, cache_store.specs.{History.Call.Described, Parts.Combining.exchange_of}}
 use Rattle.cache_pass.proofs.cache.Cache.describe.Goals as goal
 
 pub returns-then-as_u16-eq200-clause-does : goal.returns-then-as_u16-eq200-clause-does

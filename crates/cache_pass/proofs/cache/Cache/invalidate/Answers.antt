@@ -1,7 +1,6 @@
-use Rattle.std.proofs.Common.{List, [], ◌∷◌, map, refl, inl, inr, subst}
-use Rattle.url.specs.Parts.{Parts, serialize}
-use Rattle.cache_store.specs.History.Call.{Removed}
-use Rattle.cache_pass.{specs.Effects.{DoAll, kept_of, removals, settings_of}, proofs.CallLemmas.{do-one, removes-with}}
+use Rattle.std.proofs.Common.{[], ◌∷◌, inl, inr, List, map, refl, subst}
+use Rattle.{cache_store.specs.History.Call.Removed, url.specs.Parts.{Parts, serialize}}
+use Rattle.cache_pass.{proofs.CallLemmas.removes-with, specs.Effects.{DoAll, kept_of, removals, settings_of}}
 use Rattle.cache_pass.proofs.cache.Cache.invalidate.Goals as goal
 
 pub returns-in-Ok-clause-does : goal.returns-in-Ok-clause-does
@@ -19,6 +18,5 @@ pub returns-in_default-clause-does : goal.returns-in_default-clause-does
 returns-in_default-clause-does c = (
   Removed c.args.key.now ∷ [],
   inl (c.if-not-invalidates.ensures, ([], inr refl, refl)),
-  do-one (settings_of c.args.self.now) (Removed c.args.key.now) (kept_of c.args.self.now) (kept_of c.remove.new.self)
-      c.remove.ensures.does,
+  (kept_of c.args.self.now, refl, c.remove.ensures.does),
 )

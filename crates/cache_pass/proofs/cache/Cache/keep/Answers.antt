@@ -1,5 +1,5 @@
-use Rattle.std.proofs.Common.{Ok, Err, refl, ap}
-use Rattle.cache_pass.{specs.Effects.{kept_of, settings_of}, proofs.KeepLemmas.{keeps, keeps-full, keeps-none}}
+use Rattle.std.proofs.Common.{ap, Err, inl, Ok, refl}
+use Rattle.cache_pass.{proofs.KeepLemmas.{keeps, keeps-full, keeps-none}, specs.Effects.{kept_of, settings_of}}
 use Rattle.cache_pass.proofs.cache.Cache.keep.Goals as goal
 
 pub returns-in-Ok-clause-kept : goal.returns-in-Ok-clause-kept
@@ -9,7 +9,7 @@ returns-in-Ok-clause-kept c =
     c.args.came c.args.clock (kept_of c.args.self.now) (kept_of c.describe.new.self)
     (kept_of (record c.describe.new.self { store = c.store.new.self })) c.if-is_past.ensures does.0 does.1 does.2
     c.in-Ok.ensures.step refl c.in-Ok.number (λ number same. c.in-Ok.ensures.stored number (ap (λ o. Ok o) same))
-    (λ same. c.in-Ok.ensures.unstored (ap (λ o. Ok o) same))
+    (λ same. inl (c.in-Ok.ensures.unstored (ap (λ o. Ok o) same)))
 
 pub returns-in-Err-Full-clause-kept : goal.returns-in-Err-Full-clause-kept
 returns-in-Err-Full-clause-kept c =

@@ -1,8 +1,5 @@
-use Rattle.std.proofs.Common.{[], ◌∷◌, refl, inl, inr}
-use Rattle.headers.specs.LineMap.{lines_at}
-use Rattle.cache_policy.specs.Requests.{request_of}
-use Rattle.cache_store.{specs.History.Call, specs.History.Call.{Looked, Validated}}
-use Rattle.cache_pass.{specs.Effects.{kept_of, settings_of}, proofs.CallLemmas.do-one}
+use Rattle.{cache_store.specs.History.{Call, Call.{Looked, Validated}}, std.proofs.Common.{[], ◌∷◌, inl, inr, refl}}
+use Rattle.{cache_pass.specs.Effects.kept_of, cache_policy.specs.Requests.request_of, headers.specs.LineMap.lines_at}
 use Rattle.cache_pass.proofs.cache.Cache.next.Goals as goal
 
 pub returns-then-is_validation-clause-next : goal.returns-then-is_validation-clause-next
@@ -11,14 +8,12 @@ returns-then-is_validation-clause-next c =
     (record { requested = c.args.asked.requested; received = c.args.now }) in (
       call ∷ [],
       inr (inl (c.if-is_validation.ensures, c.if-is_outdated.ensures, refl, c.revalidated.ensures.next)),
-      do-one (settings_of c.args.self.now) call (kept_of c.args.self.now) (kept_of c.revalidated.new.self)
-          c.revalidated.ensures.does,
+      (kept_of c.args.self.now, refl, c.revalidated.ensures.does),
     )
 
 pub returns-then-serves_on_error-clause-next : goal.returns-then-serves_on_error-clause-next
 returns-then-serves_on_error-clause-next c = (
   Looked c.args.key.now ∷ [],
   inr (inr (inl (c.if-is_validation.ensures, c.if-serves_on_error.ensures.1, refl, c.failing.ensures.next))),
-  do-one (settings_of c.args.self.now) (Looked c.args.key.now) (kept_of c.args.self.now) (kept_of c.failing.new.self)
-      c.failing.ensures.does,
+  (kept_of c.args.self.now, refl, c.failing.ensures.does),
 )

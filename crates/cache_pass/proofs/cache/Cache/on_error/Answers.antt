@@ -1,6 +1,5 @@
-use Rattle.std.proofs.Common.{sym, ◌∙◌}
-use Rattle.cache_policy.specs.Requests.{request_of}
-use Rattle.cache_pass.{specs.Effects.{settings_of, stored_at}, proofs.ReplyLemmas.{error-none, error-reply}}
+use Rattle.{cache_policy.specs.Requests.request_of, std.proofs.Common.{◌∙◌, sym}}
+use Rattle.cache_pass.{proofs.ReplyLemmas.{error-none, error-reply}, specs.Effects.{settings_of, stored_at}}
 use Rattle.cache_pass.proofs.cache.Cache.on_error.Goals as goal
 
 pub returns-in-Some-clause-answer : goal.returns-in-Some-clause-answer

@@ -1,9 +1,7 @@
-use Rattle.std.proofs.Common.{◌≡◌, ◌∷◌, ◌++◌, ◌+◌, [], List, ℕ, map, take, sym, ap, subst, ◌∙◌}
-use Rattle.std.proofs.lemmas.List.{map-append, take_more, take_all}
-use Rattle.url.specs.Parts.{Parts, serialize}
-use Rattle.cache_store.{specs.History.History, specs.History.Call.Removed}
-use Rattle.cache_pass.specs.Effects.{DoAll, Does, Settings, kept_of, removals, settings_of}
-use Rattle.cache_pass.proofs.CallLemmas.{removals-append}
+use Rattle.cache_pass.specs.Effects.{DoAll, Does, kept_of, removals, Settings, settings_of}
+use Rattle.{cache_pass.proofs.CallLemmas.removals-append, std.proofs.lemmas.List.{map-append, take_all, take_more}}
+use Rattle.std.proofs.Common.{[], ◌++◌, ◌+◌, ◌∙◌, ◌∷◌, ◌≡◌, ap, List, map, subst, sym, take, ℕ}
+use Rattle.{cache_store.specs.History.{Call.Removed, History}, url.specs.Parts.{Parts, serialize}}
 use Rattle.cache_pass.proofs.cache.Cache.remove_all.Goals as goal
 
 pub loop-url-preserved : goal.loop-url-preserved

@@ -1,9 +1,7 @@
-use Rattle.std.proofs.Common.{inr}
-use Rattle.headers.specs.LineMap.{lines_at}
-use Rattle.cache_policy.specs.Requests.{request_of}
+use Rattle.{cache_policy.specs.Requests.request_of, headers.specs.LineMap.lines_at, std.proofs.Common.inr}
 use Rattle.cache_store.specs.{Changes.IsRestored, Kept.contents_of}
-use Rattle.cache_pass.{specs.Effects.{kept_of, settings_of}, proofs.ReplyLemmas.{not-shown, shows-after}}
-use Rattle.cache_pass.{proofs.RightLemmas.restored-named, specs.declared.cache.Cache.Cache}
+use Rattle.cache_pass.specs.{declared.cache.Cache.Cache, Effects.{kept_of, settings_of}}
+use Rattle.cache_pass.proofs.{ReplyLemmas.{not-shown, shows-after}, RightLemmas.restored-named}
 use Rattle.cache_pass.proofs.cache.Cache.revalidated.Goals as goal
 
 pub returns-in-Some-clause-next : goal.returns-in-Some-clause-next

@@ -1,8 +1,6 @@
-use Rattle.std.proofs.Common.{ℕ, List, ap, refl, subst, ◌∙◌}
-use Rattle.cache_policy.specs.Requests.{Request, request_of}
-use Rattle.cache_store.specs.History.Call.{Looked}
-use Rattle.cache_pass.{specs.Effects.{Does, kept_of, settings_of, stored_at}, specs.Passes.{key_of, phase_first}}
-use Rattle.cache_pass.specs.Replies.{IsFirstOf}
+use Rattle.{cache_policy.specs.Requests.{Request, request_of}, std.proofs.Common.{◌∙◌, ap, List, refl, subst, ℕ}}
+use Rattle.cache_pass.specs.Effects.{Does, kept_of, settings_of, stored_at}
+use Rattle.{cache_pass.specs.{Passes.{key_of, phase_first}, Replies.IsFirstOf}, cache_store.specs.History.Call.Looked}
 use Rattle.cache_pass.proofs.pass.Pass.begin.Goals as goal
 
 pub returns-clause-ok : goal.returns-clause-ok

@@ -1,5 +1,5 @@
-use Rattle.std.proofs.Common.{ℕ, List, refl, sym, inl, subst, ◌∙◌}
-use Rattle.cache_pass.{specs.Effects.{kept_of, settings_of}, specs.Keeping.IsKept}
+use Rattle.std.proofs.Common.{◌∙◌, inl, List, refl, subst, sym, ℕ}
+use Rattle.cache_pass.specs.{Effects.{kept_of, settings_of}, Keeping.IsKept}
 use Rattle.cache_pass.proofs.pass.Pass.ended.Goals as goal
 
 pub returns-in-Ok-clause-ok : goal.returns-in-Ok-clause-ok

@@ -1,10 +1,6 @@
-use Rattle.std.proofs.Common.{◌≡◌, ◌∙◌, ℕ, Err, ap}
-use Rattle.std.proofs.Common.{List, [], ◌∷◌, refl}
-use Rattle.std.specs.List.{AllZip}
-use Rattle.std.proofs.lemmas.Map.Entries.{entries_from_clone}
-use Rattle.http_header.{specs.FieldValue.FieldValue, specs.HeaderMap.{Entries, IsMapClone}}
-use Rattle.cache_policy.specs.Requests.{Request}
-use Rattle.cache_rules.proofs.FullLemmas.{passed_full}
+use Rattle.http_header.specs.{FieldValue.FieldValue, HeaderMap.{Entries, IsMapClone}}
+use Rattle.std.proofs.{Common.{[], ◌∙◌, ◌∷◌, ◌≡◌, ap, Err, List, refl, ℕ}, lemmas.Map.Entries.entries_from_clone}
+use Rattle.{cache_policy.specs.Requests.Request, cache_rules.proofs.FullLemmas.passed_full, std.specs.List.AllZip}
 use Rattle.cache_pass.proofs.pass.Pass.validation.Goals as goal
 
 same_values : (xs ys : List FieldValue) → AllZip (λ (value copy : FieldValue). copy ≡ value) xs ys → ys ≡ xs
