@@ -105,8 +105,10 @@ struct typed_headers_message {
     uint8_t version;
 };
 
-/* What a server knows of the target of a request, beside its entity tag. */
+/* What a server knows of the target of a request. */
 struct typed_headers_target {
+    /* The entity tag of its current representation, with its quotes, or empty if that has none. */
+    struct typed_headers_text etag;
     /* When its current representation was last modified, in seconds since the start of 1970. */
     uint64_t last_modified;
     /* When the request is answered, in seconds since the start of 1970. A date with a year of two digits depends on it
@@ -184,6 +186,14 @@ struct typed_headers_cors_rules {
     bool has_max_age;
     /* Whether requests may include credentials. */
     bool credentials;
+};
+
+/* The method of a request from another origin, and the response to it. */
+struct typed_headers_cors_exchange {
+    /* The method of the request. */
+    struct typed_headers_text method;
+    /* The header section of the response. */
+    struct typed_headers_text response;
 };
 
 /* What a request is to a server's rules for other origins. */
@@ -345,6 +355,9 @@ struct typed_headers_pass_facts {
 struct typed_headers_content {
     /* Its media type, as the line of Content-Type, or empty if it isn't known. */
     struct typed_headers_text media_type;
+    /* The boundary between several parts: 1 to 70 letters, digits, or `'`, `+`, `-`, `.`, `_`. No range that is sent may
+       hold it. */
+    struct typed_headers_text boundary;
     /* How many bytes it has, if `has_length`. */
     uint64_t length;
     /* Whether that is known. If not, no ranges are sent. */
@@ -487,7 +500,7 @@ struct typed_headers_resource {
     struct typed_headers_text codings;
     /* The entity tag of each, with its quotes. Nothing said: none. */
     struct typed_headers_text etags;
-    /* The boundary between several parts, as `typed_headers_respond` takes it. Empty: THIS_STRING_SEPARATES. */
+    /* The boundary between several parts, as in `typed_headers_content`. Empty: THIS_STRING_SEPARATES. */
     struct typed_headers_text boundary;
     /* The methods that the server implements for some resource, if `has_implemented`; GET, HEAD and `methods` count
        too. Any other method is answered by 501, and one of them that isn't in `methods` by 405 (sections 9.1 and
@@ -1058,15 +1071,14 @@ uint8_t typed_headers_format_etag(bool is_weak, const uint8_t *opaque, size_t op
 /*
  * What the preconditions of a request come to (RFC 9110, section 13.2.2): `*answer` is 0 if the method is to be
  * performed, 304 or 412. Of the section the fields If-Match, If-None-Match, If-Modified-Since and If-Unmodified-Since
- * count. `etag` is the entity tag of the target, or empty if it has none. A server asks this once it would otherwise
- * answer with success, and before it performs the method.
+ * count. A server asks this once it would otherwise answer with success, and before it performs the method.
  *
- * Refused: the method is no token, a line of the section before the first empty one is no field, `etag` is no entity
- * tag, or the date lies past the year 9999. Too large: the section has more names than a map has room for (24,576).
+ * Refused: the method is no token, a line of the section before the first empty one is no field, `target->etag` is no
+ * entity tag, or the date lies past the year 9999. Too large: the section has more names than a map has room for
+ * (24,576).
  */
 uint8_t typed_headers_evaluate(const struct typed_headers_request *request, const struct typed_headers_keys *keys,
-                               const uint8_t *etag, size_t etag_length, const struct typed_headers_target *target,
-                               uint16_t *answer);
+                               const struct typed_headers_target *target, uint16_t *answer);
 
 /*
  * Which part of the target's representation, of `length` bytes, a request selects (RFC 9110, sections 13.2.2 and 14.2):
@@ -1080,9 +1092,8 @@ uint8_t typed_headers_evaluate(const struct typed_headers_request *request, cons
  * applies.
  */
 uint8_t typed_headers_select(const struct typed_headers_request *request, const struct typed_headers_keys *keys,
-                             const uint8_t *etag, size_t etag_length, const struct typed_headers_target *target,
-                             uint64_t length, uint16_t *answer, struct typed_headers_bytes_range *room,
-                             size_t room_length, size_t *written);
+                             const struct typed_headers_target *target, uint64_t length, uint16_t *answer,
+                             struct typed_headers_bytes_range *room, size_t room_length, size_t *written);
 
 /*
  * The response to a GET or a HEAD of the target's current representation, by its preconditions and its ranges, and to
@@ -1093,21 +1104,19 @@ uint8_t typed_headers_select(const struct typed_headers_request *request, const 
  * Six fields are the response's alone, and are to be taken off first: etag, last-modified, accept-ranges,
  * content-range, content-length and content-type. So is content-encoding, unless `response->keeps_encoding`, and so are
  * content-digest and content-md5, unless the status is 200 or 0. Several ranges are sent as multipart/byteranges with
- * this boundary: 1 to 70 letters, digits, or `'`, `+`, `-`, `.`, `_`. No range that is sent may hold it.
+ * `content->boundary`.
  *
  * `*written` and `*parts_written` are given also if one of them doesn't fit, and so is `*response`. What fits is
  * written then.
  *
- * Refused: the method is no token, a line of the section before the first empty one is no field, `etag` is no entity
- * tag, the date lies past the year 9999, the media type is no line, or the boundary is none. Too large: the section has
- * more names than a map has room for (24,576). Memory: the media type isn't empty, or the boundary is one.
+ * Refused: as for `typed_headers_evaluate`, or the media type is no line, or the boundary is none. Too large: the
+ * section has more names than a map has room for (24,576). Memory: the media type isn't empty, or the boundary is one.
  */
 uint8_t typed_headers_respond(const struct typed_headers_request *request, const struct typed_headers_keys *keys,
-                              const uint8_t *etag, size_t etag_length, const struct typed_headers_target *target,
-                              const struct typed_headers_content *content, const uint8_t *boundary,
-                              size_t boundary_length, struct typed_headers_response *response,
-                              struct typed_headers_bytes_range *parts, size_t parts_length, size_t *parts_written,
-                              uint8_t *room, size_t room_length, size_t *written);
+                              const struct typed_headers_target *target, const struct typed_headers_content *content,
+                              struct typed_headers_response *response, struct typed_headers_bytes_range *parts,
+                              size_t parts_length, size_t *parts_written, uint8_t *room, size_t room_length,
+                              size_t *written);
 
 /*
  * Which of a server's offers a request is served, by the lines of its `accept`, `accept-encoding` or `accept-language`
@@ -1509,31 +1518,30 @@ uint8_t typed_headers_section_field(struct typed_headers_section *fields, const 
                                     uint8_t *room, size_t room_length, size_t *written);
 
 /*
- * What `typed_headers_evaluate` gives for these fields. Refused: the method is no token, `etag` is no entity tag, or
- * the date lies past the year 9999.
+ * What `typed_headers_evaluate` gives for these fields. Refused: the method is no token, `target->etag` is no entity
+ * tag, or the date lies past the year 9999.
  */
 uint8_t typed_headers_section_evaluate(struct typed_headers_section *fields, const uint8_t *method,
-                                       size_t method_length, const uint8_t *etag, size_t etag_length,
-                                       const struct typed_headers_target *target, uint16_t *answer);
+                                       size_t method_length, const struct typed_headers_target *target,
+                                       uint16_t *answer);
 
 /*
  * What `typed_headers_select` gives for these fields. Absent also: the target has no representation. Refused: as for
  * `typed_headers_section_evaluate`. Memory: Range applies.
  */
 uint8_t typed_headers_section_select(struct typed_headers_section *fields, const uint8_t *method,
-                                     size_t method_length, const uint8_t *etag, size_t etag_length,
-                                     const struct typed_headers_target *target, uint64_t length, uint16_t *answer,
-                                     struct typed_headers_bytes_range *room, size_t room_length, size_t *written);
+                                     size_t method_length, const struct typed_headers_target *target,
+                                     uint64_t length, uint16_t *answer, struct typed_headers_bytes_range *room,
+                                     size_t room_length, size_t *written);
 
 /*
  * What `typed_headers_respond` gives for these fields. Refused: as for `typed_headers_section_evaluate`, or the media
  * type is no line, or the boundary is none. Memory: the media type isn't empty, or the boundary is one.
  */
 uint8_t typed_headers_section_respond(struct typed_headers_section *fields, const uint8_t *method,
-                                      size_t method_length, const uint8_t *etag, size_t etag_length,
-                                      const struct typed_headers_target *target,
-                                      const struct typed_headers_content *content, const uint8_t *boundary,
-                                      size_t boundary_length, struct typed_headers_response *response,
+                                      size_t method_length, const struct typed_headers_target *target,
+                                      const struct typed_headers_content *content,
+                                      struct typed_headers_response *response,
                                       struct typed_headers_bytes_range *parts, size_t parts_length,
                                       size_t *parts_written, uint8_t *room, size_t room_length, size_t *written);
 
@@ -1561,8 +1569,8 @@ uint8_t typed_headers_cors_policy_new(struct typed_headers_cors_policy *policy,
  * (24,576). Memory: nothing is rejected.
  */
 uint8_t typed_headers_cors_policy_answer(struct typed_headers_cors_policy *policy,
-                                         struct typed_headers_section *fields, const uint8_t *method,
-                                         size_t method_length, const uint8_t *response, size_t response_length,
+                                         struct typed_headers_section *fields,
+                                         const struct typed_headers_cors_exchange *exchange,
                                          const struct typed_headers_keys *keys,
                                          struct typed_headers_cors_facts *facts, uint8_t *room, size_t room_length,
                                          size_t *written);

@@ -2,7 +2,6 @@
 union slot {
     SLOT
     union {
-        struct typed_headers_target target;
         struct typed_headers_directive_seconds directive_seconds;
         struct typed_headers_bytes_range bytes_range;
         struct typed_headers_content_range content_range;
@@ -23,8 +22,10 @@ union slot {
         struct typed_headers_entry entry;
         struct typed_headers_request request;
         struct typed_headers_message message;
+        struct typed_headers_target target;
         struct typed_headers_cache_directives cache_directives;
         struct typed_headers_cors_rules cors_rules;
+        struct typed_headers_cors_exchange cors_exchange;
         struct typed_headers_stored stored;
         struct typed_headers_cache_extensions cache_extensions;
         struct typed_headers_cache_request cache_request;
@@ -44,8 +45,6 @@ union slot {
     } any;
 };
 
-SHAPE(target, FLAGGED(target, last_modified, U64, has_last_modified), MEMBER(target, present, U64),
-      MEMBER(target, exists, BOOL), MEMBER(target, is_date_strong, BOOL))
 SHAPE(directive_seconds, FLAGGED(directive_seconds, seconds, U64, is_set))
 SHAPE(bytes_range, MEMBER(bytes_range, first, U64), MEMBER(bytes_range, last, U64))
 SHAPE(content_range, MEMBER(content_range, first, U64), MEMBER(content_range, last, U64),
@@ -77,6 +76,8 @@ SHAPE(entry, MEMBER(entry, length, U64), MEMBER(entry, modified, U64), MEMBER(en
 SHAPE(request, MEMBER(request, method, A_TEXT), MEMBER(request, section, A_TEXT))
 SHAPE(message, MEMBER(message, method, A_TEXT), MEMBER(message, section, A_TEXT), MEMBER(message, status, U16),
       MEMBER(message, version, U8))
+SHAPE(target, MEMBER(target, etag, A_TEXT), FLAGGED(target, last_modified, U64, has_last_modified),
+      MEMBER(target, present, U64), MEMBER(target, exists, BOOL), MEMBER(target, is_date_strong, BOOL))
 SHAPE(cache_directives, INNER(cache_directives, max_age, directive_seconds),
       INNER(cache_directives, max_stale, directive_seconds), INNER(cache_directives, min_fresh, directive_seconds),
       INNER(cache_directives, s_maxage, directive_seconds), MEMBER(cache_directives, no_cache, U8),
@@ -88,13 +89,14 @@ SHAPE(cache_directives, INNER(cache_directives, max_age, directive_seconds),
 SHAPE(cors_rules, MEMBER(cors_rules, origins, A_TEXT), MEMBER(cors_rules, methods, A_TEXT),
       MEMBER(cors_rules, headers, A_TEXT), MEMBER(cors_rules, exposed, A_TEXT),
       FLAGGED(cors_rules, max_age, U64, has_max_age), MEMBER(cors_rules, credentials, BOOL))
+SHAPE(cors_exchange, MEMBER(cors_exchange, method, A_TEXT), MEMBER(cors_exchange, response, A_TEXT))
 SHAPE(stored, MEMBER(stored, method, A_TEXT), MEMBER(stored, request, A_TEXT), MEMBER(stored, response, A_TEXT))
 SHAPE(cache_extensions, MEMBER(cache_extensions, targets, A_TEXT), MEMBER(cache_extensions, immutable, BOOL),
       MEMBER(cache_extensions, wait, U64))
 SHAPE(cache_request, MEMBER(cache_request, target, A_TEXT), MEMBER(cache_request, method, A_TEXT),
       MEMBER(cache_request, section, A_TEXT))
-SHAPE(content, MEMBER(content, media_type, A_TEXT), FLAGGED(content, length, U64, has_length),
-      MEMBER(content, sends_ranges, BOOL))
+SHAPE(content, MEMBER(content, media_type, A_TEXT), MEMBER(content, boundary, A_TEXT),
+      FLAGGED(content, length, U64, has_length), MEMBER(content, sends_ranges, BOOL))
 SHAPE(websocket_rules, MEMBER(websocket_rules, protocols, A_TEXT), MEMBER(websocket_rules, origins, A_TEXT))
 SHAPE(websocket_exchange, MEMBER(websocket_exchange, sent, A_TEXT), MEMBER(websocket_exchange, response, A_TEXT),
       MEMBER(websocket_exchange, status, U16))
@@ -171,17 +173,16 @@ CALL(format_content_range, MAY(REFUSED) | MAY(NO_MEMORY), (&at[0].any.content_ra
      OF_SHAPE(IN_STRUCT, content_range), PLAIN(ROOM_OF_BYTES))
 CALL(format_etag, MAY(REFUSED) | MAY(NO_MEMORY), (at[0].flag, TEXT_OF(at[1]), ROOM(at[2])), OF_KIND(NUMBER, BOOL),
      PLAIN(GIVEN_TEXT), PLAIN(ROOM_OF_BYTES))
-CALL(evaluate, MAY(REFUSED) | MAY(TOO_LARGE) | MAY(NO_MEMORY), (&at[0].any.request, &keys, TEXT_OF(at[1]),
-     &at[2].any.target, &at[3].u16), OF_SHAPE(IN_STRUCT, request), PLAIN(GIVEN_TEXT), OF_SHAPE(IN_STRUCT, target),
-     OF_KIND(OUT_NUMBER, U16))
+CALL(evaluate, MAY(REFUSED) | MAY(TOO_LARGE) | MAY(NO_MEMORY), (&at[0].any.request, &keys, &at[1].any.target,
+     &at[2].u16), OF_SHAPE(IN_STRUCT, request), OF_SHAPE(IN_STRUCT, target), OF_KIND(OUT_NUMBER, U16))
 CALL(select, MAY(REFUSED) | MAY(ABSENT) | MAY(TOO_LARGE) | MAY(NO_MEMORY), (&at[0].any.request, &keys,
-     TEXT_OF(at[1]), &at[2].any.target, at[3].u64, &at[4].u16, ROOM(at[5])), OF_SHAPE(IN_STRUCT, request),
-     PLAIN(GIVEN_TEXT), OF_SHAPE(IN_STRUCT, target), OF_KIND(NUMBER, U64), OF_KIND(OUT_NUMBER, U16),
+     &at[1].any.target, at[2].u64, &at[3].u16, ROOM(at[4])), OF_SHAPE(IN_STRUCT, request),
+     OF_SHAPE(IN_STRUCT, target), OF_KIND(NUMBER, U64), OF_KIND(OUT_NUMBER, U16),
      OF_SHAPE(ROOM_OF_STRUCTS, bytes_range))
-CALL(respond, MAY(REFUSED) | MAY(TOO_LARGE) | MAY(NO_MEMORY), (&at[0].any.request, &keys, TEXT_OF(at[1]),
-     &at[2].any.target, &at[3].any.content, TEXT_OF(at[4]), &at[5].any.response, ROOM(at[6]), ROOM(at[7])),
-     OF_SHAPE(IN_STRUCT, request), PLAIN(GIVEN_TEXT), OF_SHAPE(IN_STRUCT, target), OF_SHAPE(IN_STRUCT, content),
-     PLAIN(GIVEN_TEXT), OF_SHAPE(OUT_STRUCT, response), OF_SHAPE(ROOM_OF_STRUCTS, bytes_range), PLAIN(ROOM_OF_BYTES))
+CALL(respond, MAY(REFUSED) | MAY(TOO_LARGE) | MAY(NO_MEMORY), (&at[0].any.request, &keys, &at[1].any.target,
+     &at[2].any.content, &at[3].any.response, ROOM(at[4]), ROOM(at[5])), OF_SHAPE(IN_STRUCT, request),
+     OF_SHAPE(IN_STRUCT, target), OF_SHAPE(IN_STRUCT, content), OF_SHAPE(OUT_STRUCT, response),
+     OF_SHAPE(ROOM_OF_STRUCTS, bytes_range), PLAIN(ROOM_OF_BYTES))
 CALL(choose_type, MAY(REFUSED) | MAY(ABSENT) | MAY(NO_MEMORY), (FIELD(at[0]), TEXT_OF(at[1]), &at[2].size),
      PLAIN(LINES), PLAIN(GIVEN_TEXT), OF_KIND(OUT_NUMBER, SIZE))
 CALL(choose_coding, MAY(REFUSED) | MAY(ABSENT) | MAY(NO_MEMORY), (FIELD(at[0]), TEXT_OF(at[1]), &at[2].size),
@@ -286,18 +287,17 @@ CALL(section_new, MAY(REFUSED) | MAY(TOO_LARGE) | MAY(NO_MEMORY), (at[0].handle.
      OF_HANDLE(NEW, section), PLAIN(GIVEN_TEXT))
 CALL(section_field, MAY(REFUSED) | MAY(ABSENT) | MAY(NO_MEMORY), (at[0].handle.at, TEXT_OF(at[1]), ROOM(at[2])),
      OF_HANDLE(OPENED, section), PLAIN(GIVEN_TEXT), PLAIN(ROOM_OF_BYTES))
-CALL(section_evaluate, MAY(REFUSED) | MAY(ABSENT) | MAY(NO_MEMORY), (at[0].handle.at, TEXT_OF(at[1]), TEXT_OF(at[2]),
-     &at[3].any.target, &at[4].u16), OF_HANDLE(OPENED, section), PLAIN(GIVEN_TEXT), PLAIN(GIVEN_TEXT),
-     OF_SHAPE(IN_STRUCT, target), OF_KIND(OUT_NUMBER, U16))
-CALL(section_select, MAY(REFUSED) | MAY(ABSENT) | MAY(NO_MEMORY), (at[0].handle.at, TEXT_OF(at[1]), TEXT_OF(at[2]),
-     &at[3].any.target, at[4].u64, &at[5].u16, ROOM(at[6])), OF_HANDLE(OPENED, section), PLAIN(GIVEN_TEXT),
-     PLAIN(GIVEN_TEXT), OF_SHAPE(IN_STRUCT, target), OF_KIND(NUMBER, U64), OF_KIND(OUT_NUMBER, U16),
+CALL(section_evaluate, MAY(REFUSED) | MAY(ABSENT) | MAY(NO_MEMORY), (at[0].handle.at, TEXT_OF(at[1]),
+     &at[2].any.target, &at[3].u16), OF_HANDLE(OPENED, section), PLAIN(GIVEN_TEXT), OF_SHAPE(IN_STRUCT, target),
+     OF_KIND(OUT_NUMBER, U16))
+CALL(section_select, MAY(REFUSED) | MAY(ABSENT) | MAY(NO_MEMORY), (at[0].handle.at, TEXT_OF(at[1]),
+     &at[2].any.target, at[3].u64, &at[4].u16, ROOM(at[5])), OF_HANDLE(OPENED, section), PLAIN(GIVEN_TEXT),
+     OF_SHAPE(IN_STRUCT, target), OF_KIND(NUMBER, U64), OF_KIND(OUT_NUMBER, U16),
      OF_SHAPE(ROOM_OF_STRUCTS, bytes_range))
-CALL(section_respond, MAY(REFUSED) | MAY(ABSENT) | MAY(NO_MEMORY), (at[0].handle.at, TEXT_OF(at[1]), TEXT_OF(at[2]),
-     &at[3].any.target, &at[4].any.content, TEXT_OF(at[5]), &at[6].any.response, ROOM(at[7]), ROOM(at[8])),
-     OF_HANDLE(OPENED, section), PLAIN(GIVEN_TEXT), PLAIN(GIVEN_TEXT), OF_SHAPE(IN_STRUCT, target),
-     OF_SHAPE(IN_STRUCT, content), PLAIN(GIVEN_TEXT), OF_SHAPE(OUT_STRUCT, response),
-     OF_SHAPE(ROOM_OF_STRUCTS, bytes_range), PLAIN(ROOM_OF_BYTES))
+CALL(section_respond, MAY(REFUSED) | MAY(ABSENT) | MAY(NO_MEMORY), (at[0].handle.at, TEXT_OF(at[1]),
+     &at[2].any.target, &at[3].any.content, &at[4].any.response, ROOM(at[5]), ROOM(at[6])),
+     OF_HANDLE(OPENED, section), PLAIN(GIVEN_TEXT), OF_SHAPE(IN_STRUCT, target), OF_SHAPE(IN_STRUCT, content),
+     OF_SHAPE(OUT_STRUCT, response), OF_SHAPE(ROOM_OF_STRUCTS, bytes_range), PLAIN(ROOM_OF_BYTES))
 CALL(section_choose_type, MAY(REFUSED) | MAY(ABSENT) | MAY(NO_MEMORY), (at[0].handle.at, TEXT_OF(at[1]),
      &at[2].size), OF_HANDLE(OPENED, section), PLAIN(GIVEN_TEXT), OF_KIND(OUT_NUMBER, SIZE))
 CALL(section_choose_coding, MAY(REFUSED) | MAY(ABSENT) | MAY(NO_MEMORY), (at[0].handle.at, TEXT_OF(at[1]),
@@ -307,8 +307,8 @@ CALL(section_choose_language, MAY(REFUSED) | MAY(ABSENT) | MAY(NO_MEMORY), (at[0
 CALL(cors_policy_new, MAY(REFUSED) | MAY(NO_MEMORY), (at[0].handle.at, &at[1].any.cors_rules),
      OF_HANDLE(NEW, cors_policy), OF_SHAPE(IN_STRUCT, cors_rules))
 CALL(cors_policy_answer, MAY(REFUSED) | MAY(ABSENT) | MAY(TOO_LARGE) | MAY(NO_MEMORY), (at[0].handle.at,
-     at[1].handle.at, TEXT_OF(at[2]), TEXT_OF(at[3]), &keys, &at[4].any.cors_facts, ROOM(at[5])),
-     OF_HANDLE(OPENED, cors_policy), OF_HANDLE(OPENED, section), PLAIN(GIVEN_TEXT), PLAIN(GIVEN_TEXT),
+     at[1].handle.at, &at[2].any.cors_exchange, &keys, &at[3].any.cors_facts, ROOM(at[4])),
+     OF_HANDLE(OPENED, cors_policy), OF_HANDLE(OPENED, section), OF_SHAPE(IN_STRUCT, cors_exchange),
      OF_SHAPE(OUT_STRUCT, cors_facts), PLAIN(ROOM_OF_BYTES))
 CALL(resource_handle_new, MAY(REFUSED) | MAY(NO_MEMORY), (at[0].handle.at, &at[1].any.resource, at[2].list.at,
      at[2].list.length, &at[3].any.cors_rules), OF_HANDLE(NEW, resource_handle), OF_SHAPE(IN_STRUCT, resource),

@@ -19,7 +19,7 @@
 #define MOST_ROOM (4 << 20)
 
 static const struct typed_headers_keys KEYS = {0x0123456789abcdef, 0xfedcba9876543210};
-static const struct typed_headers_target TARGET = {784111777, 784200000, true, true, true};
+static const struct typed_headers_target TARGET = {{(const uint8_t *)"\"a\"", 3}, 784111777, 784200000, true, true, true};
 static const struct typed_headers_moments TIMES = {784111777, 784111778, 784111800};
 static char *text, *other;
 static uint8_t *room;
@@ -111,7 +111,7 @@ static void grow(size_t bytes) {
     uint64_t seconds;
     list(text, bytes, "", "\n", "x-name: value %u");
     COUNT("canonical, one name", typed_headers_canonical(BYTES(text), &KEYS, room, MOST_ROOM, &written));
-    COUNT("evaluate, one name", typed_headers_evaluate(ASKS("GET", text), &KEYS, BYTES("\"a\""), &TARGET, &status));
+    COUNT("evaluate, one name", typed_headers_evaluate(ASKS("GET", text), &KEYS, &TARGET, &status));
     COUNT("may_store, one name", typed_headers_may_store(ASKS("GET", text), 200, BYTES(text), &KEYS, true, &answer));
     COUNT("decide, one name", decide(text, text));
     if (bytes <= 1 << 18) {
@@ -123,16 +123,15 @@ static void grow(size_t bytes) {
         COUNT("decide, many names, and Vary of each", decide(text, other));
     }
     list(text, bytes, "If-None-Match: ", ", ", "\"%010x\"");
-    COUNT("evaluate, many tags", typed_headers_evaluate(ASKS("GET", text), &KEYS, BYTES("\"a\""), &TARGET, &status));
+    COUNT("evaluate, many tags", typed_headers_evaluate(ASKS("GET", text), &KEYS, &TARGET, &status));
     list(text, bytes, "", "\n", "If-None-Match: \"%010x\"");
-    COUNT("evaluate, many field lines of tags",
-          typed_headers_evaluate(ASKS("GET", text), &KEYS, BYTES("\"a\""), &TARGET, &status));
+    COUNT("evaluate, many field lines of tags", typed_headers_evaluate(ASKS("GET", text), &KEYS, &TARGET, &status));
     list(text, bytes, "Range: bytes=", ",", "%u-%u");
-    COUNT("select, ranges that overlap", typed_headers_select(ASKS("GET", text), &KEYS, BYTES("\"a\""), &TARGET,
-                                                              1 << 30, &status, ranges, MOST / 4, &written));
+    COUNT("select, ranges that overlap",
+          typed_headers_select(ASKS("GET", text), &KEYS, &TARGET, 1 << 30, &status, ranges, MOST / 4, &written));
     list(text, bytes, "Range: bytes=", ",", "%u00-%u00");
-    COUNT("select, ranges far apart", typed_headers_select(ASKS("GET", text), &KEYS, BYTES("\"a\""), &TARGET,
-                                                           1 << 30, &status, ranges, MOST / 4, &written));
+    COUNT("select, ranges far apart",
+          typed_headers_select(ASKS("GET", text), &KEYS, &TARGET, 1 << 30, &status, ranges, MOST / 4, &written));
     list(text, bytes, "bytes=", ",", "%u-%u");
     COUNT("ranges", typed_headers_ranges(BYTES(text), 1 << 30, ranges, MOST / 4, &written));
     list(text, bytes, "Cache-Control: ", ", ", "x-%u=\"a, b\"");
@@ -197,9 +196,12 @@ static uint64_t sum;
         printf("%s\t%.1f\t%.1f\n", name, least, (double)allocations / 2);                                             \
     } while (0)
 
+static const struct typed_headers_target TAGGED = {
+    {(const uint8_t *)"\"xyzzy\"", 7}, 784111777, 784200000, true, true, true};
+
 static uint64_t evaluated(const char *section) {
     uint16_t status = 0;
-    typed_headers_evaluate(ASKS("GET", section), &KEYS, BYTES("\"xyzzy\""), &TARGET, &status);
+    typed_headers_evaluate(ASKS("GET", section), &KEYS, &TAGGED, &status);
     return status + 1;
 }
 
@@ -217,11 +219,12 @@ static uint64_t chosen(chooser *choose, const char *lines, const char *offers) {
 }
 
 static uint64_t responded(const char *section) {
-    static const struct typed_headers_content CONTENT = {{(const uint8_t *)"text/html", 9}, 10000, true, true};
+    static const struct typed_headers_content CONTENT = {
+        {(const uint8_t *)"text/html", 9}, {(const uint8_t *)"a", 1}, 10000, true, true};
     struct typed_headers_response response = {0, 0};
     size_t parts;
-    typed_headers_respond(ASKS("HEAD", section), &KEYS, BYTES("\"xyzzy\""), &TARGET, &CONTENT, BYTES("a"),
-                          &response, ranges, 10, &parts, room, 1000, &written);
+    typed_headers_respond(ASKS("HEAD", section), &KEYS, &TAGGED, &CONTENT, &response, ranges, 10, &parts, room, 1000,
+                          &written);
     return response.status;
 }
 
@@ -240,13 +243,11 @@ static uint64_t asked(bool by_handle) {
     if (by_handle) typed_headers_section_new(&fields, BYTES(REQUEST), &KEYS);
     for (int round = 0; round < 5; round++) {
         if (by_handle) {
-            typed_headers_section_evaluate(&fields, BYTES("GET"), BYTES("\"xyzzy\""), &TARGET, &status);
-            typed_headers_section_select(&fields, BYTES("GET"), BYTES("\"xyzzy\""), &TARGET, 10000, &status, ranges, 10,
-                                         &written);
+            typed_headers_section_evaluate(&fields, BYTES("GET"), &TAGGED, &status);
+            typed_headers_section_select(&fields, BYTES("GET"), &TAGGED, 10000, &status, ranges, 10, &written);
         } else {
-            typed_headers_evaluate(ASKS("GET", REQUEST), &KEYS, BYTES("\"xyzzy\""), &TARGET, &status);
-            typed_headers_select(ASKS("GET", REQUEST), &KEYS, BYTES("\"xyzzy\""), &TARGET, 10000, &status, ranges,
-                                 10, &written);
+            typed_headers_evaluate(ASKS("GET", REQUEST), &KEYS, &TAGGED, &status);
+            typed_headers_select(ASKS("GET", REQUEST), &KEYS, &TAGGED, 10000, &status, ranges, 10, &written);
         }
         total += status;
     }

@@ -14,42 +14,39 @@ enum { FIRST_ROOM = 64, MOST_SECTION = 1 << 24 };
 #define GIVEN(text) (text).bytes, (text).length
 
 static uint8_t handled_evaluate(const struct typed_headers_request *request, const struct typed_headers_keys *keys,
-                                const uint8_t *etag, size_t etag_length, const struct typed_headers_target *target,
-                                uint16_t *answer) {
+                                const struct typed_headers_target *target, uint16_t *answer) {
     struct typed_headers_section fields = TYPED_HEADERS_CLOSED;
     uint8_t status = typed_headers_section_new(&fields, GIVEN(request->section), keys);
     if (status == TYPED_HEADERS_DONE) {
         uint16_t first;
-        typed_headers_section_evaluate(&fields, GIVEN(request->method), etag, etag_length, target, &first);
-        status = typed_headers_section_evaluate(&fields, GIVEN(request->method), etag, etag_length, target, answer);
+        typed_headers_section_evaluate(&fields, GIVEN(request->method), target, &first);
+        status = typed_headers_section_evaluate(&fields, GIVEN(request->method), target, answer);
     }
     typed_headers_section_free(&fields);
     return status;
 }
 
 static uint8_t handled_select(const struct typed_headers_request *request, const struct typed_headers_keys *keys,
-                              const uint8_t *etag, size_t etag_length, const struct typed_headers_target *target,
-                              uint64_t length, uint16_t *answer, struct typed_headers_bytes_range *room,
-                              size_t room_length, size_t *written) {
+                              const struct typed_headers_target *target, uint64_t length, uint16_t *answer,
+                              struct typed_headers_bytes_range *room, size_t room_length, size_t *written) {
     struct typed_headers_section fields = TYPED_HEADERS_CLOSED;
     uint8_t status = typed_headers_section_new(&fields, GIVEN(request->section), keys);
     if (status == TYPED_HEADERS_DONE) {
         struct typed_headers_bytes_range first_room[FIRST_ROOM];
         size_t first_written;
         uint16_t first;
-        typed_headers_section_select(&fields, GIVEN(request->method), etag, etag_length, target, length, &first,
-                                     first_room, FIRST_ROOM, &first_written);
-        status = typed_headers_section_select(&fields, GIVEN(request->method), etag, etag_length, target, length,
-                                              answer, room, room_length, written);
+        typed_headers_section_select(&fields, GIVEN(request->method), target, length, &first, first_room, FIRST_ROOM,
+                                     &first_written);
+        status = typed_headers_section_select(&fields, GIVEN(request->method), target, length, answer, room,
+                                              room_length, written);
     }
     typed_headers_section_free(&fields);
     return status;
 }
 
 static uint8_t handled_respond(const struct typed_headers_request *request, const struct typed_headers_keys *keys,
-                               const uint8_t *etag, size_t etag_length, const struct typed_headers_target *target,
-                               const struct typed_headers_content *content, const uint8_t *boundary,
-                               size_t boundary_length, struct typed_headers_response *response,
+                               const struct typed_headers_target *target,
+                               const struct typed_headers_content *content, struct typed_headers_response *response,
                                struct typed_headers_bytes_range *parts, size_t parts_length, size_t *parts_written,
                                uint8_t *room, size_t room_length, size_t *written) {
     struct typed_headers_section fields = TYPED_HEADERS_CLOSED;
@@ -59,12 +56,10 @@ static uint8_t handled_respond(const struct typed_headers_request *request, cons
         uint8_t first_room[FIRST_ROOM];
         size_t first_count, first_written;
         struct typed_headers_response first;
-        typed_headers_section_respond(&fields, GIVEN(request->method), etag, etag_length, target, content, boundary,
-                                      boundary_length, &first, first_parts, FIRST_ROOM, &first_count, first_room,
-                                      FIRST_ROOM, &first_written);
-        status = typed_headers_section_respond(&fields, GIVEN(request->method), etag, etag_length, target, content,
-                                               boundary, boundary_length, response, parts, parts_length, parts_written,
-                                               room, room_length, written);
+        typed_headers_section_respond(&fields, GIVEN(request->method), target, content, &first, first_parts,
+                                      FIRST_ROOM, &first_count, first_room, FIRST_ROOM, &first_written);
+        status = typed_headers_section_respond(&fields, GIVEN(request->method), target, content, response, parts,
+                                               parts_length, parts_written, room, room_length, written);
     }
     typed_headers_section_free(&fields);
     return status;
@@ -116,10 +111,11 @@ static uint8_t handled_cors_answer(const struct typed_headers_cors_rules *rules,
         struct typed_headers_cors_facts first;
         uint8_t first_room[FIRST_ROOM];
         size_t first_written;
-        typed_headers_cors_policy_answer(&policy, &fields, GIVEN(request->method), response, response_length, keys,
-                                         &first, first_room, FIRST_ROOM, &first_written);
-        status = typed_headers_cors_policy_answer(&policy, &fields, GIVEN(request->method), response, response_length,
-                                                  keys, facts, room, room_length, written);
+        const struct typed_headers_cors_exchange exchange = {request->method, {response, response_length}};
+        typed_headers_cors_policy_answer(&policy, &fields, &exchange, keys, &first, first_room, FIRST_ROOM,
+                                         &first_written);
+        status = typed_headers_cors_policy_answer(&policy, &fields, &exchange, keys, facts, room, room_length,
+                                                  written);
     }
     typed_headers_cors_policy_free(&policy);
     typed_headers_section_free(&fields);

@@ -13,7 +13,7 @@
 enum { ROUNDS = 2000, ROOM = 512 };
 
 static const struct typed_headers_keys KEYS = {1, 2};
-static const struct typed_headers_target TARGET = {0, 1767225600, true, false, false};
+static const struct typed_headers_target TARGET = {.etag = TEXT("\"a\""), .present = 1767225600, .exists = true};
 static const struct typed_headers_resource RESOURCE = {.methods = TEXT("GET"), .has_cors = true};
 static const struct typed_headers_resource_request REQUEST = {
     .method = TEXT("POST"), .present = 1767225600, .version = 11, .has_length = true};
@@ -34,8 +34,8 @@ static uint8_t share(struct typed_headers_cors_policy *policy, struct typed_head
     struct typed_headers_cors_facts facts = {9, 9};
     uint8_t room[ROOM];
     size_t written;
-    uint8_t status = typed_headers_cors_policy_answer(policy, fields, BYTES("GET"), NULL, 0, &KEYS, &facts, room, ROOM,
-                                                      &written);
+    const struct typed_headers_cors_exchange exchange = {.method = TEXT("GET")};
+    uint8_t status = typed_headers_cors_policy_answer(policy, fields, &exchange, &KEYS, &facts, room, ROOM, &written);
     *allowed = facts.is_allowed;
     return status;
 }
@@ -52,7 +52,7 @@ static uint8_t answer(struct typed_headers_resource_handle *handle, struct typed
 }
 
 static uint8_t evaluate(struct typed_headers_section *fields, uint16_t *code) {
-    return typed_headers_section_evaluate(fields, BYTES("GET"), BYTES("\"a\""), &TARGET, code);
+    return typed_headers_section_evaluate(fields, BYTES("GET"), &TARGET, code);
 }
 
 /* A closed handle answers ABSENT, and so does one of another struct. Either is as it was. */

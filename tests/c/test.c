@@ -655,7 +655,6 @@ static void check_accept(const struct row *row) {
 /* A request to a target. */
 struct request_call {
     struct typed_headers_request request;
-    struct typed_headers_text etag;
     struct typed_headers_target target;
     uint64_t length;
 };
@@ -666,7 +665,7 @@ static uint8_t call_evaluate(const void *arguments, uint64_t *number, uint8_t *r
     uint16_t answer = FILL;
     (void)room, (void)room_length, (void)written;
     uint8_t status = (is_handled ? handled_evaluate : typed_headers_evaluate)(
-        &call->request, &KEYS, call->etag.bytes, call->etag.length, &call->target, &answer);
+        &call->request, &KEYS, &call->target, &answer);
     if (answer != FILL) {
         *number = answer;
     }
@@ -679,8 +678,7 @@ static uint8_t call_select(const void *arguments, uint64_t *number, uint8_t *roo
     struct range_room ranges = range_room(room, room_length);
     uint16_t answer = FILL;
     uint8_t status = (is_handled ? handled_select : typed_headers_select)(
-        &call->request, &KEYS, call->etag.bytes, call->etag.length, &call->target, call->length, &answer, ranges.start,
-        ranges.count, written);
+        &call->request, &KEYS, &call->target, call->length, &answer, ranges.start, ranges.count, written);
     if (answer != FILL) {
         *number = answer;
     }
@@ -742,7 +740,7 @@ static struct row *answer_words(const struct row *row) {
 /* `METHOD (NAME) LINE.. (/)` from a word on: the place after it. */
 static size_t read_request(const struct row *row, size_t i, struct request_call *call) {
     call->request.method = put(third_area, row->words[i].bytes, row->words[i].length);
-    call->etag = put(second_area, "", 0);
+    call->target.etag = put(second_area, "", 0);
     return read_section(row, i + 1, first_area, &call->request.section);
 }
 
@@ -751,7 +749,7 @@ static void read_target(const struct word *words, struct request_call *call) {
     call->target.exists = true;
     call->target.present = 1767225600;
     if (!is_word(words, "(none)")) {
-        call->etag = put(second_area, words->bytes, words->length);
+        call->target.etag = put(second_area, words->bytes, words->length);
     }
     call->target.has_last_modified = !is_word(words + 1, "(none)");
     if (call->target.has_last_modified) {
@@ -1226,7 +1224,6 @@ static void check_offers(const struct row *row, const char *dimension, const cha
 struct response_call {
     struct request_call asked;
     struct typed_headers_content content;
-    struct typed_headers_text boundary;
     size_t most_parts;
 };
 
@@ -1241,9 +1238,8 @@ static uint8_t call_respond(const void *arguments, uint64_t *number, uint8_t *ro
     struct typed_headers_response response = {FILL, FILL};
     sent_count = NOT_WRITTEN;
     uint8_t status = (is_handled ? handled_respond : typed_headers_respond)(
-        &asked->request, &KEYS, asked->etag.bytes, asked->etag.length, &asked->target, &call->content,
-        call->boundary.bytes, call->boundary.length, &response, call->most_parts ? sent_parts : NULL, call->most_parts,
-        &sent_count, room, room_length, written);
+        &asked->request, &KEYS, &asked->target, &call->content, &response, call->most_parts ? sent_parts : NULL,
+        call->most_parts, &sent_count, room, room_length, written);
     if (response.status != FILL || response.keeps_encoding != FILL) {
         *number = response.status * 2 + response.keeps_encoding;
     } else if (sent_count != NOT_WRITTEN) {
@@ -1257,7 +1253,8 @@ static void check_respond(const struct row *row, bool sends_ranges) {
     static const char *names[] = {"etag",          "last-modified",  "accept-ranges",
                                   "content-range", "content-length", "content-type"};
     static char wanted[AREA], lines[AREA];
-    struct response_call call = {.most_parts = MOST_PARTS, .boundary = put(rule_areas[0], "THIS_STRING_SEPARATES", 21)};
+    struct response_call call = {.most_parts = MOST_PARTS};
+    call.content.boundary = put(rule_areas[0], "THIS_STRING_SEPARATES", 21);
     size_t i = read_request(row, 0, &call.asked), length = 0;
     if (is_word(&row->words[i], "missing")) {
         i++;
@@ -1293,8 +1290,8 @@ static void check_respond(const struct row *row, bool sends_ranges) {
     uint16_t code = 0;
     if (status == 206 && call.asked.request.section.length) {
         const struct request_call *asked = &call.asked;
-        typed_headers_select(&asked->request, &KEYS, asked->etag.bytes, asked->etag.length, &asked->target,
-                             call.content.length, &code, selected_parts, MOST_PARTS, &count);
+        typed_headers_select(&asked->request, &KEYS, &asked->target, call.content.length, &code, selected_parts,
+                             MOST_PARTS, &count);
     }
     if (sent_count != count || memcmp(sent_parts, selected_parts, count * sizeof *sent_parts) != 0) {
         complain(row, "other parts");
@@ -1307,10 +1304,10 @@ static void check_respond(const struct row *row, bool sends_ranges) {
             complain(row, "another answer without room for parts");
         }
     }
-    call.boundary = put(rule_areas[0], "", 0);
+    call.content.boundary = put(rule_areas[0], "", 0);
     call.most_parts = MOST_PARTS;
     check(row, call_respond, &call, TYPED_HEADERS_REFUSED, NO_NUMBER, NO_TEXT);
-    call.boundary = put(rule_areas[0], "\xC3\xA4", 2);
+    call.content.boundary = put(rule_areas[0], "\xC3\xA4", 2);
     check(row, call_respond, &call, TYPED_HEADERS_REFUSED, NO_NUMBER, NO_TEXT);
 }
 
@@ -1322,9 +1319,9 @@ static void check_boundary(const struct row *row) {
     call.content.sends_ranges = true;
     call.asked.request.method = put(third_area, "GET", 3);
     call.asked.request.section = put(first_area, section, sizeof section - 1);
-    call.asked.etag = put(second_area, "\"a\"", 3);
+    call.asked.target.etag = put(second_area, "\"a\"", 3);
     call.asked.target.exists = true;
-    call.boundary = put(rule_areas[0], row->words[0].bytes, row->words[0].length);
+    call.content.boundary = put(rule_areas[0], row->words[0].bytes, row->words[0].length);
     if (is_answer(row, "(refused)")) {
         check(row, call_respond, &call, TYPED_HEADERS_REFUSED, NO_NUMBER, NO_TEXT);
         return;

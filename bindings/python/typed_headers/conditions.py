@@ -97,7 +97,7 @@ CONTENT_DIGESTS = ("content-digest", "content-md5")
 #: The fields of a response that are `respond`'s alone.
 RESPONSE_FIELDS = ("etag", "last-modified", "accept-ranges", "content-range", "content-length", "content-type")
 
-_Facts = Tuple[bytes, Tuple[Optional[int], int, bool, bool]]
+_Facts = Tuple[bytes, Optional[int], int, bool, bool]
 
 _evaluate, _to_bytes = _library.calls.evaluate, _library.to_bytes
 
@@ -107,7 +107,7 @@ def _facts(target: Target, now: Optional[Time]) -> _Facts:
     tag = b"" if etag is None else _to_bytes(str(etag), "etag")
     modified = None if target.last_modified is None else _library.to_seconds(target.last_modified, "last_modified")
     present = int(time.time()) if now is None else _library.to_seconds(now, "now")
-    return tag, (modified, present, target.exists, target.is_date_strong)
+    return tag, modified, present, target.exists, target.is_date_strong
 
 
 def _refused(method: Text, request: HeadersLike, target: Target) -> HeaderError:
@@ -141,9 +141,9 @@ def evaluate(
     """
     verb, facts = _to_bytes(method, "method"), _facts(target, now)
     if isinstance(request, Section):
-        status, answer = _library.calls.section_evaluate(request._handle, verb, *facts)
+        status, answer = _library.calls.section_evaluate(request._handle, verb, facts)
     else:
-        status, answer = _evaluate((verb, section_of(request)), *facts)
+        status, answer = _evaluate((verb, section_of(request)), facts)
     if status:
         _library.check(status, lambda: _refused(method, request, target))
     return _PRECONDITIONS[answer]
@@ -163,9 +163,9 @@ def select(
     """
     verb, facts, size = _to_bytes(method, "method"), _facts(target, now), _library.to_number(length, "length")
     if isinstance(request, Section):
-        status, answer, found = _library.calls.section_select(request._handle, verb, *facts, size)
+        status, answer, found = _library.calls.section_select(request._handle, verb, facts, size)
     else:
-        status, answer, found = _library.calls.select((verb, section_of(request)), *facts, size)
+        status, answer, found = _library.calls.select((verb, section_of(request)), facts, size)
     _library.check(status, lambda: _refused(method, request, target))
     if status == _library.ABSENT:
         raise HeaderError("target: it doesn't exist, so nothing of it can be selected")
@@ -197,11 +197,12 @@ def respond(
     length = None if content.length is None else _library.to_number(content.length, "length")
     kind = b"" if content.media_type is None else _library.to_bytes(str(content.media_type), "media_type")
     separator = _library.to_bytes(boundary, "boundary")
-    verb, facts, sent = _to_bytes(method, "method"), _facts(target, now), (kind, length, content.sends_ranges)
+    verb, facts = _to_bytes(method, "method"), _facts(target, now)
+    sent = (kind, separator, length, content.sends_ranges)
     if isinstance(request, Section):
-        given = _library.calls.section_respond(request._handle, verb, *facts, sent, separator)
+        given = _library.calls.section_respond(request._handle, verb, facts, sent)
     else:
-        given = _library.calls.respond((verb, section_of(request)), *facts, sent, separator)
+        given = _library.calls.respond((verb, section_of(request)), facts, sent)
     status, (code, keeps), found, text = given
     if status:
         _library.check(status, lambda: _no_response(method, request, target, kind, separator))

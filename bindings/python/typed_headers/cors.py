@@ -120,7 +120,7 @@ class CorsPolicy:
         with a status from 200 to 299.
         """
         verb, asked, given = _library.to_bytes(method, "method"), asked_of(request), Headers(response).section
-        status, (kind, is_allowed), text = _library.calls.cors_policy_answer(self._handle, asked, verb, given)
+        status, (kind, is_allowed), text = _library.calls.cors_policy_answer(self._handle, asked, (verb, given))
         _library.check(status, lambda: _refused(verb, asked if isinstance(asked, bytes) else b"", given))
         return CorsAnswer(CorsKind(kind), is_allowed == 1, tuple(Headers(text).pairs()))
 

@@ -17,10 +17,10 @@ code_of Failed = 412
 
 -- the method, the target and the fields of the section are those that were handed in, and the code is that of their
 -- answer
-pub record IsEvaluated (method input etag : List ℕ) (target : Target) (code : ℕ) : Type 0 where
+pub record IsEvaluated (method input : List ℕ) (target : Target) (code : ℕ) : Type 0 where
   pub is_method : IsToken method
   pub resource : Resource
-  pub is_resource : IsResourceOf etag target (Ok resource)
+  pub is_resource : IsResourceOf target (Ok resource)
   pub request : Entries FieldValue
   pub holds : Holds input request
   pub answer : Precondition
@@ -28,8 +28,8 @@ pub record IsEvaluated (method input etag : List ℕ) (target : Target) (code : 
   pub code_is : code ≡ code_of answer
 
 -- the answer is the code, or the failure of reading what was handed in
-abbrev pub Evaluates : RequestTexts → (etag : List ℕ) → Target → Result ℕ Failure → Type 0
-Evaluates request etag target (Ok code) = IsEvaluated request.method.now request.section.now etag target code
-Evaluates request etag target (Err failure) =
+abbrev pub Evaluates : RequestTexts → Target → Result ℕ Failure → Type 0
+Evaluates request target (Ok code) = IsEvaluated request.method.now request.section.now target code
+Evaluates request target (Err failure) =
     IsMethodOf request.method.now (Err failure)
-    ⊎ (IsResourceOf etag target (Err failure) ⊎ IsMapOf request.section.now (Err failure))
+    ⊎ (IsResourceOf target (Err failure) ⊎ IsMapOf request.section.now (Err failure))

@@ -31,15 +31,15 @@ IsShownAnswer is_known None shown = IsLeft shown
 IsShownAnswer is_known (Some response) shown = IsShownResponse is_known response shown
 
 -- all is as it was handed in, and this is the answer
-pub record IsResponded (method input etag : List ℕ) (target : Target) (parts : ContentParts) (boundary : List ℕ)
-    (shown : Responded) : Type 0 where
+pub record IsResponded (method input : List ℕ) (target : Target) (parts : ContentParts) (shown : Responded)
+    : Type 0 where
   pub is_method : IsToken method
   pub resource : Resource
-  pub is_resource : IsResourceOf etag target (Ok resource)
+  pub is_resource : IsResourceOf target (Ok resource)
   pub content : Content
   pub is_content : IsContentOf parts (Ok content)
   pub multipart : FieldValue
-  pub is_multipart : IsBoundaryOf boundary (Ok multipart)
+  pub is_multipart : IsBoundaryOf parts.boundary.now (Ok multipart)
   pub request : Entries FieldValue
   pub holds : Holds input request
   pub answer : Option Response
@@ -47,12 +47,10 @@ pub record IsResponded (method input etag : List ℕ) (target : Target) (parts :
   pub is_shown : IsShownAnswer (is_known_by (lines_at request)) answer shown
 
 -- the answer is the response, or the failure of reading what was handed in
-abbrev pub Responds : RequestTexts → (etag : List ℕ) → Target → ContentParts → (boundary : List ℕ)
-    → Result Responded Failure → Type 0
-Responds request etag target parts boundary (Ok shown) =
-    IsResponded request.method.now request.section.now etag target parts boundary shown
-Responds request etag target parts boundary (Err failure) =
+abbrev pub Responds : RequestTexts → Target → ContentParts → Result Responded Failure → Type 0
+Responds request target parts (Ok shown) = IsResponded request.method.now request.section.now target parts shown
+Responds request target parts (Err failure) =
     IsMethodOf request.method.now (Err failure)
-    ⊎ (IsResourceOf etag target (Err failure)
+    ⊎ (IsResourceOf target (Err failure)
     ⊎ (IsContentOf parts (Err failure)
-    ⊎ (IsBoundaryOf boundary (Err failure) ⊎ IsMapOf request.section.now (Err failure))))
+    ⊎ (IsBoundaryOf parts.boundary.now (Err failure) ⊎ IsMapOf request.section.now (Err failure))))

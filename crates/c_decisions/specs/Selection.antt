@@ -31,10 +31,10 @@ ArePartsOf Unsatisfiable = ⊥
 ArePartsOf (Parts parts) = ⊤
 
 -- the method, the target and the fields of the section are those that were handed in, and this is their selection
-pub record IsSelected (method input etag : List ℕ) (target : Target) (length : ℕ) (selected : Selected) : Type 0 where
+pub record IsSelected (method input : List ℕ) (target : Target) (length : ℕ) (selected : Selected) : Type 0 where
   pub is_method : IsToken method
   pub current : Validators
-  pub is_resource : IsResourceOf etag target (Ok (Current current))
+  pub is_resource : IsResourceOf target (Ok (Current current))
   pub request : Entries FieldValue
   pub holds : Holds input request
   pub selection : Selection
@@ -42,10 +42,10 @@ pub record IsSelected (method input etag : List ℕ) (target : Target) (length :
   pub shown : IsShown selection selected.code selected.ranges.items
 
 -- the same method, target and fields, and Range applies to them: its parts take memory
-pub record HasRange (method input etag : List ℕ) (target : Target) (length : ℕ) : Type 0 where
+pub record HasRange (method input : List ℕ) (target : Target) (length : ℕ) : Type 0 where
   pub is_method : IsToken method
   pub current : Validators
-  pub is_resource : IsResourceOf etag target (Ok (Current current))
+  pub is_resource : IsResourceOf target (Ok (Current current))
   pub request : Entries FieldValue
   pub holds : Holds input request
   pub set : List ℕ
@@ -53,15 +53,15 @@ pub record HasRange (method input etag : List ℕ) (target : Target) (length : �
 
 -- The answer is the selection, or the failure of reading what was handed in. `Absent` only if the target has no
 -- representation, and `Memory` also if Range applies.
-abbrev pub Selects : RequestTexts → (etag : List ℕ) → Target → ℕ → Result Selected Failure → Type 0
-Selects request etag target length (Ok selected) =
-    IsSelected request.method.now request.section.now etag target length selected
-Selects request etag target length (Err Absent) = target.exists ≡ false
-Selects request etag target length (Err failure) =
+abbrev pub Selects : RequestTexts → Target → ℕ → Result Selected Failure → Type 0
+Selects request target length (Ok selected) =
+    IsSelected request.method.now request.section.now target length selected
+Selects request target length (Err Absent) = target.exists ≡ false
+Selects request target length (Err failure) =
     IsMethodOf request.method.now (Err failure)
-    ⊎ (IsResourceOf etag target (Err failure)
+    ⊎ (IsResourceOf target (Err failure)
     ⊎ (IsMapOf request.section.now (Err failure)
-    ⊎ ((failure ≡ Memory) × HasRange request.method.now request.section.now etag target length)))
+    ⊎ ((failure ≡ Memory) × HasRange request.method.now request.section.now target length)))
 
 -- a call that gives a selection has an answer of which P holds
 abbrev pub WritesSelection : (Result Selected Failure → Type 0) → (code new_code : ℕ) → (old new : List BytesRange)

@@ -25,13 +25,13 @@ IsDateOf is_known second (Ok date) = date ≡ known is_known second
 IsDateOf is_known second (Err failure) = (failure ≡ Refused) × (is_known ≡ true) × (¬ (IsDated second))
 
 -- what the target is: nothing, or a representation with this tag and this date
-abbrev pub IsResourceOf : List ℕ → Target → Result Resource Failure → Type 0
-IsResourceOf etag target (Ok Missing) = target.exists ≡ false
-IsResourceOf etag target (Ok (Current validators)) =
+abbrev pub IsResourceOf : Target → Result Resource Failure → Type 0
+IsResourceOf target (Ok Missing) = target.exists ≡ false
+IsResourceOf target (Ok (Current validators)) =
     (target.exists ≡ true)
-    × IsTagOf etag (Ok validators.etag)
+    × IsTagOf target.etag.now (Ok validators.etag)
     × IsDateOf target.has_last_modified target.last_modified (Ok validators.last_modified)
     × (validators.is_date_strong ≡ target.is_date_strong)
-IsResourceOf etag target (Err failure) =
+IsResourceOf target (Err failure) =
     (target.exists ≡ true)
-    × (IsTagOf etag (Err failure) ⊎ IsDateOf target.has_last_modified target.last_modified (Err failure))
+    × (IsTagOf target.etag.now (Err failure) ⊎ IsDateOf target.has_last_modified target.last_modified (Err failure))

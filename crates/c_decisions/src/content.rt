@@ -15,6 +15,8 @@ use std::alloc::Global;
 pub struct ContentParts<'a> {
     /// Its media type, as the line of `Content-Type`, or empty if it isn't known.
     pub media_type: &'a [u8],
+    /// The boundary between several parts.
+    pub boundary: &'a [u8],
     /// How many bytes it has, if `has_length`.
     pub length: u64,
     /// Whether that is known. If not, no ranges are sent.
@@ -36,7 +38,7 @@ pub fn limits_of(sends_ranges: bool) -> Option<RangeLimits>
 
 /// What the parts say. Rejected if the media type can't be a field line.
 pub fn content_of(alloc: Global, parts: &ContentParts<'_>) -> Result<Content, Failure>
-    ensures { IsContentOf parts.entry.now result }
+    ensures { IsContentOf parts.now result }
 {
     let media_type = optional_value(alloc, parts.media_type)?;
     Ok(Content {

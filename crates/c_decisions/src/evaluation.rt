@@ -15,13 +15,12 @@ pub fn evaluate_request(
     alloc: Global,
     request: &RequestTexts<'_>,
     keys: &HashKeys,
-    etag: &[u8],
-    target: &Target,
+    target: &Target<'_>,
 ) -> Result<u16, Failure>
-    ensures { Evaluates request.now etag.now target.now result }
+    ensures { Evaluates request.now target.now result }
 {
     let method = read_method(alloc, request.method)?;
-    let resource = read_resource(alloc, etag, target)?;
+    let resource = read_resource(alloc, target)?;
     let fields = read_map(alloc, request.section, keys)?;
     let head = RequestHead {
         method: &method,

@@ -42,5 +42,5 @@ pub use crate::rules::{Listed, Rules, read_line, read_policy};
 pub use crate::selection::{BytesRange, Selected, select_ranges, show_selection};
 pub use crate::star::is_any;
 pub use crate::status_code::read_status;
-pub use crate::target::{MethodAndTarget, Target, read_date, read_resource};
+pub use crate::target::{Target, read_date, read_resource};
 pub use crate::texts::{optional_value, request_with, values_of};

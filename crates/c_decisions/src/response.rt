@@ -41,17 +41,15 @@ pub fn respond_to(
     alloc: Global,
     request: &RequestTexts<'_>,
     keys: &HashKeys,
-    etag: &[u8],
-    target: &Target,
-    content: &ContentParts<'_>,
-    boundary: &[u8],
+    target: &Target<'_>,
+    parts: &ContentParts<'_>,
 ) -> Result<Responded, Failure>
-    ensures { Responds request.now etag.now target.now content.entry.now boundary.now result }
+    ensures { Responds request.now target.now parts.now result }
 {
     let method = read_method(alloc, request.method)?;
-    let resource = read_resource(alloc, etag, target)?;
-    let content = content_of(alloc, content)?;
-    let boundary = boundary_of(alloc, boundary)?;
+    let resource = read_resource(alloc, target)?;
+    let content = content_of(alloc, parts)?;
+    let boundary = boundary_of(alloc, parts.boundary)?;
     let fields = read_map(alloc, request.section, keys)?;
     let head = RequestHead {
         method: &method,

@@ -32,14 +32,13 @@ pub fn select_ranges(
     alloc: Global,
     request: &RequestTexts<'_>,
     keys: &HashKeys,
-    etag: &[u8],
-    target: &Target,
+    target: &Target<'_>,
     length: u64,
 ) -> Result<Selected, Failure>
-    ensures { Selects request.now etag.now target.now length result }
+    ensures { Selects request.now target.now length result }
 {
     let method = read_method(alloc, request.method)?;
-    let Resource::Current(current) = read_resource(alloc, etag, target)? else {
+    let Resource::Current(current) = read_resource(alloc, target)? else {
         return Err(Failure::Absent);
     };
     let fields = read_map(alloc, request.section, keys)?;

@@ -9,10 +9,12 @@ use std::alloc::Global;
 /// The first second after the dates of HTTP.
 const END_OF_DATES: u64 = 253_402_300_800;
 
-/// What a server knows about the target of a request, beside its entity tag.
+/// What a server knows about the target of a request, as C passes it in.
 #[repr(C)]
 #[derive(Clone, Copy)]
-pub struct Target {
+pub struct Target<'a> {
+    /// The entity tag of its current representation, or empty if that has none.
+    pub etag: &'a [u8],
     /// When its current representation was last modified, in seconds since the start of 1970, if
     /// `has_last_modified`.
     pub last_modified: u64,
@@ -25,17 +27,6 @@ pub struct Target {
     pub has_last_modified: bool,
     /// Whether that date is a strong validator (RFC 9110, section 8.8.2.2).
     pub is_date_strong: bool,
-}
-
-/// What a request asks for, beside its fields.
-#[derive(Clone, Copy)]
-pub struct MethodAndTarget<'a> {
-    /// Its method.
-    pub method: &'a [u8],
-    /// The entity tag of its target, or empty if that has none.
-    pub etag: &'a [u8],
-    /// What else a server knows about the target.
-    pub target: &'a Target,
 }
 
 fn read_tag(alloc: Global, text: &[u8]) -> Result<Option<ETag>, Failure>
@@ -61,14 +52,14 @@ pub fn read_date(is_known: bool, second: u64) -> Result<Option<LastModified>, Fa
     Ok(Some(LastModified::from_unix_secs(second)))
 }
 
-/// Makes the resource of an entity tag and what is known about the target.
-pub fn read_resource(alloc: Global, etag: &[u8], target: &Target) -> Result<Resource, Failure>
-    ensures { IsResourceOf etag.now target.now result }
+/// Makes the resource of what is known about the target.
+pub fn read_resource(alloc: Global, target: &Target<'_>) -> Result<Resource, Failure>
+    ensures { IsResourceOf target.now result }
 {
     if !target.exists {
         return Ok(Resource::Missing);
     }
-    let etag = read_tag(alloc, etag)?;
+    let etag = read_tag(alloc, target.etag)?;
     let last_modified = read_date(target.has_last_modified, target.last_modified)?;
     Ok(Resource::Current(Validators {
         etag,

@@ -8,6 +8,7 @@ use Rattle.c_parts.specs.declared.status.Failure.TheVariants.{Memory, Absent}
 use Rattle.c_decisions.{specs.Cors.IsSharedBy, specs.Methods.IsMethodOf, specs.Rules.IsPolicyAnswer}
 use Rattle.c_decisions.{specs.declared.cors.Shared.Shared, specs.declared.rules.Rules.Rules}
 use Rattle.c_handles.{specs.Sections.OfEach, specs.declared.held.Held.Held}
+use Rattle.c_handles.specs.declared.policy.CorsExchange.{CorsExchange}
 use Rattle.c_handles.specs.declared.held.Held.TheVariants as held
 
 -- the policy of the rules, or why there is none; `Memory` also for the handle
@@ -17,18 +18,19 @@ IsPolicyHeld given (Ok other) = ⊥
 IsPolicyHeld given (Err failure) = IsPolicyAnswer given (Err failure) ⊎ (failure ≡ Memory)
 
 -- the method and the section of the response can be read: a policy's answer to them has fields, which take memory
-pub record AreRead (method response : List ℕ) : Type 0 where
-  pub is_method : IsToken method
+pub record AreRead (exchange : CorsExchange) : Type 0 where
+  pub is_method : IsToken exchange.method.now
   pub told : Entries FieldValue
-  pub is_told : Holds response told
+  pub is_told : Holds exchange.response.now told
 
-module _ (method response : List ℕ) where
+module _ (exchange : CorsExchange) where
   -- the policy's answer to a request with these fields
   abbrev pub SharesOf : Policy → Entries FieldValue → Result Shared Failure → Type 0
-  SharesOf policy fields (Ok shared) = OfEach fields (λ request. IsSharedBy policy method request response shared)
+  SharesOf policy fields (Ok shared) =
+      OfEach fields (λ request. IsSharedBy policy exchange.method.now request exchange.response.now shared)
   SharesOf policy fields (Err failure) =
-      IsMethodOf method (Err failure)
-      ⊎ (IsMapOf response (Err failure) ⊎ ((failure ≡ Memory) × AreRead method response))
+      IsMethodOf exchange.method.now (Err failure)
+      ⊎ (IsMapOf exchange.response.now (Err failure) ⊎ ((failure ≡ Memory) × AreRead exchange))
 
   -- the same of two handles: `Absent` if one has none
   abbrev pub SharesBetween : Option Policy → Option (Entries FieldValue) → Result Shared Failure → Type 0

@@ -49,25 +49,25 @@ module _ (fields : Entries FieldValue) where
       IsNameOf name (Err Memory) ⊎ (IsFieldName name × HasLine (lines_under (lowercase name)))
   IsWrittenOf name (Err TooLarge) = ⊥
 
-  module _ (method etag : List ℕ) (target : Target) where
+  module _ (method : List ℕ) (target : Target) where
     abbrev pub EvaluatesOf : Result ℕ Failure → Type 0
-    EvaluatesOf (Ok code) = OfEach (λ input. IsEvaluated method input etag target code)
-    EvaluatesOf (Err failure) = IsMethodOf method (Err failure) ⊎ IsResourceOf etag target (Err failure)
+    EvaluatesOf (Ok code) = OfEach (λ input. IsEvaluated method input target code)
+    EvaluatesOf (Err failure) = IsMethodOf method (Err failure) ⊎ IsResourceOf target (Err failure)
 
     abbrev pub SelectsOf : ℕ → Result Selected Failure → Type 0
-    SelectsOf length (Ok selected) = OfEach (λ input. IsSelected method input etag target length selected)
+    SelectsOf length (Ok selected) = OfEach (λ input. IsSelected method input target length selected)
     SelectsOf length (Err Absent) = target.exists ≡ false
     SelectsOf length (Err failure) =
         IsMethodOf method (Err failure)
-        ⊎ (IsResourceOf etag target (Err failure)
-        ⊎ ((failure ≡ Memory) × OfEach (λ input. HasRange method input etag target length)))
+        ⊎ (IsResourceOf target (Err failure)
+        ⊎ ((failure ≡ Memory) × OfEach (λ input. HasRange method input target length)))
 
-    abbrev pub RespondsOf : ContentParts → List ℕ → Result Responded Failure → Type 0
-    RespondsOf parts boundary (Ok shown) = OfEach (λ input. IsResponded method input etag target parts boundary shown)
-    RespondsOf parts boundary (Err failure) =
+    abbrev pub RespondsOf : ContentParts → Result Responded Failure → Type 0
+    RespondsOf parts (Ok shown) = OfEach (λ input. IsResponded method input target parts shown)
+    RespondsOf parts (Err failure) =
         IsMethodOf method (Err failure)
-        ⊎ (IsResourceOf etag target (Err failure)
-        ⊎ (IsContentOf parts (Err failure) ⊎ IsBoundaryOf boundary (Err failure)))
+        ⊎ (IsResourceOf target (Err failure)
+        ⊎ (IsContentOf parts (Err failure) ⊎ IsBoundaryOf parts.boundary.now (Err failure)))
 
 -- the choice among the offers
 abbrev pub IsChoice : (List FieldValue → Option ℕ → Type 0) → List ℕ → Option ℕ → Type 0

@@ -7,7 +7,7 @@ ghost use Rattle.c_handles.specs.Sections.{SelectsOf, lines_under};
 use crate::handle::Handle;
 use crate::held::Held;
 use c_decisions::{
-    ContentParts, MethodAndTarget, Responded, Selected, boundary_of, code_of, content_of, given,
+    ContentParts, Responded, Selected, Target, boundary_of, code_of, content_of, given,
     read_method, read_resource, show_response, show_selection, values_of,
 };
 use c_parts::Failure;
@@ -19,27 +19,31 @@ use std::alloc::Global;
 fn evaluate_of(
     alloc: Global,
     fields: &HeaderMap,
-    asked: &MethodAndTarget<'_>,
+    method: &[u8],
+    target: &Target<'_>,
 ) -> Result<u16, Failure>
-    ensures { EvaluatesOf fields.now asked.now.method.now asked.now.etag.now asked.now.target.now result }
+    ensures { EvaluatesOf fields.now method.now target.now result }
 {
-    let method = read_method(alloc, asked.method)?;
-    let resource = read_resource(alloc, asked.etag, asked.target)?;
+    let method = read_method(alloc, method)?;
+    let resource = read_resource(alloc, target)?;
     let head = RequestHead {
         method: &method,
         fields,
     };
-    let answer = decide_preconditions::evaluate(&head, &resource, asked.target.present);
+    let answer = decide_preconditions::evaluate(&head, &resource, target.present);
     Ok(code_of(answer))
 }
 
-fn evaluate_in(alloc: Global, held: &Held, asked: &MethodAndTarget<'_>) -> Result<u16, Failure>
-    ensures { OnHeld
-        (λ fields. EvaluatesOf fields asked.now.method.now asked.now.etag.now asked.now.target.now)
-        (section_in (Some held.now)) result }
+fn evaluate_in(
+    alloc: Global,
+    held: &Held,
+    method: &[u8],
+    target: &Target<'_>,
+) -> Result<u16, Failure>
+    ensures { OnHeld (λ fields. EvaluatesOf fields method.now target.now) (section_in (Some held.now)) result }
 {
     match held {
-        Held::Section(fields) => evaluate_of(alloc, fields, asked),
+        Held::Section(fields) => evaluate_of(alloc, fields, method, target),
         _ => Err(Failure::Absent),
     }
 }
@@ -49,17 +53,16 @@ fn evaluate_in(alloc: Global, held: &Held, asked: &MethodAndTarget<'_>) -> Resul
 pub fn evaluate(
     alloc: Global,
     section: &mut Handle,
-    asked: &MethodAndTarget<'_>,
+    method: &[u8],
+    target: &Target<'_>,
 ) -> Result<u16, Failure>
     ensures same { section.new.held ≡ section.old.held }
-    ensures answer { OnHeld
-        (λ fields. EvaluatesOf fields asked.now.method.now asked.now.etag.now asked.now.target.now)
-        (section_in section.old.held) result }
+    ensures answer { OnHeld (λ fields. EvaluatesOf fields method.now target.now) (section_in section.old.held) result }
 {
     let Some(held) = section.take(alloc) else {
         return Err(Failure::Absent);
     };
-    let answer = evaluate_in(alloc, &held, asked);
+    let answer = evaluate_in(alloc, &held, method, target);
     section.put(held);
     answer
 }
@@ -67,13 +70,14 @@ pub fn evaluate(
 fn select_of(
     alloc: Global,
     fields: &HeaderMap,
-    asked: &MethodAndTarget<'_>,
+    method: &[u8],
+    target: &Target<'_>,
     length: u64,
 ) -> Result<Selected, Failure>
-    ensures { SelectsOf fields.now asked.now.method.now asked.now.etag.now asked.now.target.now length result }
+    ensures { SelectsOf fields.now method.now target.now length result }
 {
-    let method = read_method(alloc, asked.method)?;
-    let Resource::Current(current) = read_resource(alloc, asked.etag, asked.target)? else {
+    let method = read_method(alloc, method)?;
+    let Resource::Current(current) = read_resource(alloc, target)? else {
         return Err(Failure::Absent);
     };
     let head = RequestHead {
@@ -82,7 +86,7 @@ fn select_of(
     };
     let limits = RangeLimits::usual();
     let facts = RangeFacts {
-        present: asked.target.present,
+        present: target.present,
         len: length,
         limits,
     };
@@ -93,15 +97,14 @@ fn select_of(
 fn select_in(
     alloc: Global,
     held: &Held,
-    asked: &MethodAndTarget<'_>,
+    method: &[u8],
+    target: &Target<'_>,
     length: u64,
 ) -> Result<Selected, Failure>
-    ensures { OnHeld
-        (λ fields. SelectsOf fields asked.now.method.now asked.now.etag.now asked.now.target.now length)
-        (section_in (Some held.now)) result }
+    ensures { OnHeld (λ fields. SelectsOf fields method.now target.now length) (section_in (Some held.now)) result }
 {
     match held {
-        Held::Section(fields) => select_of(alloc, fields, asked, length),
+        Held::Section(fields) => select_of(alloc, fields, method, target, length),
         _ => Err(Failure::Absent),
     }
 }
@@ -111,18 +114,18 @@ fn select_in(
 pub fn select(
     alloc: Global,
     section: &mut Handle,
-    asked: &MethodAndTarget<'_>,
+    method: &[u8],
+    target: &Target<'_>,
     length: u64,
 ) -> Result<Selected, Failure>
     ensures same { section.new.held ≡ section.old.held }
-    ensures answer { OnHeld
-        (λ fields. SelectsOf fields asked.now.method.now asked.now.etag.now asked.now.target.now length)
+    ensures answer { OnHeld (λ fields. SelectsOf fields method.now target.now length)
         (section_in section.old.held) result }
 {
     let Some(held) = section.take(alloc) else {
         return Err(Failure::Absent);
     };
-    let answer = select_in(alloc, &held, asked, length);
+    let answer = select_in(alloc, &held, method, target, length);
     section.put(held);
     answer
 }
@@ -130,23 +133,22 @@ pub fn select(
 fn respond_of(
     alloc: Global,
     fields: &HeaderMap,
-    asked: &MethodAndTarget<'_>,
-    content: &ContentParts<'_>,
-    boundary: &[u8],
+    method: &[u8],
+    target: &Target<'_>,
+    parts: &ContentParts<'_>,
 ) -> Result<Responded, Failure>
-    ensures { RespondsOf fields.now asked.now.method.now asked.now.etag.now asked.now.target.now
-        content.entry.now boundary.now result }
+    ensures { RespondsOf fields.now method.now target.now parts.now result }
 {
-    let method = read_method(alloc, asked.method)?;
-    let resource = read_resource(alloc, asked.etag, asked.target)?;
-    let content = content_of(alloc, content)?;
-    let boundary = boundary_of(alloc, boundary)?;
+    let method = read_method(alloc, method)?;
+    let resource = read_resource(alloc, target)?;
+    let content = content_of(alloc, parts)?;
+    let boundary = boundary_of(alloc, parts.boundary)?;
     let head = RequestHead {
         method: &method,
         fields,
     };
     let sending = Sending {
-        present: asked.target.present,
+        present: target.present,
         content: &content,
         boundary: &boundary,
     };
@@ -157,17 +159,14 @@ fn respond_of(
 fn respond_in(
     alloc: Global,
     held: &Held,
-    asked: &MethodAndTarget<'_>,
-    content: &ContentParts<'_>,
-    boundary: &[u8],
+    method: &[u8],
+    target: &Target<'_>,
+    parts: &ContentParts<'_>,
 ) -> Result<Responded, Failure>
-    ensures { OnHeld
-        (λ fields. RespondsOf fields asked.now.method.now asked.now.etag.now asked.now.target.now
-        content.entry.now boundary.now)
-        (section_in (Some held.now)) result }
+    ensures { OnHeld (λ fields. RespondsOf fields method.now target.now parts.now) (section_in (Some held.now)) result }
 {
     match held {
-        Held::Section(fields) => respond_of(alloc, fields, asked, content, boundary),
+        Held::Section(fields) => respond_of(alloc, fields, method, target, parts),
         _ => Err(Failure::Absent),
     }
 }
@@ -177,20 +176,18 @@ fn respond_in(
 pub fn respond(
     alloc: Global,
     section: &mut Handle,
-    asked: &MethodAndTarget<'_>,
-    content: &ContentParts<'_>,
-    boundary: &[u8],
+    method: &[u8],
+    target: &Target<'_>,
+    parts: &ContentParts<'_>,
 ) -> Result<Responded, Failure>
     ensures same { section.new.held ≡ section.old.held }
-    ensures answer { OnHeld
-        (λ fields. RespondsOf fields asked.now.method.now asked.now.etag.now asked.now.target.now
-        content.entry.now boundary.now)
+    ensures answer { OnHeld (λ fields. RespondsOf fields method.now target.now parts.now)
         (section_in section.old.held) result }
 {
     let Some(held) = section.take(alloc) else {
         return Err(Failure::Absent);
     };
-    let answer = respond_in(alloc, &held, asked, content, boundary);
+    let answer = respond_in(alloc, &held, method, target, parts);
     section.put(held);
     answer
 }

@@ -10,18 +10,27 @@ use decide_cors::{CorsPolicy, RequestHead};
 use headers::HeaderMap;
 use std::alloc::Global;
 
+/// The method of a request from another origin, and the response to it, as C passes them in.
+#[repr(C)]
+#[derive(Clone, Copy)]
+pub struct CorsExchange<'a> {
+    /// The method of the request.
+    pub method: &'a [u8],
+    /// The header section of the response.
+    pub response: &'a [u8],
+}
+
 fn answer_of(
     alloc: Global,
     policy: &CorsPolicy,
     fields: &HeaderMap,
-    method: &[u8],
-    response: &[u8],
+    exchange: &CorsExchange<'_>,
     keys: &HashKeys,
 ) -> Result<Shared, Failure>
-    ensures { SharesOf method.now response.now policy.now fields.now result }
+    ensures { SharesOf exchange.now policy.now fields.now result }
 {
-    let method = read_method(alloc, method)?;
-    let response = read_map(alloc, response, keys)?;
+    let method = read_method(alloc, exchange.method)?;
+    let response = read_map(alloc, exchange.response, keys)?;
     let request = RequestHead {
         method: &method,
         fields,
@@ -34,12 +43,10 @@ fn answer_in(
     alloc: Global,
     policy: &Held,
     request: &Held,
-    method: &[u8],
-    response: &[u8],
+    exchange: &CorsExchange<'_>,
     keys: &HashKeys,
 ) -> Result<Shared, Failure>
-    ensures { SharesBetween method.now response.now (policy_in (Some policy.now)) (section_in (Some request.now))
-        result }
+    ensures { SharesBetween exchange.now (policy_in (Some policy.now)) (section_in (Some request.now)) result }
 {
     let Held::Policy(policy) = policy else {
         return Err(Failure::Absent);
@@ -47,7 +54,7 @@ fn answer_in(
     let Held::Section(fields) = request else {
         return Err(Failure::Absent);
     };
-    answer_of(alloc, policy, fields, method, response, keys)
+    answer_of(alloc, policy, fields, exchange, keys)
 }
 
 /// The answer of a policy to a cross-origin request with these fields (Fetch standard, "CORS
@@ -56,14 +63,12 @@ pub fn answer_cross_origin(
     alloc: Global,
     policy: &mut Handle,
     request: &mut Handle,
-    method: &[u8],
-    response: &[u8],
+    exchange: &CorsExchange<'_>,
     keys: &HashKeys,
 ) -> Result<Shared, Failure>
     ensures same_policy { policy.new.held ≡ policy.old.held }
     ensures same_request { request.new.held ≡ request.old.held }
-    ensures answer { SharesBetween method.now response.now (policy_in policy.old.held) (section_in request.old.held)
-        result }
+    ensures answer { SharesBetween exchange.now (policy_in policy.old.held) (section_in request.old.held) result }
 {
     let Some(by) = policy.take(alloc) else {
         return Err(Failure::Absent);
@@ -72,7 +77,7 @@ pub fn answer_cross_origin(
         policy.put(by);
         return Err(Failure::Absent);
     };
-    let answer = answer_in(alloc, &by, &asked, method, response, keys);
+    let answer = answer_in(alloc, &by, &asked, exchange, keys);
     policy.put(by);
     request.put(asked);
     answer

@@ -9,7 +9,8 @@ use crate::response::worse;
 use crate::store::ended;
 use c_decisions::{BytesRange, CorsFacts, Rules};
 use c_handles::{
-    Handle, answer_as_resource, answer_cross_origin, close, open_policy, open_resource,
+    CorsExchange, Handle, answer_as_resource, answer_cross_origin, close, open_policy,
+    open_resource,
 };
 use c_parts::{DONE, HashKeys, copy_into};
 use c_resource::{AnswerFacts, DenialParts, RepresentationParts, RequestParts, ResourceParts};
@@ -43,8 +44,7 @@ pub extern "C" fn typed_headers_cors_policy_answer(
     alloc: Global,
     policy: &mut Handle,
     fields: &mut Handle,
-    method: &[u8],
-    response: &[u8],
+    exchange: &CorsExchange<'_>,
     keys: &HashKeys,
     facts: &mut CorsFacts,
     room: &mut [u8],
@@ -53,10 +53,10 @@ pub extern "C" fn typed_headers_cors_policy_answer(
     ensures same_policy { policy.new.held ≡ policy.old.held }
     ensures same_fields { fields.new.held ≡ fields.old.held }
     ensures answer { WritesShared
-        (SharesBetween method.now response.now (policy_in policy.old.held) (section_in fields.old.held))
+        (SharesBetween exchange.now (policy_in policy.old.held) (section_in fields.old.held))
         facts.old facts.new room.old room.new written.old written.new result }
 {
-    match answer_cross_origin(alloc, policy, fields, method, response, keys) {
+    match answer_cross_origin(alloc, policy, fields, exchange, keys) {
         Ok(shared) => {
             *facts = shared.facts;
             copy_into(shared.text.as_slice(), DONE, room, written)

@@ -14,11 +14,10 @@ pub extern "C" fn typed_headers_evaluate(
     alloc: Global,
     request: &RequestTexts<'_>,
     keys: &HashKeys,
-    etag: &[u8],
-    target: &Target,
+    target: &Target<'_>,
     answer: &mut u16,
 ) -> u8
-    ensures { Gives (Evaluates request.now etag.now target.now) answer.old answer.new result }
+    ensures { Gives (Evaluates request.now target.now) answer.old answer.new result }
 {
-    give(evaluate_request(alloc, request, keys, etag, target), answer)
+    give(evaluate_request(alloc, request, keys, target), answer)
 }

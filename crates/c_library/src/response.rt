@@ -14,21 +14,19 @@ pub extern "C" fn typed_headers_respond(
     alloc: Global,
     request: &RequestTexts<'_>,
     keys: &HashKeys,
-    etag: &[u8],
-    target: &Target,
+    target: &Target<'_>,
     content: &ContentParts<'_>,
-    boundary: &[u8],
     facts: &mut ResponseFacts,
     parts: &mut [BytesRange],
     parts_written: &mut usize,
     room: &mut [u8],
     written: &mut usize,
 ) -> u8
-    ensures { WritesResponse (Responds request.now etag.now target.now content.entry.now boundary.now)
+    ensures { WritesResponse (Responds request.now target.now content.now)
         facts.old facts.new parts.old parts.new parts_written.old parts_written.new
         room.old room.new written.old written.new result }
 {
-    match respond_to(alloc, request, keys, etag, target, content, boundary) {
+    match respond_to(alloc, request, keys, target, content) {
         Ok(responded) => {
             *facts = responded.facts;
             let one = copy_into(responded.parts.as_slice(), DONE, parts, parts_written);

@@ -14,7 +14,7 @@ ghost use Rattle.c_library.{specs.CacheStore.Ends, specs.Responses.WritesRespons
 use crate::giving::give;
 use crate::response::worse;
 use crate::store::ended;
-use c_decisions::{BytesRange, ContentParts, MethodAndTarget, ResponseFacts, Target};
+use c_decisions::{BytesRange, ContentParts, ResponseFacts, Target};
 use c_handles::{Handle, choose, close, evaluate, open_section, respond, select, written_field};
 use c_parts::{DONE, Failure, HashKeys, copy_into, lines_text};
 use decide_negotiation::{Accept, AcceptEncoding, AcceptLanguage};
@@ -72,20 +72,14 @@ pub extern "C" fn typed_headers_section_evaluate(
     alloc: Global,
     fields: &mut Handle,
     method: &[u8],
-    etag: &[u8],
-    target: &Target,
+    target: &Target<'_>,
     answer: &mut u16,
 ) -> u8
     ensures same { fields.new.held ≡ fields.old.held }
-    ensures answer { Gives (OnHeld (λ held. EvaluatesOf held method.now etag.now target.now)
-        (section_in fields.old.held)) answer.old answer.new result }
+    ensures answer { Gives (OnHeld (λ held. EvaluatesOf held method.now target.now) (section_in fields.old.held))
+        answer.old answer.new result }
 {
-    let asked = MethodAndTarget {
-        method,
-        etag,
-        target,
-    };
-    give(evaluate(alloc, fields, &asked), answer)
+    give(evaluate(alloc, fields, method, target), answer)
 }
 
 /// Which part of a representation of `length` bytes a request with these fields selects (RFC 9110,
@@ -95,8 +89,7 @@ pub extern "C" fn typed_headers_section_select(
     alloc: Global,
     fields: &mut Handle,
     method: &[u8],
-    etag: &[u8],
-    target: &Target,
+    target: &Target<'_>,
     length: u64,
     answer: &mut u16,
     room: &mut [BytesRange],
@@ -104,15 +97,10 @@ pub extern "C" fn typed_headers_section_select(
 ) -> u8
     ensures same { fields.new.held ≡ fields.old.held }
     ensures selection { WritesSelection
-        (OnHeld (λ held. SelectsOf held method.now etag.now target.now length) (section_in fields.old.held))
+        (OnHeld (λ held. SelectsOf held method.now target.now length) (section_in fields.old.held))
         answer.old answer.new room.old room.new written.old written.new result }
 {
-    let asked = MethodAndTarget {
-        method,
-        etag,
-        target,
-    };
-    match select(alloc, fields, &asked, length) {
+    match select(alloc, fields, method, target, length) {
         Ok(selected) => {
             *answer = selected.code;
             copy_into(selected.ranges.as_slice(), DONE, room, written)
@@ -128,10 +116,8 @@ pub extern "C" fn typed_headers_section_respond(
     alloc: Global,
     fields: &mut Handle,
     method: &[u8],
-    etag: &[u8],
-    target: &Target,
+    target: &Target<'_>,
     content: &ContentParts<'_>,
-    boundary: &[u8],
     facts: &mut ResponseFacts,
     parts: &mut [BytesRange],
     parts_written: &mut usize,
@@ -140,17 +126,11 @@ pub extern "C" fn typed_headers_section_respond(
 ) -> u8
     ensures same { fields.new.held ≡ fields.old.held }
     ensures response { WritesResponse
-        (OnHeld (λ held. RespondsOf held method.now etag.now target.now content.entry.now boundary.now)
-        (section_in fields.old.held))
+        (OnHeld (λ held. RespondsOf held method.now target.now content.now) (section_in fields.old.held))
         facts.old facts.new parts.old parts.new parts_written.old parts_written.new
         room.old room.new written.old written.new result }
 {
-    let asked = MethodAndTarget {
-        method,
-        etag,
-        target,
-    };
-    match respond(alloc, fields, &asked, content, boundary) {
+    match respond(alloc, fields, method, target, content) {
         Ok(responded) => {
             *facts = responded.facts;
             let one = copy_into(responded.parts.as_slice(), DONE, parts, parts_written);

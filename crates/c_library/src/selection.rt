@@ -12,17 +12,16 @@ pub extern "C" fn typed_headers_select(
     alloc: Global,
     request: &RequestTexts<'_>,
     keys: &HashKeys,
-    etag: &[u8],
-    target: &Target,
+    target: &Target<'_>,
     length: u64,
     answer: &mut u16,
     room: &mut [BytesRange],
     written: &mut usize,
 ) -> u8
-    ensures { WritesSelection (Selects request.now etag.now target.now length)
+    ensures { WritesSelection (Selects request.now target.now length)
         answer.old answer.new room.old room.new written.old written.new result }
 {
-    match select_ranges(alloc, request, keys, etag, target, length) {
+    match select_ranges(alloc, request, keys, target, length) {
         Ok(selected) => {
             *answer = selected.code;
             copy_into(selected.ranges.as_slice(), DONE, room, written)

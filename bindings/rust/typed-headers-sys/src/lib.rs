@@ -13,6 +13,7 @@ pub struct Keys {
 #[repr(C)]
 #[derive(Clone, Copy, Debug)]
 pub struct Target {
+    pub etag: Text,
     pub last_modified: u64,
     pub present: u64,
     pub exists: bool,
@@ -90,6 +91,7 @@ pub struct Message {
 #[derive(Clone, Copy, Debug)]
 pub struct Content {
     pub media_type: Text,
+    pub boundary: Text,
     pub length: u64,
     pub has_length: bool,
     pub sends_ranges: bool,
@@ -141,6 +143,13 @@ pub struct CorsRules {
     pub max_age: u64,
     pub has_max_age: bool,
     pub credentials: bool,
+}
+
+#[repr(C)]
+#[derive(Clone, Copy, Debug)]
+pub struct CorsExchange {
+    pub method: Text,
+    pub response: Text,
 }
 
 #[repr(C)]
@@ -556,16 +565,12 @@ extern "C" {
     pub fn typed_headers_evaluate(
         request: *const Request,
         keys: *const Keys,
-        etag: *const u8,
-        etag_length: usize,
         target: *const Target,
         answer: *mut u16,
     ) -> u8;
     pub fn typed_headers_select(
         request: *const Request,
         keys: *const Keys,
-        etag: *const u8,
-        etag_length: usize,
         target: *const Target,
         length: u64,
         answer: *mut u16,
@@ -576,12 +581,8 @@ extern "C" {
     pub fn typed_headers_respond(
         request: *const Request,
         keys: *const Keys,
-        etag: *const u8,
-        etag_length: usize,
         target: *const Target,
         content: *const Content,
-        boundary: *const u8,
-        boundary_length: usize,
         response: *mut Response,
         parts: *mut BytesRange,
         parts_length: usize,
@@ -883,8 +884,6 @@ extern "C" {
         fields: *mut Section,
         method: *const u8,
         method_length: usize,
-        etag: *const u8,
-        etag_length: usize,
         target: *const Target,
         answer: *mut u16,
     ) -> u8;
@@ -892,8 +891,6 @@ extern "C" {
         fields: *mut Section,
         method: *const u8,
         method_length: usize,
-        etag: *const u8,
-        etag_length: usize,
         target: *const Target,
         length: u64,
         answer: *mut u16,
@@ -905,12 +902,8 @@ extern "C" {
         fields: *mut Section,
         method: *const u8,
         method_length: usize,
-        etag: *const u8,
-        etag_length: usize,
         target: *const Target,
         content: *const Content,
-        boundary: *const u8,
-        boundary_length: usize,
         response: *mut Response,
         parts: *mut BytesRange,
         parts_length: usize,
@@ -941,10 +934,7 @@ extern "C" {
     pub fn typed_headers_cors_policy_answer(
         policy: *mut CorsPolicy,
         fields: *mut Section,
-        method: *const u8,
-        method_length: usize,
-        response: *const u8,
-        response_length: usize,
+        exchange: *const CorsExchange,
         keys: *const Keys,
         facts: *mut CorsFacts,
         room: *mut u8,

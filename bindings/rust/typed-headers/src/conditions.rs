@@ -4,7 +4,7 @@ use core::cell::Cell;
 use typed_headers_sys as sys;
 
 use crate::error::{check, Error};
-use crate::text::{written, Section};
+use crate::text::{text, written, Section};
 use crate::{ByteRange, Keys, Timestamp};
 
 /// What a server knows of the target of a request.
@@ -48,12 +48,9 @@ impl<'a> Target<'a> {
         Target { is_date_strong: true, ..self }
     }
 
-    pub(crate) fn etag_text(&self) -> &'a [u8] {
-        self.etag
-    }
-
     pub(crate) fn given(&self, now: impl Into<Timestamp>) -> sys::Target {
         sys::Target {
+            etag: text(self.etag),
             last_modified: self.last_modified.unwrap_or(0),
             present: now.into().seconds(),
             exists: self.exists,
@@ -112,16 +109,7 @@ pub fn evaluate(
 ) -> Result<Precondition, Error> {
     let (request, mut answer) = (request.with_method(method.as_ref()), 0);
     // SAFETY: these are pointers and counts of slices and of values, which don't overlap.
-    let status = unsafe {
-        sys::typed_headers_evaluate(
-            &request,
-            &keys.0,
-            target.etag.as_ptr(),
-            target.etag.len(),
-            &target.given(now),
-            &mut answer,
-        )
-    };
+    let status = unsafe { sys::typed_headers_evaluate(&request, &keys.0, &target.given(now), &mut answer) };
     check(status)?;
     Ok(Precondition::of(answer))
 }
@@ -171,18 +159,7 @@ pub fn select(
     let answer = Cell::new(0);
     // SAFETY: as above.
     let found = written(8, |room, room_length, count| unsafe {
-        sys::typed_headers_select(
-            &request,
-            &keys.0,
-            target.etag.as_ptr(),
-            target.etag.len(),
-            &given,
-            length,
-            answer.as_ptr(),
-            room,
-            room_length,
-            count,
-        )
+        sys::typed_headers_select(&request, &keys.0, &given, length, answer.as_ptr(), room, room_length, count)
     })?;
     Ok(found.map(|(parts, _)| Selection::of(answer.get(), parts)))
 }

@@ -5,7 +5,7 @@ use typed_headers_sys as sys;
 
 use crate::error::{check, Error};
 use crate::lock::Locked;
-use crate::text::{joined, lower, written, written_both, Fields, Section};
+use crate::text::{joined, lower, text, written, written_both, Fields, Section};
 use crate::{
     Content, CorsAnswer, CorsRules, Keys, Precondition, Resource, ResourceAnswer, ResourceRequest, Response, Selection,
     Target, Timestamp,
@@ -91,18 +91,10 @@ impl ParsedSection {
         target: &Target<'_>,
         now: impl Into<Timestamp>,
     ) -> Result<Precondition, Error> {
-        let (method, etag, mut answer) = (method.as_ref(), target.etag_text(), 0);
+        let (method, mut answer) = (method.as_ref(), 0);
         // SAFETY: as above.
         let status = self.handle.with(|handle| unsafe {
-            sys::typed_headers_section_evaluate(
-                handle,
-                method.as_ptr(),
-                method.len(),
-                etag.as_ptr(),
-                etag.len(),
-                &target.given(now),
-                &mut answer,
-            )
+            sys::typed_headers_section_evaluate(handle, method.as_ptr(), method.len(), &target.given(now), &mut answer)
         });
         check(status)?;
         Ok(Precondition::of(answer))
@@ -116,7 +108,7 @@ impl ParsedSection {
         length: u64,
         now: impl Into<Timestamp>,
     ) -> Result<Option<Selection>, Error> {
-        let (method, etag, given) = (method.as_ref(), target.etag_text(), target.given(now));
+        let (method, given) = (method.as_ref(), target.given(now));
         let answer = Cell::new(0);
         let found = self.handle.with(|handle| {
             // SAFETY: as above.
@@ -125,8 +117,6 @@ impl ParsedSection {
                     handle,
                     method.as_ptr(),
                     method.len(),
-                    etag.as_ptr(),
-                    etag.len(),
                     &given,
                     length,
                     answer.as_ptr(),
@@ -148,8 +138,8 @@ impl ParsedSection {
         boundary: &str,
         now: impl Into<Timestamp>,
     ) -> Result<Option<Response>, Error> {
-        let (method, etag, given) = (method.as_ref(), target.etag_text(), target.given(now));
-        let (carried, facts) = (content.given(), Cell::new(sys::Response::default()));
+        let (method, given) = (method.as_ref(), target.given(now));
+        let (carried, facts) = (content.given(boundary), Cell::new(sys::Response::default()));
         let found = self.handle.with(|handle| {
             // SAFETY: as above.
             written_both(|parts, room| unsafe {
@@ -157,12 +147,8 @@ impl ParsedSection {
                     handle,
                     method.as_ptr(),
                     method.len(),
-                    etag.as_ptr(),
-                    etag.len(),
                     &given,
                     &carried,
-                    boundary.as_ptr(),
-                    boundary.len(),
                     facts.as_ptr(),
                     parts.items.as_mut_ptr(),
                     parts.items.len(),
@@ -259,7 +245,8 @@ impl CorsPolicy {
         response: &Section,
         keys: Keys,
     ) -> Result<CorsAnswer, Error> {
-        let (method, response, facts) = (method.as_ref(), response.as_bytes(), Cell::new(sys::CorsFacts::default()));
+        let exchange = sys::CorsExchange { method: text(method.as_ref()), response: text(response.as_bytes()) };
+        let facts = Cell::new(sys::CorsFacts::default());
         // (a policy or a resource is always held before a section, so that no two calls wait for each other)
         let found = self.handle.with(|policy| {
             request.handle.with(|fields| {
@@ -268,10 +255,7 @@ impl CorsPolicy {
                     sys::typed_headers_cors_policy_answer(
                         policy,
                         fields,
-                        method.as_ptr(),
-                        method.len(),
-                        response.as_ptr(),
-                        response.len(),
+                        &exchange,
                         &keys.0,
                         facts.as_ptr(),
                         room,

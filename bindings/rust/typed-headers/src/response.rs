@@ -39,9 +39,10 @@ pub struct Response {
 }
 
 impl Content<'_> {
-    pub(crate) fn given(&self) -> sys::Content {
+    pub(crate) fn given(&self, boundary: &str) -> sys::Content {
         sys::Content {
             media_type: text(self.media_type.as_bytes()),
+            boundary: text(boundary.as_bytes()),
             length: self.length.unwrap_or(0),
             has_length: self.length.is_some(),
             sends_ranges: self.sends_ranges,
@@ -84,21 +85,15 @@ pub fn respond(
     now: impl Into<Timestamp>,
     keys: Keys,
 ) -> Result<Option<Response>, Error> {
-    let (request, etag) = (request.with_method(method.as_ref()), target.etag_text());
-    let given = target.given(now);
-    let carried = content.given();
-    let facts = Cell::new(sys::Response::default());
+    let (request, given) = (request.with_method(method.as_ref()), target.given(now));
+    let (carried, facts) = (content.given(boundary), Cell::new(sys::Response::default()));
     // SAFETY: these are pointers and counts of slices and of values, which don't overlap.
     let found = written_both(|parts, room| unsafe {
         sys::typed_headers_respond(
             &request,
             &keys.0,
-            etag.as_ptr(),
-            etag.len(),
             &given,
             &carried,
-            boundary.as_ptr(),
-            boundary.len(),
             facts.as_ptr(),
             parts.items.as_mut_ptr(),
             parts.items.len(),

@@ -11,7 +11,7 @@ returns c =
       current = c.in-Current.current;
       is_resource =
           subst
-          (λ (resource : Resource). IsResourceOf c.args.etag.now c.args.target.now (Ok resource))
+          (λ (resource : Resource). IsResourceOf c.args.target.now (Ok resource))
           c.in-Current.is c.in_ok-current.ensures;
       request = c.in_ok-fields.fields;
       holds = c.in_ok-fields.ensures;

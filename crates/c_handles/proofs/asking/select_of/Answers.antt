@@ -11,7 +11,7 @@ returns c input holds =
       current = c.in-Current.current;
       is_resource =
           subst
-          (λ (resource : Resource). IsResourceOf c.args.asked.now.etag.now c.args.asked.now.target.now (Ok resource))
+          (λ (resource : Resource). IsResourceOf c.args.target.now (Ok resource))
           c.in-Current.is c.in_ok-current.ensures;
       request = c.args.fields.now;
       holds = holds;
