@@ -8,7 +8,8 @@ use Rattle.cache_rules.specs.declared.{freshening.Exchange.Exchange, stored.Stor
 use Rattle.{cache_rules.specs.Stored.{fields_of_stored, request_of_stored}, headers.specs.LineMap.{LineMap, lines_at}}
 use Rattle.{cache_policy.specs.Decisions.MayServeOnError, http_header.specs.{FieldValue.FieldValue, HeaderMap.Entries}}
 use Rattle.cache_policy.specs.{Decisions.IsGoodEnough, Policies.{asks, MayStoreUnder, tells}, Requests.Request}
-use Rattle.{cache_store.specs.Numbers.numbered, std.specs.Prelude.{⊤, ◌≡◌, ◌⊎◌, List, Ok, Some, true, ℕ}}
+use Rattle.cache_store.specs.Numbers.{numbered}
+use Rattle.std.specs.Prelude.{⊤, ◌≡◌, ◌⊎◌, List, Ok, Some, true, ℕ}
 use Rattle.cache_store.specs.{Changes.IsStoredAs, History.IsJustified, Lookups.{freshness_of, IsFreshFor}}
 use Rattle.cache_pass.specs.declared.replying.First.TheVariants as first
 use Rattle.cache_pass.specs.declared.revalidating.Next.TheVariants as next

@@ -1,6 +1,7 @@
 -- The request by which what was served stale is validated for nobody (RFC 5861, section 3).
 use Rattle.{cache_fields.specs.Directives.directed, headers.specs.LineMap.{Field, LineMap, lines_at, set_all}}
-use Rattle.{headers.specs.Lines.Line, std.specs.Prelude.{[], ◌∷◌, ◌≡◌, codes, if◌then◌else◌, List, map, ℕ}}
+use Rattle.headers.specs.Lines.{Line}
+use Rattle.std.specs.Prelude.{[], ◌∷◌, ◌≡◌, codes, if◌then◌else◌, List, map, ℕ}
 use Rattle.cache_pass.specs.{declared.pass.{Pass.Pass, Phase.TheVariants.Began}, Passes.key_of}
 
 -- what a client asks for itself alone: by conditions (RFC 9110, section 13.1), or for a range (section 14.2)
