@@ -51,7 +51,7 @@ abbrev writing_at : Option (List Header) → Encoder → Writing
 writing_at None e = Writes.Body e
 writing_at (Some trailers) e = Writes.Done
 
--- what is written of a request
+-- the bytes of a request
 abbrev writing_of : Request → Writing
 writing_of r = writing_at r.trailers (after_pieces r.pieces (encoder_in (plan_of r)))
 

@@ -10,10 +10,12 @@ use Rattle.interference.{specs.Events.nodes_freshened, specs.Events.Event.{Ticks
 use Rattle.interference.specs.Events.Event.{Answers, AnswersNotModified, Returns, Looks, Stores, Freshens, Replies}
 use Rattle.interference.{specs.Events.Event.{Forgets, Arrives}, specs.Statements.{Alike, VariesByNone}}
 use Rattle.interference.specs.Worlds.{Request, Head, Answer, Origin, Dated, Stored, Node, Asked, Hop, Message, Place}
-use Rattle.interference.{specs.Worlds.{Pass, Received, World, start, may_store, matches, told, is_authorized}, specs.Worlds.Kind.Right}
+use Rattle.interference.specs.Worlds.{Pass, Received, World, start, may_store, matches, told, is_authorized}
+use Rattle.interference.specs.Worlds.Kind.{Right}
 use Rattle.interference.{specs.Worlds.Reply.{Whole, NotModified}, specs.Worlds.Message.{Going, Coming, Nothing}}
 use Rattle.interference.{specs.Worlds.Doing.{Waits, GivesStored, Completes, Gives}, specs.Worlds.Pass.{At, Ended}}
-use Rattle.interference.proofs.Twins.{twin_if, twin-nth, twin-push, Two, Premises, Twin, with_request, head_of, TwinList}
+use Rattle.interference.proofs.Twins.{twin_if, twin-nth, twin-push, Two, Premises, Twin, with_request, head_of}
+use Rattle.interference.proofs.Twins.{TwinList}
 use Rattle.interference.proofs.Twins.{IsPublic, IsQuiet, QuietMessage, TwinMessage, QuietPass, PublicDoing, with_place}
 use Rattle.interference.proofs.Twins.{TwinPass, TwinFound, TwinNode, TwinWorld, twin-number, twin-forgotten}
 use Rattle.interference.proofs.Twins.{twin-with_stored, alike-store, alike-target, alike-usable, alike-renewable}

@@ -1,6 +1,7 @@
 -- What is said of a world that some events have made.
 use Rattle.std.specs.Prelude.{◌≡◌, ◌≢◌, ◌⊎◌, ℕ, ◌<◌, Bool, true, List, [], ◌∷◌, slice_get, Option, Some, None, ⊤}
-use Rattle.updates.{specs.Events.{Event, happens, found_at, place_of}, specs.Events.Event.{Forwards, Serves, ServesTag, AnswersTag}}
+use Rattle.updates.specs.Events.{Event, happens, found_at, place_of}
+use Rattle.updates.specs.Events.Event.{Forwards, Serves, ServesTag, AnswersTag}
 use Rattle.updates.{specs.Events.Event.{Answers, Returns}, specs.Worlds.{Version, Put, Hop, Message, Change, World}}
 use Rattle.updates.{specs.Worlds.{client_of, versions}, specs.Worlds.Condition.IfMatch, specs.Worlds.Request.Get}
 use Rattle.updates.{specs.Worlds.Response.{Status200, Status204}, specs.Worlds.Message.{Going, Coming}}
