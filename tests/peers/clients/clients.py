@@ -4,6 +4,8 @@ import concurrent.futures
 import functools
 import importlib
 import importlib.metadata
+import json
+import tempfile
 import time
 from collections.abc import AsyncIterator, Callable, Iterator
 from contextlib import suppress
@@ -15,6 +17,7 @@ from caching.caches import Cache, Judged, new_keys
 from caching.cases import Case, Step
 from caching.outcomes import Answer, results_of
 from clients.cases import PRIVATE
+from common import processes
 from common.client import Response
 from common.fields import Fields
 from common.processes import Missing
@@ -153,35 +156,6 @@ class ByHttplib2:
 
 
 @dataclass
-class Kind:
-    """A client: its name, the package whose version it has, and how one is made."""
-
-    name: str
-    package: str
-    make: Callable[[], Client] | None = None
-    make_async: Callable[[], AsyncClient] | None = None
-    is_ours: bool = False
-    repeats_fields: bool = False
-
-    @property
-    def title(self) -> str:
-        try:
-            return f"{self.name} {importlib.metadata.version(self.package)}"
-        except importlib.metadata.PackageNotFoundError as error:
-            raise Missing(f"there is no {error}") from None
-
-
-KINDS = [
-    Kind("ours, `CachedAdapter` in requests", "requests", by_adapter, is_ours=True),
-    Kind("ours, `CachedTransport` in httpx", "httpx", ByTransport, is_ours=True, repeats_fields=True),
-    Kind("ours, `AsyncCachedTransport` in httpx", "httpx", None, ByAsyncTransport, is_ours=True, repeats_fields=True),
-    Kind("CacheControl", "CacheControl", by_cachecontrol),
-    Kind("requests-cache", "requests-cache", by_requests_cache),
-    Kind("httplib2", "httplib2", ByHttplib2),
-]
-
-
-@dataclass
 class Plan:
     """A case, the key by which the origin knows it, and the origin's port."""
 
@@ -252,6 +226,7 @@ async def run_case_async(make: Callable[[], AsyncClient], plan: Plan) -> Steps:
 
 
 def by_threads(make: Callable[[], Client], plans: list[Plan]) -> list[Steps]:
+    make().close()
     with concurrent.futures.ThreadPoolExecutor(AT_ONCE) as pool:
         return list(pool.map(functools.partial(run_case, make), plans))
 
@@ -269,23 +244,69 @@ def by_tasks(make: Callable[[], AsyncClient], plans: list[Plan]) -> list[Steps]:
     return asyncio.run(run_all())
 
 
+def by_scrapy(plans: list[Plan]) -> list[Steps]:
+    """By a process of its own, as Scrapy has an event loop that begins but once."""
+    cases = [
+        [
+            [
+                [*request_of(plan, number, step)[:3], "x=y" if request_of(plan, number, step)[3] else None, step.pause]
+                for number, step in enumerate(plan.case.steps, 1)
+            ],
+            plan.case.is_alone,
+        ]
+        for plan in plans
+    ]
+    with tempfile.TemporaryDirectory() as folder:
+        words = [processes.PYTHON, "-B", "-m", "clients.by_scrapy", folder]
+        answers = json.loads(processes.output(words, json.dumps(cases).encode()))
+    found = [Steps(plan) for plan in plans]
+    for steps, given in zip(found, answers):
+        for step, (status, fields, content, error, took) in zip(steps.plan.case.steps, given):
+            response = Response(status, [(name, value) for name, value in fields], content.encode("latin-1"))
+            steps.add(step, RuntimeError(error) if error else response, time.time() - took)
+    return found
+
+
+@dataclass
+class Kind:
+    """A client: its name, the package whose version it has, and what runs cases by it."""
+
+    name: str
+    package: str
+    play: Callable[[list[Plan]], list[Steps]]
+    is_ours: bool = False
+    repeats_fields: bool = False
+
+    @property
+    def title(self) -> str:
+        try:
+            return f"{self.name} {importlib.metadata.version(self.package)}"
+        except importlib.metadata.PackageNotFoundError as error:
+            raise Missing(f"there is no {error}") from None
+
+
+KINDS = [
+    Kind("ours, `CachedAdapter` in requests", "requests", functools.partial(by_threads, by_adapter), is_ours=True),
+    Kind("ours, `CachedTransport` in httpx", "httpx", functools.partial(by_threads, ByTransport), is_ours=True,
+         repeats_fields=True),
+    Kind("ours, `AsyncCachedTransport` in httpx", "httpx", functools.partial(by_tasks, ByAsyncTransport), is_ours=True,
+         repeats_fields=True),
+    Kind("CacheControl", "CacheControl", functools.partial(by_threads, by_cachecontrol)),
+    Kind("requests-cache", "requests-cache", functools.partial(by_threads, by_requests_cache)),
+    Kind("httplib2", "httplib2", functools.partial(by_threads, ByHttplib2)),
+    Kind("Scrapy", "Scrapy", by_scrapy, repeats_fields=True),
+]
+
+
 def repeats_a_field(case: Case) -> bool:
     return any(len({name for name, _ in it.send}) < len(it.send) for it in case.steps)
-
-
-def played(kind: Kind, plans: list[Plan]) -> list[Steps]:
-    if kind.make is not None:
-        kind.make().close()
-        return by_threads(kind.make, plans)
-    assert kind.make_async is not None
-    return by_tasks(kind.make_async, plans)
 
 
 def judge(kind: Kind, port: int) -> tuple[Judged, int]:
     """What a client did, and in how many cases it raised an exception in place of a response."""
     title, keys = kind.title, new_keys(PRIVATE)
     plans = [Plan(port, key, case) for key, case in keys.items() if kind.repeats_fields or not repeats_a_field(case)]
-    steps = played(kind, plans)
+    steps = kind.play(plans)
     results = {
         it.plan.case.id: results_of(it.plan.key, it.plan.case, it.answers, origin.RECORD.asked[it.plan.key])
         for it in steps

@@ -14,8 +14,8 @@ HTTP clients of Python make the requests of the same cases to the same origin. E
 empty when a case begins. {read} cases about a shared cache are judged as RFC 9111 has them for a private one: s-maxage,
 proxy-revalidate, private and Authorization mean nothing to it. {out} more are left out, as each would repeat another
 case. *Raises* are cases in which a client raises an exception although the origin's response came whole. requests sends
-no two lines of one field, so a case with them isn't asked. requests-cache has `cache_control=True`, as it follows no
-field of a response otherwise. All others run as they come.
+no two lines of one field, so a case with them isn't asked. requests-cache has `cache_control=True` and Scrapy
+`RFC2616Policy`, as they follow no field of a response otherwise. All others run as they come.
 """
 
 
