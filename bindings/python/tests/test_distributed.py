@@ -84,6 +84,7 @@ class Workers(unittest.TestCase):
         cls.addClassCleanup(cluster.close)
         cls.client = Client(cluster)
         cls.addClassCleanup(cls.client.close)
+        cls.client.wait_for_workers(2)
 
     def files(self) -> List[str]:
         names = []

@@ -542,7 +542,7 @@ class Calls(unittest.TestCase):
                     draw = Random(place)
                     for function in functions:
                         make(name, function)
-                        for _ in range(CALLS // DRAWN - 1):
+                        for _ in range(-(-CALLS // DRAWN) - 1):
                             make(name, crossed_calls(draw, function, draw.choice(functions)))
 
                 with self.subTest(name):
