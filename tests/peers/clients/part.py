@@ -15,7 +15,8 @@ empty when a case begins. {read} cases about a shared cache are judged as RFC 91
 proxy-revalidate, private and Authorization mean nothing to it. {out} more are left out, as each would repeat another
 case. *Raises* are cases in which a client raises an exception although the origin's response came whole. requests sends
 no two lines of one field, so a case with them isn't asked. requests-cache has `cache_control=True` and Scrapy
-`RFC2616Policy`, as they follow no field of a response otherwise. All others run as they come.
+`RFC2616Policy`, as they follow no field of a response otherwise. Clients follow no redirect, and Scrapy has no cookies
+and no second try. All else is as it comes.
 """
 
 
