@@ -16,7 +16,7 @@ from pathlib import Path
 from common import pages
 from common.part import Context, Part
 
-PARTS = ("caching", "histories", "conditional", "negotiation", "cors", "handshake")
+PARTS = ("caching", "clients", "histories", "conditional", "negotiation", "cors", "handshake")
 TITLE = "# Beside caches, servers, libraries and browsers"
 HEAD = """
 Each decision of this repository and its peers get the same inputs. A model of the standard judges both: a

@@ -61,7 +61,8 @@ class Origin(httpx.BaseTransport, httpx.AsyncBaseTransport):
         if isinstance(answer, Exception):
             raise answer
         self.given.append(Pieces(answer[2]))
-        return httpx.Response(answer[0], headers=answer[1], stream=self.given[-1])
+        fields = [(name.encode(), value.encode("latin-1")) for name, value in answer[1].items()]
+        return httpx.Response(answer[0], headers=fields, stream=self.given[-1])
 
     async def handle_async_request(self, request: httpx.Request) -> httpx.Response:
         await asyncio.sleep(0)
@@ -111,6 +112,18 @@ class Transports(unittest.TestCase):
         self.now += 100
         self.assertEqual(self.get().content, b"new")
         self.assertEqual((self.get().content, len(self.origin.asked)), (b"new", 3))
+
+    def test_bytes_past_ascii(self) -> None:
+        renewed = 304, {"ETag": '"\xe9"', "Cache-Control": "max-age=60"}, b""
+        self.begin(stored(ETag='"\xe9"', Content_Language="\xff"), renewed)
+        self.get()
+        for pause, age in ((10, b"10"), (100, b"0")):
+            self.now += pause
+            raw = dict(self.get(headers=[(b"X-A", b"\xe9")]).headers.raw)
+            fields = {name.lower(): value for name, value in raw.items()}
+            self.assertEqual((fields[b"etag"], fields[b"content-language"], fields[b"age"]), (b'"\xe9"', b"\xff", age))
+        asked = dict(self.origin.asked[1].headers.raw)
+        self.assertEqual((asked[b"if-none-match"], asked[b"X-A"]), (b'"\xe9"', b"\xe9"))
 
     def test_variants_and_methods(self) -> None:
         varied = [stored(it, Vary="Accept-Language") for it in (b"en", b"de")]

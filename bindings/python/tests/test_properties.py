@@ -1,6 +1,7 @@
 """Random calls of all that the package has: none crashes or leaks, and values are values, also for eight threads.
 
-`TYPED_HEADERS_CALLS=1000000` makes as many calls, and not 3,000; `TYPED_HEADERS_SEED` makes other ones.
+`TYPED_HEADERS_CALLS=1000000` makes as many calls, and not 3,000; `TYPED_HEADERS_SEED` makes other ones. Then the counts
+are printed: of calls, and of what was allocated before and after.
 """
 
 import ctypes
@@ -10,13 +11,15 @@ import pickle
 import sys
 import tempfile
 import threading
+import time
 import unittest
-from collections import defaultdict
+from collections import Counter, defaultdict
 from concurrent.futures import ThreadPoolExecutor
 from datetime import timedelta, timezone
 from enum import Enum
 from functools import partial
-from typing import Any, Callable, Dict, List, Tuple
+from random import Random
+from typing import Any, Callable, Dict, List, NamedTuple, Tuple
 
 import typed_headers as it
 from typed_headers import asgi, audit, inspection, wsgi
@@ -33,6 +36,8 @@ except ImportError as error:
 
 CALLS = int(os.environ.get("TYPED_HEADERS_CALLS", "3000"))
 SEED = int(os.environ.get("TYPED_HEADERS_SEED", "1"))
+#: How many calls hypothesis draws, which takes it longer than the calls. The others have arguments of several of these.
+DRAWN = min(CALLS, 50_000)
 Call = Callable[[], object]
 
 # Texts: of any bytes, and of what fields are made of.
@@ -78,6 +83,7 @@ BOOL = some.booleans()
 VERSION = some.sampled_from([10, 11, 20, 9, 0])
 TAG = some.one_of(some.none(), some.sampled_from(['"a"', 'W/"b"', it.ETag("a"), "a"]))
 TEXTS = some.lists(MADE, max_size=3)
+MESSAGE = some.lists(MADE, max_size=6)
 #: What isn't of the type that is wanted.
 WRONG = some.one_of(some.none(), some.integers(), some.floats(), some.just([1]), some.just({1: 2}), some.just(object()))
 
@@ -141,9 +147,16 @@ def named(needed: Dict[str, Any], more: Dict[str, Any]) -> Any:
     return found
 
 
-def asked_resource(drawn: Tuple[Any, ...]) -> Call:
-    methods, shown, options, asked, named = drawn
-    return lambda: it.Resource(methods, shown, **options).answer(*asked, **named)
+def ask_resource(methods: Any, shown: Any, options: Any, asked: Any, named: Any) -> object:
+    return it.Resource(methods, shown, **options).answer(*asked, **named)
+
+
+def ask_policy(make: Callable[[], it.CorsPolicy], *asked: Any) -> object:
+    return make().answer(*asked)
+
+
+def ask_gateway(make: Callable[[], it.Gateway], *asked: Any) -> object:
+    return make().forward_request(*asked)
 
 
 RESOURCE = some.tuples(
@@ -173,32 +186,27 @@ RESOURCE = some.tuples(
             "denied": some.just(it.Denied(429, retry_after=5)),
         },
     ),
-).map(asked_resource)
+).map(lambda drawn: partial(ask_resource, *drawn))
 OPTIONS = {"shared": BOOL}
 TIMES = some.builds(it.Times, TIME, TIME, SOMETIMES_TIME)
 
 
-def steps_of_a_cache(drawn: Tuple[Any, ...]) -> Call:
+def take_steps(options: Any, steps: Any) -> None:
     """Passes through one cache, whose steps come in any order."""
-    options, steps = drawn
-
-    def take() -> None:
-        with it.Cache(**options) as cache:
-            passes: List[it.Pass] = []
-            for step, place, now, method, target, fields in steps:
-                try:
-                    if step == "begin" or not passes:
-                        passes.append(cache.begin(method, f"https://a.example/{target}", fields, now=now))
-                    elif step == "remove":
-                        cache.remove(f"https://a.example/{target}")
-                    else:
-                        one = passes[place % len(passes)]
-                        given = {"came": (200, fields), "received": (b"content",)}.get(step, ())
-                        getattr(one, step)(*given, **({"now": now} if step not in ("received", "close") else {}))
-                except (it.HeaderError, it.OutOfOrder):
-                    pass
-
-    return take
+    with it.Cache(**options) as cache:
+        passes: List[it.Pass] = []
+        for step, place, now, method, target, fields in steps:
+            try:
+                if step == "begin" or not passes:
+                    passes.append(cache.begin(method, f"https://a.example/{target}", fields, now=now))
+                elif step == "remove":
+                    cache.remove(f"https://a.example/{target}")
+                else:
+                    one = passes[place % len(passes)]
+                    given = {"came": (200, fields), "received": (b"content",)}.get(step, ())
+                    getattr(one, step)(*given, **({"now": now} if step not in ("received", "close") else {}))
+            except (it.HeaderError, it.OutOfOrder):
+                pass
 
 
 PASSES = some.tuples(
@@ -214,31 +222,27 @@ PASSES = some.tuples(
         ),
         max_size=8,
     ),
-).map(steps_of_a_cache)
+).map(lambda drawn: partial(take_steps, *drawn))
 
 
 def by_wsgi(make: Callable[[Any], Any]) -> Any:
     """An application that answers a request with such fields."""
 
-    def asked(drawn: Tuple[Any, ...]) -> Call:
-        method, fields, answer, content = drawn
+    def ask(method: Any, fields: Any, answer: Any, content: bytes) -> None:
         environ = {f"HTTP_{name.upper().replace('-', '_')}": line for name, line in fields}
 
         def application(environ: Any, start_response: Any) -> Any:
             start_response("200 OK", [pair for pair in answer if "\n" not in "".join(pair)])
             return [content]
 
-        def ask() -> None:
-            given = make(application)(
-                {"REQUEST_METHOD": method, "PATH_INFO": "/", "HTTP_HOST": "a", "wsgi.url_scheme": "http", **environ},
-                lambda status, fields, problem=None: None,
-            )
-            b"".join(given)
-            getattr(given, "close", lambda: None)()
+        given = make(application)(
+            {"REQUEST_METHOD": method, "PATH_INFO": "/", "HTTP_HOST": "a", "wsgi.url_scheme": "http", **environ},
+            lambda status, fields, problem=None: None,
+        )
+        b"".join(given)
+        getattr(given, "close", lambda: None)()
 
-        return ask
-
-    return some.tuples(METHOD, PAIRS, PAIRS, some.binary(max_size=20)).map(asked)
+    return call(ask, METHOD, PAIRS, PAIRS, some.binary(max_size=20))
 
 
 SERVED = wsgi.Served(it.Resource(["GET"], [it.Representation("text/plain", 4, '"a"')]), lambda place: b"milk")
@@ -334,7 +338,7 @@ FUNCTIONS: Dict[str, Any] = {
         METHOD,
         SECTION,
         SECTION,
-    ).map(lambda given: lambda: given[0]().answer(*given[1:])),
+    ).map(lambda given: partial(ask_policy, *given)),
     "Denied": DENIED,
     "Gateway.forward_request": some.tuples(
         call(it.Gateway, some.sampled_from(["gw", "a b", ""]), TEXTS, BOOL, BOOL),
@@ -343,18 +347,16 @@ FUNCTIONS: Dict[str, Any] = {
         HOP,
         VERSION,
         some.one_of(some.none(), TEXT),
-    ).map(lambda given: lambda: given[0]().forward_request(*given[1:])),
+    ).map(lambda given: partial(ask_gateway, *given)),
     "Gateway.forward_response": call(
         it.Gateway("gw").forward_response, METHOD, STATUS, SECTION, VERSION, VERSION, SOMETIMES_TIME
     ),
-    "Headers": SECTION.map(lambda given: lambda: use(it.Headers(given))),
+    "Headers": call(lambda given: use(it.Headers(given)), SECTION),
     "Resource": RESOURCE,
-    "Section": SECTION.map(lambda given: lambda: use(it.Section(given))),
-    "inspect": some.lists(MADE, max_size=6).map(
-        lambda lines: lambda: str(inspection.inspect("\n".join(lines) or "a: b"))
-    ),
-    "audit": some.lists(MADE, max_size=6).map(
-        lambda lines: lambda: audit.map_partition([audit.Exchange("", "\n".join(lines).encode("latin-1", "replace"))])
+    "Section": call(lambda given: use(it.Section(given)), SECTION),
+    "inspect": call(lambda lines: str(inspection.inspect("\n".join(lines) or "a: b")), MESSAGE),
+    "audit": call(
+        lambda lines: audit.map_partition([audit.Exchange("", "\n".join(lines).encode("latin-1", "replace"))]), MESSAGE
     ),
     "wsgi.Cached": by_wsgi(lambda app: wsgi.Cached(app, it.Cache(shared=True, responses=4))),
     "wsgi.ConditionalRequests": by_wsgi(lambda app: wsgi.ConditionalRequests(app, tags=True)),
@@ -409,19 +411,26 @@ def use(headers: it.Headers) -> None:
     repr(headers), len(headers), headers.raw(), pickle.loads(pickle.dumps(headers)) == headers
 
 
+class Rejected(NamedTuple):
+    """The error by which the library rejects an argument, as it is shown."""
+
+    text: str
+    shown: str
+
+
 def attempt(function: Call) -> object:
-    """What a call gives, or the error by which the library rejects an argument."""
+    """What a call gives, or how it is rejected."""
     try:
         return function()
     except it.HeaderError as error:
-        return str(error), repr(error)
+        return Rejected(str(error), repr(error))
 
 
-def tested(count: int, **strategies: Any) -> Callable[[Callable[..., None]], Callable[..., None]]:
-    """Runs a test with so many random arguments."""
+def tested(count: int, number: int = 0, **strategies: Any) -> Callable[[Callable[..., None]], Callable[..., None]]:
+    """Runs a test with so many random arguments, which are other ones for another number."""
 
     def decorate(test: Callable[..., None]) -> Callable[..., None]:
-        made: Any = seed(SEED)(given(**strategies)(test))
+        made: Any = seed(1000 * SEED + number)(given(**strategies)(test))
         checks = [HealthCheck.too_slow, HealthCheck.data_too_large, HealthCheck.filter_too_much]
         options: Any = settings(max_examples=max(count, 10), deadline=None, database=None, suppress_health_check=checks)
         ran: Callable[..., None] = options(made)
@@ -430,22 +439,59 @@ def tested(count: int, **strategies: Any) -> Callable[[Callable[..., None]], Cal
     return decorate
 
 
-class Allocated(ctypes.Structure):
+def crossed(draw: Random, one: Any, other: Any) -> Any:
+    """An argument of two: one of both, or a beginning of one and an end of the other."""
+    if type(one) is not type(other) or draw.random() < 0.5:
+        return draw.choice([one, other])
+    if isinstance(one, (str, bytes, list)):
+        most = 100
+        return one[: draw.randint(0, min(len(one), most))] + other[draw.randint(0, len(other)) :][:most]
+    return {**one, **other} if isinstance(one, dict) else one
+
+
+def crossed_calls(draw: Random, one: "partial[object]", other: "partial[object]") -> "partial[object]":
+    """A call of the same with arguments of both."""
+    # (a text of an enumeration is one of its own)
+    if one.func is not other.func or isinstance(one.func, type) and issubclass(one.func, Enum):
+        return one
+    arguments = [
+        first if callable(first) else crossed(draw, first, second) for first, second in zip(one.args, other.args)
+    ]
+    named = {name: draw.choice([one, other]).keywords.get(name, value) for name, value in one.keywords.items()}
+    return partial(one.func, *arguments, *one.args[len(arguments) :], **named)
+
+
+class MallInfo(ctypes.Structure):
     """What the C library's `mallinfo2` tells."""
 
     names = "arena ordblks smblks hblks hblkhd usmblks fsmblks uordblks fordblks keepcost"
     _fields_ = [(name, ctypes.c_size_t) for name in names.split()]
 
 
-def allocated() -> Tuple[int, int]:
-    """How many blocks Python has allocated, and how many bytes C has, as far as that can be known."""
+class Allocated(NamedTuple):
+    """How many objects Python's collector knows, how many blocks Python has allocated, and how many bytes C has, as far
+    as that can be known."""
+
+    objects: int
+    blocks: int
+    bytes_of_c: int
+
+
+def allocated() -> Allocated:
     gc.collect()
-    tells = getattr(ctypes.CDLL(None), "mallinfo2", None)
-    if tells is None:
-        return sys.getallocatedblocks(), 0
-    tells.restype = Allocated
-    found = tells()
-    return sys.getallocatedblocks(), found.uordblks + found.hblkhd
+    bytes_of_c, tells = 0, getattr(ctypes.CDLL(None), "mallinfo2", None)
+    if tells is not None:
+        tells.restype = MallInfo
+        found = tells()
+        bytes_of_c = found.uordblks + found.hblkhd
+        del found
+    return Allocated(len(gc.get_objects()), sys.getallocatedblocks(), bytes_of_c)
+
+
+def report(text: str) -> None:
+    """Prints what a long run did."""
+    if "TYPED_HEADERS_CALLS" in os.environ:
+        print(f"{text} ({time.process_time():.0f} s)", file=sys.stderr, flush=True)
 
 
 def grows_little(calls: List[Call], rounds: int = 50) -> bool:
@@ -460,7 +506,7 @@ def grows_little(calls: List[Call], rounds: int = 50) -> bool:
         for call in calls:
             attempt(call)
     after = allocated()
-    return after[0] - before[0] < rounds // 2 and after[1] - before[1] < 16 * rounds // 2
+    return after.blocks - before.blocks < rounds // 2 and after.bytes_of_c - before.bytes_of_c < 16 * rounds // 2
 
 
 class Calls(unittest.TestCase):
@@ -474,17 +520,46 @@ class Calls(unittest.TestCase):
         """Each call ends with a value or a `HeaderError`. A few of each name are made again, many times: what is
         allocated doesn't grow with the rounds."""
         kept: Dict[str, List[Call]] = defaultdict(list)
+        ended: "Counter[str]" = Counter()
+        sizes: List[Allocated] = []
+        rounds = 10 if CALLS > DRAWN else 1
 
-        @tested(CALLS, named=CALL)
-        def ask(named: Tuple[str, Call]) -> None:
-            name, function = named
-            attempt(function)
+        def make(name: str, function: Call) -> None:
+            ended["rejected" if isinstance(attempt(function), Rejected) else "given a value"] += 1
             if len(kept[name]) < 12:
                 kept[name].append(function)
 
-        ask()
-        for name, functions in kept.items():
-            self.assertTrue(any(grows_little(functions) for _ in range(8)), name)
+        def ask_all(number: int) -> None:
+            for place, (name, making) in enumerate(FUNCTIONS.items()):
+
+                @tested(
+                    -(-DRAWN // rounds // len(FUNCTIONS) // 4),
+                    len(FUNCTIONS) * number + place,
+                    functions=some.lists(making, min_size=4, max_size=4),
+                    place=some.integers(0, 2**32),
+                )
+                def ask(functions: List["partial[object]"], place: int) -> None:
+                    draw = Random(place)
+                    for function in functions:
+                        make(name, function)
+                        for _ in range(-(-CALLS // DRAWN) - 1):
+                            make(name, crossed_calls(draw, function, draw.choice(functions)))
+
+                with self.subTest(name):
+                    ask()
+
+        for number in range(rounds):
+            ask_all(number)
+            sizes.append(allocated())
+        report(f"{sum(ended.values())} calls of {len(kept)} names: {dict(ended)}")
+        report(f"allocated after the first tenth: {sizes[0]}")
+        report(f"allocated at the end: {sizes[-1]}")
+        leaking = [
+            name for name, functions in kept.items() if not any(grows_little(functions) for _ in range(8))
+        ]
+        report(f"{len(leaking)} of {len(kept)} names leak if a call is made again")
+        self.assertEqual(leaking, [])
+        self.assertLessEqual(sizes[-1].blocks - sizes[0].blocks, sum(ended.values()) // 20)
 
 
 class Values(unittest.TestCase):
@@ -510,7 +585,7 @@ class Values(unittest.TestCase):
         for name, kind in TYPES.items():
             with self.subTest(name):
 
-                @tested(CALLS // 20, make=some.one_of(of_lines(kind.parse), VALUES[name]))
+                @tested(DRAWN // 20, make=some.one_of(of_lines(kind.parse), VALUES[name]))
                 def judge(make: Call) -> None:
                     try:
                         value = make()
@@ -521,7 +596,7 @@ class Values(unittest.TestCase):
                 judge()
 
     def test_other_values_are_not_equal(self) -> None:
-        @tested(CALLS // 10, makes=some.lists(some.one_of(*VALUES.values()), min_size=2, max_size=2))
+        @tested(DRAWN // 10, makes=some.lists(some.one_of(*VALUES.values()), min_size=2, max_size=2))
         def judge(makes: List[Call]) -> None:
             try:
                 one, other = (make() for make in makes)
@@ -535,7 +610,7 @@ class Values(unittest.TestCase):
         judge()
 
     def test_dates(self) -> None:
-        @tested(CALLS // 10, seconds=some.integers(0, 253402300799))
+        @tested(DRAWN // 10, seconds=some.integers(0, 253402300799))
         def judge(seconds: int) -> None:
             time = it.date(it.format_date(seconds))
             self.assertEqual((time.timestamp(), it.format_date(time)), (seconds, it.format_date(seconds)))
@@ -545,7 +620,7 @@ class Values(unittest.TestCase):
     def test_no_secret_is_shown(self) -> None:
         secrets = some.text("abcdefgh", min_size=6, max_size=9)
 
-        @tested(CALLS // 10, secret=secrets, end=some.sampled_from(["", "\n", "\x7f", "é", '"', "=", " ", ","]))
+        @tested(DRAWN // 10, secret=secrets, end=some.sampled_from(["", "\n", "\x7f", "é", '"', "=", " ", ","]))
         def judge(secret: str, end: str) -> None:
             text = f"XYZ{secret}{end}"
             makes: List[Call] = [
@@ -571,8 +646,17 @@ class Values(unittest.TestCase):
         judge()
 
 
+ENVIRON = {"REQUEST_METHOD": "GET", "PATH_INFO": "/__init__.py", "HTTP_HOST": "a", "wsgi.url_scheme": "http"}
+
+
 def print_nothing(*_: object) -> Any:
     """Takes the head of a response."""
+
+
+def show(environ: Any, start_response: Any) -> List[bytes]:
+    """An application with one response, which caches may store."""
+    start_response("200 OK", [("Content-Type", "text/plain"), ("ETag", '"a"'), ("Cache-Control", "max-age=600")])
+    return [b"0123456789"]
 
 
 def apart(count: int, work: Callable[[int], object]) -> List[object]:
@@ -603,6 +687,12 @@ class Threads(unittest.TestCase):
         gateway, hop = it.Gateway("gw"), it.Hop(client="192.0.2.43")
         resource = it.Resource([it.Method("GET")], [it.Representation("text/plain", 10, '"b"')], cors=POLICY)
         section, headers, file = it.Section(fields), it.Headers(fields), wsgi.Files(os.path.dirname(__file__))
+        cache = it.Cache(shared=True)
+        self.addCleanup(cache.close)
+        first = cache.begin("GET", "https://a.example/", fields, now=1000)
+        first.came(200, {"Cache-Control": "max-age=60", "ETag": '"a"'}, now=1000)
+        first.received(b"0123456789")
+        first.ended(now=1000)
         values: List[Any] = [
             it.ETag("a"),
             it.MediaType("text", "html", (("q", "1"),)),
@@ -629,14 +719,22 @@ class Threads(unittest.TestCase):
             lambda: POLICY.answer("GET", section).fields,
             lambda: resource.answer("GET", section).fields,
             lambda: gateway.forward_request("GET", section, hop).fields,
-            lambda: b"".join(
-                file({"REQUEST_METHOD": "GET", "PATH_INFO": "/__init__.py", "HTTP_HOST": "a"}, print_nothing)
+            lambda: cache.begin("GET", "https://a.example/", {"Range": "bytes=0-3"}, now=1010).step,
+            *(
+                partial(lambda application: b"".join(application({**ENVIRON}, print_nothing)), application)
+                for application in (
+                    file,
+                    wsgi.Cached(show, it.Cache(shared=True)),
+                    wsgi.ConditionalRequests(show),
+                    wsgi.Cors(show, POLICY),
+                    wsgi.Serves(lambda environ: SERVED),
+                )
             ),
         ]
         wanted = [question() for question in questions]
         rounds = max(20, CALLS // (8 * len(questions)) // 10)
 
-        def ask(number: int) -> int:
+        def ask(number: int, rounds: int = rounds) -> int:
             wrong = 0
             for _ in range(rounds):
                 for place in range(len(questions)):
@@ -645,6 +743,11 @@ class Threads(unittest.TestCase):
             return wrong
 
         self.assertEqual(apart(8, ask), [0] * 8)
+        before = allocated()
+        self.assertEqual(apart(8, ask), [0] * 8)
+        report(f"8 threads, {2 * 8 * rounds * len(questions)} calls of {len(questions)} kinds: {before}, {allocated()}")
+        again: List[Call] = [partial(apart, 8, partial(ask, rounds=1))]
+        self.assertTrue(any(grows_little(again, 20) for _ in range(8)))
 
     def test_eight_threads_over_one_mapping_that_changes(self) -> None:
         """Each sees a section that was whole at some time."""

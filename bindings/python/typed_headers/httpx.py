@@ -7,7 +7,7 @@
 import asyncio
 import time
 from threading import Thread
-from typing import TYPE_CHECKING, Any, AsyncIterator, Callable, Iterator, List, Optional, Set, Tuple
+from typing import TYPE_CHECKING, Any, AsyncIterator, Callable, Iterable, Iterator, List, Optional, Set, Tuple, Union
 
 import httpx
 
@@ -221,8 +221,13 @@ def _turn(rules: Rules, request: httpx.Request) -> Turn:
     return Turn(rules, request.method, str(request.url.copy_with(fragment=None)), fields)
 
 
-def _fields(response: httpx.Response) -> List[Tuple[str, str]]:
-    return [(name.decode("latin-1"), value.decode("latin-1")) for name, value in response.headers.raw]
+def _fields(message: Union[httpx.Request, httpx.Response]) -> List[Tuple[str, str]]:
+    return [(name.decode("latin-1"), value.decode("latin-1")) for name, value in message.headers.raw]
+
+
+def _encoded(fields: Iterable[Tuple[str, str]]) -> List[Tuple[bytes, bytes]]:
+    """The fields as bytes: httpx encodes text as ASCII."""
+    return [(name.encode("latin-1"), value.encode("latin-1")) for name, value in fields]
 
 
 async def _came(turn: Turn, response: httpx.Response) -> Optional[Step]:
@@ -238,10 +243,7 @@ def _asking(request: httpx.Request, ask: Ask) -> httpx.Request:
     """The request as the origin is asked it."""
     if ask.fields is None:
         return request
-    headers = request.headers.copy()
-    for name in ask.replaced:
-        headers.pop(name, None)
-    headers.update(dict(ask.fields))
+    headers = _encoded(ask.apply(_fields(request)))
     return httpx.Request(
         request.method, request.url, headers=headers, stream=request.stream, extensions=request.extensions
     )
@@ -259,4 +261,4 @@ def _passed(response: httpx.Response, stream: Any) -> httpx.Response:
 def _stored(reply: Reply) -> httpx.Response:
     # (given as a stream, content adds no field)
     stream = httpx.ByteStream(reply.content or b"")
-    return httpx.Response(reply.status, headers=list(reply.fields), stream=stream, extensions={"from_cache": True})
+    return httpx.Response(reply.status, headers=_encoded(reply.fields), stream=stream, extensions={"from_cache": True})

@@ -2,7 +2,7 @@
 import concurrent.futures
 import time
 import uuid
-from collections.abc import Callable
+from collections.abc import Callable, Iterable
 from dataclasses import dataclass, field
 from pathlib import Path
 
@@ -80,9 +80,9 @@ def run_case(key: str, case: Case, port: int) -> list[Answer]:
     return answers
 
 
-def new_keys() -> dict[str, Case]:
+def new_keys(asked: Iterable[Case]) -> dict[str, Case]:
     """A key of its own for each case, by which the origin knows the case."""
-    keys = {uuid.uuid4().hex: case for case in cases.ALL}
+    keys = {uuid.uuid4().hex: case for case in asked}
     origin.RECORD.asked.clear()
     origin.RECORD.steps = {key: case.steps for key, case in keys.items()}
     return keys
@@ -114,7 +114,7 @@ def title_of(cache: Cache) -> str:
 
 
 def judge(cache: Cache, work: Path) -> Judged:
-    keys = new_keys()
+    keys = new_keys(cases.ALL)
     if cache.words:
         answers = by_proxy(cache, keys, work)
     else:

@@ -68,7 +68,7 @@ def wrong_field(name: str, value: str | None, wanted: str | None, outcome: str, 
     if least := re.fullmatch(r">=(\d+) if hit", wanted):
         return outcome == "hit" and (not (value or "").isdigit() or int(value or 0) < int(least[1]))
     if wanted == "whole":
-        return value is not None and int(value) != length
+        return value not in (None, str(length))
     return outcome in ("hit", "validated", "swr", "stale") and value != wanted.replace("whole", str(length))
 
 

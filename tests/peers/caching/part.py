@@ -3,6 +3,7 @@ import collections
 
 from caching import against_libraries, against_model, caches, cases, origin
 from caching.caches import Cache, Judged
+from caching.cases import Case
 from caching.outcomes import verdict
 from common.part import Context, Part
 from common.processes import Missing
@@ -22,9 +23,9 @@ come.
 """
 
 
-def counts_of(judged: Judged) -> collections.Counter[tuple[str, str]]:
+def counts_of(judged: Judged, asked: list[Case]) -> collections.Counter[tuple[str, str]]:
     return collections.Counter(
-        (case.kind, verdict(case, judged.results.get(case.id), judged.cache.is_shared)) for case in cases.ALL)
+        (case.kind, verdict(case, judged.results.get(case.id), judged.cache.is_shared)) for case in asked)
 
 
 def judge_caches(context: Context, part: Part) -> list[Judged]:
@@ -36,7 +37,7 @@ def judge_caches(context: Context, part: Part) -> list[Judged]:
         work.chmod(0o777)
         try:
             found.append(caches.judge(cache, work))
-            counts = counts_of(found[-1])
+            counts = counts_of(found[-1], cases.ALL)
             print(f"caching: {found[-1].title}: required cases: {counts['required', 'kept']} kept, "
                   f"{counts['required', 'broken']} broken", flush=True)
         except Missing as missing:
@@ -46,27 +47,25 @@ def judge_caches(context: Context, part: Part) -> list[Judged]:
     return found
 
 
-def table_of_caches(part: Part, found: list[Judged]) -> None:
-    rows: list[list[object]] = []
-    for judged in found:
-        counts = counts_of(judged)
-        rows.append([judged.title, counts["required", "kept"], counts["required", "broken"], counts["optimal", "kept"],
-                     counts["optimal", "broken"], counts["check", "kept"], counts["check", "broken"],
-                     sum(count for (_, it), count in counts.items() if it == "not asked")])
-    head = ["Cache", "required: kept", "broken", "optional reuse: made", "not made", "either: stricter", "other",
-            "not asked"]
-    part.table(head, rows)
+HEAD = ["Cache", "required: kept", "broken", "optional reuse: made", "not made", "either: stricter", "other", "not asked"]
 
 
-def table_of_broken(part: Part, found: list[Judged]) -> None:
-    """The required cases that some cache breaks, with the outcome of the step that shows it."""
+def numbers_of(judged: Judged, asked: list[Case]) -> list[int]:
+    """The row of a cache behind its title."""
+    counts = counts_of(judged, asked)
+    numbers = [counts[kind, it] for kind in ("required", "optimal", "check") for it in ("kept", "broken")]
+    return [*numbers, sum(count for (_, it), count in counts.items() if it == "not asked")]
+
+
+def table_of_broken(part: Part, found: list[Judged], asked: list[Case], what: str) -> None:
+    """The required cases that some cache breaks, with the section."""
     rows: list[list[object]] = []
-    for case in cases.ALL:
+    for case in asked:
         broken = [it.title for it in found if case.kind == "required"
                   and verdict(case, it.results.get(case.id), it.cache.is_shared) == "broken"]
         if broken:
             rows.append([f"`{case.id}`", case.cites, ", ".join(broken)])
-    part.section += ["Required cases that some cache breaks, with the section:", ""]
+    part.section += [f"Required cases that some {what} breaks, with the section:", ""]
     part.table(["Case", "RFC", "Broken by"], rows)
 
 
@@ -74,21 +73,27 @@ def cache_of(found: list[Judged], cache: Cache) -> Judged | None:
     return next((it for it in found if it.cache is cache), None)
 
 
+def broken_cases(judged: Judged, asked: list[Case]) -> list[str]:
+    """The required cases that a cache breaks, with what shows it."""
+    return [f"{case.id}: {[it.wrong for it in judged.results[case.id] if it.wrong]}" for case in asked
+            if case.kind == "required"
+            and verdict(case, judged.results.get(case.id), judged.cache.is_shared) == "broken"]
+
+
 def want_all_kept(part: Part, ours: Judged) -> None:
-    counts = counts_of(ours)
+    counts = counts_of(ours, cases.ALL)
     kept, broken = counts["required", "kept"], counts["required", "broken"]
     # (one more isn't asked: the proxy hands on no response that was cut off)
     part.want(f"required cases of a shared cache that {ours.title} keeps", f"{kept} of {kept + broken}", "101 of 101")
-    part.faults += [f"{case.id}: {[it.wrong for it in ours.results[case.id] if it.wrong]}" for case in cases.ALL
-                    if case.kind == "required" and verdict(case, ours.results[case.id], True) == "broken"]
+    part.faults += broken_cases(ours, cases.ALL)
 
 
 def run(context: Context) -> Part:
     part = Part("Caching")
     found = judge_caches(context, part)
     part.section += INTRODUCTION.strip().format(count=len(cases.ALL)).split("\n") + [""]
-    table_of_caches(part, found)
-    table_of_broken(part, found)
+    part.table(HEAD, [[it.title, *numbers_of(it, cases.ALL)] for it in found])
+    table_of_broken(part, found, cases.ALL, "cache")
     for cache in (caches.OURS, caches.STORE):
         if ours := cache_of(found, cache):
             want_all_kept(part, ours)
