@@ -42,3 +42,8 @@ parameter_in text = option_and_then with_argument (directive_in (squeezed text))
 abbrev pub between_semicolons : List ℕ → List Member
 between_semicolons text =
     pieces_left (record { separator = semicolon; pairs = true; rest = text; is_done = false })
+
+-- a parameter, without the blanks beside its `=`
+abbrev pub parameter_line : Member → List ℕ
+parameter_line (Whole text) = option_map_or directive_line (directive_in (squeezed text)) (line 118 text)
+parameter_line Malformed = malformed_line

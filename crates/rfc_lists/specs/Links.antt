@@ -3,9 +3,9 @@ use Rattle.std.specs.Prelude.{ℕ, ◌+◌, Bool, true, false, ◌&&◌, ◌==�
 use Rattle.std.specs.Prelude.{Some, None, nat_lt}
 use Rattle.std.specs.{Prelude.{if◌then◌else◌}, List.flat_map, Option.option_map_or}
 use Rattle.headers_syntax.specs.{Lines.Line, Text.trim}
-use Rattle.rfc_fields.specs.{Cuts.cut, Directives.directive_in, Grammar.{backslash, comma, quote}}
+use Rattle.rfc_fields.specs.{Cuts.cut, Grammar.{backslash, comma, quote}}
 use Rattle.rfc_fields.specs.{Members.members_of, Scan.Member, Scan.Member.{Whole, Malformed}}
-use Rattle.rfc_lists.specs.Lines.{between_semicolons, directive_line, line, malformed_line, squeezed}
+use Rattle.rfc_lists.specs.Lines.{between_semicolons, line, malformed_line, parameter_line}
 use Rattle.rfc_lists.specs.declared.links.Place.{Place}
 use Rattle.rfc_lists.specs.declared.links.Place.TheVariants.{Outside, Bracketed, Quoted, Escaped}
 
@@ -48,11 +48,6 @@ cut_link text =
     if nat_lt (link_len Outside text) (length text) then
     Some (take (link_len Outside text) text, drop (link_len Outside text + 1) text)
     else None
-
--- a parameter, without the blanks beside its `=`
-abbrev pub parameter_line : Member → List ℕ
-parameter_line (Whole text) = option_map_or directive_line (directive_in (squeezed text)) (line 118 text)
-parameter_line Malformed = malformed_line
 
 -- what follows a target: nothing before the first semicolon, and parameters after it
 abbrev pub piece_lines : List Member → List ℕ

@@ -18,6 +18,6 @@ mod links;
 mod set_cookies;
 
 pub use crate::challenges::challenges_text;
-pub use crate::elements::elements_text;
+pub use crate::elements::{elements_text, values_text};
 pub use crate::links::links_text;
 pub use crate::set_cookies::set_cookies_text;

@@ -2,7 +2,8 @@
 ghost use Rattle.std.specs.{Prelude.{◌≡◌, ◌++◌, ◌∷◌, [], OnOk, IfOk, is_some}, Option.option_map_or};
 ghost use Rattle.rfc_fields.{specs.Directives.{directive_in, directive_parts}, specs.Members.member_of};
 ghost use Rattle.rfc_fields.specs.Values.{octets_of, value_parts};
-ghost use Rattle.rfc_lists.specs.Lines.{directive_line, line, member_line, parameter_in, squeezed, text_line};
+ghost use Rattle.rfc_lists.specs.Lines.{directive_line, line, member_line, parameter_in, parameter_line, squeezed};
+ghost use Rattle.rfc_lists.specs.Lines.{text_line};
 
 use headers_syntax::trim;
 use rfc_fields::{Directive, Malformed, Value, cut, directive_in};
@@ -107,5 +108,23 @@ pub(crate) fn push_parameter(
             Ok(true)
         }
         _ => Ok(false),
+    }
+}
+
+/// Appends the line of a parameter, which may have blanks beside its `=`.
+pub(crate) fn push_spaced_member(
+    alloc: Global,
+    text: &mut Vec<u8>,
+    parameter: Result<&[u8], Malformed>,
+) -> Result<(), AllocError>
+    ensures { OnOk result (text.new.items ≡ text.old.items ++ parameter_line (member_of parameter.entry)) }
+{
+    let Ok(piece) = parameter else {
+        return push_malformed(text);
+    };
+    let plain = squeezed(alloc, piece)?;
+    match directive_in(plain.as_slice()) {
+        Some(directive) => push_directive(text, &directive),
+        None => push_line(text, b'v', piece),
     }
 }

@@ -1,15 +1,14 @@
 //! Links.
 ghost use Rattle.std.specs.Prelude.{◌≡◌, ◌≤◌, ◌++◌, length, option_map, IfOk, OnOk};
 ghost use Rattle.headers_syntax.specs.Lines.{lines_of};
-ghost use Rattle.rfc_fields.specs.Members.{member_of};
 ghost use Rattle.rfc_lists.specs.declared.links.Place.TheVariants.{Outside};
-ghost use Rattle.rfc_lists.specs.Links.{after, cut_link, link_len, link_text, line_text, links_text, parameter_line};
+ghost use Rattle.rfc_lists.specs.Links.{after, cut_link, link_len, link_text, line_text, links_text};
 ghost use Rattle.rfc_lists.specs.Links.{parameters_text, separates};
 
-use crate::lines::{push_directive, push_line, push_malformed, squeezed};
+use crate::lines::{push_line, push_malformed, push_spaced_member};
 use headers_syntax::trim;
 use http_header::{GetAll, HeaderValue};
-use rfc_fields::{Malformed, Parameterized, cut, directive_in};
+use rfc_fields::{Malformed, Parameterized, cut};
 use std::alloc::{AllocError, Global};
 
 /// Where a byte of a line is.
@@ -124,24 +123,7 @@ fn push_parameters(alloc: Global, text: &mut Vec<u8>, rest: &[u8]) -> Result<(),
         _ => return push_malformed(text),
     };
     for parameter in parts.parameters {
-        push_member(alloc, text, parameter)?;
+        push_spaced_member(alloc, text, parameter)?;
     }
     Ok(())
-}
-
-fn push_member(
-    alloc: Global,
-    text: &mut Vec<u8>,
-    parameter: Result<&[u8], Malformed>,
-) -> Result<(), AllocError>
-    ensures { OnOk result (text.new.items ≡ text.old.items ++ parameter_line (member_of parameter.entry)) }
-{
-    let Ok(piece) = parameter else {
-        return push_malformed(text);
-    };
-    let plain = squeezed(alloc, piece)?;
-    match directive_in(plain.as_slice()) {
-        Some(directive) => push_directive(text, &directive),
-        None => push_line(text, b'v', piece),
-    }
 }

@@ -1,6 +1,6 @@
 use Rattle.std.{proofs.Common.{◌≡◌, ◌++◌}, specs.Prelude.flat_map}
 use Rattle.rfc_fields.specs.Members.{members_left}
-use Rattle.rfc_lists.specs.Links.{parameter_line}
+use Rattle.rfc_lists.specs.Lines.{parameter_line}
 use Rattle.rfc_lists.proofs.links.push_parameters.Given as goal
 
 abbrev pub invariant-loop-parameter : goal.invariant-loop-parameter
