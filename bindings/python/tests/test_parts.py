@@ -3,7 +3,7 @@
 import pickle
 import unittest
 from datetime import datetime, timezone
-from typing import Any, Callable, List, Tuple
+from typing import Any, Callable, Dict, List, Tuple
 
 from typed_headers import (
     Accept,
@@ -154,7 +154,7 @@ class Parts(unittest.TestCase):
         for line in ("a", "=b", ""):
             with self.assertRaises(InvalidField):
                 SetCookie.parse(line)
-        for name, value, given in (
+        wrong: List[Tuple[str, str, Dict[str, Any]]] = [
             ("__Secure-a", "b", {}),
             ("a", "b", {"same_site": "None"}),
             ("a", "b;c", {}),
@@ -162,7 +162,8 @@ class Parts(unittest.TestCase):
             ("", "a", {}),
             ("a", "b", {"path": "c"}),
             ("a", "b", {"same_site": "lax"}),
-        ):
+        ]
+        for name, value, given in wrong:
             with self.assertRaises(HeaderError, msg=(name, value, given)):
                 SetCookie(name, value, **given)
 
