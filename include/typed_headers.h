@@ -856,6 +856,20 @@ enum typed_headers_disposition {
     TYPED_HEADERS_FORM_DATA = 3
 };
 
+/* Forms of fields whose values have parts. */
+enum typed_headers_form {
+    /* A list of elements with parameters, as of `accept`, `te` and `forwarded` (RFC 9110, section 5.6.6). */
+    TYPED_HEADERS_ELEMENTS = 0,
+    /* As of `www-authenticate` (RFC 9110, section 11.6.1). */
+    TYPED_HEADERS_CHALLENGES = 1,
+    /* As of `link` (RFC 8288, section 3). */
+    TYPED_HEADERS_LINKS = 2,
+    /* As of `set-cookie` (RFC 6265, section 5.2). */
+    TYPED_HEADERS_SET_COOKIES = 3,
+    /* Values with parameters that no comma separates, as of `content-disposition` (RFC 6266, section 4.1). */
+    TYPED_HEADERS_VALUES = 4
+};
+
 /*
  * A handle: closed, or open with what it was opened with. Zero bytes are a closed one, as TYPED_HEADERS_CLOSED. An open
  * one has memory until it is closed again, and what it has never changes. Its members are the library's: a program
@@ -1494,6 +1508,18 @@ uint8_t typed_headers_members(const uint8_t *lines, size_t lines_length, uint8_t
  */
 uint8_t typed_headers_has_member(const uint8_t *lines, size_t lines_length, const uint8_t *member,
                                  size_t member_length, bool any_case, uint8_t *has);
+
+/*
+ * The parts of a field's values, by all its lines: of lists whose elements may have parameters, as `accept` and
+ * `forwarded`, of challenges, of links, of cookies to be set, or of values with parameters. `form` is one of
+ * `typed_headers_form`. Each part is a line: a letter, a text and a LF. `v` has a text, `n` a name alone, `p` a name,
+ * `=` and what its value means, without quotes, `s` the scheme of a challenge, `k` what follows a scheme and is no
+ * parameter; `!` is what is malformed. A parameter is one that RFC 9110, section 5.6.6, has; of a cookie it is what
+ * stands around the first `=` (RFC 6265, section 5.2). An empty line ends each element, link, cookie and value.
+ * Refused: `form` is none, or a line can't be one.
+ */
+uint8_t typed_headers_field_parts(uint8_t form, const uint8_t *lines, size_t lines_length, uint8_t *room,
+                                  size_t room_length, size_t *written);
 
 /* ---- sections and policies: what several calls are asked of is parsed once, behind a handle. Since 2.0. ---- */
 

@@ -280,6 +280,8 @@ CALL(members, MAY(REFUSED) | MAY(ABSENT) | MAY(NO_MEMORY), (FIELD(at[0]), ROOM(a
      PLAIN(ROOM_OF_BYTES))
 CALL(has_member, MAY(REFUSED) | MAY(ABSENT) | MAY(NO_MEMORY), (FIELD(at[0]), TEXT_OF(at[1]), at[2].flag, &at[3].u8),
      PLAIN(LINES), PLAIN(GIVEN_TEXT), OF_KIND(NUMBER, BOOL), OF_KIND(OUT_NUMBER, U8))
+CALL(field_parts, MAY(REFUSED) | MAY(ABSENT) | MAY(NO_MEMORY), (at[0].u8, FIELD(at[1]), ROOM(at[2])),
+     OF_KIND(NUMBER, U8), PLAIN(LINES), PLAIN(ROOM_OF_BYTES))
 CALL(section_free, 0, (at[0].handle.at), OF_HANDLE(OPENED, section))
 CALL(cors_policy_free, 0, (at[0].handle.at), OF_HANDLE(OPENED, cors_policy))
 CALL(resource_handle_free, 0, (at[0].handle.at), OF_HANDLE(OPENED, resource_handle))
@@ -401,9 +403,9 @@ enum { MOST_SLOTS = 9 };
     METHOD(forward_response), METHOD(framing), METHOD(basic), METHOD(bearer), METHOD(cookie), METHOD(cookies), \
     METHOD(host), METHOD(origin), METHOD(strict_transport_security), METHOD(retry_after), METHOD(stale_directives), \
     METHOD(directive_arguments), METHOD(content_range), METHOD(content_disposition), METHOD(members), \
-    METHOD(has_member), METHOD(section_free), METHOD(cors_policy_free), METHOD(resource_handle_free), \
-    METHOD(section_new), METHOD(section_field), METHOD(section_evaluate), METHOD(section_select), \
-    METHOD(section_respond), METHOD(section_choose_type), METHOD(section_choose_coding), \
+    METHOD(has_member), METHOD(field_parts), METHOD(section_free), METHOD(cors_policy_free), \
+    METHOD(resource_handle_free), METHOD(section_new), METHOD(section_field), METHOD(section_evaluate), \
+    METHOD(section_select), METHOD(section_respond), METHOD(section_choose_type), METHOD(section_choose_coding), \
     METHOD(section_choose_language), METHOD(cors_policy_new), METHOD(cors_policy_answer), \
     METHOD(resource_handle_new), METHOD(resource_handle_answer), METHOD(connection_free), METHOD(connection_new), \
     METHOD(connection_next), METHOD(connection_receive), METHOD(connection_finish_input), METHOD(connection_method), \

@@ -2430,6 +2430,28 @@ static void check_arguments(const struct row *row) {
           has_none ? EMPTY : joined_words(answer_words(row), 0, "\n", true));
 }
 
+/* A call over field lines of a form. */
+struct form_call {
+    struct typed_headers_text lines;
+    uint8_t form;
+};
+
+static uint8_t call_parts(const void *arguments, uint64_t *number, uint8_t *room, size_t room_length,
+                          size_t *written) {
+    const struct form_call *call = arguments;
+    (void)number;
+    return typed_headers_field_parts(call->form, call->lines.bytes, call->lines.length, room, room_length, written);
+}
+
+/* `elements LINE..` and the like: each word of the answer is a line. */
+static void check_parts(const struct row *row, uint8_t form) {
+    struct form_call call = {lines(row, 0), form};
+    check(row, call_parts, &call, TYPED_HEADERS_DONE, NO_NUMBER,
+          is_answer(row, "()") ? EMPTY : joined_words(answer_words(row), 0, "\n", true));
+    call.form = TYPED_HEADERS_VALUES + 1;
+    check(row, call_parts, &call, TYPED_HEADERS_REFUSED, NO_NUMBER, NO_TEXT);
+}
+
 /* The typed calls of a row. */
 static void check_typed(const struct row *row) {
     const char *call = row->call;
@@ -2442,6 +2464,16 @@ static void check_typed(const struct row *row) {
         check_shown(row, call_stale, row->answer);
     } else if (strcmp(call, "CacheControl.arguments") == 0) {
         check_arguments(row);
+    } else if (strcmp(call, "elements") == 0) {
+        check_parts(row, TYPED_HEADERS_ELEMENTS);
+    } else if (strcmp(call, "challenges") == 0) {
+        check_parts(row, TYPED_HEADERS_CHALLENGES);
+    } else if (strcmp(call, "links") == 0) {
+        check_parts(row, TYPED_HEADERS_LINKS);
+    } else if (strcmp(call, "set_cookies") == 0) {
+        check_parts(row, TYPED_HEADERS_SET_COOKIES);
+    } else if (strcmp(call, "values") == 0) {
+        check_parts(row, TYPED_HEADERS_VALUES);
     } else if (strcmp(call, "Cookie.get") == 0) {
         check_cookie(row);
     } else if (strcmp(call, "Cookie.decode") == 0) {

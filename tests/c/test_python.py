@@ -119,6 +119,15 @@ def named_fields(words, wanted):
     return names is None or list(names) == [name.strip() for text in hoped for name in text.split(",") if name]
 
 
+def parts(form):
+    def given(words, wanted):
+        status, text = headers._library.calls.field_parts(form, tuple(map(decode, words)))
+        hoped = b"" if wanted == ["()"] else b"".join(decode(word) + b"\n" for word in wanted)
+        return status == 0 and text == hoped
+
+    return given
+
+
 def ranges(words, wanted):
     given = decoded(headers.Range.parse, words[1:])
     if wanted[0] == REFUSED:
@@ -806,6 +815,7 @@ CALLS = {
     "CacheControl.decode": cache_control,
     "CacheControl.stale": stale,
     "CacheControl.arguments": named_fields,
+    **{call: parts(form) for form, call in enumerate(("elements", "challenges", "links", "set_cookies", "values"))},
     "Range.satisfiable_ranges": ranges,
     "evaluate": evaluate,
     "select": select,

@@ -11,7 +11,6 @@ from typing import Any, Callable, Tuple
 from typed_headers import (
     ByteRange,
     CacheControl,
-    ContentDisposition,
     ContentRange,
     Cookie,
     Credentials,
@@ -392,15 +391,6 @@ class TypedValues(unittest.TestCase):
             with self.assertRaises(InvalidField):
                 Origin.parse(text)
 
-    def test_dispositions(self) -> None:
-        for text, found in (
-            ("inline", ContentDisposition.INLINE),
-            ("attachment; filename=x", ContentDisposition.ATTACHMENT),
-            ("form-data;name=x", ContentDisposition.FORM_DATA),
-            ("Inline", ContentDisposition.OTHER),
-        ):
-            self.assertIs(ContentDisposition.parse(text), found)
-
     def test_lists(self) -> None:
         self.assertEqual(members("a,, b ,", '"c, d"', ""), ["a", "b", '"c, d"'])
         self.assertEqual(members("a, é"), [])
@@ -430,7 +420,7 @@ class TypedValues(unittest.TestCase):
         self.assertEqual(headers.authorization, Credentials(token="x"))
         self.assertEqual(headers.proxy_authorization, Credentials("A", "B"))
         self.assertEqual((headers.connection, headers.vary, headers.allow), (["close"], ["*"], ["GET", "HEAD"]))
-        self.assertIs(headers.content_disposition, ContentDisposition.INLINE)
+        self.assertEqual(str(headers.content_disposition), "inline")
         none = Headers()
         self.assertIsNone(none.host or none.origin or none.cookie or none.authorization or none.proxy_authorization)
         self.assertIsNone(none.connection or none.vary or none.allow or none.content_disposition)

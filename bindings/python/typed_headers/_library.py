@@ -107,7 +107,7 @@ def to_number(number: SupportsIndex, what: str, bits: int = 64) -> int:
     return value
 
 
-def check_types(value: object, **kinds: Union[type, Tuple[type, ...]]) -> None:
+def check_types(value: object, /, **kinds: Union[type, Tuple[type, ...]]) -> None:
     """Raises an error if a member of a value isn't of its type."""
     for name, kind in kinds.items():
         given = getattr(value, name)

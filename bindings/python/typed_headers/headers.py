@@ -2,7 +2,22 @@
 
 import re
 from datetime import datetime
-from typing import Any, Iterable, Iterator, List, Mapping, MutableMapping, Optional, Protocol, Sequence, Tuple, Union
+from typing import (
+    TYPE_CHECKING,
+    Any,
+    Callable,
+    Iterable,
+    Iterator,
+    List,
+    Mapping,
+    MutableMapping,
+    Optional,
+    Protocol,
+    Sequence,
+    Tuple,
+    TypeVar,
+    Union,
+)
 
 from . import _library
 from ._library import Text
@@ -10,7 +25,6 @@ from ._names import FIELDS, SECRETS
 from .errors import InvalidField
 from .values import (
     CacheControl,
-    ContentDisposition,
     ContentRange,
     Cookie,
     Credentials,
@@ -30,10 +44,22 @@ from .values import (
     members,
 )
 
+if TYPE_CHECKING:
+    from . import parts
+
 __all__ = ["Headers", "HeadersLike", "Section", "canonical_field", "canonical_section"]
+
+Parsed = TypeVar("Parsed")
 
 #: Names and values of fields.
 Fields = List[Tuple[str, str]]
+
+
+def _parts() -> Any:
+    """The types of fields with parts, whose module needs this one."""
+    from . import parts
+
+    return parts
 
 
 def canonical_field(name: Text, *lines: Text) -> List[str]:
@@ -313,10 +339,54 @@ class Headers(MutableMapping[str, str]):
         return members(*lines) if lines else None
 
     @property
-    def content_disposition(self) -> Optional[ContentDisposition]:
+    def content_disposition(self) -> "Optional[parts.ContentDisposition]":
         """The disposition of `Content-Disposition`."""
-        lines = self.lines("content-disposition")
-        return ContentDisposition.parse(*lines) if lines else None
+        return self._part("content-disposition", _parts().ContentDisposition.parse)
+
+    @property
+    def accept(self) -> "Optional[parts.Accept]":
+        """The preferences of `Accept`."""
+        return self._part("accept", _parts().Accept.parse)
+
+    @property
+    def accept_encoding(self) -> "Optional[parts.AcceptEncoding]":
+        """The preferences of `Accept-Encoding`."""
+        return self._part("accept-encoding", _parts().AcceptEncoding.parse)
+
+    @property
+    def accept_language(self) -> "Optional[parts.AcceptLanguage]":
+        """The preferences of `Accept-Language`."""
+        return self._part("accept-language", _parts().AcceptLanguage.parse)
+
+    @property
+    def cache_status(self) -> "Optional[List[parts.CacheStatus]]":
+        """The caches of `Cache-Status`."""
+        return self._part("cache-status", _parts().CacheStatus.parse_all)
+
+    @property
+    def forwarded(self) -> "Optional[List[parts.Forwarded]]":
+        """The elements of `Forwarded`."""
+        return self._part("forwarded", _parts().Forwarded.parse_all)
+
+    @property
+    def link(self) -> "Optional[List[parts.Link]]":
+        """The links of `Link`."""
+        return self._part("link", _parts().Link.parse_all)
+
+    @property
+    def set_cookie(self) -> "Optional[List[parts.SetCookie]]":
+        """The cookies of `Set-Cookie`."""
+        lines = self.lines("set-cookie")
+        return [_parts().SetCookie.parse(line) for line in lines] or None
+
+    @property
+    def www_authenticate(self) -> "Optional[List[parts.Challenge]]":
+        """The challenges of `WWW-Authenticate`."""
+        return self._part("www-authenticate", _parts().Challenge.parse_all)
+
+    def _part(self, name: str, parse: Callable[..., Parsed]) -> Optional[Parsed]:
+        lines = self.lines(name)
+        return parse(*lines) if lines else None
 
     @property
     def cookie(self) -> Optional[Cookie]:

@@ -20,7 +20,6 @@ _read_etag = _library.calls.etag
 __all__ = [
     "ByteRange",
     "CacheControl",
-    "ContentDisposition",
     "ContentRange",
     "Cookie",
     "Credentials",
@@ -726,30 +725,6 @@ class Origin:
         if not self.scheme and not self.host and self.port is None:
             return "null"
         return f"{self.scheme}://{self.host}" + ("" if self.port is None else f":{self.port}")
-
-
-class ContentDisposition(Enum):
-    """How content is to be presented (RFC 6266, section 4.2).
-
-    >>> ContentDisposition.parse('attachment; filename="a.txt"')
-    <ContentDisposition.ATTACHMENT: 'attachment'>
-    """
-
-    #: Another word, which RFC 6266 has treated as an attachment.
-    OTHER = ""
-    INLINE = "inline"
-    ATTACHMENT = "attachment"
-    #: A part of a form (RFC 7578, section 4.2).
-    FORM_DATA = "form-data"
-
-    @classmethod
-    def parse(cls, line: Text, *more: Text) -> "ContentDisposition":
-        """The disposition of the first field line, without parameters. Its word is compared byte for byte."""
-        found = _library.number(_library.calls.content_disposition, "content-disposition", (line, *more))
-        return list(cls)[found]
-
-    def __str__(self) -> str:
-        return str(self.value)
 
 
 def members(line: Text, *more: Text) -> List[str]:

@@ -8,14 +8,14 @@ ghost use Rattle.c_typed.{specs.Cookies.{FindsCookie, ShowsCookies, reads_cookie
 ghost use Rattle.c_typed.{specs.Credentials.{ShowsUserPassword, basic_reads, bearer_reads}, specs.Hosts.ShowsHost};
 ghost use Rattle.c_typed.{specs.Hosts.{ShowsOrigin, is_whole_host, is_whole_origin}, specs.Members.ShowsMembers};
 ghost use Rattle.c_typed.{specs.Members.{ShowsMembership, reads_list}, specs.Policies.{ShowsRetryTime, ShowsSecurity}};
-ghost use Rattle.c_typed.specs.{Directives.{ShowsArguments, ShowsStale}, Shown.{FieldShows, FieldShowsIf, LinesShow}};
+ghost use Rattle.c_typed.specs.{Directives.{ShowsArguments, ShowsStale}, Parts.ShowsForm, Shown.{FieldShows, FieldShowsIf, LinesShow}};
 
 use crate::giving::give;
 use c_parts::{ContentRangeParts, DONE, copy_into};
 use c_typed::{
     OriginParts, PortNumber, RetryTime, StaleDirectives, TransportSecurity, arguments_text,
-    cookies_text, find_cookie, has_member, members_text, read_content_range, read_disposition,
-    read_host, read_origin, read_retry_after, read_stale_directives, read_token,
+    cookies_text, find_cookie, has_member, members_text, parts_text, read_content_range,
+    read_disposition, read_host, read_origin, read_retry_after, read_stale_directives, read_token,
     read_transport_security, read_user_password,
 };
 use std::alloc::Global;
@@ -249,4 +249,22 @@ pub extern "C" fn typed_headers_has_member(
     ensures { Gives (FieldShows reads_list (ShowsMembership any_case member.now) lines.now) has.old has.new result }
 {
     give(has_member(alloc, lines, member, any_case), has)
+}
+
+/// Gives the parts of field lines of a form, as lines of text.
+#[unsafe(no_mangle)]
+pub extern "C" fn typed_headers_field_parts(
+    alloc: Global,
+    form: u8,
+    lines: &[u8],
+    room: &mut [u8],
+    written: &mut usize,
+) -> u8
+    ensures { Writes (λ text. text.items) (λ _. done) (ShowsForm form lines.now)
+        room.old room.new written.old written.new result }
+{
+    match parts_text(alloc, form, lines) {
+        Ok(text) => copy_into(text.as_slice(), DONE, room, written),
+        Err(failure) => failure.status(),
+    }
 }

@@ -4,5 +4,6 @@ pub mod Credentials
 pub mod Directives
 pub mod Hosts
 pub mod Members
+pub mod Parts
 pub mod Policies
 pub mod Shown

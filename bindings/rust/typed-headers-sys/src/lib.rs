@@ -863,6 +863,14 @@ extern "C" {
         any_case: bool,
         has: *mut u8,
     ) -> u8;
+    pub fn typed_headers_field_parts(
+        form: u8,
+        lines: *const u8,
+        lines_length: usize,
+        room: *mut u8,
+        room_length: usize,
+        written: *mut usize,
+    ) -> u8;
     pub fn typed_headers_section_free(fields: *mut Section) -> u8;
     pub fn typed_headers_cors_policy_free(policy: *mut CorsPolicy) -> u8;
     pub fn typed_headers_resource_handle_free(handle: *mut ResourceHandle) -> u8;

@@ -1,0 +1,643 @@
+"""Fields whose values have parts: preferences, dispositions, challenges, links, hops and cookies to be set.
+
+Each type has `parse`, from field lines, and `str`, a field line. What is malformed raises `InvalidField`.
+"""
+
+from dataclasses import dataclass, field
+from datetime import datetime
+from typing import Any, Dict, Iterator, List, NamedTuple, NoReturn, Optional, Sequence, Tuple, Type, TypeVar
+from urllib.parse import quote, unquote
+
+from . import _library
+from ._library import Text
+from .errors import HeaderError, InvalidField
+from .negotiation import (
+    Quality,
+    choose_coding,
+    choose_language,
+    choose_type,
+    coding_quality,
+    language_quality,
+    look_up_language,
+    type_quality,
+)
+from .values import date, format_date
+
+__all__ = [
+    "Accept",
+    "AcceptEncoding",
+    "AcceptLanguage",
+    "CacheStatus",
+    "Challenge",
+    "ContentDisposition",
+    "Element",
+    "Forwarded",
+    "Link",
+    "SetCookie",
+]
+
+#: Names and values, in order. A name without a value has `None`.
+Parameters = Tuple[Tuple[str, Optional[str]], ...]
+
+_ELEMENTS, _CHALLENGES, _LINKS, _SET_COOKIES, _VALUES = range(5)
+_TOKEN = frozenset("!#$%&'*+-.^_`|~0123456789abcdefghijklmnopqrstuvwxyzABCDEFGHIJKLMNOPQRSTUVWXYZ")
+
+
+class _Part(NamedTuple):
+    """A part: what it is, and its text."""
+
+    kind: str
+    text: str
+
+
+def _parts(form: int, name: str, lines: Tuple[Text, ...]) -> List[_Part]:
+    """The parts of field lines; an empty one ends each element."""
+    status, found = _library.calls.field_parts(form, lines)
+    if status:
+        raise _library.failed(status, name, lines, "a field line has a byte that no field value has")
+    return [_Part(line[:1], line[1:]) for line in _library.to_str(found).split("\n")[:-1]]
+
+
+def _groups(form: int, name: str, lines: Tuple[Text, ...]) -> Iterator[List[_Part]]:
+    """The parts of each element."""
+    group: List[_Part] = []
+    for part in _parts(form, name, lines):
+        if part.kind:
+            group.append(part)
+        else:
+            yield group
+            group = []
+
+
+def _reject(name: str, lines: Sequence[Text], expected: str) -> NoReturn:
+    raise _library.rejected(name, _library.to_lines(name, lines), f"expected {expected}")
+
+
+def _parameter(part: _Part) -> Optional[Tuple[str, Optional[str]]]:
+    """The parameter that a part is, if it is one."""
+    if part.kind == "n":
+        return part.text, None
+    if part.kind == "p":
+        name, _, value = part.text.partition("=")
+        return name, value
+    return None
+
+
+def _parameters(parts: Sequence[_Part]) -> Optional[Parameters]:
+    """The parameters that all of these parts are, or `None` if one is something else."""
+    found = [_parameter(part) for part in parts]
+    return None if None in found else tuple(it for it in found if it is not None)
+
+
+def _shown(text: str) -> str:
+    """A text as a token, or else as a quoted-string (RFC 9110, sections 5.6.2 and 5.6.4)."""
+    if text and _TOKEN.issuperset(text):
+        return text
+    return '"' + text.replace("\\", "\\\\").replace('"', '\\"') + '"'
+
+
+def _pair(name: str, value: Optional[str]) -> str:
+    return name if value is None else f"{name}={_shown(value)}"
+
+
+def _first(parameters: Parameters, name: str) -> Optional[str]:
+    """The value of the first parameter of a name, in any case."""
+    return next((value for other, value in parameters if other.lower() == name.lower()), None)
+
+
+def _to_parameters(given: Any, what: str) -> Parameters:
+    pairs = tuple((name, value) for name, value in given)
+    if not all(isinstance(name, str) and isinstance(value, (str, type(None))) for name, value in pairs):
+        raise TypeError(f"{what}: expected pairs of str, or of str and None")
+    return pairs
+
+
+@dataclass(frozen=True)
+class Element:
+    """An element of a list, with its parameters (RFC 9110, section 5.6.6)."""
+
+    value: str
+    parameters: Parameters = ()
+
+    def __post_init__(self) -> None:
+        _library.check_types(self, value=str)
+        object.__setattr__(self, "parameters", _to_parameters(self.parameters, "parameters"))
+
+    def __str__(self) -> str:
+        return "; ".join([self.value, *(_pair(name, value) for name, value in self.parameters)])
+
+    def parameter(self, name: str) -> Optional[str]:
+        """The value of the first parameter of a name, without quotes. The case of the name doesn't count."""
+        return _first(self.parameters, name)
+
+
+def _elements(name: str, lines: Tuple[Text, ...], form: int = _ELEMENTS) -> Tuple[Element, ...]:
+    """The elements of field lines, each with parameters alone behind its value."""
+    found = []
+    for first, *others in _groups(form, name, lines):
+        parameters = _parameters(others)
+        if parameters is None or first.kind not in "vn" or not first.text:
+            _reject(name, lines, "a list of values with parameters (RFC 9110, section 5.6.6)")
+        found.append(Element(first.text, parameters))
+    return tuple(found)
+
+
+Preference = TypeVar("Preference", bound="_Preferences")
+
+
+@dataclass(frozen=True)
+class _Preferences:
+    """What a client prefers: the elements of a list, with their weights as parameters named `q`."""
+
+    elements: Tuple[Element, ...] = ()
+
+    _NAME = ""
+
+    def __post_init__(self) -> None:
+        object.__setattr__(self, "elements", tuple(self.elements))
+        if not all(isinstance(it, Element) for it in self.elements):
+            raise TypeError("elements: expected elements of Element")
+        if self.elements and _elements(self._NAME, (str(self),)) != self.elements:
+            raise HeaderError(f"{self._NAME}: {str(self)!r} has other elements")
+
+    @classmethod
+    def parse(cls: Type[Preference], line: Text, *more: Text) -> Preference:
+        """The elements of all field lines."""
+        return cls(_elements(cls._NAME, (line, *more)))
+
+    def __str__(self) -> str:
+        return ", ".join(map(str, self.elements))
+
+    def __iter__(self) -> Iterator[Element]:
+        return iter(self.elements)
+
+    def __len__(self) -> int:
+        return len(self.elements)
+
+
+class Accept(_Preferences):
+    """The media types that a client prefers (RFC 9110, section 12.5.1).
+
+    >>> accept = Accept.parse("text/*;q=0.5, text/html")
+    >>> accept.best_match(["text/plain", "text/html"]), accept.quality("text/plain").weight
+    ('text/html', 500)
+    >>> [it.value for it in accept]
+    ['text/*', 'text/html']
+    """
+
+    _NAME = "accept"
+
+    def best_match(self, offers: Sequence[str]) -> Optional[str]:
+        """The media type that is served, of those that a server has, the most wanted first: `choose_type`."""
+        return choose_type({self._NAME: str(self)}, offers)
+
+    def quality(self, offer: Text) -> Quality:
+        """How acceptable a media type is: `type_quality`."""
+        return type_quality({self._NAME: str(self)}, offer)
+
+
+class AcceptEncoding(_Preferences):
+    """The content codings that a client prefers (RFC 9110, section 12.5.3).
+
+    >>> AcceptEncoding.parse("gzip, br;q=0.9").best_match(["br", "gzip", "identity"])
+    'gzip'
+    """
+
+    _NAME = "accept-encoding"
+
+    def best_match(self, offers: Sequence[str]) -> Optional[str]:
+        """The coding that is served: `choose_coding`."""
+        return choose_coding({self._NAME: str(self)}, offers)
+
+    def quality(self, offer: Text) -> Quality:
+        """How acceptable a coding is: `coding_quality`."""
+        return coding_quality({self._NAME: str(self)}, offer)
+
+
+class AcceptLanguage(_Preferences):
+    """The languages that a client prefers (RFC 9110, section 12.5.4).
+
+    >>> preferred = AcceptLanguage.parse("da, en-gb;q=0.8, en;q=0.7")
+    >>> preferred.best_match(["en-US", "en-GB"]), preferred.look_up(["de", "en"])
+    ('en-GB', 'en')
+    """
+
+    _NAME = "accept-language"
+
+    def best_match(self, offers: Sequence[str]) -> Optional[str]:
+        """The language that is served by basic filtering: `choose_language`."""
+        return choose_language({self._NAME: str(self)}, offers)
+
+    def look_up(self, offers: Sequence[str]) -> Optional[str]:
+        """The language that lookup finds: `look_up_language`."""
+        return look_up_language({self._NAME: str(self)}, offers)
+
+    def quality(self, offer: Text) -> Quality:
+        """How acceptable a language is: `language_quality`."""
+        return language_quality({self._NAME: str(self)}, offer)
+
+
+def _extended(value: Optional[str]) -> Optional[str]:
+    """What the value of a parameter whose name ends in `*` means (RFC 8187, section 3.2), or `None`."""
+    charset, _, rest = (value or "").partition("'")
+    _, quoted, text = rest.partition("'")
+    if not quoted or charset.lower() not in ("utf-8", "iso-8859-1"):
+        return None
+    try:
+        return unquote(text, charset, "strict")
+    except UnicodeDecodeError:
+        return None
+
+
+def _named(name: str, text: str) -> List[str]:
+    """The parameters of a name for a text: in ASCII, or as RFC 8187 has others."""
+    if text.isascii() and text.isprintable():
+        return [f"{name}={_shown(text)}"]
+    return [f"{name}*=UTF-8''{quote(text, safe='!#$&+-.^_`|~')}"]
+
+
+def _text_of(parameters: Parameters, name: str) -> Optional[str]:
+    """The text of a parameter: as RFC 8187 has it if that decodes, else as it is."""
+    extended = _extended(_first(parameters, name + "*"))
+    return _first(parameters, name) if extended is None else extended
+
+
+@dataclass(frozen=True)
+class ContentDisposition:
+    """How content is to be presented, and under which name it is to be stored (RFC 6266).
+
+    >>> found = ContentDisposition.parse("attachment; filename=rates; filename*=UTF-8''%e2%82%ac%20rates")
+    >>> found.is_attachment, found.filename
+    (True, '€ rates')
+    >>> str(ContentDisposition("attachment", "a b.txt"))
+    'attachment; filename="a b.txt"'
+    >>> str(ContentDisposition("attachment", "naïve.txt"))
+    "attachment; filename*=UTF-8''na%C3%AFve.txt"
+    """
+
+    #: `inline`, `attachment`, `form-data` or another word, in lower case.
+    type: str
+    #: The text of `filename*`, or else of `filename`. A recipient takes no path of it (RFC 6266, section 4.3).
+    filename: Optional[str] = None
+    #: The other parameters.
+    parameters: Parameters = ()
+
+    def __post_init__(self) -> None:
+        _library.check_types(self, type=str, filename=(str, type(None)))
+        object.__setattr__(self, "parameters", _to_parameters(self.parameters, "parameters"))
+        if ContentDisposition.parse(str(self)) != self:
+            raise HeaderError(f"content-disposition: {str(self)!r} means something else")
+
+    @classmethod
+    def parse(cls, line: Text, *more: Text) -> "ContentDisposition":
+        """The disposition of the only field line."""
+        lines = (line, *more)
+        found = _elements("content-disposition", lines, _VALUES)
+        if len(found) != 1 or not _TOKEN.issuperset(found[0].value):
+            _reject("content-disposition", lines, "a word with parameters (RFC 6266, section 4.1)")
+        parameters = found[0].parameters
+        others = tuple(it for it in parameters if it[0].lower() not in ("filename", "filename*"))
+        value = object.__new__(cls)
+        value.__dict__.update(
+            type=found[0].value.lower(), filename=_text_of(parameters, "filename"), parameters=others
+        )
+        return value
+
+    @property
+    def is_attachment(self) -> bool:
+        """Whether it is to be stored: so is all but `inline` (RFC 6266, section 4.2)."""
+        return self.type != "inline"
+
+    def parameter(self, name: str) -> Optional[str]:
+        """The value of the first other parameter of a name, without quotes."""
+        return _first(self.parameters, name)
+
+    def __str__(self) -> str:
+        named = [] if self.filename is None else _named("filename", self.filename)
+        return "; ".join([self.type, *named, *(_pair(name, value) for name, value in self.parameters)])
+
+
+@dataclass(frozen=True)
+class Challenge:
+    """What a server asks a client for (RFC 9110, section 11.3), by a scheme such as Basic, Bearer or Digest.
+
+    >>> basic, digest = Challenge.parse_all('Basic realm="a", Digest realm="b", nonce="c", qop="auth, auth-int"')
+    >>> basic.scheme, basic.realm, digest.parameter("nonce"), digest.parameter("qop")
+    ('Basic', 'a', 'c', 'auth, auth-int')
+    >>> str(Challenge("Bearer", (("error", "invalid_token"),)))
+    'Bearer error=invalid_token'
+    """
+
+    scheme: str
+    parameters: Parameters = ()
+    #: What follows the scheme in place of parameters, as of Negotiate, or `None`.
+    token: Optional[str] = None
+
+    def __post_init__(self) -> None:
+        _library.check_types(self, scheme=str, token=(str, type(None)))
+        object.__setattr__(self, "parameters", _to_parameters(self.parameters, "parameters"))
+        if Challenge.parse_all(str(self)) != [self]:
+            raise HeaderError(f"www-authenticate: {str(self)!r} is another challenge")
+
+    @classmethod
+    def parse_all(cls, line: Text, *more: Text) -> List["Challenge"]:
+        """The challenges of all field lines of `WWW-Authenticate` or `Proxy-Authenticate`."""
+        lines, found = (line, *more), []
+        for part in _parts(_CHALLENGES, "www-authenticate", lines):
+            if part.kind == "s":
+                found.append(_made(cls, scheme=part.text, parameters=(), token=None))
+                continue
+            last = found[-1].__dict__ if found else {"token": "", "parameters": ()}
+            parameter = _parameter(part)
+            if part.kind == "k" and part.text:
+                last["token"] = part.text
+            elif part.kind == "p" and last["token"] is None and parameter:
+                last["parameters"] = (*last["parameters"], parameter)
+            elif part.kind != "k":
+                _reject("www-authenticate", lines, "a list of challenges (RFC 9110, section 11.6.1)")
+        return found
+
+    @property
+    def realm(self) -> Optional[str]:
+        """The protected space (RFC 9110, section 11.5)."""
+        return self.parameter("realm")
+
+    def parameter(self, name: str) -> Optional[str]:
+        """The value of the first parameter of a name, without quotes. The case of the name doesn't count."""
+        return _first(self.parameters, name)
+
+    def __str__(self) -> str:
+        shown = [self.token] if self.token is not None else []
+        # (recipients want quotes around a realm: RFC 9110, section 11.5)
+        shown += [f'realm="{value}"' if name.lower() == "realm" and value is not None and _shown(value) == value
+                  else _pair(name, value) for name, value in self.parameters]
+        return f"{self.scheme} {', '.join(shown)}".rstrip(" ")
+
+
+Value = TypeVar("Value")
+
+
+def _made(cls: Type[Value], **given: Any) -> Value:
+    """A value of members that the library gave, so that they need no check."""
+    value = object.__new__(cls)
+    value.__dict__.update(given)
+    return value
+
+
+@dataclass(frozen=True)
+class Link:
+    """A link (RFC 8288).
+
+    >>> link, = Link.parse_all('</TheBook/chapter2>; rel="previous prefetch"; title="previous chapter"')
+    >>> link.target, link.relations, link.title
+    ('/TheBook/chapter2', ['previous', 'prefetch'], 'previous chapter')
+    >>> str(Link("/style.css", (("rel", "preload"), ("as", "style"))))
+    '</style.css>; rel=preload; as=style'
+    """
+
+    #: The target, which may be relative.
+    target: str
+    parameters: Parameters = ()
+
+    def __post_init__(self) -> None:
+        _library.check_types(self, target=str)
+        object.__setattr__(self, "parameters", _to_parameters(self.parameters, "parameters"))
+        if Link.parse_all(str(self)) != [self]:
+            raise HeaderError(f"link: {str(self)!r} is another link")
+
+    @classmethod
+    def parse_all(cls, line: Text, *more: Text) -> List["Link"]:
+        """The links of all field lines of `Link`."""
+        lines, found = (line, *more), []
+        for first, *others in _groups(_LINKS, "link", lines):
+            parameters = _parameters(others)
+            if parameters is None or first.kind != "v":
+                _reject("link", lines, "a list of links (RFC 8288, section 3)")
+            found.append(_made(cls, target=first.text, parameters=parameters))
+        return found
+
+    @property
+    def relations(self) -> List[str]:
+        """The relation types, in lower case (RFC 8288, section 3.3)."""
+        return (self.parameter("rel") or "").lower().split()
+
+    @property
+    def title(self) -> Optional[str]:
+        """The text of `title*`, or else of `title` (RFC 8288, section 3.4.1)."""
+        return _text_of(self.parameters, "title")
+
+    def parameter(self, name: str) -> Optional[str]:
+        """The value of the first parameter of a name, without quotes. The case of the name doesn't count."""
+        return _first(self.parameters, name)
+
+    def __str__(self) -> str:
+        return "; ".join([f"<{self.target}>", *(_pair(name, value) for name, value in self.parameters)])
+
+
+@dataclass(frozen=True)
+class Forwarded:
+    """What a proxy says of a request that it forwarded (RFC 7239). What clients send in it may be wrong.
+
+    >>> [it.client for it in Forwarded.parse_all('for=192.0.2.43, for="[2001:db8::17]:4711";proto=https')]
+    ['192.0.2.43', '[2001:db8::17]:4711']
+    """
+
+    #: `for`, `by`, `host`, `proto` and others, in order.
+    parameters: Parameters = ()
+
+    def __post_init__(self) -> None:
+        object.__setattr__(self, "parameters", _to_parameters(self.parameters, "parameters"))
+        if Forwarded.parse_all(str(self)) != [self]:
+            raise HeaderError(f"forwarded: {str(self)!r} means something else")
+
+    @classmethod
+    def parse_all(cls, line: Text, *more: Text) -> List["Forwarded"]:
+        """The elements of all field lines of `Forwarded`: the nearest proxy's is the last."""
+        lines, found = (line, *more), []
+        for parts in _groups(_ELEMENTS, "forwarded", lines):
+            pairs = _parameters([it for it in parts if it != ("v", "")])
+            names = [name.lower() for name, _ in pairs or ()]
+            if not pairs or len(set(names)) < len(names) or None in [value for _, value in pairs]:
+                _reject("forwarded", lines, "a list of pairs, each name once (RFC 7239, section 4)")
+            found.append(_made(cls, parameters=pairs))
+        return found
+
+    @property
+    def client(self) -> Optional[str]:
+        """`for`: the address of the client, or a name for it."""
+        return _first(self.parameters, "for")
+
+    @property
+    def by(self) -> Optional[str]:
+        """The interface on which the request came in."""
+        return _first(self.parameters, "by")
+
+    @property
+    def host(self) -> Optional[str]:
+        """Host as the proxy received it."""
+        return _first(self.parameters, "host")
+
+    @property
+    def proto(self) -> Optional[str]:
+        """The protocol of the request."""
+        return _first(self.parameters, "proto")
+
+    def __str__(self) -> str:
+        return ";".join(_pair(name, value) for name, value in self.parameters)
+
+
+@dataclass(frozen=True)
+class CacheStatus:
+    """What a cache did with a request (RFC 9211).
+
+    >>> origin, edge = CacheStatus.parse_all("origin; fwd=uri-miss; stored, edge; hit; ttl=376")
+    >>> origin.is_hit, origin.forwarded, edge.is_hit, edge.ttl
+    (False, 'uri-miss', True, 376)
+    """
+
+    #: The name of the cache.
+    cache: str
+    parameters: Parameters = ()
+
+    def __post_init__(self) -> None:
+        _library.check_types(self, cache=str)
+        object.__setattr__(self, "parameters", _to_parameters(self.parameters, "parameters"))
+        if CacheStatus.parse_all(str(self)) != [self]:
+            raise HeaderError(f"cache-status: {str(self)!r} means something else")
+
+    @classmethod
+    def parse_all(cls, line: Text, *more: Text) -> List["CacheStatus"]:
+        """The caches of all field lines of `Cache-Status`: the nearest to the client is the last."""
+        found = _elements("cache-status", (line, *more))
+        return [_made(cls, cache=it.value, parameters=it.parameters) for it in found]
+
+    @property
+    def is_hit(self) -> bool:
+        """Whether the cache answered without forwarding the request."""
+        return "hit" in [name for name, _ in self.parameters]
+
+    @property
+    def forwarded(self) -> Optional[str]:
+        """`fwd`: why it forwarded the request, or `None`."""
+        return _first(self.parameters, "fwd")
+
+    @property
+    def ttl(self) -> Optional[int]:
+        """For how many more seconds the response is fresh: below 0 if it is stale. `None` if that isn't a number."""
+        return _number(_first(self.parameters, "ttl"))
+
+    def parameter(self, name: str) -> Optional[str]:
+        """The value of the first parameter of a name, without quotes."""
+        return _first(self.parameters, name)
+
+    def __str__(self) -> str:
+        return str(Element(self.cache, self.parameters))
+
+
+def _number(text: Optional[str]) -> Optional[int]:
+    digits = (text or "").removeprefix("-")
+    return int(text or "") if digits.isascii() and digits.isdigit() and len(digits) <= 15 else None
+
+
+@dataclass(frozen=True)
+class SetCookie:
+    """A cookie that a server sets (RFC 6265). Its `repr` has no value.
+
+    >>> cookie = SetCookie.parse("SID=31d4d96e; Path=/; Secure; HttpOnly; SameSite=Lax; Max-Age=3600")
+    >>> cookie
+    SetCookie(name='SID', path='/', max_age=3600, secure=True, http_only=True, same_site='Lax')
+    >>> str(SetCookie("__Host-id", "1", path="/", secure=True))
+    '__Host-id=1; Path=/; Secure'
+    """
+
+    name: str
+    value: str = field(repr=False)
+    #: The path below which the cookie is sent, or `None` for that of the request.
+    path: Optional[str] = None
+    #: The host below which it is sent, in lower case, or `None` for the host that set it alone.
+    domain: Optional[str] = None
+    #: For how many seconds it is stored. It is removed at once if that isn't above 0.
+    max_age: Optional[int] = None
+    #: Until when it is stored. `max_age` goes before it.
+    expires: Optional[datetime] = None
+    secure: bool = False
+    http_only: bool = False
+    #: `Strict`, `Lax` or `None`, as a text.
+    same_site: Optional[str] = None
+    #: Other attributes.
+    others: Parameters = ()
+
+    def __repr__(self) -> str:
+        given = {name: value for name, value in self.__dict__.items() if name != "value" and value not in (None, False, ())}
+        return f"SetCookie({', '.join(f'{name}={value!r}' for name, value in given.items())})"
+
+    def __post_init__(self) -> None:
+        texts = dict.fromkeys(("path", "domain", "same_site"), (str, type(None)))
+        _library.check_types(self, name=str, value=str, max_age=(int, type(None)), **texts)
+        object.__setattr__(self, "others", _to_parameters(self.others, "others"))
+        if not self.is_allowed:
+            raise HeaderError(f"set-cookie: {self.name} needs what its prefix promises, or Secure with SameSite=None")
+        if SetCookie.parse(str(self)) != self:
+            raise HeaderError(f"set-cookie: {self.name} would be another cookie")
+
+    @classmethod
+    def parse(cls, line: Text) -> "SetCookie":
+        """The cookie of a field line (RFC 6265, section 5.2): of two attributes of a name the last counts, and what an
+        attribute can't be counts as not there."""
+        first, *others = next(_groups(_SET_COOKIES, "set-cookie", (line,)))
+        pair = _parameter(first)
+        if pair is None or pair[1] is None:
+            _reject("set-cookie", (line,), "a name, = and a value (RFC 6265, section 5.2)")
+        given: Dict[str, str] = {}
+        unknown: List[Tuple[str, Optional[str]]] = []
+        for part in others:
+            name, value = _parameter(part) or ("", None)
+            if name.lower() in _ATTRIBUTES:
+                given[name.lower()] = value or ""
+            elif name:
+                unknown.append((name, value))
+        path, same_site = given.get("path", ""), given.get("samesite", "").lower()
+        return _made(
+            cls,
+            name=pair[0],
+            value=pair[1],
+            path=path if path.startswith("/") else None,
+            domain=given.get("domain", "").removeprefix(".").lower() or None,
+            max_age=_number(given.get("max-age")),
+            expires=_date(given.get("expires")),
+            secure="secure" in given,
+            http_only="httponly" in given,
+            same_site=same_site.capitalize() if same_site in ("strict", "lax", "none") else None,
+            others=tuple(unknown),
+        )
+
+    @property
+    def is_allowed(self) -> bool:
+        """Whether browsers take the cookie from a secure origin: what the prefixes `__Secure-` and `__Host-` promise
+        is so, and `SameSite=None` is `Secure`."""
+        name = self.name.lower()
+        is_bound = self.secure and self.path == "/" and self.domain is None
+        is_prefixed = self.secure if name.startswith("__secure-") else is_bound or not name.startswith("__host-")
+        return is_prefixed and (self.secure or self.same_site != "None")
+
+    def __str__(self) -> str:
+        shown = [f"{self.name}={self.value}"]
+        shown += [f"Path={self.path}"] if self.path is not None else []
+        shown += [f"Domain={self.domain}"] if self.domain is not None else []
+        shown += [f"Max-Age={self.max_age}"] if self.max_age is not None else []
+        shown += [f"Expires={format_date(self.expires)}"] if self.expires is not None else []
+        shown += ["Secure"] if self.secure else []
+        shown += ["HttpOnly"] if self.http_only else []
+        shown += [f"SameSite={self.same_site}"] if self.same_site is not None else []
+        shown += [name if value is None else f"{name}={value}" for name, value in self.others]
+        return "; ".join(shown)
+
+
+_ATTRIBUTES = ("path", "domain", "max-age", "expires", "secure", "httponly", "samesite")
+
+
+def _date(text: Optional[str]) -> Optional[datetime]:
+    try:
+        return date(text or "")
+    except InvalidField:
+        return None

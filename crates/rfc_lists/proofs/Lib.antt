@@ -1,0 +1,2 @@
+mod AttributeLemmas
+mod LinkLemmas
