@@ -580,11 +580,10 @@ def retry_after(words, wanted):
 
 
 def disposition(words, wanted):
-    given = decoded(headers.ContentDisposition.parse, words)
-    if wanted[0] == REFUSED:
-        return given == (REFUSED if words else None)
-    kinds = [it for it in headers.ContentDisposition if it is not headers.ContentDisposition.OTHER]
-    return [str(given is kind).lower() for kind in kinds] == wanted[2:]
+    status, given = headers._library.calls.content_disposition(tuple(map(decode, words)))
+    if wanted[0] == REFUSED or not words:
+        return status == (1 if words else 4)
+    return [str(given == kind).lower() for kind in (1, 2, 3)] == wanted[2:]
 
 
 def vary(words, wanted):

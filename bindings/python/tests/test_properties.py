@@ -19,7 +19,7 @@ from datetime import timedelta, timezone
 from enum import Enum
 from functools import partial
 from random import Random
-from typing import Any, Callable, Dict, List, NamedTuple, Tuple
+from typing import Any, Callable, Dict, List, NamedTuple, Tuple, cast
 
 import typed_headers as it
 from typed_headers import asgi, audit, inspection, wsgi
@@ -245,6 +245,7 @@ def by_wsgi(make: Callable[[Any], Any]) -> Any:
     return call(ask, METHOD, PAIRS, PAIRS, some.binary(max_size=20))
 
 
+PARAMETERS = some.lists(some.tuples(NAME, some.one_of(some.none(), MADE)), max_size=3)
 SERVED = wsgi.Served(it.Resource(["GET"], [it.Representation("text/plain", 4, '"a"')]), lambda place: b"milk")
 POLICY = it.CorsPolicy(["https://a.example"], ["PUT"], "*", "*", 60)
 VALUES: Dict[str, Any] = {
@@ -256,7 +257,31 @@ VALUES: Dict[str, Any] = {
         stale_if_error=some.one_of(some.none(), NUMBER),
         private_fields=some.lists(some.one_of(NAME, MADE), max_size=2),
     ),
-    "ContentDisposition": call(it.ContentDisposition, some.sampled_from(["", "inline", "attachment", "form-data"])),
+    **{
+        name: call(getattr(it, name), some.lists(some.builds(it.Element, ANY_TEXT, PARAMETERS), max_size=3))
+        for name in ("Accept", "AcceptEncoding", "AcceptLanguage")
+    },
+    "CacheStatus": call(it.CacheStatus, ANY_TEXT, PARAMETERS),
+    "Challenge": call(it.Challenge, ANY_TEXT, PARAMETERS, some.one_of(some.none(), ANY_TEXT)),
+    "ContentDisposition": call(
+        it.ContentDisposition,
+        some.sampled_from(["", "inline", "attachment", "form-data"]),
+        some.one_of(some.none(), ANY_TEXT, some.text(max_size=5)),
+        PARAMETERS,
+    ),
+    "Forwarded": call(it.Forwarded, PARAMETERS),
+    "Link": call(it.Link, ANY_TEXT, PARAMETERS),
+    "SetCookie": call(
+        it.SetCookie,
+        ANY_TEXT,
+        ANY_TEXT,
+        some.one_of(some.none(), some.just("/"), ANY_TEXT),
+        some.one_of(some.none(), ANY_TEXT),
+        max_age=some.one_of(some.none(), NUMBER),
+        secure=BOOL,
+        same_site=some.sampled_from([None, "Lax", "None", "x"]),
+        others=PARAMETERS,
+    ),
     "ContentRange": call(
         it.ContentRange,
         some.one_of(some.none(), some.builds(it.ByteRange, NUMBER, NUMBER)),
@@ -289,6 +314,13 @@ VALUES: Dict[str, Any] = {
     "StrictTransportSecurity": call(it.StrictTransportSecurity, NUMBER, BOOL),
 }
 TYPES: Dict[str, Any] = {name: getattr(it, name) for name in VALUES}
+
+
+def parser(kind: Any) -> Callable[..., Any]:
+    """What parses field lines to a value of a type, or to all of them."""
+    return cast(Callable[..., Any], getattr(kind, "parse", None) or kind.parse_all)
+
+
 FUNCTIONS: Dict[str, Any] = {
     **{
         name: of_lines(getattr(it, name))
@@ -299,7 +331,7 @@ FUNCTIONS: Dict[str, Any] = {
         for name in "choose_type choose_coding choose_language look_up_language".split()
     },
     **{name: call(getattr(it, name), SECTION, TEXT) for name in "type_quality coding_quality language_quality".split()},
-    **{f"{name}.parse": of_lines(kind.parse) for name, kind in TYPES.items()},
+    **{f"{name}.parse": of_lines(parser(kind)) for name, kind in TYPES.items()},
     **{name: making for name, making in VALUES.items()},
     "canonical_field": of_lines(it.canonical_field, NAME),
     "canonical_section": call(it.canonical_section, SECTION),
@@ -392,8 +424,8 @@ FUNCTIONS: Dict[str, Any] = {
 }
 #: What has no code of its own: its values are those that calls give or take.
 DATA = set(
-    "CORS_FIELDS Action Answer Ask ByteRange Content CorsAnswer CorsKind Decision Fault Flaw Framing FramingKind "
-    "FramingOutcome Handshake HeaderError HeadersLike Hop InvalidField InvalidSection Method OutOfOrder Pass PassOn "
+    "CORS_FIELDS Action Answer Ask ByteRange Content CorsAnswer CorsKind Decision Element Fault Flaw Framing "
+    "FramingKind FramingOutcome Handshake HeaderError HeadersLike Hop InvalidField InvalidSection Method OutOfOrder Pass PassOn "
     "Precondition Quality Reason Rejection Reply Representation RequestOutcome Response ResponseOutcome Selection "
     "Sends State Target Times TooLarge Wait __version__".split()
 )
@@ -566,8 +598,9 @@ class Values(unittest.TestCase):
     def judge(self, value: Any) -> None:
         """A value is what its field line encodes, and equal to what is made of it."""
         kind = type(value)
-        again = kind.parse(str(value))
-        copies = [again, pickle.loads(pickle.dumps(value)), kind.parse(str(value).encode("latin-1"))]
+        parsed = [parser(kind)(line) for line in (str(value), str(value).encode("latin-1"))]
+        again = [made[0] if isinstance(made, list) else made for made in parsed]
+        copies = [*again, pickle.loads(pickle.dumps(value))]
         if not isinstance(value, Enum):
             members = {name: getattr(value, name) for name in value.__dataclass_fields__}
             copies.append(kind(**members))
@@ -585,13 +618,14 @@ class Values(unittest.TestCase):
         for name, kind in TYPES.items():
             with self.subTest(name):
 
-                @tested(DRAWN // 20, make=some.one_of(of_lines(kind.parse), VALUES[name]))
+                @tested(DRAWN // 20, make=some.one_of(of_lines(parser(kind)), VALUES[name]))
                 def judge(make: Call) -> None:
                     try:
-                        value = make()
+                        made = make()
                     except it.HeaderError:
                         return
-                    self.judge(value)
+                    for value in made if isinstance(made, list) else [made]:
+                        self.judge(value)
 
                 judge()
 
@@ -706,12 +740,18 @@ class Threads(unittest.TestCase):
             it.Cookie((("a", "b"),)),
             it.Host("a"),
             it.Origin("https", "a"),
-            it.ContentDisposition.INLINE,
+            it.ContentDisposition("inline"),
+            *(kind((it.Element("a"),)) for kind in (it.Accept, it.AcceptEncoding, it.AcceptLanguage)),
+            it.CacheStatus("a"),
+            it.Challenge("a"),
+            it.Forwarded((("for", "a"),)),
+            it.Link("a"),
+            it.SetCookie("a", "b"),
         ]
         self.assertEqual({type(value) for value in values}, set(TYPES.values()))
         questions: List[Call] = [
             *(
-                partial(lambda value: (str(value), hash(value), repr(value), type(value).parse(str(value))), value)
+                partial(lambda value: (str(value), hash(value), repr(value), parser(type(value))(str(value))), value)
                 for value in values
             ),
             lambda: (it.evaluate("GET", section, it.Target('"a"')), section.canonical("cache-control"), section.etag),

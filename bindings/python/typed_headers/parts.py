@@ -581,10 +581,10 @@ class SetCookie:
             raise HeaderError(f"set-cookie: {self.name} would be another cookie")
 
     @classmethod
-    def parse(cls, line: Text) -> "SetCookie":
-        """The cookie of a field line (RFC 6265, section 5.2): of two attributes of a name the last counts, and what an
-        attribute can't be counts as not there."""
-        first, *others = next(_groups(_SET_COOKIES, "set-cookie", (line,)))
+    def parse(cls, line: Text, *more: Text) -> "SetCookie":
+        """The cookie of the first field line (RFC 6265, section 5.2): of two attributes of a name the last counts, and
+        what an attribute can't be counts as not there."""
+        first, *others = next(_groups(_SET_COOKIES, "set-cookie", (line, *more)))
         pair = _parameter(first)
         if pair is None or pair[1] is None:
             _reject("set-cookie", (line,), "a name, = and a value (RFC 6265, section 5.2)")
