@@ -1510,13 +1510,12 @@ uint8_t typed_headers_has_member(const uint8_t *lines, size_t lines_length, cons
                                  size_t member_length, bool any_case, uint8_t *has);
 
 /*
- * The parts of a field's values, by all its lines: of lists whose elements may have parameters, as `accept` and
- * `forwarded`, of challenges, of links, of cookies to be set, or of values with parameters. `form` is one of
- * `typed_headers_form`. Each part is a line: a letter, a text and a LF. `v` has a text, `n` a name alone, `p` a name,
- * `=` and what its value means, without quotes, `s` the scheme of a challenge, `k` what follows a scheme and is no
- * parameter; `!` is what is malformed. A parameter is one that RFC 9110, section 5.6.6, has; of a cookie it is what
- * stands around the first `=` (RFC 6265, section 5.2). An empty line ends each element, link, cookie and value.
- * Refused: `form` is none, or a line can't be one.
+ * The parts of the values of `content-disposition`, `set-cookie`, `te` and other fields, by all lines, as lines of
+ * text. `form` is one of `typed_headers_form`. Each part is a letter, a text and a LF: `v` has a text, `n` a name
+ * alone, `p` a name, `=` and what its value means, without quotes, `s` the scheme of a challenge, `k` what follows a
+ * scheme and is no parameter; `!` is what is malformed. Parameters are those of RFC 9110, section 5.6.6; of a cookie
+ * they are what stands around the first `=` (RFC 6265, section 5.2). An empty line ends each element, link, cookie and
+ * value. Refused: `form` is none, or a line can't be one.
  */
 uint8_t typed_headers_field_parts(uint8_t form, const uint8_t *lines, size_t lines_length, uint8_t *room,
                                   size_t room_length, size_t *written);
