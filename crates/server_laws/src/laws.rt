@@ -1,40 +1,34 @@
 //! Theorems about the definitions alone. To cite one in a proof, call it.
 ghost use Rattle.std.specs.Prelude.{◌≡◌, ℕ, ◌^◌, ◌<◌, ◌≤◌, ◌++◌, Bool, true, false, List, [], Option, None, codes};
 ghost use Rattle.std.specs.Prelude.{string_bytes, ◌≢◌, ◌↔◌, ◌∷◌, length, Some};
-ghost use Rattle.http.{specs.Request.head_of, specs.declared.request.Request.Request};
-ghost use Rattle.http1.{specs.Conn.{is_connect, keeps_alive}, specs.Framing.method_kind, specs.Head.is_field_value};
-ghost use Rattle.http1.{specs.Message.{ReadsRequestMessage, known_of}, specs.Server.response_refusal};
-ghost use Rattle.http1.{specs.declared.conn.Limits.Limits, specs.declared.framing.Framing.Framing};
-ghost use Rattle.http1.specs.declared.server.Server.{Server};
-ghost use Rattle.http1_typed.specs.Parts.{reason_of};
-ghost use Rattle.http_server.{specs.Encoding.answering, specs.Exchange.ReadsCall, specs.History.{History, output}};
-ghost use Rattle.http_server.specs.declared.state.Config.{Config};
-ghost use Rattle.http_uri.specs.Uri.{uri_path};
-ghost use Rattle.httparse.specs.Grammar.{RequestHead};
 ghost use Rattle.decide_cors.specs.Browser.{CorsCheck, IsPreflightFor, PreflightPasses, Request as Sent};
-ghost use Rattle.decide_cors.{specs.Policy.Policy, specs.Rules.{AllowsCredentials, AllowsOrigin, AllowsRequest}};
-ghost use Rattle.decide_cors.{specs.Rules.{IsLawful, IsPolicyOf}, specs.declared.rules.CorsRules.CorsRules};
-ghost use Rattle.decide_preconditions.{specs.Preconditions.IsGetOrHead, specs.declared.part.Part.Part};
+ghost use Rattle.decide_cors.specs.{Policy.Policy, Rules.{AllowsCredentials, AllowsOrigin, AllowsRequest, IsLawful}};
+ghost use Rattle.decide_cors.specs.{Rules.IsPolicyOf, declared.rules.CorsRules.CorsRules};
+ghost use Rattle.decide_preconditions.specs.{Preconditions.IsGetOrHead, declared.part.Part.Part};
 ghost use Rattle.decide_preconditions.specs.declared.plan.Plan.TheVariants.{Single};
-ghost use Rattle.decide_resource.{specs.Applies.is_misdirected, specs.Requests.{Request as Asked}};
+ghost use Rattle.decide_resource.specs.{Applies.is_misdirected, Requests.Request as Asked};
 ghost use Rattle.decide_resource.specs.declared.answer.Sends.TheVariants.{Planned};
-ghost use Rattle.gateway_messages.specs.Requests.{has_host};
-ghost use Rattle.headers.{specs.EntityTag.{IsSomeTag, IsTag, TagParts}, specs.LineMap.lines_at, specs.Lines.Line};
-ghost use Rattle.server_connection.{specs.Connection.Exchanged, specs.Encoding.{Frames, content_len, head_text}};
-ghost use Rattle.server_connection.{specs.Encoding.{plan_fields, plan_size}, specs.Machine.Sends, specs.Pieces.AreSent};
-ghost use Rattle.server_connection.specs.declared.plan.Plan.{Plan, Plan as Response};
-ghost use Rattle.server_files.{specs.Tags.{content_digest, strong_tag}, specs.declared.kept.Kept.Kept};
-ghost use Rattle.server_laws.specs.Answered.{HasNoOptions, IsWhole, SendsContent, JoinTo, lines_in};
-ghost use Rattle.server_laws.specs.Literal.{IsOk, StaysOpen, AsksForRoot, ok_fields, ok_text, request_text};
-ghost use Rattle.server_laws.{specs.Requests.{IsAgain, IsHeadOf}, specs.Sendable.{IsBareIfAny, IsFinal, StatesLength}};
-ghost use Rattle.server_laws.{specs.Served.{IsServedFile, gives, plans}, specs.Stores.{HaveSimilar, HaveAlike, has_at}};
-ghost use Rattle.server_service.{specs.Answer.IsAnswerAt, specs.Asked.Asks, specs.File.gives_of, specs.Memory.HasOne};
-ghost use Rattle.server_service.{specs.Response.fields_of, specs.SiteSettings.IsSiteOf, specs.Sites.IsSite};
-ghost use Rattle.server_service.{specs.declared.file.Entry.Entry, specs.declared.file.Entry.TheVariants.Readable};
-ghost use Rattle.server_service.{specs.declared.file.File.File, specs.declared.memory.Memory.Memory};
-ghost use Rattle.server_service.specs.declared.service.FileService.{FileService};
-ghost use Rattle.server_service.{specs.declared.settings.Settings.Settings, specs.declared.settings.Site.Site};
-ghost use Rattle.server_service.specs.declared.source.Source.{Source};
+ghost use Rattle.{gateway_messages.specs.Requests.has_host, headers.specs.EntityTag.{IsSomeTag, IsTag, TagParts}};
+ghost use Rattle.{headers.specs.{LineMap.lines_at, Lines.Line}, http.specs.Request.head_of};
+ghost use Rattle.{http.specs.declared.request.Request.Request, http1.specs.Conn.{is_connect, keeps_alive}};
+ghost use Rattle.http1.specs.{Framing.method_kind, Head.is_field_value, Message.{ReadsRequestMessage, known_of}};
+ghost use Rattle.http1.specs.{Server.response_refusal, declared.{conn.Limits.Limits, framing.Framing.Framing}};
+ghost use Rattle.{http1.specs.declared.server.Server.Server, http1_typed.specs.Parts.reason_of};
+ghost use Rattle.http_server.specs.{Encoding.answering, Exchange.ReadsCall, History.{History, output}};
+ghost use Rattle.{http_server.specs.declared.state.Config.Config, http_uri.specs.Uri.uri_path};
+ghost use Rattle.{httparse.specs.Grammar.RequestHead, server_connection.specs.{Connection.Exchanged, Encoding.Frames}};
+ghost use Rattle.server_connection.specs.{Encoding.{content_len, head_text, plan_fields, plan_size}, Machine.Sends};
+ghost use Rattle.server_connection.specs.{Pieces.AreSent, declared.plan.Plan.{Plan, Plan as Response}};
+ghost use Rattle.server_files.specs.{Tags.{content_digest, strong_tag}, declared.kept.Kept.Kept};
+ghost use Rattle.server_laws.specs.{Answered.{HasNoOptions, IsWhole, SendsContent, JoinTo, lines_in}, Literal.IsOk};
+ghost use Rattle.server_laws.specs.Literal.{StaysOpen, AsksForRoot, ok_fields, ok_text, request_text};
+ghost use Rattle.server_laws.specs.{Requests.{IsAgain, IsHeadOf}, Sendable.{IsBareIfAny, IsFinal, StatesLength}};
+ghost use Rattle.server_laws.specs.{Served.{IsServedFile, gives, plans}, Stores.{HaveSimilar, HaveAlike, has_at}};
+ghost use Rattle.server_service.specs.{Answer.IsAnswerAt, Asked.Asks, File.gives_of, Memory.HasOne, Response.fields_of};
+ghost use Rattle.server_service.specs.{SiteSettings.IsSiteOf, Sites.IsSite, declared.file.Entry.Entry};
+ghost use Rattle.server_service.specs.declared.{file.{Entry.TheVariants.Readable, File.File}, memory.Memory.Memory};
+ghost use Rattle.server_service.specs.declared.{service.FileService.FileService, settings.Settings.Settings};
+ghost use Rattle.server_service.specs.declared.{settings.Site.Site, source.Source.Source};
 ghost use Rattle.server_service.specs.declared.source.Source.TheVariants.{Kept as InMemory};
 ghost use Rattle.http1.specs.Message as Wire;
 
@@ -42,7 +36,6 @@ use decide_resource::laws::{
     answer_is_shared_by_rules, head_is_answered_as_get, preflight_is_answered,
 };
 use rfc_fields::laws::lists_parse_one_way;
-use server_service::laws::sent_bytes_are_those_of_the_ranges;
 
 /// Theorem: the response depends on what the store has at the path that the request names, and at the
 /// paths beside it in a coding if codings are negotiated, and at no other path.
@@ -77,9 +70,7 @@ pub fn parts_join_to_the_content()
         → JoinTo (length kept.content) first second
         → AreSent (gives_of (Some (InMemory kept))) r.pieces.items a
         → AreSent (gives_of (Some (InMemory kept))) s.pieces.items b → a ++ b ≡ kept.content }
-{
-    sent_bytes_are_those_of_the_ranges();
-}
+{}
 
 /// Theorem: the ETag of a response revalidates it (RFC 9110, section 13.1.2). If the request is sent again, as
 /// GET or HEAD and at any time, with that tag alone in If-None-Match, and the store has a file with the same tag

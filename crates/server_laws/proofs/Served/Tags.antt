@@ -21,8 +21,7 @@ missing_as_get : (s : State) (rules : List MethodRule)
     → is_missing s rules (rule_for rules (codes "HEAD")) (codes "HEAD")
     ≡ is_missing s rules (rule_for rules (codes "GET")) (codes "GET")
 unfolding rule_for
-missing_as_get state.Absent rules = refl
-missing_as_get s rules = refl
+missing_as_get s rules = grind (arith, s)
 
 module _ (present : ℕ) (resource : Resource) (protocol : Protocol) (authority : Option Line) (fields : LineMap) where
   abbrev applies_to : List ℕ → Reason → Bool
@@ -30,9 +29,7 @@ module _ (present : ℕ) (resource : Resource) (protocol : Protocol) (authority 
 
   head_as_get : (reason : Reason) → applies_to (codes "HEAD") reason ≡ applies_to (codes "GET") reason
   unfolding rule_for is_unacceptable
-  head_as_get InvalidHost = refl
-  head_as_get Preflight = refl
-  head_as_get NotFound = missing_as_get resource.state resource.rules.items
+  head_as_get Reason.NotFound = missing_as_get resource.state resource.rules.items
   head_as_get reason = refl
 
   read_as_get : (method : List ℕ) → IsGetOrHead method → (reason : Reason)
@@ -79,12 +76,7 @@ module _ {A B : Type 0} (f : A → ℕ) (g : B → ℕ) where
 -- a choice is at the same place in lists of one length
 place_alike : (s : State) (xs ys : List Representation) → length xs ≡ length ys → (choice : Option ℕ)
     → place_in s xs choice ≡ place_in s ys choice
-place_alike state.Current [] [] len choice = refl
-place_alike state.Current (x ∷ xs) (y ∷ ys) len (Some place) = refl
-place_alike state.Current (x ∷ xs) (y ∷ ys) len None = refl
-place_alike state.Current [] (y ∷ ys) len choice = absurd (omega (arith, len))
-place_alike state.Current (x ∷ xs) [] len choice = absurd (omega (arith, len))
-place_alike s xs ys len choice = refl
+place_alike s xs ys len choice = grind (arith, s, xs, ys, choice)
 
 -- ---- what a label says
 
@@ -96,6 +88,16 @@ label_score negotiation accept languages codings label =
     (rank_by encoding_quality negotiation.coding codings
     (Some (option_map_or (λ (value : FieldValue). value.bytes) (coding_value label.coding) (codes "identity"))))
 
+abbrev by_label : Negotiation → LineMap → Label → ℕ
+by_label n fields =
+    label_score n (fields (codes "accept")) (fields (codes "accept-language")) (fields (codes "accept-encoding"))
+
+scores_are : (n : Negotiation) (fields : LineMap) (present : ℕ) (fs : List File)
+    → map (score n fields) (map (representation_of present) fs) ≡ map (by_label n fields) (map label_of fs)
+unfolding score
+scores_are n fields present [] = refl
+scores_are n fields present (x ∷ fs) = λ i. by_label n fields (label_of x) ∷ scores_are n fields present fs i
+
 -- what the preconditions see of a file with this label
 abbrev pub validators_by : ℕ → Label → Validators
 validators_by present label = record {
@@ -104,279 +106,47 @@ validators_by present label = record {
   is_date_strong = is_settled present label.modified;
 }
 
-abbrev pub current_by : ℕ → Label → Target
-current_by present label = Current (validators_by present label)
+-- ---- the fields of a request
 
-module _ (n : Negotiation) (fields : LineMap) (present : ℕ) where
-  abbrev by_label : Label → ℕ
-  by_label =
-      label_score n (fields (codes "accept")) (fields (codes "accept-language")) (fields (codes "accept-encoding"))
-
-  scores_are : (fs : List File)
-      → map (score n fields) (map (representation_of present) fs) ≡ map by_label (map label_of fs)
-  unfolding score
-  scores_are [] = refl
-  scores_are (x ∷ fs) = λ i. by_label (label_of x) ∷ scores_are fs i
-
--- ---- two requests
+-- the fields by which a read is decided before its conditions
+abbrev pub deciding : List (List ℕ)
+deciding =
+    codes "host" ∷ codes "expect" ∷ codes "accept" ∷ codes "accept-language" ∷ codes "accept-encoding" ∷ []
 
 -- both name the same host, and expect and accept the same
-pub record AskAlike (f g : LineMap) : Type 0 where
-  pub host : f (codes "host") ≡ g (codes "host")
-  pub expect : f (codes "expect") ≡ g (codes "expect")
-  pub accept : f (codes "accept") ≡ g (codes "accept")
-  pub accept_language : f (codes "accept-language") ≡ g (codes "accept-language")
-  pub accept_encoding : f (codes "accept-encoding") ≡ g (codes "accept-encoding")
+abbrev pub AskAlike : LineMap → LineMap → Type 0
+AskAlike f g = (name : List ℕ) → list_any (bytes_eq name) deciding ≡ true → f name ≡ g name
 
-module _ (site : Resource) (st : State) (v w : Vec Representation) (now later : ℕ) (fs gs : List File)
-    (mine : v.items ≡ map (representation_of now) fs) (theirs : w.items ≡ map (representation_of later) gs)
-    (labels : map label_of fs ≡ map label_of gs) (protocol : Protocol) (authority : Option Line) (f g : LineMap)
-    (same : AskAlike f g) where
-  abbrev first : Resource
-  first = record site { state = st; representations = v }
-
-  abbrev second : Resource
-  second = record site { state = st; representations = w }
-
-  abbrev get : List ℕ
-  get = codes "GET"
-
-  abbrev n : Negotiation
-  n = site.negotiation
-
-  scores : map (score n f) v.items ≡ map (score n g) w.items
-  scores =
-      ap (map (score n f)) mine ∙ scores_are n f now fs
-      ∙ (λ i. map (label_score n (same.accept i) (same.accept_language i) (same.accept_encoding i)) (labels i))
-      ∙ sym (scores_are n g later gs) ∙ sym (ap (map (score n g)) theirs)
-
-  same_length : length v.items ≡ length w.items
-  same_length = sym (length-map v.items (score n f)) ∙ ap length scores ∙ length-map w.items (score n g)
-
-  unacceptable_same : is_unacceptable first (reading protocol authority get f)
-      ≡ is_unacceptable second (reading protocol authority get g)
-  unfolding is_unacceptable
-  unacceptable_same =
-      let none : are_unacceptable n f v.items ≡ are_unacceptable n g w.items =
-      sym (list_all-map (λ (k : ℕ). k == 0) (score n f) v.items)
-      ∙ ap (list_all (λ (k : ℕ). k == 0)) scores ∙ list_all-map (λ (k : ℕ). k == 0) (score n g) w.items in
-      rw (same_length, none)
-
-  -- what doesn't keep the first from being performed doesn't keep the second from it
-  still : (reason : Reason) → applies now first (reading protocol authority get f) reason ≡ false
-      → applies later second (reading protocol authority get g) reason ≡ false
-  still InvalidHost e = rw (← same.host) e
-  still Misdirected e = rw (← same.host) e
-  still UnmetExpectation e = rw (← same.expect) e
-  still NotAcceptable e = sym unacceptable_same ∙ e
-  still PartialContent e = refl
-  still UnsupportedMediaType e = refl
-  still UnsupportedCoding e = refl
-  still PreconditionRequired e = refl
-  still Preflight e = and-false (is_some site.cors)
-  still Denied e = refl
-  still reason e = e
-
-  pub first_again : (method again : List ℕ) → IsGetOrHead method → IsGetOrHead again
-      → IsFirst (applies now first (reading protocol authority method f)) Admitted
-      → IsFirst (applies later second (reading protocol authority again g)) Admitted
-  first_again method again read read_again h = record {
-    is = refl;
-    none_before = λ other before.
-        read_as_get later second protocol authority g again read_again other
-        ∙ still other (sym (read_as_get now first protocol authority f method read other) ∙ h.none_before other before);
-  }
-
-  pub selected_again : (place : Option ℕ) → IsSelected first f place → IsSelected second g place
-  selected_again place h = record {
-    choice = h.choice;
-    picks = picks_across (score n f) (score n g) v.items w.items scores same_length h.choice h.picks;
-    is = h.is ∙ place_alike st v.items w.items same_length h.choice;
-  }
-
--- ---- the file whose tag is sent
+-- ---- the label at a place
 
 abbrev pub tag_lines : Target → List Line
 tag_lines target = lines_sent (λ (tag : FieldValue). tag.bytes) (etag_of target)
-
-bare_untagged : (s : State) → tag_lines (bare s) ≡ []
-bare_untagged state.Current = refl
-bare_untagged s = refl
 
 -- what the preconditions see at a place
 abbrev pub target_at : State → List Representation → Option ℕ → Target
 target_at s items place = target_of s (at_place items place)
 
-at_file : (present : ℕ) (files : List File) (place : Option ℕ)
-    → at_place (map (representation_of present) files) place
-    ≡ option_map (representation_of present) (file_at files place)
-at_file present files None = refl
-at_file present files (Some place) = slice_get-map (representation_of present) files place
+abbrev pub label_at : List Label → Option ℕ → Option Label
+label_at labels None = None
+label_at labels (Some place) = slice_get labels place
 
-pub target_of_label : (s : State) (files : List File) (place : Option ℕ) (file : File)
-    → file_at files place ≡ Some file → (present : ℕ)
-    → target_at s (map (representation_of present) files) place ≡ current_by present (label_of file)
-target_of_label s files place file e present =
-    ap (target_of s) (at_file present files place ∙ ap (option_map (representation_of present)) e)
+-- what they see of a label, if there is one
+abbrev pub target_by : State → ℕ → Option Label → Target
+target_by s present None = bare s
+target_by s present (Some label) = Current (validators_by present label)
 
-pub file_of_tag : (s : State) (files : List File) (place : Option ℕ) (present : ℕ) (tag : Line)
-    → tag_lines (target_at s (map (representation_of present) files) place) ≡ tag ∷ []
-    → (file : File) × (file_at files place ≡ Some file)
-file_of_tag s files place present tag e = by (file_at files place) (rw (at_file present files place) at e)
-  where
-    by : (found : Option File) → tag_lines (target_of s (option_map (representation_of present) found)) ≡ tag ∷ []
-        → (file : File) × (found ≡ Some file)
-    by (Some file) e = (file, refl)
-    by None e = let clash : [] ≡ tag ∷ [] = sym (bare_untagged s) ∙ e in absurd (cc clash)
+pub target_labelled : (s : State) (present : ℕ) (files : List File) (place : Option ℕ)
+    → target_at s (map (representation_of present) files) place
+    ≡ target_by s present (label_at (map label_of files) place)
+target_labelled s present files place = grind (arith, place, slice_get-map)
 
--- files with the same labels have the same label at a place
-pub labelled_alike : (fs gs : List File) (place : Option ℕ) (file : File) → map label_of fs ≡ map label_of gs
-    → file_at fs place ≡ Some file → (other : File) × (file_at gs place ≡ Some other) × (label_of other ≡ label_of file)
-labelled_alike fs gs None file labels e = absurd (cc e)
-labelled_alike fs gs (Some place) file labels e =
-    by (slice_get gs place)
-    (sym (slice_get-map label_of gs place) ∙ ap (λ (ls : List Label). slice_get ls place) (sym labels)
-    ∙ slice_get-map label_of fs place ∙ ap (option_map label_of) e)
-  where
-    by : (found : Option File) → option_map label_of found ≡ Some (label_of file)
-        → (other : File) × (found ≡ Some other) × (label_of other ≡ label_of file)
-    by None h = absurd (cc h)
-    by (Some other) h = (other, refl, cc h)
-
--- ---- the conditions on the state
-
-pub unmodified_lets : (present : ℕ) (fields : LineMap) (target : Target)
-    → fields (codes "if-unmodified-since") ≡ [] → UnmodifiedSinceLets present fields target
-unmodified_lets present fields target none = rw none tt
-
--- at another time the state is kept for the same fields
-pub kept_again : (now later : ℕ) (f g : LineMap) (label : Label) → f (codes "if-match") ≡ g (codes "if-match")
-    → g (codes "if-unmodified-since") ≡ [] → StateIsKept now f (current_by now label)
-    → StateIsKept later g (current_by later label)
-kept_again now later f g label same none h =
-    (λ has. rw (← same) (h.0 (rw same has)), λ lacks. unmodified_lets later g (current_by later label) none)
-
--- ==== What a request finds in two stores that have something similar where it looks.
-
--- what was found has the same state, and files with the same labels in their order
-pub record AreSeenAlike (s t : State) (fs gs : List File) : Type 0 where
-  pub state : s ≡ t
-  pub labels : map label_of fs ≡ map label_of gs
-
-seen_by : (s t same : State) (fs gs all : List File) → s ≡ same → t ≡ same → fs ≡ all → gs ≡ all
-    → AreSeenAlike s t fs gs
-seen_by s t same fs gs all a b c d = record { state = a ∙ sym b; labels = ap (map label_of) (c ∙ sym d) }
-
-absent_seen : {s : State} (code : ℕ) (f g : _) → IsEmpty s code f → IsEmpty s code g
-    → AreSeenAlike f.state g.state f.files.items g.files.items
-absent_seen code f g h k = seen_by _ _ _ _ _ _ h.state k.state h.files k.files
-
-folder_seen : (path : List ℕ) (query : Option (List ℕ)) (f g : _) → FindsFolder path query f
-    → FindsFolder path query g → AreSeenAlike f.state g.state f.files.items g.files.items
-folder_seen path query f g (inl h) (inl k) = absent_seen 404 f g h.1 k.1
-folder_seen path query f g (inl h) (inr k) = absurd (k.has_index h.0)
-folder_seen path query f g (inr h) (inl k) = absurd (h.has_index k.0)
-folder_seen path query f g (inr h) (inr k) = seen_by _ _ _ _ _ _ h.state k.state h.files k.files
-
-listing_seen : (path : List ℕ) (listing : Listing) (f g : _) → FindsListing path listing f
-    → FindsListing path listing g → AreSeenAlike f.state g.state f.files.items g.files.items
-listing_seen path listing f g (inl h) (inl k) = seen_by _ _ _ _ _ _ h.1.state k.1.state h.1.files k.1.files
-listing_seen path listing f g (inl h) (inr k) = let yes = h.0 in let no = k.0 in absurd (cc (yes, no))
-listing_seen path listing f g (inr h) (inl k) = let no = h.0 in let yes = k.0 in absurd (cc (yes, no))
-listing_seen path listing f g (inr h) (inr k) = absent_seen 404 f g h.1 k.1
-
--- what is offered of something similar has the same labels
-offered_similar : (m n : FieldValue) (coding : Coding) (e f : Entry) → m ≡ n → AreSimilar e f
-    → map label_of (offered m coding e) ≡ map label_of (offered n coding f)
-offered_similar m n coding e f same (inl one) = λ i. map label_of (offered (same i) coding (one i))
-offered_similar m n coding e f same (inr two) =
-    ap (λ (o : Entry). map label_of (offered m coding o)) two.2
-    ∙ (λ i. record {
-      tag = (two.4 i).tag;
-      media_type = same i;
-      modified = (two.4 i).modified;
-      coding = coding;
-    } ∷ [])
-    ∙ sym (ap (λ (o : Entry). map label_of (offered n coding o)) two.3)
-
-module _ (look other : List ℕ → Entry) where
-  stands_similar : (path : List ℕ) (e f : Entry) → AreSimilar (look path) (other path)
-      → HasEntryAt (has_at look) path e → HasEntryAt (has_at other) path f → AreSimilar e f
-  stands_similar path e f similar (inl h) (inl k) = rw (h.1, k.1) similar
-  stands_similar path e f similar (inl h) (inr k) = let yes = h.0 in let no = k.0 in absurd (cc (yes, no))
-  stands_similar path e f similar (inr h) (inl k) = let no = h.0 in let yes = k.0 in absurd (cc (yes, no))
-  stands_similar path e f similar (inr h) (inr k) = inl (h.1 ∙ sym k.1)
-
-  contents_similar : (negotiates : Bool) (path : List ℕ) (a b : File) (fs gs : List File) → label_of a ≡ label_of b
-      → ((coding : Coding) → negotiates ≡ true
-      → AreSimilar (look (path ++ coding_suffix coding)) (other (path ++ coding_suffix coding)))
-      → AreContents negotiates (has_at look) path a fs → AreContents negotiates (has_at other) path b gs
-      → map label_of fs ≡ map label_of gs
-  contents_similar false path a b fs gs same beside h k =
-      ap (map label_of) h ∙ (λ i. same i ∷ []) ∙ sym (ap (map label_of) k)
-  contents_similar true path a b fs gs same beside h k =
-      let media : a.media_type ≡ b.media_type = ap (λ (l : Label). l.media_type) same in
-      let brotli =
-      offered_similar a.media_type b.media_type Brotli h.brotli k.brotli media
-      (stands_similar (path ++ coding_suffix Brotli) h.brotli k.brotli (beside Brotli refl) h.has_brotli
-      k.has_brotli) in
-      let gzip =
-      offered_similar a.media_type b.media_type Gzip h.gzip k.gzip media
-      (stands_similar (path ++ coding_suffix Gzip) h.gzip k.gzip (beside Gzip refl) h.has_gzip k.has_gzip) in
-      rw (h.are, k.are)
-      (simp map-append
-      (λ i. record {
-        tag = (same i).tag;
-        media_type = (same i).media_type;
-        modified = (same i).modified;
-        coding = Identity;
-      } ∷ (brotli i ++ gzip i)))
-
-  module _ (negotiates : Bool) (uri : Uri) (similar : HaveSimilar negotiates (uri_path uri) look other) where
-    files_similar : (named : List ℕ) → Names (uri_path uri) (Some named) → (a b : File) → label_of a ≡ label_of b
-        → (f g : _) → FindsEntry negotiates (has_at look) uri named (Readable a) f
-        → FindsEntry negotiates (has_at other) uri named (Readable b) g
-        → AreSeenAlike f.state g.state f.files.items g.files.items
-    files_similar named names a b same f g h k = record {
-      state = h.0 ∙ sym k.0;
-      labels =
-          contents_similar negotiates named a b f.files.items g.files.items same
-          (λ coding is. similar.beside named coding is names) h.2 k.2;
-    }
-
-    entry_same : (named : List ℕ) → Names (uri_path uri) (Some named) → (entry : Entry) (f g : _)
-        → FindsEntry negotiates (has_at look) uri named entry f
-        → FindsEntry negotiates (has_at other) uri named entry g
-        → AreSeenAlike f.state g.state f.files.items g.files.items
-    entry_same named names Missing f g h k = absent_seen 404 f g h k
-    entry_same named names Forbidden f g h k = absent_seen 403 f g h k
-    entry_same named names Unavailable f g h k = absent_seen 503 f g h k
-    entry_same named names Folder f g h k = folder_seen (uri_path uri) (uri_query uri) f g h k
-    entry_same named names (Listed listing) f g h k = listing_seen (uri_path uri) listing f g h.1 k.1
-    entry_same named names (Readable file) f g h k = files_similar named names file file refl f g h k
-
-    entry_similar : (named : List ℕ) → Names (uri_path uri) (Some named) → (e o : Entry) → AreSimilar e o → (f g : _)
-        → FindsEntry negotiates (has_at look) uri named e f
-        → FindsEntry negotiates (has_at other) uri named o g
-        → AreSeenAlike f.state g.state f.files.items g.files.items
-    entry_similar named names e o (inl one) f g h k =
-        entry_same named names o f g (rw one at h) k
-    entry_similar named names e o (inr two) f g h k =
-        files_similar named names two.0 two.1 two.4 f g (rw two.2 at h) (rw two.3 at k)
-
-    pub leads_similar : (f g : _) → LeadsTo negotiates (has_at look) uri f → LeadsTo negotiates (has_at other) uri g
-        → AreSeenAlike f.state g.state f.files.items g.files.items
-    leads_similar f g (inl h) (inl k) =
-        let named : h.0 ≡ k.0 = h.1.is_named ∙ sym k.1.is_named in
-        let there : AreSimilar h.2.0 k.2.0 = rw (h.2.1, named, k.2.1) (similar.named k.0 k.1) in
-        entry_similar k.0 k.1 h.2.0 k.2.0 there f g (rw named at h.2.2) k.2.2
-    leads_similar f g (inl h) (inr k) = absurd (k.0 h.0 h.1)
-    leads_similar f g (inr h) (inl k) = absurd (h.0 k.0 k.1)
-    leads_similar f g (inr h) (inr k) = absent_seen 404 f g h.1 k.1
+pub tagged_label : (s : State) (present : ℕ) (tag : Line) (found : Option Label)
+    → tag_lines (target_by s present found) ≡ tag ∷ [] → (label : Label) × (found ≡ Some label)
+tagged_label s present tag (Some label) e = (label, refl)
+tagged_label state.Current present tag None e = absurd (cc e)
+tagged_label s present tag None e = absurd (cc e)
 
 -- ==== A field line that is one entity tag names it.
-
--- ---- the line is one element of a list
 
 octets_text : (bytes : List ℕ) → flat_map octet_text (map Plain bytes) ≡ bytes
 octets_text [] = refl
@@ -387,67 +157,24 @@ octet_valid b e = grind (arith, nat_tests)
 
 octets_valid : (bytes : List ℕ) → list_all is_tag_byte bytes ≡ true
     → list_all (is_octet false) (map Plain bytes) ≡ true
-octets_valid bytes all =
-    list_all-map (is_octet false) Plain bytes
-    ∙ all_imp is_tag_byte (λ (b : ℕ). is_octet false (Plain b)) octet_valid bytes all
+octets_valid [] all = refl
+octets_valid (b ∷ bytes) all = grind (arith, octet_valid b, octets_valid bytes)
 
+-- the line as an element of a list
 abbrev element_of : Bool → List ℕ → Element
 element_of true opaque = Byte 87 ∷ Byte 47 ∷ Quoted (map Plain opaque) ∷ []
 element_of false opaque = Quoted (map Plain opaque) ∷ []
 
 element_is : (is_weak : Bool) (opaque : List ℕ)
     → element_text (element_of is_weak opaque) ≡ weak_prefix is_weak ++ quote ∷ (opaque ++ quote ∷ [])
-element_is true opaque = simp (append_assoc, octets_text opaque)
-element_is false opaque = simp (append_assoc, octets_text opaque)
+element_is is_weak opaque = grind (arith, is_weak, append_assoc, octets_text opaque)
 
 element_valid : (is_weak : Bool) (opaque : List ℕ) → list_all is_tag_byte opaque ≡ true
     → list_all (is_element comma false) (element_of is_weak opaque ∷ []) ≡ true
-element_valid true opaque all = simp (octets_valid opaque all)
-element_valid false opaque all = simp (octets_valid opaque all)
+element_valid is_weak opaque all = grind (arith, is_weak, octets_valid opaque all)
 
--- ---- it is one member
-
--- a text that ends in a quote has no blanks at its end
-trim_end-quoted : (front : List ℕ) → trim_end (front ++ quote ∷ []) ≡ front ++ quote ∷ []
-trim_end-quoted front =
-    let s : List ℕ = front ++ quote ∷ [] in
-    let none : suffix_len is_blank s ≡ 0 = ap (prefix_len is_blank) (reverse-append front (quote ∷ [])) in
-    ap (λ (k : ℕ). take (length s - k) s) none ∙ take_all (length s - 0) s (omega arith)
-
-trim-quoted : (is_weak : Bool) (opaque : List ℕ)
-    → trim (weak_prefix is_weak ++ quote ∷ (opaque ++ quote ∷ []))
-    ≡ weak_prefix is_weak ++ quote ∷ (opaque ++ quote ∷ [])
-trim-quoted true opaque = trim_end-quoted (87 ∷ 47 ∷ quote ∷ opaque)
-trim-quoted false opaque = trim_end-quoted (quote ∷ opaque)
-
-filled : (n : ℕ) → 0 < n → not (n == 0) ≡ true
-filled n some = ap not (ne_eqb n 0 (λ e. omega (arith, e, some)))
-
-quoted_filled : (is_weak : Bool) (opaque : List ℕ)
-    → not (length (weak_prefix is_weak ++ quote ∷ (opaque ++ quote ∷ [])) == 0) ≡ true
-quoted_filled true opaque = filled (length (87 ∷ 47 ∷ quote ∷ (opaque ++ quote ∷ []))) (omega arith)
-quoted_filled false opaque = filled (length (quote ∷ (opaque ++ quote ∷ []))) (omega arith)
-
-module _ (parse : ParsesOneWay) where
-  members-quoted : (is_weak : Bool) (opaque : List ℕ) → list_all is_tag_byte opaque ≡ true
-      → members false (weak_prefix is_weak ++ quote ∷ (opaque ++ quote ∷ []))
-      ≡ members_of (Whole (weak_prefix is_weak ++ quote ∷ (opaque ++ quote ∷ [])) ∷ [])
-  members-quoted is_weak opaque all =
-      subst (λ (t : List ℕ). members false t ≡ members_of (Whole t ∷ [])) (element_is is_weak opaque)
-      (ap members_of
-      (parse comma false (element_of is_weak opaque) []
-      (record { value = refl; not_quote = refl; quote_not = refl }) (element_valid is_weak opaque all)).1)
-
-  one_member : (tag : Line) (parts : TagParts) → IsTag tag parts → field_members false (tag ∷ []) ≡ Whole tag ∷ []
-  one_member tag parts is =
-      let all = list_all-from_AllPass is_tag_byte parts.opaque is.opaque in
-      subst (λ (t : Line). field_members false (t ∷ []) ≡ Whole t ∷ []) (sym is.text)
-      (append-nil (members false (tag_text parts))
-      ∙ members-quoted parts.is_weak parts.opaque all
-      ∙ ap (λ (t : List ℕ). filter is_member (Whole t ∷ [])) (trim-quoted parts.is_weak parts.opaque)
-      ∙ ap (λ (b : Bool). cond b (Whole (tag_text parts) ∷ []) []) (quoted_filled parts.is_weak parts.opaque))
-
--- ---- it names the tag
+some_text : (is_weak : Bool) (opaque : List ℕ) → 0 < length (weak_prefix is_weak ++ quote ∷ (opaque ++ quote ∷ []))
+some_text is_weak opaque = grind (arith, is_weak)
 
 -- the comparisons of the two fields, as tests of a member
 
@@ -470,17 +197,29 @@ of_member compare etag Malformed = false
 own_member : (compare : Line → Line → Bool) (tag : Line) (etag : Option FieldValue)
     → lines_sent (λ (t : FieldValue). t.bytes) etag ≡ tag ∷ [] → compare tag tag ≡ true
     → of_member compare etag (Whole tag) ≡ true
-own_member compare tag None e same = absurd (cc e)
-own_member compare tag (Some value) e same =
-    let bytes : value.bytes ≡ tag = cc e in ap (compare tag) bytes ∙ same
+own_member compare tag etag e same = grind (arith, etag)
 
 module _ (parse : ParsesOneWay) (tag : Line) (parts : TagParts) (is : IsTag tag parts) where
+  one_member : field_members false (tag ∷ []) ≡ Whole tag ∷ []
+  one_member =
+      let item = element_of parts.is_weak parts.opaque in
+      let text : element_text item ≡ tag = element_is parts.is_weak parts.opaque ∙ sym is.text in
+      let valid = element_valid parts.is_weak parts.opaque (list_all-from_AllPass is_tag_byte parts.opaque is.opaque) in
+      let cut =
+      (parse comma false item [] (record { value = refl; not_quote = refl; quote_not = refl }) valid).1 in
+      let some : (length tag == 0) ≡ false =
+      ne_eqb (length tag) 0 (λ e. omega (arith, e, ap length is.text, some_text parts.is_weak parts.opaque)) in
+      append-nil (members false tag)
+      ∙ subst (λ (t : Line). members false t ≡ members_of (Whole t ∷ [])) text (ap members_of cut)
+      ∙ ap (λ (t : Line). filter is_member (Whole t ∷ []))
+      (trim_bare_text tag (tag_is_bare tag parts.opaque parts.is_weak is))
+      ∙ ap (λ (b : Bool). cond (not b) (Whole tag ∷ []) []) some
+
   -- a test of the one member decides for the line
   named_by : (test : Member → Bool) → test (Whole tag) ≡ true
       → (is_star (tag ∷ []) || (are_tags (tag ∷ []) && list_any test (field_members false (tag ∷ [])))) ≡ true
   named_by test passes =
-      let one = one_member parse tag parts is in
-      simp (one, is_tag-true tag parts is, passes, or-true)
+      simp (one_member, is_tag-true tag parts is, passes, or-true)
 
   module _ (validators : Validators) (own : lines_sent (λ (t : FieldValue). t.bytes) validators.etag ≡ tag ∷ []) where
     -- the field line of a representation's own tag names it
@@ -505,15 +244,7 @@ etag = codes "etag"
 
 shared_untagged : (cors : Option Policy) (request : Asked) (lines : List Line) (fields : List Field)
     → IsShared cors request lines fields → is_named etag fields ≡ false
-shared_untagged None request lines fields none = ap (is_named etag) none
-shared_untagged (Some policy) request lines fields shares =
-    ap (is_named etag) (shares.2 ∙ shares.1.fields) ∙ by (is_some policy.origins) (covers_origin lines)
-  where
-    by : (b c : Bool)
-        → is_named etag (cond b (cond c [] ((codes "vary", lines ++ codes "origin" ∷ []) ∷ [])) []) ≡ false
-    by true true = refl
-    by true false = refl
-    by false c = refl
+shared_untagged cors request lines fields shares = grind (arith, cors)
 
 two_untagged : (xs ys : List Field) → is_named etag xs ≡ false → is_named etag ys ≡ false
     → is_named etag (xs ++ ys) ≡ false
@@ -528,237 +259,386 @@ tail_of (field ∷ fields) = fields
 abbrev pub sent_tag : Plan → Target → List Line
 sent_tag plan target = lines_sent (λ (tag : FieldValue). tag.bytes) (etag_sent plan (etag_of target))
 
-planned_tag : (present : ℕ) (plan : Plan) (target : Target) (content : Content) (multipart : FieldValue)
-    (fields : LineMap) (representation : Option Representation)
-    → HasField etag (sent_tag plan target)
-    (with_metadata fields representation plan (fields_sent present plan (is_known_by fields) target content multipart))
-planned_tag present plan target content multipart fields None = record {
-  before = [];
-  after = tail_of (fields_sent present plan (is_known_by fields) target content multipart);
-  are = refl;
-  first = refl;
-  last = sides_unnamed etag refl _ (removed_side (keeps_encoding plan (is_known_by fields)) (is_whole plan));
-}
-planned_tag present plan target content multipart fields (Some representation) = record {
-  before = metadata_fields (describes plan (is_known_by fields)) representation;
-  after = tail_of (fields_sent present plan (is_known_by fields) target content multipart);
-  are = refl;
-  first = sides_unnamed etag refl _ (metadata_side (describes plan (is_known_by fields)) representation);
-  last = sides_unnamed etag refl _ (removed_side (keeps_encoding plan (is_known_by fields)) (is_whole plan));
-}
+-- before fields without one, those of a plan have that of the target
+module _ (has_policy : Bool) (present : ℕ) (plan : Plan) (target : Target) (content : Content) (multipart : FieldValue)
+    (more : List Field) (none : is_named etag more ≡ false) where
+  first_tag : (known : Bool)
+      → lines_in (headers_sent has_policy (fields_sent present plan known target content multipart ++ more)) etag
+      ≡ sent_tag plan target
+  first_tag known =
+      let after : List Field = tail_of (fields_sent present plan known target content multipart) in
+      sent-first etag has_policy (sent_tag plan target) (after ++ more)
+      (two_untagged after more
+      (sides_unnamed etag refl _ (removed_side (keeps_encoding plan known) (is_whole plan))) none)
 
--- ---- reads
+  planned_tag : (fields : LineMap) (representation : Option Representation)
+      → lines_in
+      (headers_sent has_policy
+      (with_metadata fields representation plan
+      (fields_sent present plan (is_known_by fields) target content multipart) ++ more)) etag ≡ sent_tag plan target
+  planned_tag fields None = first_tag (is_known_by fields)
+  planned_tag fields (Some representation) =
+      let front : List Field = metadata_fields (describes plan (is_known_by fields)) representation in
+      let rest : List Field = fields_sent present plan (is_known_by fields) target content multipart in
+      ap (λ (fs : List Field). lines_in (headers_sent has_policy fs) etag) (append_assoc front rest more)
+      ∙ sent-skip etag has_policy front (rest ++ more)
+      (sides_unnamed etag refl _ (metadata_side (describes plan (is_known_by fields)) representation))
+      ∙ first_tag (is_known_by fields)
+
+-- ---- by what an answer sends
+
+-- what the preconditions see of the representation at a place
+abbrev pub seen_at : Resource → Option ℕ → Target
+seen_at resource place = target_at resource.state resource.representations.items place
+
+abbrev pub tags_of : Resource → Sends → List Line
+tags_of resource (Planned place plan) = sent_tag plan (seen_at resource place)
+tags_of resource sent = []
+
+stopped_untagged : (resource : Resource) (reason : Reason) → tags_of resource (sent_for reason) ≡ []
+stopped_untagged resource reason = grind (arith, reason)
 
 never_ignored : (current : Validators) (method : List ℕ) → IsGetOrHead method
     → ¬ (AreIgnored (Current current) method)
-never_ignored current method read (inl is) = never_unconditional method read is
-never_ignored current method read (inr none) = none
-
-admitted_is : (reason : Reason) → is_admitted reason ≡ true → reason ≡ Admitted
-admitted_is Admitted e = refl
-admitted_is reason e = absurd (cc e)
-
--- if nothing else decides, that does
-only_admitted : (test : Reason → Bool) (reason : Reason) → IsFirst test Admitted → IsFirst test reason
-    → reason ≡ Admitted
-only_admitted test Admitted first is = refl
-only_admitted test reason first is =
-    let no = first.none_before reason (omega arith) in let yes = is.is in absurd (cc (yes, no))
+never_ignored current method read x = grind (arith, never_unconditional)
 
 module _ (present : ℕ) (resource : Resource) (asked : Asked) where
-  -- what the preconditions see of the representation at a place
-  abbrev pub seen_at : Option ℕ → Target
-  seen_at place = target_at resource.state resource.representations.items place
+  abbrev IsGivenAt : Option ℕ → Option Planning → Type 0
+  IsGivenAt place response =
+      IsAnswered present asked.method asked.fields (seen_at resource place)
+      (content_of (at_place resource.representations.items place)) resource.boundary response
 
-  abbrev IsPlanFor : Target → ℕ → RangeLimits → Plan → Type 0
-  IsPlanFor target len limits plan = IsPlan present asked.method asked.fields target len limits plan
+  -- before other fields, these have these field lines of ETag
+  abbrev Tells : List Line → List Field → Type 0
+  Tells lines own =
+      (has_policy : Bool) (more : List Field) → is_named etag more ≡ false
+      → lines_in (headers_sent has_policy (own ++ more)) etag ≡ lines
 
-  abbrev pub Decide : Target → Precondition → Type 0
-  Decide target result = Answers present asked.fields target asked.method result
+  tells_none : (own : List Field) → is_named etag own ≡ false → Tells [] own
+  tells_none own e has_policy more f = sent-other etag has_policy (own ++ more) (two_untagged own more e f)
+
+  tells_given : (place : Option ℕ) (response : Option Planning) → IsGivenAt place response
+      → Tells (tags_of resource (is_sent place response))
+      (response_fields asked.fields (at_place resource.representations.items place) response)
+  tells_given place None answered has_policy more f = tells_none [] refl has_policy more f
+  tells_given place (Some response) answered has_policy more f =
+      let found : Option Representation = at_place resource.representations.items place in
+      rw answered.fields
+      (planned_tag has_policy present response.plan (seen_at resource place) (content_of found) resource.boundary more f
+      asked.fields found)
+
+  tells_own : (b : Bool) (reason : Reason) (status : Option ℕ) (sent : Sends) (own : List Field)
+      → GivesIf b present resource asked reason status sent own → Tells (tags_of resource sent) own
+  tells_own true reason status sent own h =
+      rw (h.goes.sends, h.goes.has_fields) (tells_given h.place h.goes.response h.goes.answered)
+  tells_own false reason status sent own h =
+      rw (h.sends, h.has_fields, stopped_untagged resource reason)
+      (tells_none (reason_fields resource asked reason)
+      (sides_unnamed etag refl _ (reason_side resource asked reason)))
+
+  -- the field lines of ETag in a response with an answer's fields
+  pub tags_given : (answer : Answer) → IsAnswer present resource asked answer → (has_policy : Bool)
+      → lines_in (headers_sent has_policy (encoded_fields answer.fields.items)) etag ≡ tags_of resource answer.sends
+  tags_given answer a has_policy =
+      let vary : List Field = vary_fields (vary_lines resource answer.reason) in
+      ap (λ (fs : List Field). lines_in (headers_sent has_policy fs) etag)
+      (a.fields ∙ append_assoc a.own vary a.shared)
+      ∙ tells_own (is_admitted answer.reason) answer.reason answer.status answer.sends a.own a.gives has_policy
+      (vary ++ a.shared)
+      (two_untagged vary a.shared (sides_unnamed etag refl _ (vary_side (vary_lines resource answer.reason)))
+      (shared_untagged resource.cors asked (vary_lines resource answer.reason) a.shared a.is_shared))
 
   -- the answer sends the tag of what is selected, which is as the request would have it
-  pub record IsTagged (tag : Line) (sent : Sends) : Type 0 where
+  pub record IsTagged (tag : Line) : Type 0 where
     pub place : Option ℕ
     pub selected : IsSelected resource asked.fields place
     pub first : IsFirst (applies present resource asked) Admitted
-    pub kept : StateIsKept present asked.fields (seen_at place)
-    pub tagged : tag_lines (seen_at place) ≡ tag ∷ []
-    pub plan : Plan
-    pub sends : sent ≡ Planned place plan
-
-  -- the answer says that the selected representation wasn't modified, by its tag
-  pub record IsUnmodified (answer : Answer) (own : List Field) (place : Option ℕ) : Type 0 where
-    pub reason : answer.reason ≡ Admitted
-    pub status : answer.status ≡ Some 304
-    pub sends : answer.sends ≡ Planned place NotModified
-    pub tag : HasField etag (tag_lines (seen_at place)) own
-
-  -- ---- the fields of an answer
-
-  module _ (answer : Answer) (a : IsAnswer present resource asked answer) where
-    abbrev after_own : List Field
-    after_own = vary_fields (vary_lines resource answer.reason) ++ a.shared
-
-    after_untagged : is_named etag after_own ≡ false
-    after_untagged =
-        two_untagged (vary_fields (vary_lines resource answer.reason)) a.shared
-        (sides_unnamed etag refl _ (vary_side (vary_lines resource answer.reason)))
-        (shared_untagged resource.cors asked (vary_lines resource answer.reason) a.shared a.is_shared)
-
-    given_are : encoded_fields answer.fields.items ≡ a.own ++ after_own
-    given_are = a.fields ∙ append_assoc a.own (vary_fields (vary_lines resource answer.reason)) a.shared
-
-    -- the field lines of ETag in a response with the answer's fields
-    pub tag_given : (has_policy : Bool) (lines : List Line) → HasField etag lines a.own
-        → lines_in (headers_sent has_policy (encoded_fields answer.fields.items)) etag ≡ lines
-    tag_given has_policy lines h =
-        ap (λ (fs : List Field). lines_in (headers_sent has_policy fs) etag) given_are
-        ∙ HasField-sent etag has_policy lines (a.own ++ after_own)
-        (record {
-          before = h.before;
-          after = h.after ++ after_own;
-          are = rw h.are (simp append_assoc);
-          first = h.first;
-          last = two_untagged h.after after_own h.last after_untagged;
-        })
-
-    none_given : (has_policy : Bool) → is_named etag a.own ≡ false
-        → lines_in (headers_sent has_policy (encoded_fields answer.fields.items)) etag ≡ []
-    none_given has_policy e =
-        ap (λ (fs : List Field). lines_in (headers_sent has_policy fs) etag) given_are
-        ∙ sent-other etag has_policy (a.own ++ after_own) (two_untagged a.own after_own e after_untagged)
-
-    -- what a response gives of the representation has one tag, if it has any
-    planned_own : (representation : Option Representation) (response : Planning)
-        → IsAnswered present asked.method asked.fields (target_of resource.state representation)
-        (content_of representation) resource.boundary (Some response)
-        → a.own ≡ response_fields asked.fields representation (Some response)
-        → HasField etag (sent_tag response.plan (target_of resource.state representation)) a.own
-    planned_own representation response answered fields =
-        rw (fields, answered.fields)
-        (planned_tag present response.plan (target_of resource.state representation) (content_of representation)
-        resource.boundary asked.fields representation)
+    pub kept : StateIsKept present asked.fields (seen_at resource place)
+    pub tagged : tag_lines (seen_at resource place) ≡ tag ∷ []
 
   module _ (read : IsGetOrHead asked.method) where
     -- ---- an answer with a tag
 
     -- a response with a tag has that of the target, which is as the request would have it
     tag_of_plan : (target : Target) (len : ℕ) (limits : RangeLimits) (tag : Line) (plan : Plan)
-        → IsPlanFor target len limits plan → sent_tag plan target ≡ tag ∷ []
+        → IsPlan present asked.method asked.fields target len limits plan → sent_tag plan target ≡ tag ∷ []
         → StateIsKept present asked.fields target × (tag_lines target ≡ tag ∷ [])
-    tag_of_plan target len limits tag NotModified h e =
-        ((h.conditional (λ is. let no = h.unconditional is in absurd (cc no))).0, e)
-    tag_of_plan target len limits tag Failed h e = absurd (cc e)
-    tag_of_plan target len limits tag Unsatisfiable h e = absurd (cc e)
-    tag_of_plan target len limits tag plan h e =
-        ((h.1.performs.conditional (rw h.1.is_current (never_ignored h.0 asked.method read))).0, e)
+    tag_of_plan target len limits tag plan h e = grind (arith, plan, never_unconditional)
 
-    module _ (answer : Answer) (a : IsAnswer present resource asked answer) (has_policy : Bool) (tag : Line)
-        (told : lines_in (headers_sent has_policy (encoded_fields answer.fields.items)) etag ≡ tag ∷ []) where
-      no_tag : is_named etag a.own ≡ false → ⊥
-      no_tag e = let clash : [] ≡ tag ∷ [] = sym (none_given answer a has_policy e) ∙ told in cc clash
+    tagged_by : (admitted : Bool) (reason : Reason) (status : Option ℕ) (sent : Sends) (own : List Field) (tag : Line)
+        → is_admitted reason ≡ admitted → IsFirst (applies present resource asked) reason
+        → GivesIf admitted present resource asked reason status sent own → tags_of resource sent ≡ tag ∷ []
+        → IsTagged tag
+    tagged_by true Admitted status sent own tag is first h told =
+        by h.goes.response h.goes.answered (rw h.goes.sends at told)
+      where
+        by : (response : Option Planning) → IsGivenAt h.place response
+            → tags_of resource (is_sent h.place response) ≡ tag ∷ [] → IsTagged tag
+        by None answered told = absurd (cc told)
+        by (Some response) answered told =
+            let found : Option Representation = at_place resource.representations.items h.place in
+            let both =
+            tag_of_plan (seen_at resource h.place) (divisible_len (content_of found)) (limits_of (content_of found)) tag
+            response.plan answered.plan told in
+            record { place = h.place; selected = h.selected; first = first; kept = both.0; tagged = both.1 }
+    tagged_by true reason status sent own tag is first h told = absurd (cc is)
+    tagged_by false reason status sent own tag is first h told =
+        let clash : [] ≡ tag ∷ [] = sym (ap (tags_of resource) h.sends ∙ stopped_untagged resource reason) ∙ told in
+        absurd (cc clash)
 
-      tagged_at : (admits : answer.reason ≡ Admitted) (place : Option ℕ)
-          (selected : IsSelected resource asked.fields place) (response : Option Planning)
-          → IsAnswered present asked.method asked.fields (seen_at place)
-          (content_of (at_place resource.representations.items place)) resource.boundary response
-          → a.own ≡ response_fields asked.fields (at_place resource.representations.items place) response
-          → answer.sends ≡ is_sent place response → IsTagged tag answer.sends
-      tagged_at admits place selected None answered fields sends = absurd (no_tag (ap (is_named etag) fields))
-      tagged_at admits place selected (Some response) answered fields sends =
-          let found : Option Representation = at_place resource.representations.items place in
-          let own = planned_own answer a found response answered fields in
-          let both =
-          tag_of_plan (seen_at place) (divisible_len (content_of found)) (limits_of (content_of found)) tag
-          response.plan answered.plan
-          (sym (tag_given answer a has_policy (sent_tag response.plan (seen_at place)) own) ∙ told) in
-          record {
-            place = place;
-            selected = selected;
-            first = rw admits at a.first;
-            kept = both.0;
-            tagged = both.1;
-            plan = response.plan;
-            sends = sends;
-          }
+-- at another time the state is kept for the same fields
+pub kept_again : (now later : ℕ) (f g : LineMap) (label : Label) → f (codes "if-match") ≡ g (codes "if-match")
+    → g (codes "if-unmodified-since") ≡ [] → StateIsKept now f (Current (validators_by now label))
+    → StateIsKept later g (Current (validators_by later label))
+kept_again now later f g label same none h = grind arith
 
-      tagged_by : (admitted : Bool) → is_admitted answer.reason ≡ admitted
-          → GivesIf admitted present resource asked answer.reason answer.status answer.sends a.own
-          → IsTagged tag answer.sends
-      tagged_by false is h =
-          absurd
-          (no_tag
-          (ap (is_named etag) h.has_fields ∙ sides_unnamed etag refl _ (reason_side resource asked answer.reason)))
-      tagged_by true is h =
-          tagged_at (admitted_is answer.reason is) h.place h.selected h.goes.response h.goes.answered
-          h.goes.has_fields h.goes.sends
+-- ---- a request that is sent again with the tag
 
-      pub is_tagged : IsTagged tag answer.sends
-      is_tagged = tagged_by (is_admitted answer.reason) refl a.gives
+unmodified_plan : (plan : Plan) → status_of plan ≡ 304 → plan ≡ NotModified
+unmodified_plan plan is = grind (arith, plan)
 
-    -- ---- the answer to a request whose preconditions are evaluated
+-- if nothing else decides, that does
+only_admitted : (test : Reason → Bool) (reason : Reason)
+    → ((other : Reason) → Before other Admitted → test other ≡ false) → IsFirst test reason → reason ≡ Admitted
+only_admitted test reason none is = grind (arith, reason)
 
-    only_not_modified : (target : Target) (len : ℕ) (limits : RangeLimits) (plan : Plan)
-        → Decide target precondition.NotModified → IsPlanFor target len limits plan → plan ≡ NotModified
-    only_not_modified target len limits NotModified h p = refl
-    only_not_modified target len limits Failed h p =
-        let no = one_answer present asked.fields target asked.method _ _ h p in absurd (cc no)
-    only_not_modified target len limits plan h p =
-        let no = one_answer present asked.fields target asked.method _ _ h p.1.performs in absurd (cc no)
+has_line : (lines : List Line) (tag : Line) → lines ≡ tag ∷ [] → HasLine lines
+has_line lines tag are = rw are (omega arith)
 
-    other_status : (target : Target) (len : ℕ) (limits : RangeLimits) (plan : Plan)
-        → ¬ (Decide target precondition.Failed) → IsPlanFor target len limits plan → status_of plan ≢ 412
-    other_status target len limits Failed passes p = absurd (passes p)
-    other_status target len limits plan passes p = λ e. omega (arith, e)
+module _ (site : Resource) (st : State) (v w : Vec Representation) (now later : ℕ) (fs gs : List File)
+    (mine : v.items ≡ map (representation_of now) fs) (theirs : w.items ≡ map (representation_of later) gs)
+    (labels : map label_of fs ≡ map label_of gs) (protocol : Protocol) (authority : Option Line) (f g : LineMap)
+    (same : AskAlike f g) where
+  abbrev first : Resource
+  first = record site { state = st; representations = v }
 
-    module _ (answer : Answer) (a : IsAnswer present resource asked answer)
-        (first : IsFirst (applies present resource asked) Admitted) (place : Option ℕ)
-        (selected : IsSelected resource asked.fields place) where
-      abbrev here : Option Representation
-      here = at_place resource.representations.items place
+  abbrev second : Resource
+  second = record site { state = st; representations = w }
 
-      pub reason_is : answer.reason ≡ Admitted
-      reason_is = only_admitted (applies present resource asked) answer.reason first a.first
+  abbrev n : Negotiation
+  n = site.negotiation
 
-      -- the answer by the preconditions on what is selected
-      goes_on : GoesOn present resource asked place here answer.status answer.sends a.own
-      goes_on =
-          let gives : GivesIf true present resource asked Admitted answer.status answer.sends a.own =
-          rw reason_is at a.gives in
-          rw (one_place resource asked.fields gives.place place gives.selected selected) at gives.goes
+  scores : map (score n f) v.items ≡ map (score n g) w.items
+  scores =
+      ap (map (score n f)) mine ∙ scores_are n f now fs
+      ∙ (λ i. map
+      (label_score n (same (codes "accept") refl i) (same (codes "accept-language") refl i)
+      (same (codes "accept-encoding") refl i)) (labels i))
+      ∙ sym (scores_are n g later gs) ∙ sym (ap (map (score n g)) theirs)
 
-      unmodified_by : Decide (seen_at place) precondition.NotModified → (response : Option Planning)
-          → IsAnswered present asked.method asked.fields (seen_at place) (content_of here) resource.boundary response
-          → answer.status ≡ status_sent response → answer.sends ≡ is_sent place response
-          → a.own ≡ response_fields asked.fields here response → IsUnmodified answer a.own place
-      unmodified_by decided None answered status sends fields =
-          let no = one_answer present asked.fields (seen_at place) asked.method _ _ decided answered.0 in absurd (cc no)
-      unmodified_by decided (Some response) answered status sends fields =
-          let plan : response.plan ≡ NotModified =
-          only_not_modified (seen_at place) (divisible_len (content_of here)) (limits_of (content_of here))
-          response.plan decided answered.plan in
-          record {
-            reason = reason_is;
-            status = status ∙ ap Some (answered.status ∙ ap status_of plan);
-            sends = sends ∙ ap (Planned place) plan;
-            tag = rw plan at (planned_own answer a here response answered fields);
-          }
+  same_length : length v.items ≡ length w.items
+  same_length = sym (length-map v.items (score n f)) ∙ ap length scores ∙ length-map w.items (score n g)
 
-      pub not_modified : Decide (seen_at place) precondition.NotModified → IsUnmodified answer a.own place
-      not_modified decided =
-          unmodified_by decided goes_on.response goes_on.answered goes_on.has_status goes_on.sends goes_on.has_fields
+  unacceptable_same : is_unacceptable first (reading protocol authority (codes "GET") f)
+      ≡ is_unacceptable second (reading protocol authority (codes "GET") g)
+  unfolding is_unacceptable
+  unacceptable_same =
+      let none : are_unacceptable n f v.items ≡ are_unacceptable n g w.items =
+      sym (list_all-map (λ (k : ℕ). k == 0) (score n f) v.items)
+      ∙ ap (list_all (λ (k : ℕ). k == 0)) scores ∙ list_all-map (λ (k : ℕ). k == 0) (score n g) w.items in
+      rw (same_length, none)
 
-      passed_by : ¬ (Decide (seen_at place) precondition.Failed) → (response : Option Planning)
-          → IsAnswered present asked.method asked.fields (seen_at place) (content_of here) resource.boundary response
-          → answer.status ≡ status_sent response → answer.status ≢ Some 412
-      passed_by passes None answered status is = let no = sym status ∙ is in cc no
-      passed_by passes (Some response) answered status is =
-          let code : response.status ≡ 412 = let both = sym status ∙ is in cc both in
-          other_status (seen_at place) (divisible_len (content_of here)) (limits_of (content_of here)) response.plan
-          passes answered.plan (sym answered.status ∙ code)
+  -- what doesn't keep the first from being performed doesn't keep the second from it
+  still : (reason : Reason) → applies now first (reading protocol authority (codes "GET") f) reason ≡ false
+      → applies later second (reading protocol authority (codes "GET") g) reason ≡ false
+  still Reason.NotAcceptable e = sym unacceptable_same ∙ e
+  still reason e = grind (arith, reason, same (codes "host") refl, same (codes "expect") refl)
 
-      pub not_failed : ¬ (Decide (seen_at place) precondition.Failed) → answer.status ≢ Some 412
-      not_failed passes = passed_by passes goes_on.response goes_on.answered goes_on.has_status
+  module _ (method again : List ℕ) (read : IsGetOrHead method) (read_again : IsGetOrHead again) (tag : Line)
+      (t : IsTagged now first (reading protocol authority method f) tag) (answer : Answer)
+      (a : IsAnswer later second (reading protocol authority again g) answer) where
+    selected : IsSelected second g t.place
+    selected = record {
+      choice = t.selected.choice;
+      picks =
+          picks_across (score n f) (score n g) v.items w.items scores same_length t.selected.choice t.selected.picks;
+      is = t.selected.is ∙ place_alike st v.items w.items same_length t.selected.choice;
+    }
+
+    -- the label at the place
+    found : (label : Label) × (label_at (map label_of fs) t.place ≡ Some label)
+    found = tagged_label st now tag (label_at (map label_of fs) t.place) (sym (ap tag_lines seen) ∙ t.tagged)
+      where
+        seen : target_at st v.items t.place ≡ target_by st now (label_at (map label_of fs) t.place)
+        seen = ap (λ (items : List Representation). target_at st items t.place) mine ∙ target_labelled st now fs t.place
+
+    abbrev at_time : ℕ → Target
+    at_time present = Current (validators_by present found.0)
+
+    then_seen : target_at st v.items t.place ≡ at_time now
+    then_seen =
+        ap (λ (items : List Representation). target_at st items t.place) mine ∙ target_labelled st now fs t.place
+        ∙ ap (target_by st now) found.1
+
+    now_seen : target_at st w.items t.place ≡ at_time later
+    now_seen =
+        ap (λ (items : List Representation). target_at st items t.place) theirs
+        ∙ target_labelled st later gs t.place
+        ∙ ap (λ (ls : List Label). target_by st later (label_at ls t.place)) (sym labels)
+        ∙ ap (target_by st later) found.1
+
+    own_tag : lines_sent (λ (value : FieldValue). value.bytes) found.0.tag ≡ tag ∷ []
+    own_tag = sym (ap tag_lines then_seen) ∙ t.tagged
+
+    pub reason_is : answer.reason ≡ Admitted
+    reason_is =
+        only_admitted (applies later second (reading protocol authority again g)) answer.reason
+        (λ other before.
+        read_as_get later second protocol authority g again read_again other
+        ∙ still other
+        (sym (read_as_get now first protocol authority f method read other) ∙ t.first.none_before other before)) a.first
+
+    abbrev here : Option Representation
+    here = at_place w.items t.place
+
+    abbrev IsGiven : Option Planning → Type 0
+    IsGiven response =
+        IsGivenAt later second (reading protocol authority again g) t.place response
+        × (answer.status ≡ status_sent response) × (answer.sends ≡ is_sent t.place response)
+
+    -- the answer by the preconditions on what is selected
+    goes_on : (response : Option Planning) × IsGiven response
+    goes_on =
+        let asked = reading protocol authority again g in
+        let gives : GivesIf true later second asked Admitted answer.status answer.sends a.own =
+        rw reason_is at a.gives in
+        let goes = rw (one_place second g gives.place t.place gives.selected selected) at gives.goes in
+        (goes.response, (goes.answered, goes.has_status, goes.sends))
+
+    -- ---- the two conditions
+
+    pub unmodified : ParsesOneWay → f (codes "if-match") ≡ g (codes "if-match") → g (codes "if-unmodified-since") ≡ []
+        → g (codes "if-none-match") ≡ tag ∷ [] → IsSomeTag tag
+        → (answer.reason ≡ Admitted) × (answer.status ≡ Some 304) × (answer.sends ≡ Planned t.place NotModified)
+        × (tags_of second answer.sends ≡ tag ∷ [])
+    unmodified parse matching undated asks some = by goes_on.0 goes_on.1
+      where
+        decided : Answers later g (at_time later) again precondition.NotModified
+        decided = record {
+          unconditional = λ is. absurd (never_ignored (validators_by later found.0) again read_again is);
+          conditional = λ counts. (
+            kept_again now later f g found.0 matching undated (rw then_seen at t.kept),
+            read_again,
+            inl (
+              has_line (g (codes "if-none-match")) tag asks,
+              rw asks (weakly_named parse tag some.0 some.1 (validators_by later found.0) own_tag),
+            ),
+          );
+        }
+
+        one : (plan : Option Plan)
+            → IsPlanOrNone later again g (seen_at second t.place) (divisible_len (content_of here))
+            (limits_of (content_of here)) plan → IsSamePlan plan (Some NotModified)
+        one plan h =
+            one_plan later again g (seen_at second t.place) (divisible_len (content_of here))
+            (limits_of (content_of here)) plan (Some NotModified) h (rw now_seen decided)
+
+        by : (response : Option Planning) → IsGiven response
+            → (answer.reason ≡ Admitted) × (answer.status ≡ Some 304) × (answer.sends ≡ Planned t.place NotModified)
+            × (tags_of second answer.sends ≡ tag ∷ [])
+        by None h = absurd (one None h.0)
+        by (Some response) h =
+            let code = (one (Some response.plan) h.0.plan).0 in
+            let sends : answer.sends ≡ Planned t.place NotModified =
+            h.2 ∙ ap (Planned t.place) (unmodified_plan response.plan code) in (
+              reason_is,
+              h.1 ∙ ap Some (h.0.status ∙ code),
+              sends,
+              ap (tags_of second) sends ∙ ap tag_lines now_seen ∙ own_tag,
+            )
+
+    pub not_lost : ParsesOneWay → g (codes "if-match") ≡ tag ∷ [] → (parts : TagParts) → IsTag tag parts
+        → parts.is_weak ≡ false → (answer.reason ≡ Admitted) × (answer.status ≢ Some 412)
+    not_lost parse asks parts is strong = (reason_is, by goes_on.0 goes_on.1)
+      where
+        passes : ¬ (Answers later g (at_time later) again precondition.Failed)
+        passes failed =
+            elim (failed.conditional (never_ignored (validators_by later found.0) again read_again)) [
+              | inl lost ↦
+                  elim lost [
+                    | inl l ↦
+                        l.1 (rw asks (strongly_named parse tag parts is (validators_by later found.0) own_tag strong))
+                    | inr l ↦ l.0 (has_line (g (codes "if-match")) tag asks)
+                  ]
+              | inr other ↦ other.1 read_again
+            ]
+
+        failed : (plan : Plan) → status_of plan ≡ 412
+            → IsPlan later again g (seen_at second t.place) (divisible_len (content_of here))
+            (limits_of (content_of here)) plan → ⊥
+        failed Failed is p = passes (rw now_seen at p)
+        failed plan is p = omega (arith, is)
+
+        by : (response : Option Planning) → IsGiven response → answer.status ≢ Some 412
+        by None h refused = let no = sym h.1 ∙ refused in cc no
+        by (Some response) h refused =
+            let code : response.status ≡ 412 = (let both = sym h.1 ∙ refused in cc both) in
+            failed response.plan (sym h.0.status ∙ code) h.0.plan
+
+-- ==== What a request finds in two stores that have something similar where it looks.
+
+-- what was found has the same state, and files with the same labels in their order
+pub record AreSeenAlike (s t : State) (fs gs : List File) : Type 0 where
+  pub state : s ≡ t
+  pub labels : map label_of fs ≡ map label_of gs
+
+-- what is offered of something similar has the same labels
+offered_similar : (m n : FieldValue) (coding : Coding) (e f : Entry) → m ≡ n → AreSimilar e f
+    → map label_of (offered m coding e) ≡ map label_of (offered n coding f)
+offered_similar m n coding e f same similar = grind (arith, e)
+
+module _ (look other : List ℕ → Entry) where
+  stands_similar : (path : List ℕ) (e f : Entry) → AreSimilar (look path) (other path)
+      → HasEntryAt (has_at look) path e → HasEntryAt (has_at other) path f → AreSimilar e f
+  stands_similar path e f similar h k = grind arith
+
+  contents_similar : (negotiates : Bool) (path : List ℕ) (a b : File) (fs gs : List File) → label_of a ≡ label_of b
+      → ((coding : Coding) → negotiates ≡ true
+      → AreSimilar (look (path ++ coding_suffix coding)) (other (path ++ coding_suffix coding)))
+      → AreContents negotiates (has_at look) path a fs → AreContents negotiates (has_at other) path b gs
+      → map label_of fs ≡ map label_of gs
+  contents_similar false path a b fs gs same beside h k = rw (h, k) (λ i. same i ∷ [])
+  contents_similar true path a b fs gs same beside h k =
+      let media : a.media_type ≡ b.media_type = ap (λ (l : Label). l.media_type) same in
+      let brotli =
+      offered_similar a.media_type b.media_type Brotli h.brotli k.brotli media
+      (stands_similar (path ++ coding_suffix Brotli) h.brotli k.brotli (beside Brotli refl) h.has_brotli
+      k.has_brotli) in
+      let gzip =
+      offered_similar a.media_type b.media_type Gzip h.gzip k.gzip media
+      (stands_similar (path ++ coding_suffix Gzip) h.gzip k.gzip (beside Gzip refl) h.has_gzip k.has_gzip) in
+      rw (h.are, k.are)
+      (simp map-append
+      (λ i. record {
+        tag = (same i).tag;
+        media_type = (same i).media_type;
+        modified = (same i).modified;
+        coding = Identity;
+      } ∷ (brotli i ++ gzip i)))
+
+  module _ (negotiates : Bool) (uri : Uri) (similar : HaveSimilar negotiates (uri_path uri) look other) where
+    files_similar : (named : List ℕ) → Names (uri_path uri) (Some named) → (a b : File) → label_of a ≡ label_of b
+        → (f g : _) → FindsEntry negotiates (has_at look) uri named (Readable a) f
+        → FindsEntry negotiates (has_at other) uri named (Readable b) g
+        → AreSeenAlike f.state g.state f.files.items g.files.items
+    files_similar named names a b same f g h k = grind (arith, contents_similar, similar)
+
+    entry_similar : (named : List ℕ) → Names (uri_path uri) (Some named) → (e o : Entry) → AreSimilar e o
+        → (f g : _) → FindsEntry negotiates (has_at look) uri named e f
+        → FindsEntry negotiates (has_at other) uri named o g → AreSeenAlike f.state g.state f.files.items g.files.items
+    entry_similar named names e o (inl one) f g h k = by o f g (rw one at h) k
+      where
+        by : (entry : Entry) (f g : _) → FindsEntry negotiates (has_at look) uri named entry f
+            → FindsEntry negotiates (has_at other) uri named entry g
+            → AreSeenAlike f.state g.state f.files.items g.files.items
+        by (Readable file) f g h k = files_similar named names file file refl f g h k
+        by entry f g h k = grind arith
+    entry_similar named names e o (inr two) f g h k =
+        files_similar named names two.0 two.1 two.4 f g (rw two.2 at h) (rw two.3 at k)
+
+    pub leads_similar : (f g : _) → LeadsTo negotiates (has_at look) uri f → LeadsTo negotiates (has_at other) uri g
+        → AreSeenAlike f.state g.state f.files.items g.files.items
+    leads_similar f g h k = grind (arith, entry_similar, similar)
 
 -- ---- the answer that a response carries
 
@@ -772,54 +652,61 @@ IsReadBy present resource protocol authority fields answer =
 
 module _ (now : Option ℕ) (left : ℕ) (site : Site) (look : List ℕ → Entry) (request : Request (List ℕ))
     (response : Response) (source : Option Source)
-    (x : IsAnswerAt now left site (has_at look) request response source)
-    (read : IsGetOrHead (head_of request).method) where
-  abbrev lines : LineMap
-  lines = lines_at (head_of request).headers
-
+    (x : IsAnswerAt now left site (has_at look) request response source) where
   abbrev present : ℕ
   present = clock now x.found.files.items
 
-  asked_is : x.asked ≡ reading x.asked.protocol x.asked.authority (head_of request).method lines
-  asked_is =
-      λ i. record {
-        protocol = x.asked.protocol;
-        method = x.asks.2.method i;
-        authority = x.asked.authority;
-        content = x.asks.2.content i;
-        fields = x.asks.2.fields i;
-        denied = x.asks.2.admitted i;
-      }
-
-  read_answer : IsReadBy present
-      (described_as site.resource x.found.state x.described.representations) x.asked.protocol x.asked.authority
-      lines x.answer
-  read_answer =
-      elim (rw (asked_is, x.described.is) at x.decides) [
+  read_answer : IsGetOrHead (head_of request).method → (protocol : Protocol) (authority : Option Line)
+      → x.asked ≡ reading protocol authority (head_of request).method (lines_at (head_of request).headers)
+      → IsReadBy present (described_as site.resource x.found.state x.described.representations) protocol authority
+      (lines_at (head_of request).headers) x.answer
+  read_answer read protocol authority is =
+      elim (rw (is, x.described.is) at x.decides) [
         | inl h ↦ ((head_of request).method, read, h.1)
         | inr h ↦ (codes "HEAD", inr refl, h.3)
       ]
 
-  -- the field lines of ETag are those of the answer's fields
-  etag_lines : lines_in (fields_of response) etag
-      ≡ lines_in (headers_sent (is_some site.resource.cors) (encoded_fields x.answer.fields.items)) etag
-  etag_lines =
+  -- the field lines of ETag
+  carried_tags : lines_in (fields_of response) etag ≡ tags_of x.resource x.answer.sends
+  carried_tags =
+      let has_policy : Bool = is_some site.resource.cors in
+      let given : lines_in (headers_sent has_policy (encoded_fields x.answer.fields.items)) etag
+      ≡ tags_of x.resource x.answer.sends =
+      elim x.decides [
+        | inl h ↦ tags_given present x.resource x.asked x.answer h.1 has_policy
+        | inr h ↦ tags_given present x.resource (as_head x.asked) x.answer h.3 has_policy
+      ] in
       lines_in-carried etag refl now left site x.found.files.items
       (status_for x.found.status x.answer.reason x.answer.status) x.answer.sends
       (encoded_fields x.answer.fields.items) response x.carries
+      ∙ given
 
 -- ---- bytes in memory
 
-pub digest_tag_is_strong : (content : List ℕ)
-    → IsTag (strong_tag (content_digest content)) (record { is_weak = false; opaque = content_digest content })
-digest_tag_is_strong content =
-    let digits = content_digest content in
-    record {
-      text = refl;
-      opaque =
-          passes_from_text (strong_tag digits) (record { is_weak = false; opaque = digits }) refl
-          (tag_is_tag digits (digest_is_boundary content));
-    }
+module _ (content : List ℕ) (tag : Line) where
+  -- the tag is their digest
+  abbrev IsDigest : Type 0
+  IsDigest =
+      (tag ≡ strong_tag (content_digest content))
+      × IsTag tag (record { is_weak = false; opaque = content_digest content })
+
+  digest_tag : strong_tag (content_digest content) ≡ tag → IsDigest
+  digest_tag same =
+      let digits = content_digest content in (
+        sym same,
+        rw (← same)
+            (record {
+              text = refl;
+              opaque =
+                  passes_from_text (strong_tag digits) (record { is_weak = false; opaque = digits }) refl
+                  (tag_is_tag digits (digest_is_boundary content));
+            }),
+      )
+
+kept_tag_of : (kept : Kept) (tag : Line) (plan : Plan)
+    → lines_sent (λ (t : FieldValue). t.bytes) (etag_sent plan (tag_of (InMemory kept))) ≡ tag ∷ []
+    → IsDigest kept.content tag
+kept_tag_of kept tag plan e = grind (arith, plan, digest_tag kept.content tag)
 
 pub kept_tag : (now : Option ℕ) (left : ℕ) (site : Site) (look : List ℕ → Entry) (request : Request (List ℕ))
     (response : Response) (kept : Kept) (tag : Line) → IsGetOrHead (head_of request).method
@@ -828,41 +715,48 @@ pub kept_tag : (now : Option ℕ) (left : ℕ) (site : Site) (look : List ℕ �
     → (tag ≡ strong_tag (content_digest kept.content))
     × IsTag tag (record { is_weak = false; opaque = content_digest kept.content })
 kept_tag now left site look request response kept tag read x told =
-    let source : Option Source = Some (InMemory kept) in
-    let by = read_answer now left site look request response source x read in
-    let st = x.found.state in
-    let files = x.found.files.items in
-    let resource = described_as site.resource st x.described.representations in
-    let asked = reading x.asked.protocol x.asked.authority by.0 (lines_at (head_of request).headers) in
-    let tagged : IsTagged (clock now files) resource asked tag x.answer.sends =
-    is_tagged (clock now files) resource asked by.1 x.answer by.2 (is_some site.resource.cors) tag
-    (sym (etag_lines now left site look request response source x read) ∙ told) in
-    let seen : tag_lines (target_at st (map (representation_of (clock now files)) files) tagged.place) ≡ tag ∷ [] =
-    sym (ap (λ (items : List Representation). tag_lines (target_at st items tagged.place)) x.described.are)
-    ∙ tagged.tagged in
-    let found = file_of_tag st files tagged.place (clock now files) tag seen in
-    let opens : Some (InMemory kept) ≡ Some found.0.source =
-    x.opens ∙ ap (source_sent files) tagged.sends ∙ ap source_of found.1 in
-    let memory : InMemory kept ≡ found.0.source = cc opens in
-    let own : strong_tag (content_digest kept.content) ∷ [] ≡ tag ∷ [] =
-    ap (λ (s : Source). lines_sent (λ (t : FieldValue). t.bytes) (tag_of s)) memory
-    ∙ sym (ap tag_lines (target_of_label st files tagged.place found.0 found.1 (clock now files)))
-    ∙ seen in
-    let same : strong_tag (content_digest kept.content) ≡ tag = cc own in (
-      sym same,
-      rw (← same) (digest_tag_is_strong kept.content),
-    )
+    by x.answer.sends x.opens
+    (rw x.described.is at (sym (carried_tags now left site look request response (Some (InMemory kept)) x) ∙ told))
+  where
+    at_file : (plan : Plan) (file : Option File) → Some (InMemory kept) ≡ source_of file
+        → sent_tag plan (target_of x.found.state (option_map (representation_of (clock now x.found.files.items)) file))
+        ≡ tag ∷ [] → IsDigest kept.content tag
+    at_file plan None e told = absurd (cc e)
+    at_file plan (Some file) e told =
+        let memory : file.source ≡ InMemory kept = cc e in kept_tag_of kept tag plan (rw memory at told)
+
+    by : (sent : Sends) → Some (InMemory kept) ≡ source_sent x.found.files.items sent
+        → tags_of (described_as site.resource x.found.state x.described.representations) sent ≡ tag ∷ []
+        → IsDigest kept.content tag
+    by (Planned None plan) e told = absurd (cc e)
+    by (Planned (Some place) plan) e told =
+        at_file plan (slice_get x.found.files.items place) e
+        (rw slice_get-map at (rw x.described.are at told))
+    by sent e told = absurd (cc e)
 
 -- ---- a request and the one before it
 
--- the fields by which a read is decided before its conditions
-abbrev deciding : List (List ℕ)
-deciding =
-    codes "host" ∷ codes "expect" ∷ codes "accept" ∷ codes "accept-language" ∷ codes "accept-encoding" ∷ []
-
 no_pieces : (divider : List ℕ) (file : Option File) → pieces_of divider file NotModified ≡ []
-no_pieces divider None = refl
-no_pieces divider (Some file) = refl
+no_pieces divider file = grind (arith, file)
+
+-- what is asked, where it names the same authority in the same version
+asks_so : (request : Request (List ℕ)) (asked : Asked) (authority : Option Line)
+    → HasAuthority (uri_authority (head_of request).uri) authority
+    → IsProtocolOf (head_of request).version asked.protocol → asked.authority ≡ authority
+    → Asks request
+    (reading asked.protocol asked.authority (head_of request).method (lines_at (head_of request).headers))
+asks_so request asked authority named protocol has_authority = (
+  authority,
+  named,
+  record {
+    protocol = protocol;
+    method = refl;
+    has_authority = has_authority;
+    content = refl;
+    fields = refl;
+    admitted = refl;
+  },
+)
 
 module _ (now later : Option ℕ) (left more : ℕ) (site : Site) (look other : List ℕ → Entry)
     (first second : Request (List ℕ)) (r s : Response) (a b : Option Source) (name : List ℕ) (tag : Line)
@@ -870,222 +764,80 @@ module _ (now later : Option ℕ) (left more : ℕ) (site : Site) (look other : 
     (similar : HaveSimilar site.resource.negotiation.coding (uri_path (head_of first).uri) look other)
     (x : IsAnswerAt now left site (has_at look) first r a)
     (y : IsAnswerAt later more site (has_at other) second s b)
-    (told : lines_in (fields_of r) (codes "etag") ≡ tag ∷ []) where
+    (told : lines_in (fields_of r) (codes "etag") ≡ tag ∷ [])
+    (free : list_any (bytes_eq name) deciding ≡ false) where
   abbrev f : LineMap
   f = lines_at (head_of first).headers
 
   abbrev g : LineMap
   g = lines_at (head_of second).headers
 
-  abbrev st : State
-  st = y.found.state
-
-  abbrev fs : List File
-  fs = x.found.files.items
-
-  abbrev gs : List File
-  gs = y.found.files.items
-
-  abbrev v : Vec Representation
-  v = x.described.representations
-
-  abbrev w : Vec Representation
-  w = y.described.representations
-
   abbrev before : Resource
-  before = described_as site.resource st v
+  before = described_as site.resource y.found.state x.described.representations
 
-  abbrev after : Resource
-  after = described_as site.resource st w
-
-  alike : AreSeenAlike x.found.state y.found.state fs gs
+  alike : AreSeenAlike x.found.state y.found.state x.found.files.items y.found.files.items
   alike =
       leads_similar look other site.resource.negotiation.coding (head_of first).uri similar x.found y.found x.leads
       (rw again.uri at y.leads)
 
-  -- both ask alike
-  asks_alike : Asks first (reading y.asked.protocol y.asked.authority (head_of first).method f)
-  asks_alike = (
-    y.asks.0,
-    rw again.uri at y.asks.1,
-    record {
-      protocol = rw again.version at y.asks.2.protocol;
-      method = refl;
-      has_authority = y.asks.2.has_authority;
-      content = refl;
-      fields = refl;
-      admitted = refl;
-    },
-  )
+  same : AskAlike f g
+  same other is =
+      sym
+      (again.others other
+      (λ e. let t : true ≡ false = sym is ∙ ap (λ (n : List ℕ). list_any (bytes_eq n) deciding) e ∙ free in cc t))
 
-  asked_alike : x.asked ≡ reading y.asked.protocol y.asked.authority (head_of first).method f
-  asked_alike =
-      asked_once first x.asked (reading y.asked.protocol y.asked.authority (head_of first).method f) x.asks asks_alike
-
-  first_read : IsReadBy (clock now fs) before y.asked.protocol y.asked.authority f x.answer
+  first_read : IsReadBy (clock now x.found.files.items) before y.asked.protocol y.asked.authority f x.answer
   first_read =
-      rw (
-        ← alike.state,
-        ← (ap (λ (q : Asked). q.authority) asked_alike),
-        ← (ap (λ (q : Asked). q.protocol) asked_alike),
-      )
-      (read_answer now left site look first r a x again.read)
+      rw (← alike.state)
+      (read_answer now left site look first r a x again.read y.asked.protocol y.asked.authority
+      (asked_once first x.asked (reading y.asked.protocol y.asked.authority (head_of first).method f) x.asks
+      (asks_so first y.asked y.asks.0 (rw again.uri at y.asks.1) (rw again.version at y.asks.2.protocol)
+      y.asks.2.has_authority)))
 
-  second_read : IsReadBy (clock later gs) after y.asked.protocol y.asked.authority g y.answer
-  second_read = read_answer later more site other second s b y again.read_again
+  second_read : IsReadBy (clock later y.found.files.items)
+      (described_as site.resource y.found.state y.described.representations) y.asked.protocol y.asked.authority g
+      y.answer
+  second_read =
+      read_answer later more site other second s b y again.read_again y.asked.protocol y.asked.authority
+      (asked_once second y.asked (reading y.asked.protocol y.asked.authority (head_of second).method g) y.asks
+      (asks_so second y.asked y.asks.0 y.asks.1 y.asks.2.protocol y.asks.2.has_authority))
 
-  abbrev asked : Asked
-  asked = reading y.asked.protocol y.asked.authority first_read.0 f
-
-  abbrev asked_again : Asked
-  asked_again = reading y.asked.protocol y.asked.authority second_read.0 g
-
-  tagged : IsTagged (clock now fs) before asked tag x.answer.sends
+  tagged : IsTagged (clock now x.found.files.items) before (reading y.asked.protocol y.asked.authority first_read.0 f)
+      tag
   tagged =
-      is_tagged (clock now fs) before asked first_read.1 x.answer first_read.2 (is_some site.resource.cors) tag
-      (sym (etag_lines now left site look first r a x again.read) ∙ told)
+      tagged_by (clock now x.found.files.items) before
+      (reading y.asked.protocol y.asked.authority first_read.0 f) first_read.1 (is_admitted x.answer.reason)
+      x.answer.reason x.answer.status x.answer.sends first_read.2.own tag refl first_read.2.first first_read.2.gives
+      (rw (x.described.is, alike.state) at (sym (carried_tags now left site look first r a x) ∙ told))
 
-  seen : tag_lines (target_at st (map (representation_of (clock now fs)) fs) tagged.place) ≡ tag ∷ []
-  seen =
-      sym (ap (λ (items : List Representation). tag_lines (target_at st items tagged.place)) x.described.are)
-      ∙ tagged.tagged
+  pub by_none_match : ParsesOneWay → f (codes "if-match") ≡ g (codes "if-match")
+      → g (codes "if-unmodified-since") ≡ [] → g (codes "if-none-match") ≡ tag ∷ [] → IsSomeTag tag
+      → (s.status ≡ 304) × (lines_in (fields_of s) (codes "etag") ≡ tag ∷ []) × (s.pieces.items ≡ [])
+  by_none_match parse matching undated asks some =
+      let u =
+      unmodified site.resource y.found.state x.described.representations y.described.representations
+      (clock now x.found.files.items) (clock later y.found.files.items) x.found.files.items y.found.files.items
+      x.described.are y.described.are alike.labels y.asked.protocol y.asked.authority f g same first_read.0
+      second_read.0 first_read.1 second_read.1 tag tagged y.answer second_read.2 parse matching undated asks some in (
+        y.carries.status ∙ rw (u.0, u.1),
+        carried_tags later more site other second s b y ∙ rw y.described.is u.3,
+        y.carries.pieces
+            ∙ rw u.2 (no_pieces (string_bytes site.divider) (file_at y.found.files.items tagged.place)),
+      )
 
-  found : (file : File) × (file_at fs tagged.place ≡ Some file)
-  found = file_of_tag st fs tagged.place (clock now fs) tag seen
-
-  abbrev label : Label
-  label = label_of found.0
-
-  found_now : (file : File) × (file_at gs tagged.place ≡ Some file) × (label_of file ≡ label)
-  found_now = labelled_alike fs gs tagged.place found.0 alike.labels found.1
-
-  then_seen : target_at st v.items tagged.place ≡ current_by (clock now fs) label
-  then_seen =
-      ap (λ (items : List Representation). target_at st items tagged.place) x.described.are
-      ∙ target_of_label st fs tagged.place found.0 found.1 (clock now fs)
-
-  now_seen : target_at st w.items tagged.place ≡ current_by (clock later gs) label
-  now_seen =
-      ap (λ (items : List Representation). target_at st items tagged.place) y.described.are
-      ∙ target_of_label st gs tagged.place found_now.0 found_now.1 (clock later gs)
-      ∙ ap (current_by (clock later gs)) found_now.2
-
-  own_tag : lines_sent (λ (t : FieldValue). t.bytes) label.tag ≡ tag ∷ []
-  own_tag = sym (ap tag_lines then_seen) ∙ tagged.tagged
-
-  was_kept : StateIsKept (clock now fs) f (current_by (clock now fs) label)
-  was_kept = rw then_seen at tagged.kept
-
-  has_line : (lines : List Line) → lines ≡ tag ∷ [] → HasLine lines
-  has_line lines are = rw are (omega arith)
-
-  kept_field : (other : List ℕ) → bytes_eq other name ≡ false → f other ≡ g other
-  kept_field other free =
-      sym (again.others other (λ e. let t = (bytes_eq-Decides other name).1 e in absurd (cc (t, free))))
-
-  module _ (free : list_any (λ (own : List ℕ). bytes_eq own name) deciding ≡ false) where
-    same : AskAlike f g
-    same =
-        let host = or_parts (bytes_eq (codes "host") name) _ free in
-        let expect = or_parts (bytes_eq (codes "expect") name) _ host.1 in
-        let accept = or_parts (bytes_eq (codes "accept") name) _ expect.1 in
-        let language = or_parts (bytes_eq (codes "accept-language") name) _ accept.1 in
-        let coding = or_parts (bytes_eq (codes "accept-encoding") name) false language.1 in
-        record {
-          host = kept_field (codes "host") host.0;
-          expect = kept_field (codes "expect") expect.0;
-          accept = kept_field (codes "accept") accept.0;
-          accept_language = kept_field (codes "accept-language") language.0;
-          accept_encoding = kept_field (codes "accept-encoding") coding.0;
-        }
-
-    first_there : IsFirst (applies (clock later gs) after asked_again) Admitted
-    first_there =
-        first_again site.resource st v w (clock now fs) (clock later gs) fs gs x.described.are y.described.are
-        alike.labels
-        y.asked.protocol y.asked.authority f g same first_read.0 second_read.0 first_read.1 second_read.1
-        tagged.first
-
-    selected_there : IsSelected after g tagged.place
-    selected_there =
-        selected_again site.resource st v w (clock now fs) (clock later gs) fs gs x.described.are y.described.are
-        alike.labels y.asked.protocol y.asked.authority f g same tagged.place tagged.selected
-
-    module _ (decided : Decide (clock later gs) after asked_again (current_by (clock later gs) label)
-        precondition.NotModified) where
-      told_unmodified : (s.status ≡ 304) × (lines_in (fields_of s) (codes "etag") ≡ tag ∷ []) × (s.pieces.items ≡ [])
-      told_unmodified =
-          let u =
-          not_modified (clock later gs) after asked_again second_read.1 y.answer second_read.2 first_there tagged.place
-          selected_there (rw now_seen decided) in (
-            y.carries.status ∙ rw (u.reason, u.status),
-            etag_lines later more site other second s b y again.read_again
-                ∙ tag_given (clock later gs) after asked_again y.answer second_read.2 (is_some site.resource.cors)
-                (tag_lines (target_at st w.items tagged.place)) u.tag
-                ∙ ap tag_lines now_seen ∙ own_tag,
-            y.carries.pieces ∙ rw u.sends (no_pieces (string_bytes site.divider) (file_at gs tagged.place)),
-          )
-
-    module _ (passes : ¬ (Decide (clock later gs) after asked_again (current_by (clock later gs) label)
-        precondition.Failed)) where
-      not_refused : y.answer.status ≢ Some 412
-      not_refused =
-          not_failed (clock later gs) after asked_again second_read.1 y.answer second_read.2 first_there tagged.place
-          selected_there
-          (λ decided. passes (rw now_seen at decided))
-
-      other_code : (status : Option ℕ) → status ≢ Some 412 → status_for y.found.status Admitted status ≢ 412
-      other_code None other e = omega (arith, e)
-      other_code (Some code) other e = other (ap Some e)
-
-      told_passed : s.status ≢ 412
-      told_passed is =
-          other_code y.answer.status not_refused
-          (sym
-          (y.carries.status
-          ∙ ap (λ (reason : Reason). status_for y.found.status reason y.answer.status)
-          (reason_is (clock later gs) after asked_again second_read.1 y.answer second_read.2 first_there tagged.place
-          selected_there))
-          ∙ is)
-
-    -- ---- the two conditions
-
-    pub by_none_match : ParsesOneWay → bytes_eq (codes "if-match") name ≡ false
-        → bytes_eq (codes "if-unmodified-since") name ≡ false → f (codes "if-unmodified-since") ≡ []
-        → g (codes "if-none-match") ≡ tag ∷ [] → IsSomeTag tag
-        → (s.status ≡ 304) × (lines_in (fields_of s) (codes "etag") ≡ tag ∷ []) × (s.pieces.items ≡ [])
-    by_none_match parse matching dating undated asks some =
-        told_unmodified
-        (record {
-          unconditional =
-              λ is. absurd (never_ignored (validators_by (clock later gs) label) second_read.0 second_read.1 is);
-          conditional = λ counts. (
-            kept_again (clock now fs) (clock later gs) f g label (kept_field (codes "if-match") matching)
-                (sym (kept_field (codes "if-unmodified-since") dating) ∙ undated) was_kept,
-            second_read.1,
-            inl (
-              has_line (g (codes "if-none-match")) asks,
-              rw asks (weakly_named parse tag some.0 some.1 (validators_by (clock later gs) label) own_tag),
-            ),
-          );
-        })
-
-    pub by_match : ParsesOneWay → g (codes "if-match") ≡ tag ∷ [] → (parts : TagParts) → IsTag tag parts
-        → parts.is_weak ≡ false
-        → s.status ≢ 412
-    by_match parse asks parts is strong =
-        told_passed
-        (λ failed.
-        elim (failed.conditional (never_ignored (validators_by (clock later gs) label) second_read.0 second_read.1)) [
-          | inl lost ↦
-              elim lost [
-                | inl l ↦
-                    l.1
-                    (rw asks (strongly_named parse tag parts is (validators_by (clock later gs) label) own_tag strong))
-                | inr l ↦ l.0 (has_line (g (codes "if-match")) asks)
-              ]
-          | inr other ↦ other.1 second_read.1
-        ])
+  pub by_match : ParsesOneWay → g (codes "if-match") ≡ tag ∷ [] → (parts : TagParts) → IsTag tag parts
+      → parts.is_weak ≡ false → s.status ≢ 412
+  by_match parse asks parts is strong refused =
+      let u =
+      not_lost site.resource y.found.state x.described.representations y.described.representations
+      (clock now x.found.files.items) (clock later y.found.files.items) x.found.files.items y.found.files.items
+      x.described.are y.described.are alike.labels y.asked.protocol y.asked.authority f g same first_read.0
+      second_read.0 first_read.1 second_read.1 tag tagged y.answer second_read.2 parse asks parts is strong in
+      by y.answer.status u.1 (rw u.0 at (sym y.carries.status ∙ refused))
+    where
+      by : (status : Option ℕ) → status ≢ Some 412 → status_for y.found.status Admitted status ≡ 412 → ⊥
+      by None other e = omega (arith, e)
+      by (Some code) other e = other (ap Some e)
 
 -- ==== The answer to a request is that to another one, or of another store.
 
@@ -1098,11 +850,7 @@ AsHead = (present : ℕ) (resource : Resource) (request : Asked) (answer : Answe
 
 unchanged : (fields : LineMap) → fields (codes "range") ≡ [] → (name : List ℕ)
     → remove fields (codes "range") name ≡ fields name
-unchanged fields none name = by (bytes_eq (codes "range") name) refl
-  where
-    by : (b : Bool) → bytes_eq (codes "range") name ≡ b → remove fields (codes "range") name ≡ fields name
-    by true e = rw (e, ← ((bytes_eq-Decides (codes "range") name).0 e), none)
-    by false e = rw e
+unchanged fields none name = grind (arith, bytes_eq-Decides)
 
 get_is : (asked : Asked) → asked.method ≡ codes "GET" → asked.fields (codes "range") ≡ [] → get_of asked ≡ asked
 get_is asked is none = λ i. record {
@@ -1113,37 +861,6 @@ get_is asked is none = λ i. record {
   denied = asked.denied;
   fields = λ name. unchanged asked.fields none name i;
 }
-
-module _ (law : AsHead) (present : ℕ) (resource : Resource) (asked : Asked) (is : asked.method ≡ codes "GET")
-    (none : asked.fields (codes "range") ≡ []) where
-  answers_head : (answer : Answer) → IsAnswer present resource asked answer
-      → IsAnswer present resource (as_head asked) answer
-  answers_head answer h =
-      law present resource asked answer (rw (get_is asked is none) h)
-
-  decides_head : (divider : List ℕ) (files : List File) (answer : Answer)
-      → Decides present divider files resource asked answer
-      → Decides present divider files resource (as_head asked) answer
-  decides_head divider files answer x =
-      elim x [
-        | inl h ↦ inl (h.0, answers_head answer h.1)
-        | inr h ↦ inr (h.0, h.1, answers_head h.0 h.2, h.3)
-      ]
-
-module _ (get head : Request (List ℕ)) (is : IsHeadOf get head) where
-  asks_head : (asked : Asked) → Asks get asked → Asks head (as_head asked)
-  asks_head asked x = (
-    x.0,
-    rw is.uri x.1,
-    record {
-      protocol = rw is.version x.2.protocol;
-      method = sym is.is_head;
-      has_authority = x.2.has_authority;
-      content = x.2.content;
-      fields = x.2.fields ∙ ap (λ headers. lines_at headers) (sym is.headers);
-      admitted = x.2.admitted;
-    },
-  )
 
 -- what is found, decided and sent answers another request, or a request at another store, where it is that there too
 pub answered_as : {now : Option ℕ} {left : ℕ} {site : Site} {has also : List ℕ → Entry → Type 0}
@@ -1170,9 +887,31 @@ pub head_answered : AsHead → (now : Option ℕ) (left : ℕ) (site : Site) (lo
     → IsAnswerAt now left site (has_at look) get response source
     → IsAnswerAt now left site (has_at look) head response source
 head_answered law now left site look get head response source is x =
-    answered_as x (rw is.uri x.leads) (as_head x.asked) (asks_head get head is x.asked x.asks)
-    (decides_head law (clock now x.found.files.items) x.resource x.asked (x.asks.2.method ∙ is.is_get)
-    (rw x.asks.2.fields is.no_range) (string_bytes site.divider) x.found.files.items x.answer x.decides)
+    let decides : Decides (clock now x.found.files.items) (string_bytes site.divider) x.found.files.items x.resource
+    (as_head x.asked) x.answer =
+    elim x.decides [
+      | inl h ↦ inl (h.0, answers x.answer h.1)
+      | inr h ↦ inr (h.0, h.1, answers h.0 h.2, h.3)
+    ] in
+    answered_as x (rw is.uri x.leads) (as_head x.asked) (
+      x.asks.0,
+      rw is.uri x.asks.1,
+      record {
+        protocol = rw is.version x.asks.2.protocol;
+        method = sym is.is_head;
+        has_authority = x.asks.2.has_authority;
+        content = x.asks.2.content;
+        fields = x.asks.2.fields ∙ ap (λ headers. lines_at headers) (sym is.headers);
+        admitted = x.asks.2.admitted;
+      },
+    ) decides
+  where
+    same : get_of x.asked ≡ x.asked
+    same = get_is x.asked (x.asks.2.method ∙ is.is_get) (rw x.asks.2.fields is.no_range)
+
+    answers : (answer : Answer) → IsAnswer (clock now x.found.files.items) x.resource x.asked answer
+        → IsAnswer (clock now x.found.files.items) x.resource (as_head x.asked) answer
+    answers answer h = law (clock now x.found.files.items) x.resource x.asked answer (rw same h)
 
 -- ---- a store that has the same where the request looks
 
@@ -1185,35 +924,17 @@ module _ (look other : List ℕ → Entry) where
       → ((coding : Coding) → negotiates ≡ true
       → look (named ++ coding_suffix coding) ≡ other (named ++ coding_suffix coding))
       → AreContents negotiates (has_at look) named file files → AreContents negotiates (has_at other) named file files
-  contents false named file files same h = h
-  contents true named file files same h =
-      record {
-        brotli = h.brotli;
-        gzip = h.gzip;
-        has_brotli = stands (named ++ coding_suffix Brotli) h.brotli (same Brotli refl) h.has_brotli;
-        has_gzip = stands (named ++ coding_suffix Gzip) h.gzip (same Gzip refl) h.has_gzip;
-        are = h.are;
-      }
+  contents negotiates named file files same h = grind (arith, negotiates, stands, same Brotli, same Gzip)
 
   module _ (negotiates : Bool) (uri : Uri) (found : _)
       (alike : HaveAlike negotiates (uri_path uri) look other) where
     finds : (named : List ℕ) (entry : Entry) → Names (uri_path uri) (Some named)
         → FindsEntry negotiates (has_at look) uri named entry found
         → FindsEntry negotiates (has_at other) uri named entry found
-    finds named (Readable file) names h = (
-      h.0,
-      h.1,
-      contents negotiates named file found.files.items
-          (λ coding is. alike.beside named coding is names) h.2,
-    )
-    finds named entry names h = h
+    finds named entry names h = grind (arith, entry, contents, alike.beside named)
 
     pub leads : LeadsTo negotiates (has_at look) uri found → LeadsTo negotiates (has_at other) uri found
-    leads x =
-        elim x [
-          | inl h ↦ inl (h.0, h.1, (h.2.0, h.2.1 ∙ alike.named h.0 h.1, finds h.0 h.2.0 h.1 h.2.2))
-          | inr h ↦ inr h
-        ]
+    leads x = grind (arith, finds)
 
 -- ==== The response to a preflight, as a browser reads it.
 
@@ -1248,12 +969,7 @@ module _ (name : List ℕ) where
       by false e false f = refl
 
   sent_as_set : (fields : List Field) → lines_in (headers_set fields) name ≡ set_all nothing fields name
-  sent_as_set fields = by (is_named name fields) refl ∙ sym (set_all-sent nothing fields)
-    where
-      by : (b : Bool) → is_named name fields ≡ b
-          → lines_in (headers_set fields) name ≡ cond (is_named name fields) (lines_in (headers_set fields) name) []
-      by true e = simp e
-      by false e = simp (e, sent-other name true fields e)
+  sent_as_set fields = grind (arith, set_all-sent nothing fields, sent-other name true fields)
 
 -- ---- what a browser reads of a response to a preflight
 
@@ -1262,11 +978,7 @@ abbrev IsReadAlike : LineMap → LineMap → Type 0
 IsReadAlike m n = (name : List ℕ) → is_kept name ≡ true → m name ≡ n name
 
 check_alike : (m n : LineMap) (sent : Sent) → IsReadAlike m n → CorsCheck m sent → CorsCheck n sent
-check_alike m n sent same h =
-    rw (
-      ← (same (codes "access-control-allow-origin") refl),
-      ← (same (codes "access-control-allow-credentials") refl),
-    ) h
+check_alike m n sent same h = grind arith
 
 passes_alike : (status : ℕ) (m n : LineMap) (sent : Sent) → IsReadAlike m n → PreflightPasses status m sent
     → PreflightPasses status n sent
@@ -1279,39 +991,23 @@ passes_alike status m n sent same h = record {
 
 -- ---- the reason
 
-module _ (resource : Resource) (asked : Asked) (policy : Policy) (has : resource.cors ≡ Some policy) (sent : Sent)
-    (asks : IsPreflightFor sent asked.method asked.fields)
+module _ (present : ℕ) (resource : Resource) (asked : Asked) (policy : Policy) (has : resource.cors ≡ Some policy)
+    (sent : Sent) (asks : IsPreflightFor sent asked.method asked.fields)
     (host : has_host asked.protocol (asked.fields (codes "host")) ≡ true)
     (own : is_misdirected resource asked ≡ false) where
-  asks_leave : (present : ℕ) → applies present resource asked Preflight ≡ true
-  asks_leave present = simp (has, asks.options, asks.origin, asks.asked)
+  preflight_first : (reason : Reason) → IsFirst (applies present resource asked) reason → reason ≡ Reason.Preflight
+  preflight_first reason h =
+      let holds = h.is in grind (arith, reason, h.none_before Reason.Preflight, asks.options, asks.origin, asks.asked)
 
-  no_other : (b : Bool) (reason : Reason) → b ≡ true → b ≡ false → reason ≡ Preflight
-  no_other b reason t f = absurd (cc (t, f))
-
-  preflight_first : (present : ℕ) (reason : Reason) → IsFirst (applies present resource asked) reason
-      → reason ≡ Preflight
-  preflight_first present InvalidHost h = no_other _ InvalidHost h.is (ap not host)
-  preflight_first present Misdirected h = no_other _ Misdirected h.is own
-  preflight_first present Preflight h = refl
-  preflight_first present reason h = no_other _ reason (asks_leave present) (h.none_before Preflight (omega arith))
-
-  stops : (asked_at : ℕ) (answer : Answer) (a : IsAnswer asked_at resource asked answer)
-      → Stops resource asked Preflight answer.status answer.sends a.own
-  stops asked_at answer a = rw (preflight_first asked_at answer.reason a.first) at a.gives
+  stops : (answer : Answer) (a : IsAnswer present resource asked answer)
+      → Stops resource asked Reason.Preflight answer.status answer.sends a.own
+  stops answer a = rw (preflight_first answer.reason a.first) at a.gives
 
   -- no answer is that to a HEAD
-  decided : (asked_at : ℕ) (divider : List ℕ) (files : List File) (answer : Answer)
-      → Decides asked_at divider files resource asked answer
-      → (a : IsAnswer asked_at resource asked answer) × (answer.reason ≡ Preflight)
-      × Stops resource asked Preflight answer.status answer.sends a.own
-  decided asked_at divider files answer x =
-      elim x [
-        | inl h ↦ (h.1, preflight_first asked_at answer.reason h.1.first, stops asked_at answer h.1)
-        | inr h ↦
-            let one : sends_several h.0.sends ≡ false = ap sends_several (stops asked_at h.0 h.2).sends in
-            absurd (h.1 (λ several. absurd (cc (one, several))))
-      ]
+  decided : (divider : List ℕ) (files : List File) (answer : Answer)
+      → Decides present divider files resource asked answer
+      → IsAnswer present resource asked answer × (answer.reason ≡ Reason.Preflight) × (answer.sends ≡ sends.Nothing)
+  decided divider files answer d = grind (arith, preflight_first, stops)
 
 -- what the law of preflights says
 abbrev pub PreflightIsAnswered : Type 0
@@ -1319,7 +1015,7 @@ PreflightIsAnswered = (asked_at : ℕ) (resource : Resource) (request : Asked) (
     (policy : Policy) (before : LineMap) (sent : Sent) → resource.cors ≡ Some policy
     → IsAnswer asked_at resource request answer → IsLawful rules → IsPolicyOf rules policy
     → IsPreflightFor sent request.method request.fields
-    → Before answer.reason Preflight ⊎ ((answer.status ≡ Some 204)
+    → Before answer.reason Reason.Preflight ⊎ ((answer.status ≡ Some 204)
     × (PreflightPasses 204 (set_all before (encoded_fields answer.fields.items)) sent ↔ AllowsRequest rules sent))
 
 -- and that of the CORS check
@@ -1364,7 +1060,7 @@ module _ (now : Option ℕ) (left : ℕ) (site : Site) (look : List ℕ → Entr
       } in
       let asked_so : IsPreflightFor sent asked.method asked.fields = rw (asks.2.method, asks.2.fields) preflight in
       let d =
-      decided resource asked policy has sent asked_so host own asked_at (string_bytes site.divider) x.found.files.items
+      decided asked_at resource asked policy has sent asked_so host own (string_bytes site.divider) x.found.files.items
       x.answer (rw (x.described.is, same) at x.decides) in
       let answered =
       passed d.1 (law asked_at resource asked x.answer rules policy nothing sent has d.0 lawful made asked_so) in
@@ -1373,14 +1069,14 @@ module _ (now : Option ℕ) (left : ℕ) (site : Site) (look : List ℕ → Entr
       let mine : LineMap = lines_in (fields_of response) in
       let theirs : LineMap = set_all nothing given in (
         status,
-        x.carries.pieces ∙ rw (code, d.2.sends),
+        x.carries.pieces ∙ rw (code, d.2),
         (
           λ passes. answered.1.0 (rw status at (passes_alike response.status mine theirs sent read_as_set passes)),
           λ allows. passes_alike response.status theirs mine sent set_as_read (rw status (answered.1.1 allows)),
         ),
       )
     where
-      passed : {A : Type 0} → x.answer.reason ≡ Preflight → Before x.answer.reason Preflight ⊎ A → A
+      passed : {A : Type 0} → x.answer.reason ≡ Reason.Preflight → Before x.answer.reason Reason.Preflight ⊎ A → A
       passed reason (inl low) = absurd (omega (arith, low, ap stage reason))
       passed reason (inr answered) = answered
 
@@ -1411,8 +1107,7 @@ module _ (now : Option ℕ) (left : ℕ) (site : Site) (look : List ℕ → Entr
 
 part_pieces : (divider : List ℕ) (file : Option File) (part : Part) (source : Source) → Some source ≡ source_of file
     → pieces_of divider file (Single part) ≡ Range (part_extent part) ∷ []
-part_pieces divider None part source e = absurd (cc e)
-part_pieces divider (Some file) part source e = refl
+part_pieces divider file part source e = grind (arith, file)
 
 module _ (now : Option ℕ) (left : ℕ) (site : Site) (look : List ℕ → Entry)
     (request : Request (List ℕ)) (response : Response) (kept : Kept)

@@ -2,49 +2,14 @@
 mod Wire
 unfoldable pub use Wire.*
 
--- ---- lists with something in their midst
-
 pub all_imp : {X : Type 0} (p q : X → Bool) → ((x : X) → p x ≡ true → q x ≡ true) → (xs : List X) → list_all p xs ≡ true
     → list_all q xs ≡ true
 all_imp p q h [] e = refl
-all_imp p q h (x ∷ xs) e =
-    let both = and_parts (p x) (list_all p xs) e in and_from _ _ (h x both.0) (all_imp p q h xs both.1)
+all_imp p q h (x ∷ xs) e = grind (arith, h x, all_imp p q h xs)
 
--- the elements pass the test, but for these in their midst
-record Between {X : Type 0} (test : X → Bool) (middle xs : List X) : Type 0 where
-  before : List X
-  after : List X
-  are : xs ≡ before ++ (middle ++ after)
-  first : list_all test before ≡ true
-  last : list_all test after ≡ true
-
-module _ {X : Type 0} (test : X → Bool) where
-  pub all_append : (xs ys : List X) → list_all test xs ≡ true → list_all test ys ≡ true
-      → list_all test (xs ++ ys) ≡ true
-  all_append xs ys x y = simp (list_all-append, x, y)
-
-  none_between : (xs : List X) → list_all test xs ≡ true → Between test [] xs
-  none_between xs all = record { before = xs; after = []; are = sym (append-nil xs); first = all; last = refl }
-
-  after_all : (middle xs ys : List X) → list_all test xs ≡ true → Between test middle ys
-      → Between test middle (xs ++ ys)
-  after_all middle xs ys all b = record {
-    before = xs ++ b.before;
-    after = b.after;
-    are = rw b.are (simp append_assoc);
-    first = all_append xs b.before all b.first;
-    last = b.last;
-  }
-
-  before_all : (middle xs ys : List X) → Between test middle xs → list_all test ys ≡ true
-      → Between test middle (xs ++ ys)
-  before_all middle xs ys b all = record {
-    before = b.before;
-    after = b.after ++ ys;
-    are = rw b.are (simp append_assoc);
-    first = b.first;
-    last = all_append b.after ys b.last all;
-  }
+pub all_append : {X : Type 0} (test : X → Bool) (xs ys : List X) → list_all test xs ≡ true → list_all test ys ≡ true
+    → list_all test (xs ++ ys) ≡ true
+all_append test xs ys x y = simp (list_all-append, x, y)
 
 -- ---- fields that say nothing of where the message ends
 
@@ -98,10 +63,7 @@ length_name = codes "content-length"
 lines_plain : (free : Bool) (lines : List Line) → (free || list_all is_bare lines) ≡ true
     → list_all (λ (line : Line). free || (is_bare line && true)) lines ≡ true
 lines_plain free [] t = refl
-lines_plain true (line ∷ lines) t = lines_plain true lines refl
-lines_plain false (line ∷ lines) t =
-    let both = and_parts (is_bare line) (list_all is_bare lines) t in
-    and_from (is_bare line && true) _ (and_from (is_bare line) true both.0 refl) (lines_plain false lines both.1)
+lines_plain free (line ∷ lines) t = grind (arith, free, lines_plain free lines)
 
 plain_unless : (b : Bool) (field : Field) → is_plain field ≡ true
     → list_all is_plain_line (lines_unless b field) ≡ true
@@ -116,10 +78,7 @@ plain_unless false field t =
 -- ---- what field lines state, once white space at the ends of values is gone
 
 header_by : (h : Header) → is_line h ≡ true → is_bare h.1 ≡ true → is_header h ≡ true
-header_by h line bare =
-    let parts = and_parts (is_token h.0) (is_field_value h.1) line in
-    let ends = and_parts (starts_visible h.1) (starts_visible (reverse h.1)) bare in
-    simp (parts.0, ends.0, ends.1, parts.1)
+header_by h line bare = grind arith
 
 module _ (n : ℕ) where
   -- valid, they state this length once, or nothing
@@ -162,14 +121,6 @@ module _ (n : ℕ) where
 
 -- ---- the field lines of fields
 
-abbrev length_field : Option (List Line) → List Field
-length_field None = []
-length_field (Some lines) = (length_name, lines) ∷ []
-
-abbrev length_lines : Option (List Line) → List Header
-length_lines None = []
-length_lines (Some lines) = lines_under (length_name, lines)
-
 not_given : (fields : List Field) → list_all is_plain fields ≡ true → is_named length_name fields ≡ false
 unfolding eq_ignore_case
 not_given [] t = refl
@@ -191,43 +142,36 @@ sent-nil true = refl
 sent-nil false = refl
 
 module _ (has_policy : Bool) where
-  plain_sent : (fields : List Field) → list_all is_plain fields ≡ true
-      → list_all is_plain_line (headers_sent has_policy fields) ≡ true
-  plain_sent [] t = ap (list_all is_plain_line) (sent-nil has_policy)
-  plain_sent (field ∷ fields) t =
-      let both = and_parts (is_plain field) (list_all is_plain fields) t in
-      rw (sent-cons has_policy field fields)
-      (all_append is_plain_line _ _ (plain_unless _ field both.0) (plain_sent fields both.1))
-
   -- the one field of its name, which nothing replaces
   sent-one : (field : Field) (after : List Field) → is_named field.0 after ≡ false
       → headers_sent has_policy (field ∷ after) ≡ lines_under field ++ headers_sent has_policy after
   sent-one field after e = rw (sent-cons has_policy field after) (simp (e, and-false))
 
-  module _ (n : ℕ) (stated : Bool) (short : n < 2 ^ 64) where
-    tells_in : (lines : List Line) → lines_under (length_name, lines) ≡ stated_line n stated
-        → (before after : List Field) → list_all is_plain before ≡ true → list_all is_plain after ≡ true
-        → Tells n stated (headers_sent has_policy (before ++ ((length_name, lines) ∷ after)))
-    tells_in lines own [] after first last =
-        rw (sent-one (length_name, lines) after (not_given after last), own)
-        (tells_both n stated false stated (stated_line n stated) (headers_sent has_policy after)
-        (tells_own n stated short) (tells_plain n _ (plain_sent after last)) (append-nil _))
-    tells_in lines own (field ∷ before) after first last =
-        let both = and_parts (is_plain field) (list_all is_plain before) first in
-        rw (sent-cons has_policy field (before ++ ((length_name, lines) ∷ after)))
+  module _ (n : ℕ) where
+    -- in front of others, plain fields say nothing of the length
+    tells_after : (stated : Bool) (front rest : List Field) → list_all is_plain front ≡ true
+        → Tells n stated (headers_sent has_policy rest) → Tells n stated (headers_sent has_policy (front ++ rest))
+    tells_after stated [] rest plain h = h
+    tells_after stated (field ∷ front) rest plain h =
+        let both = and_parts (is_plain field) (list_all is_plain front) plain in
+        rw (sent-cons has_policy field (front ++ rest))
         (tells_both n false stated stated _ _ (tells_plain n _ (plain_unless _ field both.0))
-        (tells_in lines own before after both.1 last) refl)
+        (tells_after stated front rest both.1 h) refl)
 
-    tells_sent : (own : Option (List Line)) → length_lines own ≡ stated_line n stated → (fields : List Field)
-        → Between is_plain (length_field own) fields → Tells n stated (headers_sent has_policy fields)
-    tells_sent None lines fields b =
-        by stated lines
-      where
-        by : (s : Bool) → [] ≡ stated_line n s → Tells n s (headers_sent has_policy fields)
-        by true lines = absurd (cc lines)
-        by false lines =
-            tells_plain n _ (plain_sent fields (rw b.are (all_append is_plain b.before b.after b.first b.last)))
-    tells_sent (Some ls) lines fields b = rw b.are (tells_in ls lines b.before b.after b.first b.last)
+    tells_none : (fields : List Field) → list_all is_plain fields ≡ true
+        → Tells n false (headers_sent has_policy fields)
+    tells_none fields plain =
+        subst (λ (fs : List Field). Tells n false (headers_sent has_policy fs)) (append-nil fields)
+        (tells_after false fields [] plain
+        (subst (λ (hs : List Header). Tells n false hs) (sym (sent-nil has_policy)) (λ valid. states_none n)))
+
+    tells_first : (stated : Bool) (lines : List Line) → lines_under (length_name, lines) ≡ stated_line n stated
+        → n < 2 ^ 64 → (after : List Field) → list_all is_plain after ≡ true
+        → Tells n stated (headers_sent has_policy ((length_name, lines) ∷ after))
+    tells_first stated lines own short after plain =
+        rw (sent-one (length_name, lines) after (not_given after plain), own)
+        (tells_both n stated false stated (stated_line n stated) (headers_sent has_policy after)
+        (tells_own n stated short) (tells_none after plain) (append-nil _))
 
 -- ---- the field lines under a name
 
@@ -251,10 +195,9 @@ module _ (name : List ℕ) where
 
   pub lines_unless-other : (replaced : Bool) (field : Field) → bytes_eq field.0 name ≡ false
       → lines_in (lines_unless replaced field) name ≡ []
-  lines_unless-other true field e = refl
-  lines_unless-other false field e = lines_of_other field.0 field.1 e
+  lines_unless-other replaced field e = grind (arith, replaced, lines_of_other field.0 field.1)
 
-  sent-skip : (has_policy : Bool) (before rest : List Field) → is_named name before ≡ false
+  pub sent-skip : (has_policy : Bool) (before rest : List Field) → is_named name before ≡ false
       → lines_in (headers_sent has_policy (before ++ rest)) name ≡ lines_in (headers_sent has_policy rest) name
   sent-skip has_policy [] rest e = refl
   sent-skip has_policy (field ∷ before) rest e =
@@ -270,24 +213,14 @@ module _ (name : List ℕ) where
       ∙ sent-skip has_policy fields [] e
       ∙ ap (λ (hs : List Header). lines_in hs name) (sent-nil has_policy)
 
-  -- the fields have these field lines under the name, by one field
-  pub record HasField (lines : List Line) (fields : List Field) : Type 0 where
-    pub before : List Field
-    pub after : List Field
-    pub are : fields ≡ before ++ ((name, lines) ∷ after)
-    pub first : is_named name before ≡ false
-    pub last : is_named name after ≡ false
-
-  pub HasField-sent : (has_policy : Bool) (lines : List Line) (fields : List Field) → HasField lines fields
-      → lines_in (headers_sent has_policy fields) name ≡ lines
-  HasField-sent has_policy lines fields h =
+  pub sent-first : (has_policy : Bool) (lines : List Line) (after : List Field) → is_named name after ≡ false
+      → lines_in (headers_sent has_policy ((name, lines) ∷ after)) name ≡ lines
+  sent-first has_policy lines after e =
       rw (
-        h.are,
-        sent-skip has_policy h.before ((name, lines) ∷ h.after) h.first,
-        sent-one has_policy (name, lines) h.after h.last,
+        sent-one has_policy (name, lines) after e,
         lines_in-append,
         lines_of_same name lines ((bytes_eq-Decides name name).1 refl),
-        sent-other has_policy h.after h.last,
+        sent-other has_policy after e,
       ) (append-nil lines)
 
   -- ---- white space at the ends of values
@@ -315,35 +248,14 @@ module _ (name : List ℕ) where
 
 -- ---- the fields around those of an answer
 
-dates_side : (now : Option ℕ) → are_side_lines (date_fields now ++ sniff_field ∷ []) ≡ true
-unfolding eq_ignore_case
-dates_side None = refl
-dates_side (Some seconds) = refl
-
-cache_side : (value : Option FieldValue) → are_side_lines (cache_fields value) ≡ true
-unfolding eq_ignore_case
-cache_side None = refl
-cache_side (Some value) = refl
-
-either_side : (b : Bool) (xs ys : List Header) → are_side_lines xs ≡ true → are_side_lines ys ≡ true
-    → are_side_lines (cond b xs ys) ≡ true
-either_side true xs ys e f = e
-either_side false xs ys e f = f
-
 explained_side : (code : ℕ) (sent : Sends) → are_side_lines (explained_fields code sent) ≡ true
 unfolding eq_ignore_case
-explained_side code sends.Nothing = either_side _ [] (html_field ∷ []) refl refl
-explained_side code sends.Alternatives = either_side _ [] (html_field ∷ []) refl refl
-explained_side code sent = refl
+explained_side code sent = grind (arith, sent)
 
 front_side : (now : Option ℕ) (left : ℕ) (sent : Sends) (cache_control : Option FieldValue)
     → are_side_lines (first_fields now left ++ cache_sent sent cache_control) ≡ true
 unfolding eq_ignore_case
-front_side now left sent cache_control =
-    all_append _ (first_fields now left) (cache_sent sent cache_control)
-    (all_append _ (date_fields now ++ sniff_field ∷ []) (closing_fields left) (dates_side now)
-    (either_side (nat_lt 1 left) [] ((codes "connection", codes "close") ∷ []) refl refl))
-    (either_side (is_stored sent) (cache_fields cache_control) [] (cache_side cache_control) refl)
+front_side now left sent cache_control = grind (arith, now, sent, cache_control, list_all-append)
 
 -- under a name whose values stay as they are, a response has the field lines of the answer
 pub lines_in-carried : (name : List ℕ) → is_kept name ≡ true → (now : Option ℕ) (left : ℕ) (site : Site)
@@ -361,57 +273,14 @@ lines_in-carried name kept now left site files code sent given response h =
 
 -- ---- the fields of an answer
 
-types_side : (name : List ℕ) → is_side name ≡ true → (own : Option MethodRule) → are_side (types_fields name own) ≡ true
-types_side name is None = refl
-types_side name is (Some own) = and_from _ _ is refl
-
-side_if : (b : Bool) (fields : List Field) → are_side fields ≡ true → are_side (cond b fields []) ≡ true
-side_if true fields e = e
-side_if false fields e = refl
-
-retry_side : (seconds : Option ℕ) → are_side (retry_fields seconds) ≡ true
-unfolding eq_ignore_case
-retry_side None = refl
-retry_side (Some seconds) = refl
-
-denied_side : (why : Option Denial) → are_side (denied_fields why) ≡ true
-unfolding eq_ignore_case
-denied_side None = refl
-denied_side (Some (denials.Unauthenticated challenge)) = refl
-denied_side (Some denials.Forbidden) = refl
-denied_side (Some (denials.TooManyRequests seconds)) = retry_side seconds
-denied_side (Some (denials.Unavailable seconds)) = retry_side seconds
-
-location_side : (now : State) → are_side (location_fields now) ≡ true
-unfolding eq_ignore_case
-location_side (state.Moved redirect location) = refl
-location_side now = refl
-
-codings_side : (own : Option MethodRule) → are_side (accept_encoding_fields own) ≡ true
-unfolding eq_ignore_case
-codings_side None = refl
-codings_side (Some own) = refl
-
 pub reason_side : (resource : Resource) (request : Asked) (reason : Reason)
     → are_side (reason_fields resource request reason) ≡ true
 unfolding eq_ignore_case
-reason_side resource request Denied = denied_side request.denied
-reason_side resource request MethodNotAllowed = refl
-reason_side resource request Options =
-    all_append _ (types_fields (codes "accept-patch") (rule_for resource.rules.items (codes "PATCH"))) _
-    (types_side (codes "accept-patch") refl _) (types_side (codes "accept-post") refl _)
-reason_side resource request Moved = location_side resource.state
-reason_side resource request UnsupportedMediaType =
-    all_append _ (types_fields (codes "accept") (rule resource request)) _ (types_side (codes "accept") refl _)
-    (side_if (bytes_eq request.method (codes "PATCH")) (types_fields (codes "accept-patch") (rule resource request))
-    (types_side (codes "accept-patch") refl (rule resource request)))
-reason_side resource request UnsupportedCoding = codings_side (rule resource request)
-reason_side resource request reason = refl
+reason_side resource request reason = grind (arith, reason, resource, request)
 
 pub vary_side : (lines : List Line) → are_side (vary_fields lines) ≡ true
 unfolding eq_ignore_case
-vary_side [] = refl
-vary_side (line ∷ lines) = refl
+vary_side lines = grind (arith, lines)
 
 pub removed_side : (keeps whole : Bool)
     → are_side
@@ -419,15 +288,11 @@ pub removed_side : (keeps whole : Bool)
     ++ cond whole [] ((codes "content-digest", []) ∷ (codes "content-md5", []) ∷ []))
     ≡ true
 unfolding eq_ignore_case
-removed_side true true = refl
-removed_side true false = refl
-removed_side false true = refl
-removed_side false false = refl
+removed_side keeps whole = grind (arith, keeps, whole)
 
 pub metadata_side : (b : Bool) (x : Representation) → are_side (metadata_fields b x) ≡ true
 unfolding eq_ignore_case
-metadata_side true x = refl
-metadata_side false x = refl
+metadata_side b x = grind (arith, b)
 
 -- ---- the fields of a policy
 
@@ -435,9 +300,7 @@ abbrev is_bare_if_any : Option Line → Bool
 is_bare_if_any line = option_map_or is_bare line true
 
 lines_bare : (b : Bool) (line : Option Line) → is_bare_if_any line ≡ true → list_all is_bare (lines_if b line) ≡ true
-lines_bare b None bare = refl
-lines_bare true (Some line) bare = and_from (is_bare line) true bare refl
-lines_bare false (Some line) bare = refl
+lines_bare b line bare = grind (arith, b, line)
 
 bare_if : (b : Bool) (line : Line) → (b ≡ true → is_bare line ≡ true) → is_bare_if_any (cond b (Some line) None) ≡ true
 bare_if true line bare = bare refl
@@ -446,26 +309,16 @@ bare_if false line bare = refl
 listed_bare : (line : Line) (listed : List Line) → list_all is_bare listed ≡ true
     → list_any (bytes_eq line) listed ≡ true → is_bare line ≡ true
 listed_bare line [] bare found = absurd (cc found)
-listed_bare line (other ∷ listed) bare found =
-    let both = and_parts (is_bare other) (list_all is_bare listed) bare in
-    elim (or_cases (bytes_eq line other) (list_any (bytes_eq line) listed) found) [
-      | inl same ↦ ap is_bare ((bytes_eq-Decides line other).0 same) ∙ both.0
-      | inr later ↦ listed_bare line listed both.1 later
-    ]
+listed_bare line (other ∷ listed) bare found = grind (arith, listed_bare line listed, bytes_eq-Decides)
 
 grant_bare : (origins : Option (List Line)) (sent : Option Line) → option_map_or (list_all is_bare) origins true ≡ true
     → is_bare_if_any (grant origins sent) ≡ true
-grant_bare None sent bare = refl
-grant_bare (Some listed) None bare = refl
-grant_bare (Some listed) (Some line) bare =
-    bare_if (list_any (bytes_eq line) listed) line (listed_bare line listed bare)
+grant_bare origins sent bare = grind (arith, listed_bare)
 
 -- Vary is all that is left of the fields of a policy, once those whose values stay as they are have passed a test
 pub varied : (p : Field → Bool) → ((lines : List Line) → p (codes "vary", lines) ≡ true)
     → (b c : Bool) (lines : List Line) → list_all p (cond b (cond c [] ((codes "vary", lines) ∷ [])) []) ≡ true
-varied p passes true true lines = refl
-varied p passes true false lines = and_from _ _ (passes lines) refl
-varied p passes false c lines = refl
+varied p passes b c lines = grind (arith, b, c, passes lines)
 
 policy_plain : (policy : Policy) (leave : Bool) (sent varying : List Line) → IsBarePolicy policy
     → list_all is_plain (policy_fields policy leave sent varying) ≡ true
@@ -492,16 +345,9 @@ shared_plain (Some policy) request lines shared bare h =
     ap (list_all is_plain) (h.2 ∙ h.1.fields)
     ∙ policy_plain policy (is_preflight h.0.kind) (request.fields (codes "origin")) lines bare
 
-tag_bare : (tag : Option FieldValue) → is_bare_tag tag ≡ true
-    → list_all is_bare (lines_sent (λ (x : FieldValue). x.bytes) tag) ≡ true
-tag_bare None bare = refl
-tag_bare (Some tag) bare = and_from (is_bare tag.bytes) true bare refl
-
 etag_bare : (plan : Plan) (tag : Option FieldValue) → is_bare_tag tag ≡ true
     → list_all is_bare (lines_sent (λ (x : FieldValue). x.bytes) (etag_sent plan tag)) ≡ true
-etag_bare the_plan.Failed tag bare = refl
-etag_bare the_plan.Unsatisfiable tag bare = refl
-etag_bare plan tag bare = tag_bare tag bare
+etag_bare plan tag bare = grind (arith, plan, tag)
 
 abbrev first_four : List Field → List Field
 first_four (a ∷ b ∷ c ∷ d ∷ more) = a ∷ b ∷ c ∷ d ∷ []
@@ -511,46 +357,40 @@ abbrev after_five : List Field → List Field
 after_five (a ∷ b ∷ c ∷ d ∷ e ∷ more) = more
 after_five fields = []
 
-module _ (present : ℕ) (plan : Plan) (target : Target) (content : Content) (multipart : FieldValue) where
-  -- the lines of Content-Length
-  abbrev own_lines : List Line
-  own_lines = lines_sent decimal (length_sent plan content.len)
-
-  abbrev own_field : List Field
-  own_field = (length_name, own_lines) ∷ []
-
-  sent_between : (known : Bool) → is_bare_tag (etag_of target) ≡ true
-      → Between is_plain own_field (fields_sent present plan known target content multipart)
+module _ (present : ℕ) (plan : Plan) (target : Target) (content : Content) (multipart : FieldValue) (n : ℕ)
+    (stated : Bool)
+    (own : lines_under (length_name, lines_sent decimal (length_sent plan content.len)) ≡ stated_line n stated)
+    (short : n < 2 ^ 64) (bare : is_bare_tag (etag_of target) ≡ true) (has_policy : Bool) (more : List Field)
+    (plain : list_all is_plain more ≡ true) where
+  tells_plan : (known : Bool)
+      → Tells n stated (headers_sent has_policy (fields_sent present plan known target content multipart ++ more))
   unfolding eq_ignore_case
-  sent_between known bare =
+  tells_plan known =
       let all : List Field = fields_sent present plan known target content multipart in
-      record {
-        before = first_four all;
-        after = after_five all;
-        are = refl;
-        first =
-            and_from (list_all is_bare (lines_sent (λ (x : FieldValue). x.bytes) (etag_sent plan (etag_of target))))
-            true (etag_bare plan (etag_of target) bare) refl;
-        last = sides_plain (after_five all) (removed_side (keeps_encoding plan known) (is_whole plan));
-      }
+      tells_after has_policy n stated (first_four all)
+      ((length_name, lines_sent decimal (length_sent plan content.len)) ∷ (after_five all ++ more))
+      (and_from (list_all is_bare (lines_sent (λ (x : FieldValue). x.bytes) (etag_sent plan (etag_of target)))) true
+      (etag_bare plan (etag_of target) bare) refl)
+      (tells_first has_policy n stated _ own short (after_five all ++ more)
+      (all_append is_plain (after_five all) more
+      (sides_plain (after_five all) (removed_side (keeps_encoding plan known) (is_whole plan))) plain))
 
-  with_between : (fields : LineMap) (x : Option Representation) → is_bare_tag (etag_of target) ≡ true
-      → Between is_plain own_field
-      (with_metadata fields x plan (fields_sent present plan (is_known_by fields) target content multipart))
-  with_between fields None bare = sent_between (is_known_by fields) bare
-  with_between fields (Some x) bare =
-      after_all is_plain own_field (metadata_fields (describes plan (is_known_by fields)) x)
-      (fields_sent present plan (is_known_by fields) target content multipart)
-      (sides_plain _ (metadata_side (describes plan (is_known_by fields)) x)) (sent_between (is_known_by fields) bare)
+  tells_response : (fields : LineMap) (x : Option Representation)
+      → Tells n stated (headers_sent has_policy
+      (with_metadata fields x plan (fields_sent present plan (is_known_by fields) target content multipart) ++ more))
+  tells_response fields None = tells_plan (is_known_by fields)
+  tells_response fields (Some x) =
+      rw append_assoc
+      (tells_after has_policy n stated (metadata_fields (describes plan (is_known_by fields)) x) _
+      (sides_plain _ (metadata_side (describes plan (is_known_by fields)) x)) (tells_plan (is_known_by fields)))
 
 -- ---- the status and the length
 
--- `http1` sends a response of this status, with a content of this length and these fields
+-- `http1` sends a response of this status, with a content of this length and these fields, whatever plain ones follow
 record IsAccepted (method : MethodKind) (code n : ℕ) (own : List Field) : Type 0 where
   stated : Bool
-  states : Option (List Line)
-  lines : length_lines states ≡ stated_line n stated
-  fields : Between is_plain (length_field states) own
+  tells : n < 2 ^ 64 → (has_policy : Bool) (more : List Field) → list_all is_plain more ≡ true
+      → Tells n stated (headers_sent has_policy (own ++ more))
   final : IsFinal method code n stated
   text : is_field_value (reason_of code) ≡ true
 
@@ -559,9 +399,7 @@ unstated : (method : MethodKind) (code n : ℕ) (own : List Field) → IsFinal m
     → is_field_value (reason_of code) ≡ true → list_all is_plain own ≡ true → IsAccepted method code n own
 unstated method code n own final text plain = record {
   stated = false;
-  states = None;
-  lines = refl;
-  fields = none_between is_plain own plain;
+  tells = λ short has_policy more t. tells_none has_policy n (own ++ more) (all_append is_plain own more plain t);
   final = final;
   text = text;
 }
@@ -578,8 +416,7 @@ explained method code n own x plain =
     let high = and_parts (nat_le code 999) _ low.1 in
     let other = and_parts (not (code == 304)) (is_field_value (reason_of code)) high.1 in
     let least : 300 ≤ code = leb-true 300 code low.0 in
-    let no : (code == 304) ≡ false = not-true (code == 304) other.0 in
-    let not_304 : code ≢ 304 = λ is. (let yes = eq-eqb code 304 is in cc (no, yes)) in
+    let not_304 : code ≢ 304 = eqb-false code 304 (not-true (code == 304) other.0) in
     unstated method code n own
     (record {
       least = omega (arith, least);
@@ -595,54 +432,21 @@ explained method code n own x plain =
 -- the status of what can't be read
 entry_explained : (negotiates : Bool) (has : List ℕ → Entry → Type 0) (uri : Uri) (named : List ℕ) (found_entry : Entry)
     (found : _) → FindsEntry negotiates has uri named found_entry found → is_explained found.status ≡ true
-entry_explained negotiates has uri named entry.Missing found x = ap is_explained x.status
-entry_explained negotiates has uri named entry.Forbidden found x = ap is_explained x.status
-entry_explained negotiates has uri named entry.Unavailable found x = ap is_explained x.status
-entry_explained negotiates has uri named entry.Folder found x =
-    elim x [ inl none ↦ ap is_explained none.1.status | inr moved ↦ ap is_explained moved.status ]
-entry_explained negotiates has uri named (entry.Listed listing) found x =
-    elim x.1 [ inl listed ↦ ap is_explained listed.1.status | inr none ↦ ap is_explained none.1.status ]
-entry_explained negotiates has uri named (entry.Readable file) found x = ap is_explained x.1
+entry_explained negotiates has uri named found_entry found x = grind (arith, found_entry)
 
 found_explained : (negotiates : Bool) (has : List ℕ → Entry → Type 0) (uri : Uri) (found : _)
     → LeadsTo negotiates has uri found → is_explained found.status ≡ true
-found_explained negotiates has uri found x =
-    elim x [
-      | inl h ↦ entry_explained negotiates has uri h.0 h.2.0 found h.2.2
-      | inr h ↦ ap is_explained h.1.status
-    ]
+found_explained negotiates has uri found x = grind (arith, entry_explained)
 
 -- what isn't a refusal
 abbrev is_open : Reason → Bool
 is_open Admitted = true
-is_open Options = true
-is_open Preflight = true
+is_open Reason.Options = true
+is_open Reason.Preflight = true
 is_open reason = false
 
--- what a server offers is answered by 204 without content
-abbrev IsOffer : ℕ → State → Option Denial → Reason → Type 0
-IsOffer absent now why reason =
-    (is_open reason ≡ true) × (status_for absent reason (Some (code_of now why reason)) ≡ 204)
-    × (sent_for reason ≡ sends.Nothing)
-
--- what stops a request that isn't denied is explained, but for OPTIONS and a preflight
-reason_explained : (absent : ℕ) → is_explained absent ≡ true → (now : State) (why : Option Denial) (reason : Reason)
-    → is_admitted reason ≡ false → (reason ≡ Moved → has_moved now ≡ true) → reason ≢ Denied
-    → IsOffer absent now why reason
-    ⊎ (is_explained (status_for absent reason (Some (code_of now why reason))) ≡ true)
-reason_explained absent missing now why Admitted other moved admits = absurd (cc other)
-reason_explained absent missing now why Denied other moved admits = absurd (admits refl)
-reason_explained absent missing now why Preflight other moved admits = inl (refl, refl, refl)
-reason_explained absent missing now why Options other moved admits = inl (refl, refl, refl)
-reason_explained absent missing now why NotFound other moved admits = inr missing
-reason_explained absent missing now why Moved other moved admits = inr (by now (moved refl))
-  where
-    by : (now : State) → has_moved now ≡ true → is_explained (moved_status now) ≡ true
-    by (state.Moved redirect.MovedPermanently location) t = refl
-    by (state.Moved redirect.Temporary location) t = refl
-    by (state.Moved redirect.Permanent location) t = refl
-    by now t = absurd (cc t)
-reason_explained absent missing now why reason other moved admits = inr refl
+moved_explained : (now : State) → has_moved now ≡ true → is_explained (moved_status now) ≡ true
+moved_explained now t = grind (arith, now)
 
 -- ---- the content of a plan
 
@@ -653,97 +457,53 @@ module _ (divider : List ℕ) (present : ℕ) where
   abbrev len_for : Option File → Plan → ℕ
   len_for file plan = total_len (pieces_of divider file plan)
 
-  -- the fields state the length of what is sent, or nothing is sent where they may not
-  record IsSized (file : Option File) (plan : Plan) : Type 0 where
-    stated : Bool
-    lines : lines_sent decimal (length_sent plan (content_of (shown file)).len)
-        ≡ cond stated (decimal (len_for file plan) ∷ []) []
-    bodiless : status_of plan ≡ 304 → (len_for file plan ≡ 0) × (stated ≡ false)
+  -- the fields state the length of what is sent
+  abbrev is_stated : Option File → Plan → Bool
+  is_stated None the_plan.Full = false
+  is_stated file (the_plan.Multiple parts) = false
+  is_stated file the_plan.NotModified = false
+  is_stated file plan = true
 
-  whole : (n : ℕ) → n ≡ n + 0
-  whole n = omega arith
+  length_lines : (file : Option File) (plan : Plan) → Fits (divisible_len (content_of (shown file))) plan
+      → lines_under (length_name, lines_sent decimal (length_sent plan (content_of (shown file)).len))
+      ≡ stated_line (len_for file plan) (is_stated file plan)
+  length_lines file plan fits = grind (arith, file, plan)
 
-  sized : (file : Option File) (plan : Plan) → Fits (divisible_len (content_of (shown file))) plan
-      → IsSized file plan
-  sized None the_plan.Full fits = record { stated = false; lines = refl; bodiless = λ is. absurd (omega (arith, is)) }
-  sized (Some file) the_plan.Full fits =
-      record { stated = true; lines = ap (λ m. decimal m ∷ []) (whole _); bodiless = λ is. absurd (omega (arith, is)) }
-  sized None (the_plan.Single part) fits = let low = fits.1 in absurd (omega (arith, low))
-  sized (Some file) (the_plan.Single part) fits = record {
-    stated = true;
-    lines = ap (λ (m : ℕ). decimal m ∷ []) (whole (part.last + 1 - part.first));
-    bodiless = λ is. absurd (omega (arith, is));
-  }
-  sized file (the_plan.Multiple parts) fits =
-      record { stated = false; lines = refl; bodiless = λ is. absurd (omega (arith, is)) }
-  sized None the_plan.NotModified fits = record { stated = false; lines = refl; bodiless = λ is. (refl, refl) }
-  sized (Some file) the_plan.NotModified fits = record { stated = false; lines = refl; bodiless = λ is. (refl, refl) }
-  sized None plan fits = record { stated = true; lines = refl; bodiless = λ is. absurd (omega (arith, is)) }
-  sized (Some file) plan fits = record { stated = true; lines = refl; bodiless = λ is. absurd (omega (arith, is)) }
-
-  none_tagged : (now : State) → is_bare_tag (etag_of (target_of now None)) ≡ true
-  none_tagged state.Current = refl
-  none_tagged now = refl
+  -- nothing is sent where they may not
+  no_content : (file : Option File) (plan : Plan) → status_of plan ≡ 304
+      → (len_for file plan ≡ 0) × (is_stated file plan ≡ false)
+  no_content file plan is = grind (arith, file, plan)
 
   target_bare : (now : State) (file : Option File) → is_bare_tag (tag_in file) ≡ true
       → is_bare_tag (etag_of (target_of now (shown file))) ≡ true
-  target_bare now None bare = none_tagged now
-  target_bare now (Some file) bare = bare
+  target_bare now file bare = grind (arith, now, file)
 
 -- ---- CONNECT
 
 connect_named : (method : List ℕ) → is_connect (method_kind method) ≡ true → method ≡ codes "CONNECT"
-connect_named method e =
-    (bytes_eq-Decides method (codes "CONNECT")).0
-    (by (bytes_eq method (codes "HEAD")) (bytes_eq method (codes "CONNECT")) e)
-  where
-    by : (a b : Bool) → is_connect (cond a Method.Head (cond b Method.Connect Method.Other)) ≡ true → b ≡ true
-    by a true e = refl
-    by true false e = absurd (cc e)
-    by false false e = absurd (cc e)
+connect_named method e = grind (arith, bytes_eq-Decides)
 
 no_connect : (rules : List MethodRule) (own : MethodRule) → rules ≡ own ∷ [] → own.method ≡ codes "GET"
     → has_method rules (codes "CONNECT") ≡ false
 unfolding rule_for
-no_connect rules own alone get =
-    rw alone (simp get)
+no_connect rules own alone get = grind arith
 
 -- ---- the answer
 
 module _ (present : ℕ) (resource : Resource) (own_rule : MethodRule) (alone : resource.rules.items ≡ own_rule ∷ [])
     (get : own_rule.method ≡ codes "GET") where
   -- CONNECT is refused
-  free_of : (request : Asked) (reason : Reason) → IsFirst (applies present resource request) reason → is_open reason ≡ true
-      → is_connect (method_kind request.method) ≡ false
+  free_of : (request : Asked) (reason : Reason) → IsFirst (applies present resource request) reason
+      → is_open reason ≡ true → is_connect (method_kind request.method) ≡ false
   free_of request Admitted first is =
-      elim (cases_Bool (is_connect (method_kind request.method))) [
-        | inl connects ↦
-            let named = connect_named request.method connects in
-            let allowed : not (has_method resource.rules.items request.method) ≡ false =
-            first.none_before MethodNotAllowed (omega arith) in
-            let refused : not (has_method resource.rules.items request.method) ≡ true =
-            ap (λ (name : List ℕ). not (has_method resource.rules.items name)) named
-            ∙ ap not (no_connect resource.rules.items own_rule alone get) in
-            absurd (cc (allowed, refused))
-        | inr other ↦ other
-      ]
-  free_of request Options first is = rw ((bytes_eq-Decides request.method (codes "OPTIONS")).0 first.is)
-  free_of request Preflight first is =
-      let leave = and_parts (is_some resource.cors) _ first.is in
-      let options = and_parts (bytes_eq request.method (codes "OPTIONS")) _ leave.1 in
-      rw ((bytes_eq-Decides request.method (codes "OPTIONS")).0 options.0)
-  free_of request reason first is = absurd (cc is)
-
-  stopped_several : (reason : Reason) → sends_several (sent_for reason) ≡ false
-  stopped_several NotAcceptable = refl
-  stopped_several reason = refl
+      let before = first.none_before Reason.MethodNotAllowed (omega arith) in
+      grind (arith, connect_named request.method, no_connect resource.rules.items own_rule alone get)
+  free_of request reason first is = let holds = first.is in grind (arith, reason, bytes_eq-Decides)
 
   -- what sends several parts is admitted
   several_admitted : (request : Asked) (reason : Reason) (status : Option ℕ) (sent : Sends) (own : List Field)
       → AnswerGives present resource request reason status sent own → sends_several sent ≡ true → reason ≡ Admitted
-  several_admitted request Admitted status sent own g several = refl
-  several_admitted request reason status sent own g several =
-      let one = ap sends_several g.sends ∙ stopped_several reason in absurd (cc (one, several))
+  several_admitted request reason status sent own g several = grind (arith, reason)
 
   module _ (divider : List ℕ) (pages : List Page) (files : List File) (absent : ℕ)
       (missing : is_explained absent ≡ true)
@@ -755,10 +515,7 @@ module _ (present : ℕ) (resource : Resource) (own_rule : MethodRule) (alone : 
 
     represented_at : (place : Option ℕ)
         → at_place resource.representations.items place ≡ shown divider present (file_at files place)
-    represented_at None = refl
-    represented_at (Some place) =
-        ap (λ (l : List Representation). slice_get l place) represented
-        ∙ slice_get-map (representation_of present) files place
+    represented_at place = grind (arith, place, represented, slice_get-map)
 
     module _ (free : is_connect method ≡ false) where
       successful : (code : ℕ) → (is_connect method && nat_lt code 300) ≡ false
@@ -780,39 +537,31 @@ module _ (present : ℕ) (resource : Resource) (own_rule : MethodRule) (alone : 
       -- the statuses of plans
       plan_code : (plan : Plan) → (200 ≤ status_of plan) × (status_of plan ≤ 999) × (status_of plan ≢ 205)
           × (status_of plan ≢ 204) × (is_field_value (reason_of (status_of plan)) ≡ true)
-      plan_code the_plan.Full = (omega arith, omega arith, λ is. omega (arith, is), λ is. omega (arith, is), refl)
-      plan_code plan = (omega arith, omega arith, λ is. omega (arith, is), λ is. omega (arith, is), refl)
+      plan_code plan = grind (arith, plan)
 
       planned : (file : Option File) (plan : Plan) (target : Target) (boundary : FieldValue)
-          → IsSized divider present file plan → is_bare_tag (etag_of target) ≡ true
+          → Fits (divisible_len (content_of (shown divider present file))) plan → is_bare_tag (etag_of target) ≡ true
           → IsAccepted method (status_of plan) (len_for divider present file plan)
           (with_metadata request.fields (shown divider present file) plan
           (fields_sent present plan (is_known_by request.fields) target (content_of (shown divider present file))
           boundary))
-      planned file plan target boundary x bare =
-          let content = content_of (shown divider present file) in
+      planned file plan target boundary fits bare =
           let code = plan_code plan in
           record {
-            stated = x.stated;
-            states = Some (own_lines present plan target content boundary);
-            lines = ap (λ (ls : List Line). map (λ (line : Line). (length_name, line)) ls) x.lines ∙ own x.stated;
-            fields = with_between present plan target content boundary request.fields (shown divider present file) bare;
+            stated = is_stated divider present file plan;
+            tells = λ short has_policy more plain. tells_response present plan target
+                (content_of (shown divider present file)) boundary (len_for divider present file plan) _
+                (length_lines divider present file plan fits) short bare has_policy more plain request.fields
+                (shown divider present file);
             final = record {
               least = code.0;
               greatest = code.1;
               other = code.2;
-              bodiless = λ is. elim is [ inl a ↦ absurd (code.3 a) | inr b ↦ x.bodiless b ];
+              bodiless = λ is. elim is [ inl a ↦ absurd (code.3 a) | inr b ↦ no_content divider present file plan b ];
               connect = successful (status_of plan);
             };
             text = code.4;
           }
-        where
-          own : (stated : Bool)
-              → map (λ (line : Line). (length_name, line))
-              (cond stated (decimal (len_for divider present file plan) ∷ []) [])
-              ≡ stated_line (len_for divider present file plan) stated
-          own true = refl
-          own false = refl
 
       going : (place : Option ℕ) (status : Option ℕ) (sent : Sends) (own : List Field) (response : Option Planning)
           → IsAnswered present request.method request.fields
@@ -835,7 +584,7 @@ module _ (present : ℕ) (resource : Resource) (own_rule : MethodRule) (alone : 
           let bare : is_bare_tag (tag_in file) ≡ true =
           sym (ap (λ (s : Sends). is_bare_tag (tag_sent files s)) same_sent) ∙ tagged in
           rw (same_status, same_sent, same_own, h.status, h.fields)
-          (planned file plan target resource.boundary (sized divider present file plan fits)
+          (planned file plan target resource.boundary fits
           (target_bare divider present resource.state file bare))
 
       goes : (status : Option ℕ) (sent : Sends) (own : List Field) → Goes present resource request status sent own
@@ -846,31 +595,44 @@ module _ (present : ℕ) (resource : Resource) (own_rule : MethodRule) (alone : 
           rw represented_at at g.goes in
           going g.place status sent own on.response on.answered on.has_status on.sends on.has_fields tagged
 
-    by_reason : (admitted : Bool) (reason : Reason) → is_admitted reason ≡ admitted → (status : Option ℕ) (sent : Sends)
-        (own : List Field) → applies present resource request reason ≡ true
-        → (is_open reason ≡ true → is_connect method ≡ false)
-        → GivesIf admitted present resource request reason status sent own → is_bare_tag (tag_sent files sent) ≡ true
+    plain_stop : (reason : Reason) (own : List Field) → own ≡ reason_fields resource request reason
+        → list_all is_plain own ≡ true
+    plain_stop reason own e = ap (list_all is_plain) e ∙ sides_plain _ (reason_side resource request reason)
+
+    -- what a server offers is answered by 204 without content
+    offers : (reason : Reason) (status : Option ℕ) (sent : Sends) (own : List Field)
+        → Stops resource request reason status sent own → is_connect method ≡ false
+        → status_for absent reason (Some (code_of resource.state request.denied reason)) ≡ 204
+        → sent_for reason ≡ sends.Nothing → Accepts (status_for absent reason status) sent own
+    offers reason status sent own g free code nothing =
+        rw (g.has_status, code, g.sends, nothing)
+        (empty free 204 own (omega arith) (omega arith) (λ is. omega (arith, is)) refl
+        (plain_stop reason own g.has_fields))
+
+    explains : (reason : Reason) (status : Option ℕ) (sent : Sends) (own : List Field)
+        → Stops resource request reason status sent own
+        → is_explained (status_for absent reason (Some (code_of resource.state request.denied reason))) ≡ true
         → Accepts (status_for absent reason status) sent own
-    by_reason true Admitted is status sent own t free g tagged = goes (free refl) status sent own g tagged
-    by_reason true reason is status sent own t free g tagged = absurd (cc is)
-    by_reason false reason is status sent own t free g tagged =
-        let plain : list_all is_plain own ≡ true =
-        ap (list_all is_plain) g.has_fields ∙ sides_plain _ (reason_side resource request reason) in
-        elim
-        (reason_explained absent missing resource.state request.denied reason is
-        (λ moved. sym (ap (applies present resource request) moved) ∙ t)
-        (λ denied.
-        let applied : is_some request.denied ≡ true = sym (ap (applies present resource request) denied) ∙ t in
-        cc (ap is_some admits_it, applied))) [
-          | inl offer ↦
-              let code : status_for absent reason status ≡ 204 =
-              ap (status_for absent reason) g.has_status ∙ offer.1 in
-              rw (code, g.sends ∙ offer.2)
-              (empty (free offer.0) 204 own (omega arith) (omega arith) (λ is. omega (arith, is)) refl plain)
-          | inr page ↦
-              explained method (status_for absent reason status) _ own
-              (ap (λ (s : Option ℕ). is_explained (status_for absent reason s)) g.has_status ∙ page) plain
-        ]
+    explains reason status sent own g page =
+        explained method (status_for absent reason status) _ own
+        (ap (λ (s : Option ℕ). is_explained (status_for absent reason s)) g.has_status ∙ page)
+        (plain_stop reason own g.has_fields)
+
+    by_reason : (reason : Reason) (status : Option ℕ) (sent : Sends) (own : List Field)
+        → applies present resource request reason ≡ true → (is_open reason ≡ true → is_connect method ≡ false)
+        → AnswerGives present resource request reason status sent own → is_bare_tag (tag_sent files sent) ≡ true
+        → Accepts (status_for absent reason status) sent own
+    by_reason Admitted status sent own t free g tagged = goes (free refl) status sent own g tagged
+    by_reason Reason.Options status sent own t free g tagged =
+        offers Reason.Options status sent own g (free refl) refl refl
+    by_reason Reason.Preflight status sent own t free g tagged =
+        offers Reason.Preflight status sent own g (free refl) refl refl
+    by_reason Reason.Denied status sent own t free g tagged =
+        let no : is_some request.denied ≡ false = ap is_some admits_it in absurd (cc (no, t))
+    by_reason Reason.NotFound status sent own t free g tagged = explains Reason.NotFound status sent own g missing
+    by_reason Reason.Moved status sent own t free g tagged =
+        explains Reason.Moved status sent own g (moved_explained resource.state t)
+    by_reason reason status sent own t free g tagged = explains reason status sent own g refl
 
     -- with Vary, and with what the policy says
     answer_accepted : (answer : Answer) → (h : IsAnswer present resource request answer)
@@ -879,19 +641,21 @@ module _ (present : ℕ) (resource : Resource) (own_rule : MethodRule) (alone : 
         → Accepts (status_for absent answer.reason answer.status) answer.sends (encoded_fields answer.fields.items)
     answer_accepted answer h free bare tagged =
         let x =
-        by_reason (is_admitted answer.reason) answer.reason refl answer.status answer.sends h.own h.first.is free
-        h.gives tagged in
-        let lines = vary_lines resource answer.reason in
-        let own = length_field x.states in
+        by_reason answer.reason answer.status answer.sends h.own h.first.is free h.gives tagged in
+        let vary : List Field = vary_fields (vary_lines resource answer.reason) in
         record {
           stated = x.stated;
-          states = x.states;
-          lines = x.lines;
-          fields =
-              rw h.fields
-              (before_all is_plain own (h.own ++ vary_fields lines) h.shared
-              (before_all is_plain own h.own (vary_fields lines) x.fields (sides_plain _ (vary_side lines)))
-              (shared_plain resource.cors request lines h.shared bare h.is_shared));
+          tells = λ short has_policy more plain.
+              let same : encoded_fields answer.fields.items ++ more ≡ h.own ++ (vary ++ (h.shared ++ more)) =
+              ap (λ (fs : List Field). fs ++ more) h.fields ∙ append_assoc (h.own ++ vary) h.shared more
+              ∙ append_assoc h.own vary (h.shared ++ more) in
+              rw same
+              (x.tells short has_policy (vary ++ (h.shared ++ more))
+              (all_append is_plain vary (h.shared ++ more)
+              (sides_plain _ (vary_side (vary_lines resource answer.reason)))
+              (all_append is_plain h.shared more
+              (shared_plain resource.cors request (vary_lines resource answer.reason) h.shared bare h.is_shared)
+              plain)));
           final = x.final;
           text = x.text;
         }
@@ -925,39 +689,27 @@ module _ (limits : Limits) (head : RequestHead) (framing : Framing) (now : Optio
   abbrev len : ℕ
   len = total_len (pieces_for divider site.pages.items files code x.answer.sends)
 
-  rules : x.resource.rules.items ≡ is_site.rule ∷ []
-  rules = ap (λ (r : Resource). r.rules.items) x.described.is ∙ is_site.rules
+  abbrev resource : Resource
+  resource = record site.resource { state = x.found.state; representations = x.described.representations }
 
-  representations_are : x.resource.representations.items ≡ map (representation_of present) files
-  representations_are = ap (λ (r : Resource). r.representations.items) x.described.is ∙ x.described.are
-
-  bare_policy : IsBareIfAny x.resource.cors
-  bare_policy = rw x.described.is bare
-
-  asked_kind : sender ≡ method_kind x.asked.method
-  asked_kind = ap method_kind (method ∙ sym x.asks.2.method)
-
-  missing : is_explained x.found.status ≡ true
-  missing =
-      found_explained site.resource.negotiation.coding has (head_of request).uri x.found x.leads
-
-  accepts : (asked : Asked) → asked.denied ≡ None → IsAnswer present x.resource asked x.answer
+  accepts : (asked : Asked) → asked.denied ≡ None → IsAnswer present resource asked x.answer
       → (is_open x.answer.reason ≡ true → is_connect sender ≡ false)
       → IsAccepted sender code len given
   accepts asked admitted h free =
-      answer_accepted present x.resource is_site.rule rules is_site.is_read.method divider site.pages.items files
-      x.found.status missing representations_are sender asked admitted x.answer h free bare_policy x.carries.tagged
+      answer_accepted present resource is_site.rule is_site.rules is_site.is_read.method divider site.pages.items files
+      x.found.status (found_explained site.resource.negotiation.coding has (head_of request).uri x.found x.leads)
+      x.described.are sender asked admitted x.answer h free bare x.carries.tagged
 
   -- the request of a first reason that isn't a refusal
-  frees : (reason : Reason) → IsFirst (applies present x.resource x.asked) reason → is_open reason ≡ true
+  frees : (reason : Reason) → IsFirst (applies present resource x.asked) reason → is_open reason ≡ true
       → is_connect sender ≡ false
   frees reason first goes =
-      ap is_connect asked_kind
-      ∙ free_of present x.resource is_site.rule rules is_site.is_read.method x.asked reason first goes
+      ap (λ (m : List ℕ). is_connect (method_kind m)) (method ∙ sym x.asks.2.method)
+      ∙ free_of present resource is_site.rule is_site.rules is_site.is_read.method x.asked reason first goes
 
   accepted : IsAccepted sender code len given
   accepted =
-      elim x.decides [
+      elim (rw x.described.is at x.decides) [
         | inl h ↦ accepts x.asked x.asks.2.admitted h.1 (frees x.answer.reason h.1.first)
         | inr h ↦
             let free : is_connect sender ≡ false =
@@ -965,8 +717,8 @@ module _ (limits : Limits) (head : RequestHead) (framing : Framing) (now : Optio
               | inl several ↦
                   frees h.0.reason h.2.first
                   (ap is_open
-                  (several_admitted present x.resource is_site.rule rules is_site.is_read.method x.asked h.0.reason
-                  h.0.status h.0.sends h.2.own h.2.gives several))
+                  (several_admitted present resource is_site.rule is_site.rules is_site.is_read.method x.asked
+                  h.0.reason h.0.status h.0.sends h.2.own h.2.gives several))
               | inr one ↦ absurd (h.1 (λ several. absurd (cc (one, several))))
             ] in
             accepts (as_head x.asked) x.asks.2.admitted h.3 (λ goes. free)
@@ -984,9 +736,6 @@ module _ (limits : Limits) (head : RequestHead) (framing : Framing) (now : Optio
   abbrev page : List Header
   page = explained_fields code x.answer.sends
 
-  short : len < 2 ^ 64
-  short = rw len_is at x.carries.short
-
   states : StatesLength len accepted.stated (plan_fields response)
   states =
       let stated = accepted.stated in
@@ -994,8 +743,7 @@ module _ (limits : Limits) (head : RequestHead) (framing : Framing) (now : Optio
       (tells_both len stated false stated (front ++ own) page
       (tells_both len false stated stated front own
       (tells_plain len front (side_lines_plain front (front_side now left x.answer.sends site.cache_control)))
-      (tells_sent (is_some site.resource.cors) len stated short accepted.states accepted.lines given accepted.fields)
-      refl)
+      (rw append-nil at (accepted.tells (rw len_is at x.carries.short) (is_some site.resource.cors) [] refl)) refl)
       (tells_plain len page (side_lines_plain page (explained_side code x.answer.sends))) (append-nil _)
       (rw x.carries.headers at x.carries.valid))
 

@@ -87,8 +87,7 @@ counts (h ∷ hs) none =
 states_option : (n : ℕ) (b : Bool) (option : List ℕ) → is_trimmed_value option ≡ true
     → StatesLength n false (cond b (connection_header option ∷ []) [])
 unfolding eq_ignore_case is_token_byte
-states_option n true option trimmed = states_other n (connection_header option) trimmed refl
-states_option n false option trimmed = states_none n
+states_option n b option trimmed = grind (arith, b, states_other, states_none n)
 
 states_connection : (n : ℕ) (r : Serving) (k : KnownFields) (keep : Bool)
     → StatesLength n false (connection_headers r k keep)
@@ -99,14 +98,13 @@ states_connection n r k false = states_option n (not k.close) (codes "close") re
 record Knows (n : ℕ) (stated : Bool) (k : KnownFields) : Type 0 where
   coding : k.transfer_encoding ≡ Coded.Absent
   len : k.content_length ≡ cond stated (Length.Value n) Length.Absent
-  count : k.framing_fields ≡ cond stated 1 0
-  plain : k.plain_framing ≡ true
+  states : states_framing k ≡ stated
+  usual : is_usual k ≡ true
 
 knows : (n : ℕ) (stated : Bool) (hs : List Header) → n < 2 ^ 64 → StatesLength n stated hs
     → Knows n stated (known_fields hs)
 unfolding known_fields
-knows n stated hs short x =
-    let c = counts hs x.codings in by stated x.lengths
+knows n stated hs short x = by stated x.lengths
   where
     by : (b : Bool) → values_named (codes "content-length") hs ≡ cond b (decimal n ∷ []) []
         → Knows n b (known_fields hs)
@@ -120,37 +118,27 @@ knows n stated hs short x =
               ∙ ap (λ (b : Bool). cond (b && true) (Length.Value (digits_value 10 (numeral 10 n))) Length.Invalid)
               (decimal_is_number n short)
               ∙ ap Length.Value (numeral_reads_back 10 n (omega arith) (omega arith)).value;
-          count = simp (c.count, lengths);
-          plain = simp (c.plain, lengths, is, decimal_is_plain n short);
+          states = simp (c.count, lengths);
+          usual = simp (c.count, c.plain, lengths, is, decimal_is_plain n short);
         }
     by false lengths =
         let c = counts hs x.codings in
-        let p : (known_fields hs).plain_framing ≡ true = simp (c.plain, lengths) in
-        record { coding = simp c.codings; len = simp lengths; count = simp (c.count, lengths); plain = p }
-
-Knows-states : (n : ℕ) (stated : Bool) (k : KnownFields) → Knows n stated k → states_framing k ≡ stated
-Knows-states n true k x = simp x.count
-Knows-states n false k x = simp x.count
-
-Knows-plain : (n : ℕ) (stated : Bool) (k : KnownFields) → Knows n stated k → is_usual k ≡ true
-Knows-plain n true k x = simp (x.count, x.plain)
-Knows-plain n false k x = simp (x.count, x.plain)
+        record {
+          coding = simp c.codings;
+          len = simp lengths;
+          states = simp (c.count, lengths);
+          usual = simp (c.count, c.plain, lengths);
+        }
 
 framing_is : (none : Bool) (minor n : ℕ) (stated : Bool) (k : KnownFields) → Knows n stated k
     → cond none (Ok NoBody) (by_fields minor UntilClose (Ok UntilClose) k.transfer_encoding k.content_length)
     ≡ Ok (cond none NoBody (cond stated (Sized n) UntilClose))
-framing_is true minor n stated k x = refl
-framing_is false minor n true k x = simp (x.coding, x.len)
-framing_is false minor n false k x = simp (x.coding, x.len)
+framing_is none minor n stated k x = grind (arith, none, stated)
 
 -- ---- the plan
 
 size_stated : (minor n : ℕ) → size_headers minor (size_for n) ≡ length_header n ∷ []
-size_stated minor n = by_test (eqb n 0) refl
-  where
-    by_test : (t : Bool) → eqb n 0 ≡ t → size_headers minor (cond t Empty (Known n)) ≡ length_header n ∷ []
-    by_test true is = simp (eqb-true n 0 is)
-    by_test false some = refl
+size_stated minor n = grind (arith, nat_tests)
 
 sized_fits : (n : ℕ) → fits (Sized n) (size_for n) ≡ true
 sized_fits n = grind (arith, nat_tests)
@@ -202,11 +190,10 @@ module _ (r : Serving) (status n : ℕ) (hs : List Header) (short : n < 2 ^ 64) 
     plan_with other late fit =
         let told = knows n stated (hs ++ first) short x in
         let all = knows n stated (hs ++ (first ++ second)) short all_stated in
-        let states = Knows-states n stated k told in
-        let plain = Knows-plain n stated _ all in
         let framed = framing_is (is_bodiless_status status) r.minor n stated k told in
         let framed_all = framing_is (has_no_body r.method status) r.minor n stated _ all in
-        rw framed (simp (framed_all, states, late, ne_eqb status 205 other, told.coding, fit, plain, and-false))
+        rw framed
+        (simp (framed_all, told.states, late, ne_eqb status 205 other, told.coding, fit, all.usual, and-false))
 
   module _ (stated : Bool) (x : StatesLength n stated hs) (s : IsFinal r.method status n stated) where
     -- the connection adds the length
@@ -219,7 +206,7 @@ module _ (r : Serving) (status n : ℕ) (hs : List Header) (short : n < 2 ^ 64) 
     bare_stated = rw append-nil x
 
     states : states_framing (known_fields hs) ≡ stated
-    states = Knows-states n stated _ (knows n stated hs short x)
+    states = (knows n stated hs short x).states
 
     is_bodiless : is_bodiless_status status ≡ (eqb status 204 || eqb status 304)
     is_bodiless = let low = s.least in grind (arith, nat_tests)
@@ -307,14 +294,8 @@ day_at k =
 
 -- it begins with a letter, or with a comma where there is no such day
 date_visible : (k : ℕ) (p : Parts) → starts_visible (date_from (day_at k) p) ≡ true
-date_visible zero p = refl
-date_visible (suc zero) p = refl
-date_visible (suc (suc zero)) p = refl
-date_visible (suc (suc (suc zero))) p = refl
-date_visible (suc (suc (suc (suc zero)))) p = refl
-date_visible (suc (suc (suc (suc (suc zero))))) p = refl
 date_visible (suc (suc (suc (suc (suc (suc zero)))))) p = refl
-date_visible (suc (suc (suc (suc (suc (suc (suc k))))))) p = refl
+date_visible k p = refl
 
 date_trimmed : (p : Parts) → trim (imf_fixdate p) ≡ imf_fixdate p
 date_trimmed p =
@@ -370,89 +351,71 @@ module _ (tag : List ℕ) (len : ℕ) (media_type : List ℕ) (short : len < 2 ^
   printed : (now : Option ℕ) → response_text 1 200 (reason_of 200) (fields now ++ []) ≡ ok_text now tag len media_type
   printed now = in_lines now ∙ ap (with_last now) (append-nil _)
 
-  module _ (limits : Limits) (h : RequestHead) (framing : Framing) (minor : h.minor ≡ 1)
-      (keeps : keeps_alive h.minor (known_of h.fields) ≡ true) (other : is_connect (method_kind h.method) ≡ false) where
-    abbrev request : Serving
-    request = (answering limits h framing).request
-
-    final : IsFinal (method_kind h.method) 200 len true
-    final = record {
-      least = omega arith;
-      greatest = omega arith;
-      other = λ is. omega (arith, is);
-      bodiless = λ is. absurd (elim is [ inl a ↦ omega (arith, a) | inr b ↦ omega (arith, b) ]);
-      connect = ap (λ (b : Bool). b && nat_lt 200 300) other;
-    }
-
-    -- the plan of the response, if it is sent at all
-    pub ok_planned : (now : Option ℕ)
-        → response_refusal (answering limits h framing) 200 (reason_of 200) (size_for len) (fields now) ≡ None
-        → (p : WirePlan) × (response_plan (answering limits h framing) 200 (size_for len) (fields now) ≡ Ok p)
-        × (p.extra ≡ []) × (p.framing ≡ cond (has_no_body (method_kind h.method) 200) NoBody (Sized len))
-    ok_planned now none =
-        let hs = fields now in
-        let made = response_plan (answering limits h framing) 200 (size_for len) hs in
-        let valid = valid_by made (is_status_line h.minor 200 (reason_of 200)) hs none in
-        let p = planned request 200 len hs short true (ok_states now valid) final in
-        let late : (false || (is_connect (method_kind h.method) && nat_lt 200 300)) ≡ false = final.connect in
-        (p.plan, cond-false _ _ _ late ∙ p.is, p.extra refl ∙ quiet request now minor keeps refl, p.framing refl)
-
-    -- the head of the response, if it is sent at all
-    pub ok_written : (now : Option ℕ)
-        → response_refusal (answering limits h framing) 200 (reason_of 200) (size_for len) (fields now) ≡ None
-        → planned_response (answering limits h framing) 200 (reason_of 200) (size_for len) (fields now)
-        ≡ ok_text now tag len media_type
-    ok_written now none =
-        let hs = fields now in
-        let p = ok_planned now none in
-        ap (λ q. response_text h.minor 200 (reason_of 200) (planned_headers q hs)) p.1
-        ∙ (λ i. response_text (minor i) 200 (reason_of 200) (hs ++ p.2 i)) ∙ printed now
-
--- the same, of a plan
-pub head_written : (limits : Limits) (h : RequestHead) (framing : Framing) (plan : Response) (now : Option ℕ)
-    (tag media_type : List ℕ) → plan.status ≡ 200 → content_len plan < 2 ^ 64
-    → plan_fields plan ≡ ok_fields now tag (content_len plan) media_type → h.minor ≡ 1
-    → keeps_alive h.minor (known_of h.fields) ≡ true → is_connect (method_kind h.method) ≡ false
-    → response_refusal (answering limits h framing) plan.status (reason_of plan.status) (plan_size plan)
-    (plan_fields plan) ≡ None
-    → head_text (answering limits h framing) plan ≡ ok_text now tag (content_len plan) media_type
-head_written limits h framing plan now tag media_type status short fields minor keeps other none =
-    rw (status, fields)
-    (ok_written tag (content_len plan) media_type short limits h framing minor keeps other now
-    (rw (status, fields) at none))
-
+-- the plan of the response, if it is sent at all
 module _ (limits : Limits) (h : RequestHead) (framing : Framing) (plan : Response) (now : Option ℕ)
-    (tag media_type : List ℕ) (ok : IsOk now tag media_type plan) (stays : StaysOpen h) (server : Server)
-    (before tail after rest : List ℕ)
-    (frames : Frames false plan (answering limits h framing) before tail server after rest) where
+    (tag media_type : List ℕ) (status : plan.status ≡ 200) (short : content_len plan < 2 ^ 64)
+    (fields_are : plan_fields plan ≡ ok_fields now tag (content_len plan) media_type) (minor : h.minor ≡ 1)
+    (keeps : keeps_alive h.minor (known_of h.fields) ≡ true) (other : is_connect (method_kind h.method) ≡ false)
+    (none : response_refusal (answering limits h framing) plan.status (reason_of plan.status) (plan_size plan)
+    (plan_fields plan) ≡ None) where
   abbrev s : Server
   s = answering limits h framing
 
   abbrev n : ℕ
   n = content_len plan
 
-  other : is_connect (method_kind h.method) ≡ false
-  other = ap is_connect stays.method
+  final : IsFinal (method_kind h.method) 200 n true
+  final = record {
+    least = omega arith;
+    greatest = omega arith;
+    other = λ is. omega (arith, is);
+    bodiless = λ is. absurd (elim is [ inl a ↦ omega (arith, a) | inr b ↦ omega (arith, b) ]);
+    connect = ap (λ (b : Bool). b && nat_lt 200 300) other;
+  }
 
-  ok_accepted : response_refusal s 200 (reason_of 200) (size_for n) (ok_fields now tag n media_type) ≡ None
-  ok_accepted = rw (ok.status, ok.fields) at frames.valid
+  ok_planned : (p : WirePlan) × (response_plan s plan.status (plan_size plan) (plan_fields plan) ≡ Ok p)
+      × (p.extra ≡ []) × (p.framing ≡ cond (has_no_body (method_kind h.method) 200) NoBody (Sized n))
+  ok_planned =
+      let line = is_status_line h.minor 200 (reason_of 200) in
+      let hs : List Header = ok_fields now tag n media_type in
+      let valid = valid_by (response_plan s 200 (size_for n) hs) line hs (rw (status, fields_are) at none) in
+      let p = planned s.request 200 n hs short true (ok_states tag n media_type short now valid) final in
+      let late : (false || (is_connect (method_kind h.method) && nat_lt 200 300)) ≡ false = final.connect in (
+        p.plan,
+        (λ i. response_plan s (status i) (plan_size plan) (fields_are i)) ∙ cond-false _ _ _ late ∙ p.is,
+        p.extra refl ∙ quiet tag n media_type short s.request now minor keeps refl,
+        p.framing refl,
+      )
 
+  pub head_written : head_text s plan ≡ ok_text now tag n media_type
+  head_written =
+      let p = ok_planned in
+      (λ i. response_text (minor i) (status i) (reason_of (status i)) (planned_headers (p.1 i) (fields_are i)))
+      ∙ ap (λ (extra : List Header). response_text 1 200 (reason_of 200) (ok_fields now tag n media_type ++ extra)) p.2
+      ∙ printed tag n media_type short now
+
+module _ (limits : Limits) (h : RequestHead) (framing : Framing) (plan : Response) (now : Option ℕ)
+    (tag media_type : List ℕ) (ok : IsOk now tag media_type plan) (stays : StaysOpen h) (server : Server)
+    (before tail after rest : List ℕ)
+    (frames : Frames false plan (answering limits h framing) before tail server after rest) where
   -- the content is written as it is
-  sized_body : writing (after_head s plan) ≡ Writes.Body (Encodes.Length n)
+  sized_body : writing (after_head (answering limits h framing) plan)
+      ≡ Writes.Body (Encodes.Length (content_len plan))
   sized_body =
-      let p = ok_planned tag n media_type frames.short limits h framing stays.minor stays.keeps other now ok_accepted in
-      (λ i. writing (after_response s (ok.status i) (size_for n) (ok.fields i)))
-      ∙ ap (λ (q : Result WirePlan WriteError). writing (responding s q)) p.1
+      let p =
+      ok_planned limits h framing plan now tag media_type ok.status frames.short ok.fields stays.minor stays.keeps
+      (ap is_connect stays.method) frames.valid in
+      ap (λ (q : Result WirePlan WriteError). writing (responding (answering limits h framing) q)) p.1
       ∙ ap (λ (f : Framing). Writes.Body (encoder_for f))
-      (p.3 ∙ ap (λ (m : MethodKind). cond (has_no_body m 200) NoBody (Sized n)) stays.method)
+      (p.3 ∙ ap (λ (m : MethodKind). cond (has_no_body m 200) NoBody (Sized (content_len plan))) stays.method)
 
   -- the head before the content, and nothing after it
-  pub framed_literally : (after ≡ before ++ ok_text now tag n media_type) × (rest ≡ tail)
+  pub framed_literally : (after ≡ before ++ ok_text now tag (content_len plan) media_type) × (rest ≡ tail)
   framed_literally = (
     frames.head
         ∙ simp (
           head_written limits h framing plan now tag media_type ok.status frames.short ok.fields stays.minor stays.keeps
-              other frames.valid,
+              (ap is_connect stays.method) frames.valid,
           sized_body,
           append-nil,
         ),
