@@ -32,7 +32,7 @@ if sys.version_info >= (3, 9):
 else:
     from typing_extensions import Annotated, get_args, get_origin, get_type_hints
 
-from . import _library
+from . import _library, parts
 from .errors import HeaderError
 from .headers import Headers
 
@@ -54,7 +54,7 @@ class TypedHeader:
 
 #: The type of each field that `Headers` has a typed value of.
 _TYPES: Dict[str, Any] = {
-    name.replace("_", "-"): get_args(get_type_hints(it.fget)["return"])[0]
+    name.replace("_", "-"): get_args(get_type_hints(it.fget, localns={"parts": parts})["return"])[0]
     for name, it in vars(Headers).items()
     if isinstance(it, property)
 }
