@@ -44,6 +44,9 @@ class Parts(unittest.TestCase):
         self.assertEqual(language.look_up(["en"]), "en")
         self.assertEqual(language.quality("da").weight, 1000)
         self.assertEqual(Accept.parse("").elements, ())
+        # Offers may be whatever gives them in order.
+        self.assertEqual(accept.best_match(dict.fromkeys(["text/html", "text/plain"])), "text/plain")  # type: ignore
+        self.assertEqual(accept.best_match(iter(["text/html", "text/plain"])), "text/plain")  # type: ignore
         for line in ("a/b;q = 1", 'a/b;c="d', ";q=1", "a;b/c"):
             with self.assertRaises(InvalidField):
                 Accept.parse(line)

@@ -57,7 +57,8 @@ def _reject(dimension: int, lines: Sequence[Text], offers: List[bytes]) -> NoRet
 
 
 def _choose(dimension: int, request: HeadersLike, offers: Sequence[str]) -> Optional[str]:
-    texts = _library.to_lines("offers", offers)
+    offered = tuple(offers)
+    texts = _library.to_lines("offers", offered)
     if isinstance(request, Section) and dimension != _LOOK_UP:
         status, place = _CHOICES_OF_SECTION[dimension](request._handle, _library.joined(texts))
         _library.check(status, lambda: _reject(dimension, (), texts))
@@ -65,7 +66,7 @@ def _choose(dimension: int, request: HeadersLike, offers: Sequence[str]) -> Opti
         lines = _lines(dimension, request)
         status, place = _CHOICES[dimension](lines, _library.joined(texts))
         _library.check(status, lambda: _reject(dimension, lines, texts))
-    return None if status == _library.ABSENT else offers[place]
+    return None if status == _library.ABSENT else offered[place]
 
 
 def _rate(dimension: int, request: HeadersLike, offer: Text) -> Quality:
