@@ -1,6 +1,6 @@
-// Refuses one request for memory of a process. Preloaded, it counts the requests from 1, and refuses that whose
-// number is in REFUSE_REQUEST. It then makes the file that REFUSE_MARK names, so that a run that made fewer
-// requests can be told. The file says `again` if the next request is for as much memory or less: a list that isn't
+// Lets one allocation of a process fail. Preloaded, it counts the allocations from 1, and the one whose number is in
+// REFUSE_REQUEST fails. It then makes the file that REFUSE_MARK names, so that a run that made fewer allocations
+// can be told. The file says `again` if the next allocation is for as much memory or less: a list that isn't
 // let grow by what an iterator hints at grows by what it needs.
 #include <errno.h>
 #include <fcntl.h>
