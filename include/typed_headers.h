@@ -13,7 +13,7 @@
  *   isn't TYPED_HEADERS_DONE.
  * - Several lines of a field are one text: each line ends in LF, which the last one needn't have. A CR before a LF, or
  *   at the end of the text, is no part of a line; any other byte that no field value has (CR, NUL, other control bytes
- *   but the tab) makes the call refuse the text. The empty text has no line. A line is the field's value alone, without
+ *   but the tab) makes the call reject the text. The empty text has no line. A line is the field's value alone, without
  *   its name. No space is taken off its ends.
  * - A call that writes bytes takes room for them. `*written` says how many bytes there are, also if they don't fit: the
  *   status is TYPED_HEADERS_NO_ROOM then, and the room is as it was. Nothing is written after them.
@@ -58,7 +58,7 @@ enum typed_headers_status {
     TYPED_HEADERS_DONE = 0,
     /* An argument isn't what the call reads. */
     TYPED_HEADERS_REFUSED = 1,
-    /* There was no memory. The same call may succeed later. */
+    /* It ran out of memory. The same call may succeed later. */
     TYPED_HEADERS_NO_MEMORY = 2,
     /* The bytes don't fit into the room. `*written` says how many there are. */
     TYPED_HEADERS_NO_ROOM = 3,
@@ -66,7 +66,7 @@ enum typed_headers_status {
     TYPED_HEADERS_ABSENT = 4,
     /* An argument is longer, or has more names, than the call takes. */
     TYPED_HEADERS_TOO_LARGE = 5,
-    /* The text was written, and marks names whose lines were refused. */
+    /* The text was written, and marks names whose lines were rejected. */
     TYPED_HEADERS_MARKED = 6
 };
 
@@ -168,7 +168,7 @@ struct typed_headers_content_range {
 
 /*
  * What a server allows requests from other origins. Each text has one value a line, as the lines of a field: the line
- * `*` alone stands for any value, and the empty text for none.
+ * `*` alone means any value, and the empty text none.
  */
 struct typed_headers_cors_rules {
     /* The origins, as `https://a.example`. One is compared byte for byte with what a browser sends. A text that no
@@ -176,7 +176,7 @@ struct typed_headers_cors_rules {
     struct typed_headers_text origins;
     /* The methods besides GET, HEAD and POST, with case. */
     struct typed_headers_text methods;
-    /* The names of request fields besides those that need no leave. Any name is all but `authorization`. */
+    /* The names of request fields besides those that are always allowed. Any name is all but `authorization`. */
     struct typed_headers_text headers;
     /* The names of response fields that scripts may read besides those that are always readable. */
     struct typed_headers_text exposed;
@@ -202,7 +202,7 @@ enum typed_headers_cors_kind {
     TYPED_HEADERS_NO_ORIGIN = 0,
     /* It has an `Origin`, and is no preflight. */
     TYPED_HEADERS_PLAIN = 1,
-    /* It asks for leave to send another one: OPTIONS, with `Origin` and `Access-Control-Request-Method`. */
+    /* It asks for permission to send another one: OPTIONS, with `Origin` and `Access-Control-Request-Method`. */
     TYPED_HEADERS_PREFLIGHT = 2
 };
 
@@ -214,7 +214,7 @@ struct typed_headers_cors_facts {
     uint8_t is_allowed;
 };
 
-/* Moments that a cache knows of a stored response, in seconds since the start of 1970, all of its own clock. */
+/* Times that a cache knows of a stored response, in seconds since the start of 1970, all of its own clock. */
 struct typed_headers_moments {
     /* When the request was made that the response answered. */
     uint64_t request;
@@ -336,7 +336,7 @@ enum typed_headers_pass_action {
     /* No response came, and no stored one may be sent: send 502 or 504. The pass has ended. */
     TYPED_HEADERS_NO_RESPONSE = 7,
     /* Another pass asks the origin for the same: call `typed_headers_pass_resume` once some pass through the cache has
-       ended, or after a moment. Only GET without Range waits, and only if the cache has a number of seconds to wait. */
+       ended, or after a while. Only GET without Range waits, and only if the cache has a number of seconds to wait. */
     TYPED_HEADERS_WAIT = 8
 };
 
@@ -476,7 +476,7 @@ struct typed_headers_resource {
     /* The hosts that it is served for, as they are written in Host (section 7.4). Empty: any. They are compared without
        case, and one without a port is served at each port. */
     struct typed_headers_text hosts;
-    /* The methods that it has, in the order of Allow. GET stands for HEAD too, and each resource has OPTIONS. */
+    /* The methods that it has, in the order of Allow. GET means HEAD too, and each resource has OPTIONS. */
     struct typed_headers_text methods;
     /* Those of `methods` that are performed if there is no current representation, as PUT (section 9.3.4). Any other is
        answered by 404. */
@@ -584,7 +584,7 @@ struct typed_headers_denial {
  * crates/decide_resource/README.md.
  */
 enum typed_headers_resource_reason {
-    /* Nothing stands in the way: the preconditions and Range decide, and then the method. */
+    /* Nothing prevents the method: the preconditions and Range decide, and then the method. */
     TYPED_HEADERS_ADMITTED = 0,
     /* 400: Host is missing, is there twice, or is no host. */
     TYPED_HEADERS_INVALID_HOST = 1,
@@ -918,7 +918,7 @@ enum typed_headers_event {
     TYPED_HEADERS_OUTPUT = 2,
     /* All was sent: close. */
     TYPED_HEADERS_CLOSED_CONNECTION = 3,
-    /* There was no memory, or a response can't be sent to its end: close. */
+    /* It ran out of memory, or a response can't be sent to its end: close. */
     TYPED_HEADERS_ABORTED = 4
 };
 
@@ -943,7 +943,7 @@ struct typed_headers_files {
     bool is_open;
 };
 
-/* What there is at a path. Any other number stands for the last. */
+/* What there is at a path. Any other number means the last. */
 enum typed_headers_entry_kind {
     /* Nothing, or what leads out of the folder: 404. */
     TYPED_HEADERS_ENTRY_MISSING = 0,
@@ -982,7 +982,7 @@ struct typed_headers_entry {
  * The canonical text of a header section (RFC 9112, section 5). `section` is read up to its first empty line: each line
  * before it is a name, a colon and a value. The text has each name once, in lower case, at its first appearance, with
  * its lines as the typed header of that name writes them. The lines of an unknown name are as they came, without blanks
- * at their ends. A name whose lines are refused stands as the line `! NAME`: the status is TYPED_HEADERS_MARKED then.
+ * at their ends. A name whose lines are rejected has the line `! NAME`: the status is TYPED_HEADERS_MARKED then.
  *
  * Refused: a line before the first empty one is no field. Too large: the section has more than 8,388,608 bytes, or more
  * names than a map has room for (24,576).
@@ -993,8 +993,8 @@ uint8_t typed_headers_canonical(const uint8_t *section, size_t section_length, c
 /*
  * The canonical field lines of a header: what the typed header of this name writes of the value that the lines say,
  * each line with a LF. `name` is the name of a field, in any case: of the 51 headers of the library. The lines of
- * `authorization` and `proxy-authorization` are read as credentials of Basic, or else of Bearer. The lines of a name
- * that no header has are as they came.
+ * `authorization` and `proxy-authorization` parse as credentials of Basic, or else of Bearer. The lines of a name that
+ * no header has are as they came.
  *
  * Refused: the name is no field name, or the header rejects the lines. Memory: the name is no standard one.
  */
@@ -1045,7 +1045,7 @@ uint8_t typed_headers_weak_eq(const uint8_t *one, size_t one_length, const uint8
                               uint8_t *equal);
 
 /*
- * The directives of `cache-control`: the entries of all lines (RFC 9111, section 5.2, and RFC 8246). Names go by ASCII
+ * The directives of `cache-control`: the entries of all lines (RFC 9111, section 5.2, and RFC 8246). Names ignore ASCII
  * case; the last entry that carries a number gives it. Refused: an entry carries one of the four numbers, and it is
  * none below 2^64.
  */
@@ -1209,14 +1209,14 @@ uint8_t typed_headers_websocket_check(const struct typed_headers_websocket_excha
  *
  * The text is the lines of the answer, each `name: value` and a LF, names in lower case. Six fields are the rules'
  * alone, and are to be taken off the response first: access-control-allow-origin, -allow-credentials, -expose-headers,
- * -allow-methods, -allow-headers and access-control-max-age. If the text has lines of `vary`, they stand in place of
- * the response's own. A preflight is answered with a status from 200 to 299.
+ * -allow-methods, -allow-headers and access-control-max-age. Lines of `vary` in the text replace the response's own. A
+ * preflight is answered with a status from 200 to 299.
  *
  * Refused: the rules have a line that is no origin that browsers send, no method or no name; they have `*` in a list of
  * several methods or names, or any origin, method or name with credentials, which no browser reads so; the method is no
  * token; or a line of a section before its first empty one is no field. Too large: a section has more names than a map
- * has room for (24,576). Memory: nothing is rejected. Whether rules are refused shows with the method GET and two empty
- * sections.
+ * has room for (24,576). Memory: nothing is rejected. Whether rules are rejected shows with the method GET and two
+ * empty sections.
  */
 uint8_t typed_headers_cors_answer(const struct typed_headers_cors_rules *rules,
                                   const struct typed_headers_request *request, const uint8_t *response,
@@ -1226,7 +1226,7 @@ uint8_t typed_headers_cors_answer(const struct typed_headers_cors_rules *rules,
 
 /*
  * Which of a list of origins, one a line, is the first that no browser sends (HTML standard, "ASCII serialization of an
- * origin"): `*place` counts from 0. A policy and a handshake refuse such lists, but that a policy takes the scheme in
+ * origin"): `*place` counts from 0. A policy and a handshake reject such lists, but that a policy takes the scheme in
  * any case. Absent: browsers send each, or the only line is `*`. Refused: a line can't be one.
  */
 uint8_t typed_headers_unsent_origin(const uint8_t *origins, size_t origins_length, size_t *place);
@@ -1239,14 +1239,14 @@ uint8_t typed_headers_unsent_origin(const uint8_t *origins, size_t origins_lengt
  *
  * The text is the lines of the answer, each `name: value` and a LF, names in lower case. They are all that the response
  * has of the fields that these decisions own. If the status is 0, the server performs the method and sets the lines in
- * the response that comes of it: lines of `vary` stand in place of the response's own, and if `rules` count, the six
- * fields of `typed_headers_cors_answer` are taken off first. The ranges and their limits are those of
- * `typed_headers_respond`. Both rooms, their counts and `*facts` are given as there.
+ * the response that comes of it: lines of `vary` replace the response's own, and if `rules` count, the six fields of
+ * `typed_headers_cors_answer` are taken off first. The ranges and their limits are those of `typed_headers_respond`.
+ * Both rooms, their counts and `*facts` are given as there.
  *
  * Refused: a line of a text can't be a field line; a method is no token; a list has more lines than there are methods
  * or representations; the state, the version or the status of the denial is another number; the location or the
  * challenge of a 401 is empty; the boundary or an entity tag is none; a date lies past the year 9999; the rules count
- * and are refused; the target is in absolute-form without a host; or a line of the section before its first empty one
+ * and are rejected; the target is in absolute-form without a host; or a line of the section before its first empty one
  * is no field. Too large: the section has more names than a map has room for (24,576). Memory: the boundary is one.
  */
 uint8_t typed_headers_resource_answer(const struct typed_headers_resource *resource,
@@ -1272,8 +1272,8 @@ uint8_t typed_headers_may_store(const struct typed_headers_request *request, uin
 
 /*
  * For how many seconds a response is fresh by what its origin says (RFC 9111, section 4.2.1): `s-maxage` in a shared
- * cache, else `max-age`, else Expires less Date. `received` is when it came, and stands for a Date that is missing or
- * can't be read.
+ * cache, else `max-age`, else Expires less Date. `received` is when it came, and replaces a Date that is missing or
+ * can't be parsed.
  *
  * Absent: the origin doesn't say. Refused: a line of the section before its first empty one is no field.
  */
@@ -1313,9 +1313,8 @@ uint8_t typed_headers_decide(const struct typed_headers_stored *stored, const st
  * The fields by which the origin is asked whether a stored response is still good (RFC 9111, section 4.3.1): its entity
  * tag as a line of `if-none-match`, and the date of its last modification as one of `if-modified-since`, each with a
  * LF. `received` is when the response came, in seconds since 1970; it resolves a year of two digits. A validator that
- * the response doesn't have, or that is no single entity tag or date, has no line. The lines stand in place of the
- * request's own two fields, which are to be taken off first. Refused: a line of the section before its first empty one
- * is no field.
+ * the response doesn't have, or that is no single entity tag or date, has no line. The lines replace the request's own
+ * two fields, which are to be taken off first. Refused: a line of the section before its first empty one is no field.
  */
 uint8_t typed_headers_validators(const uint8_t *response, size_t response_length, uint64_t received,
                                  const struct typed_headers_keys *keys, uint8_t *room, size_t room_length,
@@ -1583,7 +1582,7 @@ uint8_t typed_headers_section_choose_language(struct typed_headers_section *fiel
 
 /*
  * Opens the handle of a policy with a server's rules. Refused: the handle is open, or `typed_headers_cors_answer`
- * refuses the rules. Memory: the handle is closed.
+ * rejects the rules. Memory: the handle is closed.
  */
 uint8_t typed_headers_cors_policy_new(struct typed_headers_cors_policy *policy,
                                       const struct typed_headers_cors_rules *rules);
@@ -1601,7 +1600,7 @@ uint8_t typed_headers_cors_policy_answer(struct typed_headers_cors_policy *polic
                                          size_t *written);
 
 /*
- * Opens the handle of a resource. Refused: the handle is open, or `typed_headers_resource_answer` refuses the resource,
+ * Opens the handle of a resource. Refused: the handle is open, or `typed_headers_resource_answer` rejects the resource,
  * its representations or the rules. Memory: the handle is closed.
  */
 uint8_t typed_headers_resource_handle_new(struct typed_headers_resource_handle *handle,
@@ -1644,8 +1643,8 @@ uint8_t typed_headers_connection_new(struct typed_headers_connection *connection
 uint8_t typed_headers_connection_next(struct typed_headers_connection *connection, uint8_t *event);
 
 /*
- * Receives bytes, cut anywhere: all of them, or none if there is no memory. Refused: the connection doesn't want input.
- * Memory: `input` isn't empty.
+ * Receives bytes, cut anywhere: all of them, or none if it runs out of memory. Refused: the connection doesn't want
+ * input. Memory: `input` isn't empty.
  */
 uint8_t typed_headers_connection_receive(struct typed_headers_connection *connection, const uint8_t *input,
                                          size_t input_length);
@@ -1747,7 +1746,7 @@ uint8_t typed_headers_pass_free(struct typed_headers_pass *pass);
  *
  * Refused: the pass is open, the target is no UTF-8, the method is no token, or a line of the section before its first
  * empty one is no field. Absent: the cache is closed. Memory: nothing is rejected. On each of these the pass stays as
- * it was, and a program forwards the request as it is and passes on what comes. If that is a 2xx or 3xx, and the method
+ * it was, and a program forwards the request as it is, and then what comes. If that is a 2xx or 3xx, and the method
  * isn't known to be safe, call `typed_headers_cache_remove` (RFC 9111, section 4.4): it never runs out of memory.
  */
 uint8_t typed_headers_pass_begin(struct typed_headers_cache *cache, struct typed_headers_pass *pass,
@@ -1757,7 +1756,7 @@ uint8_t typed_headers_pass_begin(struct typed_headers_cache *cache, struct typed
 /*
  * Says what is done after WAIT. It is WAIT again while the other pass hasn't ended, and asked less than the seconds ago
  * that the cache waits. A pass waits for one other alone. Absent: the cache or the pass is closed, or the pass doesn't
- * wait; nothing changes then. Memory: the pass waits. Then a program forwards the request as it is, and passes on what
+ * wait; nothing changes then. Memory: the pass waits. Then a program forwards the request as it is, and then what
  * comes.
  */
 uint8_t typed_headers_pass_resume(struct typed_headers_cache *cache, struct typed_headers_pass *pass, uint64_t now,
@@ -1812,18 +1811,18 @@ uint8_t typed_headers_pass_content(struct typed_headers_pass *pass, size_t from,
                                    size_t *written);
 
 /*
- * Keeps the next piece of the content that passes on, to be stored. If the pieces are more than the cache may have, the
- * pass keeps none, and the response isn't stored. This call, too, may overlap with those on the cache and on other
- * passes. Absent: the pass is closed, or no response passes on that is to be stored; nothing changes then. Memory: the
- * piece isn't empty. Then the pass keeps none, too.
+ * Keeps the next piece of the content that is forwarded, to be stored. If the pieces are more than the cache may have,
+ * the pass keeps none, and the response isn't stored. This call, too, may overlap with those on the cache and on other
+ * passes. Absent: the pass is closed, or no response is forwarded that is to be stored; nothing changes then. Memory:
+ * the piece isn't empty. Then the pass keeps none, too.
  */
 uint8_t typed_headers_pass_received(struct typed_headers_pass *pass, const uint8_t *piece, size_t piece_length);
 
 /*
  * Stores the response that passed on, with the pieces of its content, if all of them came and it may be stored (RFC
  * 9111, section 3), and unless its target was removed since the origin was asked: `*number` is its number, which the
- * cache gives no other response, or 0 if it isn't stored. Absent: the cache or the pass is closed, or no response
- * passes on that is to be stored; nothing changes then. Memory: all of it came. Then it isn't stored.
+ * cache gives no other response, or 0 if it isn't stored. Absent: the cache or the pass is closed, or no response is
+ * forwarded that is to be stored; nothing changes then. Memory: all of it came. Then it isn't stored.
  */
 uint8_t typed_headers_pass_ended(struct typed_headers_cache *cache, struct typed_headers_pass *pass,
                                  bool is_complete, uint64_t now, uint64_t *number);
