@@ -144,6 +144,7 @@ _DONE, _REFUSED = int(_library.Status.DONE), int(_library.Status.REFUSED)
 _MOST = 16 * 1024 * 1024
 _PIECE = 64 * 1024
 _VERSIONS = {10: b"1.0", 11: b"1.1"}
+_CONTENT_LENGTH = b"content-length"
 
 
 class Connection:
@@ -177,14 +178,12 @@ class Connection:
 
     def receive_data(self, data: bytes) -> None:
         """Takes bytes of the client. `b""` says that it ended its side."""
-        if self.our_state in (State.CLOSED, State.ERROR):
-            return
-        if self._has_ended:
-            raise LocalProtocolError("the client has ended its side")
-        if data:
-            self._input.append(bytes(data))
-        else:
+        if not data:
             self._has_ended = True
+        elif self._has_ended:
+            raise LocalProtocolError("the client has ended its side")
+        elif self.our_state not in (State.CLOSED, State.ERROR):
+            self._input.append(bytes(data))
 
     @property
     def trailing_data(self) -> Tuple[bytes, bool]:
@@ -292,11 +291,13 @@ class Connection:
             raise HeaderError(f"status_code: {head.status_code} isn't from 100 to 999")
         lengths = []
         for name, value in head.headers:
+            if name.lower() == _CONTENT_LENGTH:
+                # (the library adds it to a response with content)
+                lengths.append(value)
+                continue
             status = calls.connection_plan_field(handle, name, value)
             if status:
                 _library.check(status, partial(_wrong_field, name, value))
-            if name.lower() == b"content-length":
-                lengths.append(value)
         self._length = _library.number(calls.content_length, "content-length", tuple(lengths)) if lengths else None
         self._held.clear()
         self._held_length = 0
@@ -347,6 +348,12 @@ class Connection:
         if not self._is_planned:
             raise _wrong_time("EndOfMessage", self.our_state)
         if self.our_state == State.SEND_RESPONSE:
+            if self._length and not self._held:
+                # (as to HEAD, and with 304)
+                length = b"%d" % self._length
+                _library.check(
+                    _library.calls.connection_plan_field(self._handle, _CONTENT_LENGTH, length), _out_of_order
+                )
             self._respond(self._held_length)
             for piece in self._held:
                 self._send_piece(piece)

@@ -1,14 +1,15 @@
-"""uvicorn over the library's parsing and framing: `uvicorn --http typed_headers.uvicorn:Protocol app:app`.
+"""uvicorn over the library's parsing and framing: `python3 -m typed_headers.uvicorn app:app`, with uvicorn's options.
 
-The content of a request reaches the application once all of it has come. A response without Content-Length is held until
+In a program it is `uvicorn.run(app, http=Protocol)`. The content of a request reaches the application once all of it has come. A response without Content-Length is held until
 its end, as its length is sent before its content: so a stream that never ends, as of server-sent events, never begins.
 """
 
 import asyncio
 import logging
-from typing import Any, Awaitable, Callable, Dict, List, MutableMapping, Optional, Tuple
+from typing import Any, Awaitable, Callable, Dict, List, MutableMapping, Optional, Tuple, cast
 from urllib.parse import unquote_to_bytes
 
+from uvicorn import main
 from uvicorn.logging import TRACE_LOG_LEVEL
 from uvicorn.protocols.http.flow_control import HIGH_WATER_LIMIT, FlowControl, service_unavailable
 from uvicorn.protocols.utils import (
@@ -97,12 +98,11 @@ class Protocol(asyncio.Protocol):
     # What asyncio calls
 
     def connection_made(self, transport: asyncio.BaseTransport) -> None:
-        assert isinstance(transport, asyncio.Transport)
         self.connections.add(self)
-        self.transport = transport
-        self.flow = FlowControl(transport)
-        self.server, self.client = get_local_addr(transport), get_remote_addr(transport)
-        self.scheme = "https" if is_ssl(transport) else "http"
+        self.transport = cast(asyncio.Transport, transport)
+        self.flow = FlowControl(self.transport)
+        self.server, self.client = get_local_addr(self.transport), get_remote_addr(self.transport)
+        self.scheme = "https" if is_ssl(self.transport) else "http"
         self._trace("HTTP connection made")
         self._wait(self.request_time)
 
@@ -406,3 +406,17 @@ class _Exchange:
             self._has_ended = True
             self._is_disconnected.set()
             self._protocol.ended()
+
+
+def run() -> None:
+    """Runs uvicorn's command with this protocol, whatever `--http` says."""
+    from typed_headers.uvicorn import Protocol as protocol
+
+    for option in main.params:
+        if option.name == "http":
+            option.callback = lambda context, parameter, value: protocol
+    main(prog_name="python3 -m typed_headers.uvicorn")
+
+
+if __name__ == "__main__":
+    run()
