@@ -263,8 +263,8 @@ class Responses(unittest.TestCase):
         self.assertEqual(connection.data_to_send(), b"")
         with self.assertRaises(TooLarge):
             connection.send(Data(b"!"))
-        late: Union[Data, EndOfMessage]
-        for late in (Data(b"!"), EndOfMessage()):
+        too_late: Sequence[Union[Data, EndOfMessage]] = (Data(b"!"), EndOfMessage())
+        for late in too_late:
             with self.assertRaises(LocalProtocolError):
                 connection.send(late)
         self.assertEqual(answer(connection, 500), b"HTTP/1.1 500 Internal Server Error\r\ncontent-length: 0\r\n\r\n")
