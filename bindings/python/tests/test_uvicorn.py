@@ -88,12 +88,10 @@ class Server(uvicorn.Server):
 
 
 def read_all(client: socket.socket) -> bytes:
-    found = b""
-    while True:
-        piece = client.recv(65536)
-        if not piece:
-            return found
-        found += piece
+    pieces = []
+    while piece := client.recv(65536):
+        pieces.append(piece)
+    return b"".join(pieces)
 
 
 def read_until(client: socket.socket, end: bytes) -> bytes:
@@ -157,6 +155,15 @@ class Logs(logging.Handler):
     def __exit__(self, *_: object) -> None:
         self.logger.removeHandler(self)
         self.logger.setLevel(self.before)
+
+
+def documented(language: str) -> str:
+    """The code of CONNECTION.md that isn't an example of the interpreter's."""
+    page = Path(__file__).resolve().parent.parent / "CONNECTION.md"
+    if not page.exists():
+        raise unittest.SkipTest("the page isn't there")
+    blocks = [it.partition("```")[0] for it in page.read_text("utf-8").split(f"```{language}\n")[1:]]
+    return next(it for it in blocks if not it.startswith(">>>"))
 
 
 def setUpModule() -> None:
@@ -328,6 +335,14 @@ class Limits(unittest.TestCase):
                 client.shutdown(socket.SHUT_WR)
                 self.assertTrue(read_all(client).startswith(b"HTTP/1.1 413 "))
 
+    def test_the_documented_limit(self) -> None:
+        known: Dict[str, Any] = {"Protocol": Protocol}
+        exec(documented("python"), known)
+        for protocol, status in ((Protocol, 413), (known["Larger"], 200)):
+            with Server(echo, protocol) as server:
+                sent = server.ask(last(b"PUT / HTTP/1.1")[:-2] + b"Content-Length: 17000000\r\n\r\n" + bytes(17000000))
+                self.assertTrue(sent.startswith(b"HTTP/1.1 %d " % status), sent[:100])
+
     def test_content_that_is_held(self) -> None:
         class Own(Protocol):
             most_held = 1000
@@ -495,7 +510,10 @@ class Flow(unittest.TestCase):
             time.sleep(0.5)
             self.assertLess(ahead[0], 24)
             head = b"HTTP/1.1 200 OK\r\ncontent-length: %d\r\nconnection: close\r\n\r\n" % (count * MIB)
-            self.assertEqual(len(read_all(client)), len(head) + count * MIB)
+            length = 0
+            while piece := client.recv(MIB):
+                length += len(piece)
+            self.assertEqual(length, len(head) + count * MIB)
 
     def test_a_client_that_writes_ahead(self) -> None:
         """What comes while a response is made is held, up to a bound."""
@@ -706,20 +724,21 @@ class WithStarlette(unittest.TestCase):
 
     def test_websocket(self) -> None:
         try:
-            import websockets
+            from websockets.client import connect
+            from websockets.exceptions import InvalidStatusCode
         except ImportError as error:
             self.skipTest(f"websockets isn't installed: {error}")
 
         async def talk(url: str) -> List[Any]:
             found: List[Any] = []
-            async with websockets.connect(f"{url}/chat") as client:
+            async with connect(f"{url}/chat") as client:
                 for text in ("a", "b" * 200_000):
                     await client.send(text)
                     found.append(await client.recv())
             try:
-                async with websockets.connect(f"{url}/none"):
+                async with connect(f"{url}/none"):
                     pass
-            except websockets.exceptions.InvalidStatusCode as error:
+            except InvalidStatusCode as error:
                 found.append(error.status_code)
             return found
 
@@ -752,8 +771,9 @@ class WithStarlette(unittest.TestCase):
             with self.subTest(loop=loop), socket.socket() as listener:
                 listener.bind(("127.0.0.1", 0))
                 listener.listen()
-                words = [sys.executable, "-m", "typed_headers.uvicorn", "--fd", str(listener.fileno()), "--loop", loop,
-                         "--factory", "test_uvicorn:application"]
+                command = documented("sh").replace("app:app", "--factory test_uvicorn:application").split()
+                self.assertEqual(command[0], "python3")
+                words = [sys.executable, *command[1:], "--fd", str(listener.fileno()), "--loop", loop]
                 environment = {**os.environ, "PYTHONPATH": os.pathsep.join([folder, *sys.path])}
                 program = subprocess.Popen(words, pass_fds=[listener.fileno()], env=environment, cwd=folder,
                                            stderr=subprocess.PIPE, text=True)
