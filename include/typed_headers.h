@@ -1673,6 +1673,16 @@ uint8_t typed_headers_connection_field(struct typed_headers_connection *connecti
                                        size_t name_length, uint8_t *room, size_t room_length, size_t *written);
 
 /*
+ * The field lines of the request that waits, each with a LF: the name in lower case, a colon, a space and the value.
+ * Those of one name come together, in their order. Refused: no request waits. Memory: it has a field.
+ */
+uint8_t typed_headers_connection_fields(struct typed_headers_connection *connection, uint8_t *room,
+                                        size_t room_length, size_t *written);
+
+/* The version of HTTP of the request that waits: 10 or 11. Refused: no request waits. */
+uint8_t typed_headers_connection_version(struct typed_headers_connection *connection, uint8_t *version);
+
+/*
  * Begins the plan of the response to the request that waits: with this status, and without fields and content. Refused:
  * the status is no number from 100 to 999.
  */

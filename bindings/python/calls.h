@@ -338,6 +338,10 @@ CALL(connection_content, MAY(REFUSED) | MAY(ABSENT), (at[0].handle.at, ROOM(at[1
      PLAIN(ROOM_OF_BYTES))
 CALL(connection_field, MAY(REFUSED) | MAY(ABSENT) | MAY(NO_MEMORY), (at[0].handle.at, TEXT_OF(at[1]), ROOM(at[2])),
      OF_HANDLE(OPENED, connection), PLAIN(GIVEN_TEXT), PLAIN(ROOM_OF_BYTES))
+CALL(connection_fields, MAY(REFUSED) | MAY(ABSENT) | MAY(NO_MEMORY), (at[0].handle.at, ROOM(at[1])),
+     OF_HANDLE(OPENED, connection), PLAIN(ROOM_OF_BYTES))
+CALL(connection_version, MAY(REFUSED) | MAY(ABSENT), (at[0].handle.at, &at[1].u8), OF_HANDLE(OPENED, connection),
+     OF_KIND(OUT_NUMBER, U8))
 CALL(connection_plan, MAY(REFUSED) | MAY(ABSENT), (at[0].handle.at, at[1].u16), OF_HANDLE(OPENED, connection),
      OF_KIND(NUMBER, U16))
 CALL(connection_plan_field, MAY(REFUSED) | MAY(ABSENT) | MAY(NO_MEMORY), (at[0].handle.at, TEXT_OF(at[1]),
@@ -410,9 +414,10 @@ enum { MOST_SLOTS = 9 };
     METHOD(resource_handle_new), METHOD(resource_handle_answer), METHOD(connection_free), METHOD(connection_new), \
     METHOD(connection_next), METHOD(connection_receive), METHOD(connection_finish_input), METHOD(connection_method), \
     METHOD(connection_path), METHOD(connection_query), METHOD(connection_content), METHOD(connection_field), \
-    METHOD(connection_plan), METHOD(connection_plan_field), METHOD(connection_plan_bytes), \
-    METHOD(connection_plan_range), METHOD(connection_respond), METHOD(connection_output), METHOD(connection_range), \
-    METHOD(connection_sent), METHOD(connection_time_out), METHOD(connection_rejection), METHOD(connection_planned), \
-    METHOD(pass_free), METHOD(pass_begin), METHOD(pass_resume), METHOD(pass_came), METHOD(pass_failed), \
-    METHOD(pass_fields), METHOD(pass_validation), METHOD(pass_content), METHOD(pass_received), METHOD(pass_ended), \
-    METHOD(files_free), METHOD(files_new), METHOD(files_path), METHOD(files_plan)
+    METHOD(connection_fields), METHOD(connection_version), METHOD(connection_plan), METHOD(connection_plan_field), \
+    METHOD(connection_plan_bytes), METHOD(connection_plan_range), METHOD(connection_respond), \
+    METHOD(connection_output), METHOD(connection_range), METHOD(connection_sent), METHOD(connection_time_out), \
+    METHOD(connection_rejection), METHOD(connection_planned), METHOD(pass_free), METHOD(pass_begin), \
+    METHOD(pass_resume), METHOD(pass_came), METHOD(pass_failed), METHOD(pass_fields), METHOD(pass_validation), \
+    METHOD(pass_content), METHOD(pass_received), METHOD(pass_ended), METHOD(files_free), METHOD(files_new), \
+    METHOD(files_path), METHOD(files_plan)

@@ -1,4 +1,4 @@
-"""The examples in docstrings and in README.md."""
+"""The examples in docstrings, in README.md and in CONNECTION.md."""
 
 import doctest
 import importlib
@@ -13,14 +13,14 @@ import typed_headers
 
 def load_tests(loader: unittest.TestLoader, tests: unittest.TestSuite, pattern: str) -> unittest.TestSuite:
     # (what is imported of Django wants its settings)
-    others = {"httpx": "httpx", "proxy": "httpx", "requests": "requests", "starlette": "starlette"}
+    others = {"httpx": "httpx", "proxy": "httpx", "requests": "requests", "starlette": "starlette", "uvicorn": "uvicorn"}
     unread = ["__main__", "_native", "django", *(it for it in others if not importlib.util.find_spec(others[it]))]
     names = [it.name for it in pkgutil.iter_modules(typed_headers.__path__) if it.name not in unread]
     for module in (typed_headers, *(importlib.import_module(f"typed_headers.{name}") for name in names)):
         tests.addTests(doctest.DocTestSuite(module))
-    readme = Path(__file__).resolve().parent.parent / "README.md"
-    if readme.exists():
-        tests.addTests(doctest.DocFileSuite(str(readme), module_relative=False))
+    for page in (Path(__file__).resolve().parent.parent / name for name in ("README.md", "CONNECTION.md")):
+        if page.exists():
+            tests.addTests(doctest.DocFileSuite(str(page), module_relative=False))
     return tests
 
 

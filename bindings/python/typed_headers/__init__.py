@@ -36,6 +36,7 @@ from .caching import (
     validators,
 )
 from .conditions import Content, Precondition, Response, Selection, Target, evaluate, respond, select
+from .connection import Connection
 from .cors import CORS_FIELDS, CorsAnswer, CorsKind, CorsPolicy
 from .errors import HeaderError, InvalidField, InvalidSection, TooLarge
 from .gateway import (
@@ -114,6 +115,7 @@ __all__ = [
     "CacheControl",
     "CacheStatus",
     "Challenge",
+    "Connection",
     "Content",
     "ContentDisposition",
     "ContentRange",

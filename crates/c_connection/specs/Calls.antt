@@ -1,10 +1,11 @@
 -- What the calls on a handle do to its connection.
 use Rattle.std.specs.Prelude.{◌≡◌, ◌≢◌, ◌⊎◌, ℕ, ◌≤◌, List, [], ◌∷◌, ◌++◌, length, Option, Some, None, ⊤, codes, true}
 use Rattle.std.specs.Prelude.{Result, Ok, Err, false, take, min, slice_range}
-use Rattle.std.specs.Option.{option_map}
+use Rattle.std.{specs.Option.option_map, specs.Global.Vec}
 use Rattle.http_header.{specs.FieldValue.FieldValue, specs.HeaderMap.get}
 use Rattle.http.{specs.declared.request.Request.Request, specs.declared.request.Parts.Parts, specs.Request.body_of}
 use Rattle.http.{specs.Request.head_of, specs.StatusCode.code_digits}
+use Rattle.http.specs.declared.version.TheConstants.Version.{HTTP_10}
 use Rattle.http_uri.specs.Uri.{uri_path, uri_query}
 use Rattle.http_server.{specs.declared.state.Config.Config, specs.Refusal.refusal_text}
 use Rattle.http_server.specs.declared.state.Reason.TheVariants as reason
@@ -17,6 +18,7 @@ use Rattle.server_connection.{specs.Connection.{IsReached, IsSaid}, specs.Machin
 use Rattle.server_connection.specs.Machine.{HandsOutRange, HasNoRange, IsNextRange, Moves, Offers, OffersCount}
 use Rattle.c_parts.{specs.Endings.{Writes, done}, specs.FieldText.IsNameOf, specs.declared.status.Failure.Failure}
 use Rattle.c_parts.specs.declared.status.Failure.TheVariants.{Refused, Memory, Absent}
+use Rattle.c_pass.specs.Validating.{map_text}
 use Rattle.c_handles.{specs.Handles.{OnHeld, connection_in}, specs.declared.held.Held.Held}
 use Rattle.c_handles.specs.declared.held.Held.TheVariants as held
 use Rattle.c_handles.specs.declared.held.HeldConnection.{HeldConnection}
@@ -166,6 +168,21 @@ OnName (Err failure) held answer = answer ≡ Err failure
 -- that line, of the field of this name in any case
 abbrev pub IsField : List ℕ → HeldConnection → Result (List ℕ) Failure → Type 0
 IsField name held answer = (read : Result (List ℕ) Failure) × IsNameOf name read × OnName read held answer
+
+-- the field lines of the request that waits, each after its name; without one, the failure is `Refused`
+abbrev pub AreFields : HeldConnection → Result (Vec ℕ) Failure → Type 0
+AreFields held (Ok text) =
+    (held.connection.machine.phase ≡ Asking) × (text.items ≡ map_text (head_asked held).headers)
+AreFields held (Err Memory) = held.connection.machine.phase ≡ Asking
+AreFields held (Err failure) = (failure ≡ Refused) × ¬ (held.connection.machine.phase ≡ Asking)
+
+-- the version of the request that waits: 10 of HTTP/1.0, else 11
+abbrev pub IsVersion : HeldConnection → Result ℕ Failure → Type 0
+IsVersion held (Ok number) =
+    (held.connection.machine.phase ≡ Asking)
+    × ((((head_asked held).version ≡ HTTP_10) × (number ≡ 10))
+    ⊎ (((head_asked held).version ≢ HTTP_10) × (number ≡ 11)))
+IsVersion held (Err failure) = (failure ≡ Refused) × ¬ (held.connection.machine.phase ≡ Asking)
 
 -- the first bytes that wait to be written, as many as there is room for
 abbrev pub front_of : List ℕ → ℕ → List ℕ

@@ -2,12 +2,14 @@
 ghost use Rattle.std.specs.Prelude.{◌≡◌, ◌↔◌, IfErr, IfOk, IsTrue, Ok, Err, Some, option_map};
 ghost use Rattle.c_handles.specs.Handles.{OnHeld, connection_in};
 ghost use Rattle.c_parts.specs.Endings.{Writes, done};
-ghost use Rattle.c_connection.specs.Calls.{IsField, IsLate, IsRangeNext, IsRejection, IsText, OnAsked, OnName};
-ghost use Rattle.c_connection.specs.Calls.{Shows, front_of, is_found, planned};
+ghost use Rattle.c_connection.specs.Calls.{AreFields, IsField, IsLate, IsRangeNext, IsRejection, IsText, IsVersion};
+ghost use Rattle.c_connection.specs.Calls.{OnAsked, OnName, Shows, front_of, is_found, planned};
 
 use crate::calling::ask;
 use c_handles::{Handle, Held, HeldConnection};
 use c_parts::{DONE, Failure, copy_into, read_name};
+use headers_section::print_line;
+use http::Version;
 use http_header::HeaderName;
 use server_connection::OpenRange;
 use std::alloc::Global;
@@ -139,6 +141,49 @@ pub fn write_text(
     let status = write_in(alloc, &held, text, room, written);
     handle.put(held);
     status
+}
+
+fn fields_in(alloc: Global, held: &HeldConnection) -> Result<Vec<u8>, Failure>
+    ensures { AreFields held.now result }
+{
+    if !held.connection.is_asking() {
+        return Err(Failure::Refused);
+    }
+    let mut text = Vec::new(alloc);
+    for (name, value) in held.connection.request().headers().iter() {
+        print_line(&mut text, name, value)?;
+    }
+    Ok(text)
+}
+
+/// The field lines of the request that waits, each with a byte 10 after it. Those of one name come together, in their
+/// order. Rejected if no request waits.
+pub fn fields_of(alloc: Global, handle: &mut Handle) -> Result<Vec<u8>, Failure>
+    ensures same { handle.new.held ≡ handle.old.held }
+    ensures fields { OnHeld AreFields (connection_in handle.old.held) result }
+{
+    ask(alloc, handle, |held| fields_in(alloc, held))
+}
+
+fn version_in(held: &HeldConnection) -> Result<u8, Failure>
+    ensures { IsVersion held.now result }
+{
+    if !held.connection.is_asking() {
+        return Err(Failure::Refused);
+    }
+    if held.connection.request().version() == Version::HTTP_10 {
+        Ok(10)
+    } else {
+        Ok(11)
+    }
+}
+
+/// The version of HTTP of the request that waits: 10 or 11. Rejected if none waits.
+pub fn version_of(alloc: Global, handle: &mut Handle) -> Result<u8, Failure>
+    ensures same { handle.new.held ≡ handle.old.held }
+    ensures version { OnHeld IsVersion (connection_in handle.old.held) result }
+{
+    ask(alloc, handle, |held| version_in(held))
 }
 
 fn range_in(held: &HeldConnection) -> Result<OpenRange, Failure>

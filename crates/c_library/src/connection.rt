@@ -1,10 +1,10 @@
 //! A server's connection, behind a handle.
 ghost use Rattle.std.specs.Prelude.{◌≡◌, None, Ok, length};
 ghost use Rattle.server_connection.specs.declared.piece.Piece.TheVariants.{Literal, Range};
-ghost use Rattle.c_parts.specs.Endings.{Gives};
+ghost use Rattle.c_parts.specs.Endings.{Gives, Writes, done};
 ghost use Rattle.c_handles.specs.Handles.{OnHeld, Opens, connection_in};
-ghost use Rattle.c_connection.specs.Calls.{Finishes, HandsOut, IsConnectionHeld, IsRangeNext, IsRejection};
-ghost use Rattle.c_connection.specs.Calls.{OnConnection};
+ghost use Rattle.c_connection.specs.Calls.{AreFields, Finishes, HandsOut, IsConnectionHeld, IsRangeNext, IsRejection};
+ghost use Rattle.c_connection.specs.Calls.{IsVersion, OnConnection};
 ghost use Rattle.c_connection.{specs.Calls.{Receives, Responds, Shows, Wants, planned}, specs.Plans.AddsField};
 ghost use Rattle.c_connection.specs.Plans.{AddsPiece, Begins};
 ghost use Rattle.c_connection.specs.declared.reading.Text.TheVariants.{Content, Field, Method, Output, Path, Query};
@@ -14,11 +14,11 @@ ghost use Rattle.c_library.{specs.CacheStore.Ends, specs.Connections.TellsBoth};
 use crate::giving::give;
 use crate::store::ended;
 use c_connection::{
-    Text, add_bytes, add_field, add_range, begin, finish_input, next, open_connection, planned_of,
-    range_of, receive, rejection_of, respond, sent, write_text,
+    Text, add_bytes, add_field, add_range, begin, fields_of, finish_input, next, open_connection,
+    planned_of, range_of, receive, rejection_of, respond, sent, version_of, write_text,
 };
 use c_handles::{Handle, close};
-use c_parts::{DONE, HashKeys};
+use c_parts::{DONE, HashKeys, copy_into};
 use std::alloc::Global;
 
 /// Opens a closed handle with a connection that has received nothing.
@@ -133,6 +133,37 @@ pub extern "C" fn typed_headers_connection_field(
         room.old room.new written.old written.new result }
 {
     write_text(alloc, connection, Text::Field(name), room, written)
+}
+
+/// Writes its field lines.
+#[unsafe(no_mangle)]
+pub extern "C" fn typed_headers_connection_fields(
+    alloc: Global,
+    connection: &mut Handle,
+    room: &mut [u8],
+    written: &mut usize,
+) -> u8
+    ensures same { connection.new.held ≡ connection.old.held }
+    ensures fields { Writes (λ text. text.items) (λ _. done) (OnHeld AreFields (connection_in connection.old.held))
+        room.old room.new written.old written.new result }
+{
+    match fields_of(alloc, connection) {
+        Ok(text) => copy_into(text.as_slice(), DONE, room, written),
+        Err(failure) => failure.status(),
+    }
+}
+
+/// The version of HTTP that it has.
+#[unsafe(no_mangle)]
+pub extern "C" fn typed_headers_connection_version(
+    alloc: Global,
+    connection: &mut Handle,
+    version: &mut u8,
+) -> u8
+    ensures same { connection.new.held ≡ connection.old.held }
+    ensures version { Gives (OnHeld IsVersion (connection_in connection.old.held)) version.old version.new result }
+{
+    give(version_of(alloc, connection), version)
 }
 
 /// Writes its content.

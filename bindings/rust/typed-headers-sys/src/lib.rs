@@ -1006,6 +1006,13 @@ extern "C" {
         room_length: usize,
         written: *mut usize,
     ) -> u8;
+    pub fn typed_headers_connection_fields(
+        connection: *mut Connection,
+        room: *mut u8,
+        room_length: usize,
+        written: *mut usize,
+    ) -> u8;
+    pub fn typed_headers_connection_version(connection: *mut Connection, version: *mut u8) -> u8;
     pub fn typed_headers_connection_plan(connection: *mut Connection, status: u16) -> u8;
     pub fn typed_headers_connection_plan_field(
         connection: *mut Connection,
