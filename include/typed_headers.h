@@ -43,8 +43,8 @@ extern "C" {
 #endif
 
 /*
- * The version of the library, as "1.0.0". A program that was built with version 1.N runs with each library of version
- * 1.M where M is at least N: no call goes away or changes its parameters, and no struct of this file grows. A call that
+ * The version of the library, as "2.0.0". A program that was built with version 2.N runs with each library of version
+ * 2.M where M is at least N: no call goes away or changes its parameters, and no struct of this file grows. A call that
  * is to take or give more gets a new name.
  */
 const char *typed_headers_version(void);

@@ -111,7 +111,7 @@ class Documented(unittest.TestCase):
             await send({"type": "http.response.start", "status": 200, "headers": fields})
             await send({"type": "http.response.body", "body": CONTENT})
 
-        wrapping = self.block(r"^application = ")
+        wrapping = self.block(r"(?m)^application = ")
         for is_async, kind, inner in ((False, wsgi, application), (True, asgi, later)):
             made = run(wrapping, kind, application=inner)["application"]
             self.judge(lambda *words: ask(is_async, made, *words), is_cors=True)
