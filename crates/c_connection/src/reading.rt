@@ -2,6 +2,7 @@
 ghost use Rattle.std.specs.Prelude.{◌≡◌, ◌↔◌, IfErr, IfOk, IsTrue, Ok, Err, Some, option_map};
 ghost use Rattle.c_handles.specs.Handles.{OnHeld, connection_in};
 ghost use Rattle.c_parts.specs.Endings.{Writes, done};
+ghost use Rattle.c_pass.specs.Validating.{map_text};
 ghost use Rattle.c_connection.specs.Calls.{AreFields, IsField, IsLate, IsRangeNext, IsRejection, IsText, IsVersion};
 ghost use Rattle.c_connection.specs.Calls.{OnAsked, OnName, Shows, front_of, is_found, planned};
 
@@ -10,9 +11,9 @@ use c_handles::{Handle, Held, HeldConnection};
 use c_parts::{DONE, Failure, copy_into, read_name};
 use headers_section::print_line;
 use http::Version;
-use http_header::HeaderName;
+use http_header::{HeaderMap, HeaderName};
 use server_connection::OpenRange;
-use std::alloc::Global;
+use std::alloc::{AllocError, Global};
 
 /// Bytes that a connection has.
 #[derive(Clone, Copy)]
@@ -143,17 +144,26 @@ pub fn write_text(
     status
 }
 
+fn lines_of_map(alloc: Global, map: &HeaderMap) -> Result<Vec<u8>, AllocError>
+    ensures { IfOk result (λ text. text.items ≡ map_text map.now) }
+{
+    let mut text = Vec::new(alloc);
+    for (name, value) in map.iter() {
+        print_line(&mut text, name, value)?;
+    }
+    Ok(text)
+}
+
 fn fields_in(alloc: Global, held: &HeldConnection) -> Result<Vec<u8>, Failure>
     ensures { AreFields held.now result }
 {
     if !held.connection.is_asking() {
         return Err(Failure::Refused);
     }
-    let mut text = Vec::new(alloc);
-    for (name, value) in held.connection.request().headers().iter() {
-        print_line(&mut text, name, value)?;
+    match lines_of_map(alloc, held.connection.request().headers()) {
+        Ok(text) => Ok(text),
+        Err(_) => Err(Failure::Memory),
     }
-    Ok(text)
 }
 
 /// The field lines of the request that waits, each with a byte 10 after it. Those of one name come together, in their
