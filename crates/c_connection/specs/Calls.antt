@@ -8,7 +8,8 @@ use Rattle.http.{specs.Request.head_of, specs.StatusCode.code_digits}
 use Rattle.http_uri.specs.Uri.{uri_path, uri_query}
 use Rattle.http_server.{specs.declared.state.Config.Config, specs.Refusal.refusal_text}
 use Rattle.http_server.specs.declared.state.Reason.TheVariants as reason
-use Rattle.server_connection.{specs.declared.piece.Extent.Extent, specs.declared.plan.Plan.Plan, specs.Plan.IsBlank}
+use Rattle.server_connection.{specs.declared.piece.OpenRange.OpenRange, specs.declared.plan.ResponsePlan.ResponsePlan}
+use Rattle.server_connection.specs.Plan.{IsBlank}
 use Rattle.server_connection.specs.declared.connection.Event.{Event}
 use Rattle.server_connection.specs.declared.connection.Event.TheVariants as event
 use Rattle.server_connection.{specs.declared.machine.Phase.TheVariants.{Receiving, Asking}, specs.Connection.HasRested}
@@ -19,15 +20,15 @@ use Rattle.c_parts.specs.declared.status.Failure.TheVariants.{Refused, Memory, A
 use Rattle.c_handles.{specs.Handles.{OnHeld, connection_in}, specs.declared.held.Held.Held}
 use Rattle.c_handles.specs.declared.held.Held.TheVariants as held
 use Rattle.c_handles.specs.declared.held.HeldConnection.{HeldConnection}
-use Rattle.c_connection.{specs.declared.host.Host.Host, specs.declared.reading.Text.Text}
+use Rattle.c_connection.{specs.declared.host.HostHistory.HostHistory, specs.declared.reading.Text.Text}
 use Rattle.c_connection.specs.declared.reading.Text.TheVariants.{Method, Path, Query, Field, Content, Output, TimeOut}
 
 -- the plan is the next that the host gives, for that request
-abbrev pub host_plans : Host → Request (List ℕ) → Plan → Host → Type 0
+abbrev pub host_plans : HostHistory → Request (List ℕ) → ResponsePlan → HostHistory → Type 0
 host_plans before request plan now = now.given ≡ before.given ++ (request, plan) ∷ []
 
 -- what the host has open is its own
-abbrev pub host_gives : Host → ℕ → List ℕ → Type 0
+abbrev pub host_gives : HostHistory → ℕ → List ℕ → Type 0
 host_gives now start bytes = ⊤
 
 -- An open handle of a connection stays open, and this becomes of it. Any other stays as it was, and the answer is
@@ -41,7 +42,8 @@ OnConnection P old new answer = (answer ≡ Err Absent) × (new ≡ old)
 -- these bytes were received, and these handed out
 abbrev pub HasMoved : List ℕ → List ℕ → HeldConnection → HeldConnection → Type 0
 HasMoved received sent old new =
-    (now : Host) → Moves host_plans host_gives old.connection.machine now received sent new.connection.machine now
+    (now : HostHistory)
+    → Moves host_plans host_gives old.connection.machine now received sent new.connection.machine now
 
 -- the limits of a connection: requests have at most so long a content, and a head of at most 16 KiB
 abbrev pub HasLimits : ℕ → Config → Type 0
@@ -53,7 +55,7 @@ HasLimits most config =
 abbrev pub IsConnectionHeld : ℕ → Result Held Failure → Type 0
 IsConnectionHeld most (Ok (held.Connection held)) =
     (config : Config) × HasLimits most config
-    × ((first : Host) → IsReached host_plans host_gives config first held.connection.machine first [] [])
+    × ((first : HostHistory) → IsReached host_plans host_gives config first held.connection.machine first [] [])
     × IsBlank held.plan × (held.has_begun ≡ false) × (held.rejection ≡ 0)
 IsConnectionHeld most (Ok other) = ⊥
 IsConnectionHeld most (Err failure) = failure ≡ Memory
@@ -79,7 +81,7 @@ Finishes old new (Err failure) =
 -- The request that waits was answered by the plan, and the next plan is blank. If none waits nothing changes.
 abbrev pub Responds : HeldConnection → HeldConnection → Result (Unit {0}) Failure → Type 0
 Responds old new (Ok tt) =
-    ((before now : Host) → host_plans before old.connection.machine.request old.plan now
+    ((before now : HostHistory) → host_plans before old.connection.machine.request old.plan now
     → Moves host_plans host_gives old.connection.machine before [] [] new.connection.machine now)
     × (new ≡ record old { connection = new.connection; plan = new.plan; has_begun = false }) × IsBlank new.plan
 Responds old new (Err failure) =
@@ -88,7 +90,7 @@ Responds old new (Err failure) =
 -- So many of the bytes that the connection offers were handed out. If it offers fewer nothing changes.
 abbrev pub HandsOut : ℕ → HeldConnection → HeldConnection → Result (Unit {0}) Failure → Type 0
 HandsOut count old new (Ok tt) =
-    ((now : Host) (bytes : List ℕ) → length bytes ≡ count → Offers (host_gives now) old.connection.machine bytes
+    ((now : HostHistory) (bytes : List ℕ) → length bytes ≡ count → Offers (host_gives now) old.connection.machine bytes
     → Moves host_plans host_gives old.connection.machine now [] bytes new.connection.machine now)
     × (count ≤ length old.connection.machine.output.items
     → HandsOutBytes old.connection.machine new.connection.machine count)
@@ -118,7 +120,7 @@ Wants old new (Ok number) =
     × (new ≡ record old { connection = new.connection; rejection = new.rejection })
     × (said : Event) × (number ≡ event_number said) × IsSaid new.connection.machine said
     × IsRejectedBy said new.rejection
-    × (said ≡ event.NeedsInput → (config : Config) (first now : Host) (received sent : List ℕ)
+    × (said ≡ event.NeedsInput → (config : Config) (first now : HostHistory) (received sent : List ℕ)
     → IsReached host_plans host_gives config first old.connection.machine now received sent
     → HasRested host_plans host_gives first new.connection.machine now received sent)
 Wants old new (Err failure) = ⊥
@@ -186,7 +188,7 @@ Shows text handle new_handle old new before written status =
     × Writes (λ bytes. bytes) (λ _. done) (OnHeld (IsText text) (connection_in handle)) old new before written status
 
 -- the range that is to be handed out next; `Absent` if there is none
-abbrev pub IsRangeNext : HeldConnection → Result Extent Failure → Type 0
+abbrev pub IsRangeNext : HeldConnection → Result OpenRange Failure → Type 0
 IsRangeNext held (Ok extent) = IsNextRange held.connection.machine extent
 IsRangeNext held (Err failure) = (failure ≡ Absent) × HasNoRange held.connection.machine
 

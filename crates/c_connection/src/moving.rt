@@ -5,11 +5,11 @@ ghost use Rattle.c_connection.specs.Calls.{Finishes, HandsOut, IsConnectionHeld,
 ghost use Rattle.c_connection.specs.Calls.{Responds, Wants, event_number};
 
 use crate::calling::change;
-use crate::host::Host;
+use crate::host::HostHistory;
 use c_handles::{Handle, Held, HeldConnection};
 use c_parts::{Failure, HashKeys};
 use http_server::{Config, Reason};
-use server_connection::{Connection, Event, Plan, rejection_status};
+use server_connection::{Event, ResponsePlan, ServerConnection, rejection_status};
 use std::alloc::Global;
 use std::hash::RandomState;
 use std::mem::replace;
@@ -24,8 +24,8 @@ fn new_connection(alloc: Global, keys: &HashKeys, most_content: usize) -> Result
     let mut config = Config::default();
     config.max_body_len = most_content;
     Ok(Held::Connection(HeldConnection {
-        connection: Connection::new::<Host>(alloc, keys, config),
-        plan: Plan::new(alloc),
+        connection: ServerConnection::new::<HostHistory>(alloc, keys, config),
+        plan: ResponsePlan::new(alloc),
         has_begun: false,
         rejection: 0,
     }))
@@ -50,7 +50,7 @@ fn receive_in(held: &mut HeldConnection, bytes: &[u8]) -> Result<(), Failure>
     if !held.connection.is_receiving() {
         return Err(Failure::Refused);
     }
-    match held.connection.receive::<Host>(bytes) {
+    match held.connection.receive::<HostHistory>(bytes) {
         Ok(()) => {
             held.has_begun = true;
             Ok(())
@@ -72,7 +72,7 @@ fn finish_in(held: &mut HeldConnection) -> Result<(), Failure>
     if !held.connection.is_receiving() {
         return Err(Failure::Refused);
     }
-    held.connection.finish_input::<Host>();
+    held.connection.finish_input::<HostHistory>();
     Ok(())
 }
 
@@ -108,7 +108,7 @@ fn rejection_by(event: Event) -> u16
 fn next_in(held: &mut HeldConnection) -> Result<u8, Failure>
     ensures { Wants held.old held.new result }
 {
-    let event = held.connection.next::<Host>();
+    let event = held.connection.next::<HostHistory>();
     held.rejection = rejection_by(event);
     Ok(event_number(event))
 }
@@ -126,9 +126,9 @@ fn respond_in(alloc: Global, held: &mut HeldConnection) -> Result<(), Failure>
     if !held.connection.is_asking() {
         return Err(Failure::Refused);
     }
-    let plan = replace(&mut held.plan, Plan::new(alloc));
+    let plan = replace(&mut held.plan, ResponsePlan::new(alloc));
     held.has_begun = false;
-    held.connection.respond::<Host>(plan);
+    held.connection.respond::<HostHistory>(plan);
     Ok(())
 }
 
@@ -150,7 +150,7 @@ fn sent_in(held: &mut HeldConnection, count: u64) -> Result<(), Failure>
     if count > offered {
         return Err(Failure::Refused);
     }
-    connection.sent::<Host>(count as usize);
+    connection.sent::<HostHistory>(count as usize);
     Ok(())
 }
 

@@ -8,7 +8,7 @@ use c_handles::{Handle, HeldConnection};
 use c_parts::{Failure, read_name};
 use http::{HeaderValue, StatusCode};
 use http_header::HeaderValueError;
-use server_connection::{Extent, Piece};
+use server_connection::{OpenRange, Piece};
 use std::alloc::Global;
 
 fn begin_in(held: &mut HeldConnection, status: u16) -> Result<(), Failure>
@@ -83,7 +83,7 @@ pub fn add_bytes(alloc: Global, handle: &mut Handle, content: &[u8]) -> Result<(
 fn add_range_in(held: &mut HeldConnection, start: u64, length: u64) -> Result<(), Failure>
     ensures { AddsPiece (Range (record { start = start; len = length })) held.old held.new result }
 {
-    let extent = Extent { start, len: length };
+    let extent = OpenRange { start, len: length };
     Ok(held.plan.push(Piece::Range(extent))?)
 }
 

@@ -9,7 +9,7 @@ use crate::calling::ask;
 use c_handles::{Handle, Held, HeldConnection};
 use c_parts::{DONE, Failure, copy_into, read_name};
 use http_header::HeaderName;
-use server_connection::Extent;
+use server_connection::OpenRange;
 use std::alloc::Global;
 
 /// Bytes that a connection has.
@@ -141,7 +141,7 @@ pub fn write_text(
     status
 }
 
-fn range_in(held: &HeldConnection) -> Result<Extent, Failure>
+fn range_in(held: &HeldConnection) -> Result<OpenRange, Failure>
     ensures { IsRangeNext held.now result }
 {
     match held.connection.range() {
@@ -151,7 +151,7 @@ fn range_in(held: &HeldConnection) -> Result<Extent, Failure>
 }
 
 /// The range of what the host has open that is to be written once no bytes wait. `Absent` also if there is none.
-pub fn range_of(alloc: Global, handle: &mut Handle) -> Result<Extent, Failure>
+pub fn range_of(alloc: Global, handle: &mut Handle) -> Result<OpenRange, Failure>
     ensures same { handle.new.held ≡ handle.old.held }
     ensures range { OnHeld IsRangeNext (connection_in handle.old.held) result }
 {

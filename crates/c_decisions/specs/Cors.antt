@@ -8,7 +8,7 @@ use Rattle.decide_cors.specs.declared.kind.CorsKind.TheVariants.{Preflight, Plai
 use Rattle.decide_cors.specs.declared.policy.CorsAnswer.{CorsAnswer}
 use Rattle.c_decisions.{specs.Flags.flag_of, specs.FieldLines.fields_text, specs.Methods.IsMethodOf}
 use Rattle.c_decisions.{specs.Rules.{IsPolicyAnswer, IsPolicyFor}, specs.declared.cors.CorsFacts.CorsFacts}
-use Rattle.c_decisions.{specs.declared.cors.Shared.Shared, specs.declared.request.RequestTexts.RequestTexts}
+use Rattle.c_decisions.{specs.declared.cors.PolicyAnswer.PolicyAnswer, specs.declared.request.RequestTexts.RequestTexts}
 use Rattle.c_decisions.specs.declared.rules.Rules.{Rules}
 use Rattle.c_parts.{specs.Endings.TellsAndWrites, specs.SectionMap.IsMapOf, specs.declared.status.Failure.Failure}
 use Rattle.c_parts.specs.declared.status.Failure.TheVariants.{Memory}
@@ -19,13 +19,13 @@ kind_number Plain = 1
 kind_number Preflight = 2
 
 -- what an answer says of its request, and the field lines of its fields
-pub record IsShownAnswer (answer : CorsAnswer) (shared : Shared) : Type 0 where
+pub record IsShownAnswer (answer : CorsAnswer) (shared : PolicyAnswer) : Type 0 where
   pub kind : shared.facts.kind ≡ kind_number answer.kind
   pub allowed : shared.facts.is_allowed ≡ flag_of answer.is_allowed
   pub text : shared.text.items ≡ fields_text (fields_of answer.fields.items)
 
 -- the method and the fields of both sections are those that were handed in, and this is the policy's answer
-pub record IsSharedBy (policy : Policy) (method request response : List ℕ) (shared : Shared) : Type 0 where
+pub record IsSharedBy (policy : Policy) (method request response : List ℕ) (shared : PolicyAnswer) : Type 0 where
   pub is_method : IsToken method
   pub asked : Entries FieldValue
   pub is_asked : Holds request asked
@@ -55,19 +55,19 @@ FailsToShare request response failure =
     FailsAtMessage request response failure ⊎ ((failure ≡ Memory) × IsMessage request response)
 
 -- the answer is that of the policy, or a failure
-abbrev pub SharesBy : Policy → RequestTexts → (response : List ℕ) → Result Shared Failure → Type 0
+abbrev pub SharesBy : Policy → RequestTexts → (response : List ℕ) → Result PolicyAnswer Failure → Type 0
 SharesBy policy request response (Ok shared) =
     IsSharedBy policy request.method.now request.section.now response shared
 SharesBy policy request response (Err failure) = FailsToShare request response failure
 
 -- the same of the policy of the rules that were handed in
-abbrev pub Shares : Rules → RequestTexts → (response : List ℕ) → Result Shared Failure → Type 0
+abbrev pub Shares : Rules → RequestTexts → (response : List ℕ) → Result PolicyAnswer Failure → Type 0
 Shares given request response (Ok shared) =
     (policy : Policy) × IsPolicyFor given policy
     × IsSharedBy policy request.method.now request.section.now response shared
 Shares given request response (Err failure) =
     IsPolicyAnswer given (Err failure) ⊎ FailsToShare request response failure
 
-abbrev pub WritesShared : (Result Shared Failure → Type 0) → (facts new_facts : CorsFacts) → (old new : List ℕ)
+abbrev pub WritesShared : (Result PolicyAnswer Failure → Type 0) → (facts new_facts : CorsFacts) → (old new : List ℕ)
     → (before written status : ℕ) → Type 0
-WritesShared = TellsAndWrites (λ (shared : Shared). shared.facts) (λ (shared : Shared). shared.text.items)
+WritesShared = TellsAndWrites (λ (shared : PolicyAnswer). shared.facts) (λ (shared : PolicyAnswer). shared.text.items)

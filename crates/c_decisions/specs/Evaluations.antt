@@ -5,10 +5,10 @@ use Rattle.headers.specs.LineMap.{lines_at}
 use Rattle.headers_section.specs.Section.{Holds}
 use Rattle.decide_preconditions.{specs.Preconditions.Answers, specs.declared.precondition.Precondition.Precondition}
 use Rattle.decide_preconditions.specs.declared.precondition.Precondition.TheVariants.{Perform, NotModified, Failed}
-use Rattle.decide_preconditions.specs.declared.resource.Resource.{Resource}
+use Rattle.decide_preconditions.specs.declared.resource.TargetState.{TargetState}
 use Rattle.c_parts.{specs.SectionMap.IsMapOf, specs.declared.status.Failure.Failure}
 use Rattle.c_decisions.{specs.Methods.IsMethodOf, specs.Targets.IsResourceOf}
-use Rattle.c_decisions.{specs.declared.request.RequestTexts.RequestTexts, specs.declared.target.Target.Target}
+use Rattle.c_decisions.{specs.declared.request.RequestTexts.RequestTexts, specs.declared.target.TargetFacts.TargetFacts}
 
 abbrev pub code_of : Precondition → ℕ
 code_of Perform = 0
@@ -17,9 +17,9 @@ code_of Failed = 412
 
 -- the method, the target and the fields of the section are those that were handed in, and the code is that of their
 -- answer
-pub record IsEvaluated (method input : List ℕ) (target : Target) (code : ℕ) : Type 0 where
+pub record IsEvaluated (method input : List ℕ) (target : TargetFacts) (code : ℕ) : Type 0 where
   pub is_method : IsToken method
-  pub resource : Resource
+  pub resource : TargetState
   pub is_resource : IsResourceOf target (Ok resource)
   pub request : Entries FieldValue
   pub holds : Holds input request
@@ -28,7 +28,7 @@ pub record IsEvaluated (method input : List ℕ) (target : Target) (code : ℕ) 
   pub code_is : code ≡ code_of answer
 
 -- the answer is the code, or the failure of reading what was handed in
-abbrev pub Evaluates : RequestTexts → Target → Result ℕ Failure → Type 0
+abbrev pub Evaluates : RequestTexts → TargetFacts → Result ℕ Failure → Type 0
 Evaluates request target (Ok code) = IsEvaluated request.method.now request.section.now target code
 Evaluates request target (Err failure) =
     IsMethodOf request.method.now (Err failure)

@@ -12,15 +12,17 @@ use Rattle.decide_handshake.{specs.Client.Checks, specs.Messages.{answer_fields,
 use Rattle.decide_handshake.{specs.Server.{Answers, IsAccepted}, specs.declared.client.Checked.Checked}
 use Rattle.decide_handshake.{specs.declared.client.Checked.TheVariants.{Open, Fail}, specs.declared.client.Flaw.Flaw}
 use Rattle.decide_handshake.specs.declared.client.Flaw.TheVariants as flaw
-use Rattle.decide_handshake.{specs.Origins.OriginList, specs.declared.server.Answer.Answer}
-use Rattle.decide_handshake.specs.declared.server.Answer.TheVariants.{Switch, BadRequest, UpgradeRequired, Forbidden}
+use Rattle.decide_handshake.{specs.Origins.OriginList, specs.declared.server.HandshakeAnswer.HandshakeAnswer}
+use Rattle.decide_handshake.specs.declared.server.HandshakeAnswer.TheVariants.{Switch, BadRequest, UpgradeRequired}
+use Rattle.decide_handshake.specs.declared.server.HandshakeAnswer.TheVariants.{Forbidden}
 use Rattle.decide_handshake.specs.declared.server.Fault.{Fault}
 use Rattle.decide_handshake.specs.declared.server.Fault.TheVariants as fault
 use Rattle.c_parts.{specs.FieldText.field_lines, specs.SectionMap.IsMapOf, specs.declared.status.Failure.Failure}
 use Rattle.c_parts.specs.declared.status.Failure.TheVariants.{Refused, Memory, Absent, TooLarge}
 use Rattle.c_decisions.{specs.FieldLines.fields_text, specs.Methods.IsMethodOf, specs.Star.is_any}
 use Rattle.c_decisions.{specs.StatusCodes.IsStatusOf, specs.Texts.{AreValuesOf, FailsAt}}
-use Rattle.c_decisions.{specs.declared.handshake.Answered.Answered, specs.declared.request.RequestTexts.RequestTexts}
+use Rattle.c_decisions.specs.declared.handshake.AnsweredHandshake.{AnsweredHandshake}
+use Rattle.c_decisions.specs.declared.request.RequestTexts.{RequestTexts}
 use Rattle.c_decisions.specs.declared.handshake.HandshakeExchange.{HandshakeExchange}
 use Rattle.c_decisions.specs.declared.handshake.HandshakeRules.{HandshakeRules}
 
@@ -66,21 +68,21 @@ fault_number fault.NoKey = 7
 fault_number fault.MalformedProtocols = 8
 fault_number fault.MalformedExtensions = 9
 
-abbrev pub fault_in : Answer → ℕ
+abbrev pub fault_in : HandshakeAnswer → ℕ
 fault_in (BadRequest fault) = fault_number fault
 fault_in (Switch accept protocol) = 0
 fault_in UpgradeRequired = 0
 fault_in Forbidden = 0
 
 -- the status of an answer, the fault, and the field lines of its fields
-pub record IsShownHandshake (answer : Answer) (shown : Answered) : Type 0 where
+pub record IsShownHandshake (answer : HandshakeAnswer) (shown : AnsweredHandshake) : Type 0 where
   pub status : shown.facts.status ≡ status_of answer
   pub fault : shown.facts.fault ≡ fault_in answer
   pub text : shown.text.items ≡ fields_text (answer_fields answer)
 
 -- all is as it was handed in, and this is the server's answer
-pub record IsAnsweredHandshake (request : RequestTexts) (number : ℕ) (rules : HandshakeRules) (shown : Answered)
-    : Type 0 where
+pub record IsAnsweredHandshake (request : RequestTexts) (number : ℕ) (rules : HandshakeRules)
+    (shown : AnsweredHandshake) : Type 0 where
   pub is_method : IsToken request.method.now
   pub version : Version
   pub is_version : version_of number ≡ Some version
@@ -90,7 +92,7 @@ pub record IsAnsweredHandshake (request : RequestTexts) (number : ℕ) (rules : 
   pub are_allowed : AreOriginsOf rules.origins.now (Ok allowed)
   pub fields : Entries FieldValue
   pub holds : Holds request.section.now fields
-  pub answer : Answer
+  pub answer : HandshakeAnswer
   pub answers : Answers request.method.now version (lines_at fields) allowed own answer
   pub is_shown : IsShownHandshake answer shown
 
@@ -98,7 +100,7 @@ pub record IsAnsweredHandshake (request : RequestTexts) (number : ℕ) (rules : 
 abbrev pub HasFields : List ℕ → Version → LineMap → OriginList → List FieldValue → Type 0
 HasFields method version request allowed own =
     ((key : Line) × IsAccepted method version request allowed key)
-    ⊎ ((answer : Answer) × Answers method version request allowed own answer × (answer_fields answer ≢ []))
+    ⊎ ((answer : HandshakeAnswer) × Answers method version request allowed own answer × (answer_fields answer ≢ []))
 
 -- all is as it was handed in, and the server's answer has fields, which take memory
 pub record IsAnsweredByFields (request : RequestTexts) (number : ℕ) (rules : HandshakeRules) : Type 0 where
@@ -114,7 +116,7 @@ pub record IsAnsweredByFields (request : RequestTexts) (number : ℕ) (rules : H
   pub has_fields : HasFields request.method.now version (lines_at fields) allowed own
 
 -- the answer is the server's, or the failure of reading what was handed in; `Memory` also if the answer has fields
-abbrev pub AnswersHandshake : RequestTexts → ℕ → HandshakeRules → Result Answered Failure → Type 0
+abbrev pub AnswersHandshake : RequestTexts → ℕ → HandshakeRules → Result AnsweredHandshake Failure → Type 0
 AnswersHandshake request number rules (Ok shown) = IsAnsweredHandshake request number rules shown
 AnswersHandshake request number rules (Err failure) =
     IsMethodOf request.method.now (Err failure)

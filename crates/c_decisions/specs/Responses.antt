@@ -5,12 +5,13 @@ use Rattle.headers.specs.LineMap.{fields_of, lines_at}
 use Rattle.headers_section.specs.Section.{Holds}
 use Rattle.decide_preconditions.{specs.Fields.{is_known_by, keeps_encoding}, specs.Plans.parts_sent}
 use Rattle.decide_preconditions.{specs.Responses.IsAnswered, specs.declared.content.Content.Content}
-use Rattle.decide_preconditions.{specs.declared.resource.Resource.Resource, specs.declared.response.Response.Response}
+use Rattle.decide_preconditions.specs.declared.resource.TargetState.{TargetState}
+use Rattle.decide_preconditions.specs.declared.response.Response.{Response}
 use Rattle.c_parts.{specs.SectionMap.IsMapOf, specs.declared.status.Failure.Failure}
 use Rattle.c_decisions.{specs.Contents.{IsBoundaryOf, IsContentOf}, specs.FieldLines.fields_text, specs.Flags.flag_of}
 use Rattle.c_decisions.{specs.Methods.IsMethodOf, specs.Selection.range_of, specs.Targets.IsResourceOf}
 use Rattle.c_decisions.{specs.declared.content.ContentParts.ContentParts, specs.declared.response.Responded.Responded}
-use Rattle.c_decisions.{specs.declared.request.RequestTexts.RequestTexts, specs.declared.target.Target.Target}
+use Rattle.c_decisions.{specs.declared.request.RequestTexts.RequestTexts, specs.declared.target.TargetFacts.TargetFacts}
 
 -- the status of a response, its parts, and the field lines of its fields
 pub record IsShownResponse (is_known : Bool) (response : Response) (shown : Responded) : Type 0 where
@@ -31,10 +32,10 @@ IsShownAnswer is_known None shown = IsLeft shown
 IsShownAnswer is_known (Some response) shown = IsShownResponse is_known response shown
 
 -- all is as it was handed in, and this is the answer
-pub record IsResponded (method input : List ℕ) (target : Target) (parts : ContentParts) (shown : Responded)
+pub record IsResponded (method input : List ℕ) (target : TargetFacts) (parts : ContentParts) (shown : Responded)
     : Type 0 where
   pub is_method : IsToken method
-  pub resource : Resource
+  pub resource : TargetState
   pub is_resource : IsResourceOf target (Ok resource)
   pub content : Content
   pub is_content : IsContentOf parts (Ok content)
@@ -47,7 +48,7 @@ pub record IsResponded (method input : List ℕ) (target : Target) (parts : Cont
   pub is_shown : IsShownAnswer (is_known_by (lines_at request)) answer shown
 
 -- the answer is the response, or the failure of reading what was handed in
-abbrev pub Responds : RequestTexts → Target → ContentParts → Result Responded Failure → Type 0
+abbrev pub Responds : RequestTexts → TargetFacts → ContentParts → Result Responded Failure → Type 0
 Responds request target parts (Ok shown) = IsResponded request.method.now request.section.now target parts shown
 Responds request target parts (Err failure) =
     IsMethodOf request.method.now (Err failure)

@@ -5,14 +5,14 @@ use Rattle.headers.specs.LineMap.{lines_at}
 use Rattle.headers_section.specs.Section.{Holds}
 use Rattle.decide_preconditions.specs.Limits.{usual_limits}
 use Rattle.decide_preconditions.specs.Selection.{Applies, Selects as SelectsOf}
-use Rattle.decide_preconditions.{specs.declared.part.Part.Part, specs.declared.resource.Resource.TheVariants.Current}
+use Rattle.decide_preconditions.{specs.declared.part.Part.Part, specs.declared.resource.TargetState.TheVariants.Current}
 use Rattle.decide_preconditions.specs.declared.resource.Validators.{Validators}
 use Rattle.decide_preconditions.specs.declared.selection.Selection.{Selection}
 use Rattle.decide_preconditions.specs.declared.selection.Selection.TheVariants.{Whole, Parts, Unsatisfiable}
 use Rattle.c_parts.{specs.Endings.TellsAndWrites, specs.SectionMap.IsMapOf, specs.declared.status.Failure.Failure}
 use Rattle.c_parts.specs.declared.status.Failure.TheVariants.{Memory, Absent}
 use Rattle.c_decisions.{specs.Methods.IsMethodOf, specs.Targets.IsResourceOf}
-use Rattle.c_decisions.{specs.declared.request.RequestTexts.RequestTexts, specs.declared.target.Target.Target}
+use Rattle.c_decisions.{specs.declared.request.RequestTexts.RequestTexts, specs.declared.target.TargetFacts.TargetFacts}
 use Rattle.c_decisions.{specs.declared.selection.BytesRange.BytesRange, specs.declared.selection.Selected.Selected}
 
 abbrev pub range_of : Part → BytesRange
@@ -31,7 +31,7 @@ ArePartsOf Unsatisfiable = ⊥
 ArePartsOf (Parts parts) = ⊤
 
 -- the method, the target and the fields of the section are those that were handed in, and this is their selection
-pub record IsSelected (method input : List ℕ) (target : Target) (length : ℕ) (selected : Selected) : Type 0 where
+pub record IsSelected (method input : List ℕ) (target : TargetFacts) (length : ℕ) (selected : Selected) : Type 0 where
   pub is_method : IsToken method
   pub current : Validators
   pub is_resource : IsResourceOf target (Ok (Current current))
@@ -42,7 +42,7 @@ pub record IsSelected (method input : List ℕ) (target : Target) (length : ℕ)
   pub shown : IsShown selection selected.code selected.ranges.items
 
 -- the same method, target and fields, and Range applies to them: its parts take memory
-pub record HasRange (method input : List ℕ) (target : Target) (length : ℕ) : Type 0 where
+pub record HasRange (method input : List ℕ) (target : TargetFacts) (length : ℕ) : Type 0 where
   pub is_method : IsToken method
   pub current : Validators
   pub is_resource : IsResourceOf target (Ok (Current current))
@@ -53,7 +53,7 @@ pub record HasRange (method input : List ℕ) (target : Target) (length : ℕ) :
 
 -- The answer is the selection, or the failure of reading what was handed in. `Absent` only if the target has no
 -- representation, and `Memory` also if Range applies.
-abbrev pub Selects : RequestTexts → Target → ℕ → Result Selected Failure → Type 0
+abbrev pub Selects : RequestTexts → TargetFacts → ℕ → Result Selected Failure → Type 0
 Selects request target length (Ok selected) =
     IsSelected request.method.now request.section.now target length selected
 Selects request target length (Err Absent) = target.exists ≡ false

@@ -2,11 +2,11 @@
 use Rattle.std.specs.Prelude.{◌≡◌, ◌⊎◌, ℕ, Bool, true, false, List, [], Option, Some, None, Result, Ok, Err}
 use Rattle.http_header.specs.FieldValue.{FieldValue}
 use Rattle.headers.{specs.Date.IsDated, specs.HeaderLaws.ReadsBy, specs.Lines.Line, specs.Shapes.only_tag}
-use Rattle.decide_preconditions.specs.declared.resource.Resource.{Resource}
-use Rattle.decide_preconditions.specs.declared.resource.Resource.TheVariants.{Missing, Current}
+use Rattle.decide_preconditions.specs.declared.resource.TargetState.{TargetState}
+use Rattle.decide_preconditions.specs.declared.resource.TargetState.TheVariants.{Missing, Current}
 use Rattle.c_parts.{specs.FieldText.{FieldDecodes, field_lines}, specs.declared.status.Failure.Failure}
 use Rattle.c_parts.specs.declared.status.Failure.TheVariants.{Refused, Absent}
-use Rattle.c_decisions.{specs.Numbers.known, specs.declared.target.Target.Target}
+use Rattle.c_decisions.{specs.Numbers.known, specs.declared.target.TargetFacts.TargetFacts}
 
 -- the only line is an entity tag, which the value has
 abbrev pub reads_etag : List Line → FieldValue → Type 0
@@ -25,7 +25,7 @@ IsDateOf is_known second (Ok date) = date ≡ known is_known second
 IsDateOf is_known second (Err failure) = (failure ≡ Refused) × (is_known ≡ true) × (¬ (IsDated second))
 
 -- what the target is: nothing, or a representation with this tag and this date
-abbrev pub IsResourceOf : Target → Result Resource Failure → Type 0
+abbrev pub IsResourceOf : TargetFacts → Result TargetState Failure → Type 0
 IsResourceOf target (Ok Missing) = target.exists ≡ false
 IsResourceOf target (Ok (Current validators)) =
     (target.exists ≡ true)

@@ -23,7 +23,7 @@ pub struct CorsFacts {
 
 /// The answer of a policy to a request, and the field lines for the response.
 #[derive(Drop)]
-pub struct Shared {
+pub struct PolicyAnswer {
     pub facts: CorsFacts,
     pub text: Vec<u8>,
 }
@@ -36,7 +36,7 @@ pub fn answer_by_rules(
     request: &RequestTexts<'_>,
     response: &[u8],
     keys: &HashKeys,
-) -> Result<Shared, Failure>
+) -> Result<PolicyAnswer, Failure>
     ensures { Shares rules.now request.now response.now result }
 {
     let policy = read_policy(alloc, rules)?;
@@ -50,7 +50,7 @@ fn answer_by(
     request: &RequestTexts<'_>,
     response: &[u8],
     keys: &HashKeys,
-) -> Result<Shared, Failure>
+) -> Result<PolicyAnswer, Failure>
     ensures { SharesBy policy.now request.now response.now result }
 {
     let method = read_method(alloc, request.method)?;
@@ -65,7 +65,7 @@ fn answer_by(
 }
 
 /// What an answer says of its request, and its field lines.
-pub fn show_shared(alloc: Global, answer: &CorsAnswer) -> Result<Shared, AllocError>
+pub fn show_shared(alloc: Global, answer: &CorsAnswer) -> Result<PolicyAnswer, AllocError>
     ensures { IfOk result (IsShownAnswer answer.now) }
 {
     let facts = CorsFacts {
@@ -73,7 +73,7 @@ pub fn show_shared(alloc: Global, answer: &CorsAnswer) -> Result<Shared, AllocEr
         is_allowed: flag_of(answer.is_allowed),
     };
     let text = fields_text(alloc, answer.fields.as_slice())?;
-    Ok(Shared { facts, text })
+    Ok(PolicyAnswer { facts, text })
 }
 
 fn kind_number(kind: CorsKind) -> u8

@@ -4,7 +4,7 @@ ghost use Rattle.c_decisions.specs.Evaluations.{Evaluates, code_of};
 
 use crate::method::read_method;
 use crate::request::RequestTexts;
-use crate::target::{Target, read_resource};
+use crate::target::{TargetFacts, read_resource};
 use c_parts::{Failure, HashKeys, read_map};
 use decide_preconditions::{Precondition, RequestHead, evaluate};
 use std::alloc::Global;
@@ -15,7 +15,7 @@ pub fn evaluate_request(
     alloc: Global,
     request: &RequestTexts<'_>,
     keys: &HashKeys,
-    target: &Target<'_>,
+    target: &TargetFacts<'_>,
 ) -> Result<u16, Failure>
     ensures { Evaluates request.now target.now result }
 {

@@ -11,7 +11,7 @@ use crate::star::is_any;
 use crate::status_code::read_status;
 use crate::texts::values_of;
 use c_parts::{Failure, HashKeys, read_map};
-use decide_handshake::{Answer, Checked, Fault, Flaw, Origins, accept, check, request};
+use decide_handshake::{Checked, Fault, Flaw, HandshakeAnswer, Origins, accept, check, request};
 use headers::Refused;
 use http::Version;
 use std::alloc::{AllocError, Global};
@@ -50,7 +50,7 @@ pub struct HandshakeExchange<'a> {
 
 /// A server's answer to an opening handshake, and its field lines.
 #[derive(Drop)]
-pub struct Answered {
+pub struct AnsweredHandshake {
     pub facts: HandshakeFacts,
     pub text: Vec<u8>,
 }
@@ -91,7 +91,7 @@ pub fn answer_handshake(
     version: u8,
     keys: &HashKeys,
     rules: &HandshakeRules<'_>,
-) -> Result<Answered, Failure>
+) -> Result<AnsweredHandshake, Failure>
     ensures { AnswersHandshake request.now version rules.now result }
 {
     let method = read_method(alloc, request.method)?;
@@ -103,7 +103,7 @@ pub fn answer_handshake(
     Ok(show(alloc, &answer)?)
 }
 
-fn show(alloc: Global, answer: &Answer) -> Result<Answered, AllocError>
+fn show(alloc: Global, answer: &HandshakeAnswer) -> Result<AnsweredHandshake, AllocError>
     ensures shown { IfOk result (IsShownHandshake answer.now) }
     ensures memory { IsErr result → answer_fields answer.now ≢ [] }
 {
@@ -113,14 +113,14 @@ fn show(alloc: Global, answer: &Answer) -> Result<Answered, AllocError>
         status: answer.status().as_u16(),
         fault: fault_in(answer),
     };
-    Ok(Answered { facts, text })
+    Ok(AnsweredHandshake { facts, text })
 }
 
-fn fault_in(answer: &Answer) -> u8
+fn fault_in(answer: &HandshakeAnswer) -> u8
     ensures { result ≡ fault_in answer.now }
 {
     match answer {
-        Answer::BadRequest(fault) => fault_number(*fault),
+        HandshakeAnswer::BadRequest(fault) => fault_number(*fault),
         _ => 0,
     }
 }

@@ -24,13 +24,13 @@ mod texts;
 
 pub use crate::choice::{choose, given, look_up_language};
 pub use crate::content::{ContentParts, boundary_of, content_of, limits_of};
-pub use crate::cors::{CorsFacts, Shared, answer_by_rules, show_shared};
+pub use crate::cors::{CorsFacts, PolicyAnswer, answer_by_rules, show_shared};
 pub use crate::evaluation::{code_of, evaluate_request};
 pub use crate::field_lines::fields_text;
 pub use crate::flag::flag_of;
 pub use crate::handshake::{
-    Answered, HandshakeExchange, HandshakeFacts, HandshakeRules, answer_handshake, check_response,
-    offer_handshake,
+    AnsweredHandshake, HandshakeExchange, HandshakeFacts, HandshakeRules, answer_handshake,
+    check_response, offer_handshake,
 };
 pub use crate::method::read_method;
 pub use crate::numbers::known;
@@ -42,5 +42,5 @@ pub use crate::rules::{Listed, Rules, read_line, read_policy};
 pub use crate::selection::{BytesRange, Selected, select_ranges, show_selection};
 pub use crate::star::is_any;
 pub use crate::status_code::read_status;
-pub use crate::target::{Target, read_date, read_resource};
+pub use crate::target::{TargetFacts, read_date, read_resource};
 pub use crate::texts::{optional_value, request_with, values_of};

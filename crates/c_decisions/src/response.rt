@@ -9,7 +9,7 @@ use crate::flag::flag_of;
 use crate::method::read_method;
 use crate::request::RequestTexts;
 use crate::selection::{BytesRange, range_of, ranges_of};
-use crate::target::{Target, read_resource};
+use crate::target::{TargetFacts, read_resource};
 use c_parts::{Failure, HashKeys, read_map};
 use decide_preconditions::{Plan, RequestHead, Response, Sending, is_known_by, respond};
 use std::alloc::{AllocError, Global};
@@ -41,7 +41,7 @@ pub fn respond_to(
     alloc: Global,
     request: &RequestTexts<'_>,
     keys: &HashKeys,
-    target: &Target<'_>,
+    target: &TargetFacts<'_>,
     parts: &ContentParts<'_>,
 ) -> Result<Responded, Failure>
     ensures { Responds request.now target.now parts.now result }

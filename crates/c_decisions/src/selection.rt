@@ -4,10 +4,10 @@ ghost use Rattle.c_decisions.specs.Selection.{ArePartsOf, IsShown, Selects, rang
 
 use crate::method::read_method;
 use crate::request::RequestTexts;
-use crate::target::{Target, read_resource};
+use crate::target::{TargetFacts, read_resource};
 use c_parts::{Failure, HashKeys, read_map};
 use decide_preconditions::{
-    Part, RangeFacts, RangeLimits, RequestHead, Resource, Selection, select,
+    Part, RangeFacts, RangeLimits, RequestHead, Selection, TargetState, select,
 };
 use std::alloc::{AllocError, Global};
 
@@ -32,13 +32,13 @@ pub fn select_ranges(
     alloc: Global,
     request: &RequestTexts<'_>,
     keys: &HashKeys,
-    target: &Target<'_>,
+    target: &TargetFacts<'_>,
     length: u64,
 ) -> Result<Selected, Failure>
     ensures { Selects request.now target.now length result }
 {
     let method = read_method(alloc, request.method)?;
-    let Resource::Current(current) = read_resource(alloc, target)? else {
+    let TargetState::Current(current) = read_resource(alloc, target)? else {
         return Err(Failure::Absent);
     };
     let fields = read_map(alloc, request.section, keys)?;

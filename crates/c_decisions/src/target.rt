@@ -2,7 +2,7 @@
 ghost use Rattle.c_decisions.specs.Targets.{IsDateOf, IsResourceOf, IsTagOf};
 
 use c_parts::{Failure, read_field};
-use decide_preconditions::{Resource, Validators};
+use decide_preconditions::{TargetState, Validators};
 use headers::{ETag, LastModified};
 use std::alloc::Global;
 
@@ -12,7 +12,7 @@ const END_OF_DATES: u64 = 253_402_300_800;
 /// What a server knows about the target of a request, as C passes it in.
 #[repr(C)]
 #[derive(Clone, Copy)]
-pub struct Target<'a> {
+pub struct TargetFacts<'a> {
     /// The entity tag of its current representation, or empty if that has none.
     pub etag: &'a [u8],
     /// When its current representation was last modified, in seconds since the start of 1970, if
@@ -53,15 +53,15 @@ pub fn read_date(is_known: bool, second: u64) -> Result<Option<LastModified>, Fa
 }
 
 /// Makes the resource of what is known about the target.
-pub fn read_resource(alloc: Global, target: &Target<'_>) -> Result<Resource, Failure>
+pub fn read_resource(alloc: Global, target: &TargetFacts<'_>) -> Result<TargetState, Failure>
     ensures { IsResourceOf target.now result }
 {
     if !target.exists {
-        return Ok(Resource::Missing);
+        return Ok(TargetState::Missing);
     }
     let etag = read_tag(alloc, target.etag)?;
     let last_modified = read_date(target.has_last_modified, target.last_modified)?;
-    Ok(Resource::Current(Validators {
+    Ok(TargetState::Current(Validators {
         etag,
         last_modified,
         is_date_strong: target.is_date_strong,

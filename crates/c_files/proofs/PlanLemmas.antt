@@ -5,7 +5,8 @@ use Rattle.http.{specs.declared.request.Request.Request, specs.Request.head_of}
 use Rattle.http_uri.specs.Uri.{uri_path}
 use Rattle.c_parts.specs.declared.keys.HashKeys.{HashKeys}
 use Rattle.server_files.specs.Path.{Names}
-use Rattle.server_connection.{specs.declared.connection.Connection.Connection, specs.declared.plan.Plan.Plan}
+use Rattle.server_connection.specs.declared.connection.ServerConnection.{ServerConnection}
+use Rattle.server_connection.specs.declared.plan.ResponsePlan.{ResponsePlan}
 use Rattle.server_connection.specs.declared.machine.Phase.TheVariants.{Asking}
 use Rattle.server_service.{specs.Answer.{IsAnswer, IsSameSite}, specs.declared.settings.Site.Site}
 use Rattle.server_service.specs.declared.source.Source.{Source}
@@ -15,7 +16,7 @@ use Rattle.c_files.{specs.declared.entry.Facts.Facts, specs.declared.held.HeldFi
 use Rattle.c_files.specs.declared.store.Found.{Found}
 
 pub answer_told : (named : Option (List ℕ)) (found : List Facts) (now : ℕ) (is_last : Bool) (old told : HeldFiles)
-    (request : Request (List ℕ)) (plan : Plan) (source : Option Source) → Knows named found now is_last old told
+    (request : Request (List ℕ)) (plan : ResponsePlan) (source : Option Source) → Knows named found now is_last old told
     → IsAnswer (λ time. time ≡ Some told.service.store.time) told.service.left told.service.site
     (λ path entry. entry ≡ entry_in told.service.store path) request plan source
     → IsAnswer (λ time. time ≡ Some now) (left_for is_last) old.service.site
@@ -36,8 +37,8 @@ answer_told named found now is_last old told request plan source knows answer =
     (subst (λ (n : ℕ). Is store.keys store.time paths store.entries.items n site) knows.left
     (subst (λ (s : Site). Is store.keys store.time paths store.entries.items told.service.left s) knows.site answer)))))
 
-pub planned : (found : List Facts) (now : ℕ) (is_last : Bool) (connection : Connection) (path : List ℕ)
-    (old told new : HeldFiles) (plan : Plan) (number : ℕ) (named : Option (List ℕ))
+pub planned : (found : List Facts) (now : ℕ) (is_last : Bool) (connection : ServerConnection) (path : List ℕ)
+    (old told new : HeldFiles) (plan : ResponsePlan) (number : ℕ) (named : Option (List ℕ))
     → connection.machine.phase ≡ Asking
     → path ≡ uri_path (head_of connection.machine.request).uri → Names path named
     → next_path (negotiates_of old) named found ≡ None

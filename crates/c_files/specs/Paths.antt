@@ -6,7 +6,7 @@ use Rattle.http_uri.specs.Uri.{uri_path}
 use Rattle.c_parts.{specs.declared.status.Failure.Failure, specs.declared.status.Failure.TheVariants.{Refused, Memory}}
 use Rattle.c_parts.specs.declared.status.Failure.TheVariants.{Absent, TooLarge}
 use Rattle.server_files.specs.Path.{Names, is_plain}
-use Rattle.server_connection.specs.declared.connection.Connection.{Connection}
+use Rattle.server_connection.specs.declared.connection.ServerConnection.{ServerConnection}
 use Rattle.server_connection.specs.declared.machine.Phase.TheVariants.{Asking}
 use Rattle.c_files.{specs.Entries.is_file, specs.declared.entry.Facts.Facts, specs.declared.held.HeldFiles.HeldFiles}
 
@@ -49,7 +49,7 @@ abbrev pub negotiates_of : HeldFiles → Bool
 negotiates_of files = files.service.site.resource.negotiation.coding
 
 -- the path to open next for the request that waits, or why there is none
-abbrev pub IsPathFor : List Facts → HeldFiles → Connection → Result (List ℕ) Failure → Type 0
+abbrev pub IsPathFor : List Facts → HeldFiles → ServerConnection → Result (List ℕ) Failure → Type 0
 IsPathFor found files connection (Ok path) =
     (connection.machine.phase ≡ Asking) × (is_plain path ≡ true)
     × IsNextPath (negotiates_of files) (uri_path (head_of connection.machine.request).uri) found (Some path)

@@ -6,7 +6,8 @@ use Rattle.http_uri.specs.Uri.{uri_path}
 use Rattle.c_parts.{specs.declared.status.Failure.Failure, specs.declared.status.Failure.TheVariants.{Refused, Memory}}
 use Rattle.c_parts.specs.declared.status.Failure.TheVariants.{Absent, TooLarge}
 use Rattle.server_files.specs.Path.{Names}
-use Rattle.server_connection.{specs.declared.connection.Connection.Connection, specs.declared.plan.Plan.Plan}
+use Rattle.server_connection.specs.declared.connection.ServerConnection.{ServerConnection}
+use Rattle.server_connection.specs.declared.plan.ResponsePlan.{ResponsePlan}
 use Rattle.server_connection.specs.declared.machine.Phase.TheVariants.{Asking}
 use Rattle.server_service.{specs.Answer.{IsAnswer, IsSameSite}, specs.declared.source.Reader.Reader}
 use Rattle.server_service.specs.declared.source.Reader.TheVariants.{System, Caller}
@@ -57,8 +58,8 @@ IsReadyFor path found now is_last old new (Err TooLarge) = ⊥
 
 -- The plan is the answer of the service to the request that waits, at this time, and for what was found at the paths
 -- that were to be opened. No path is left to open.
-pub record IsPlanned (found : List Facts) (now : ℕ) (is_last : Bool) (connection : Connection) (old new : HeldFiles)
-    (plan : Plan) (number : ℕ) : Type 0 where
+pub record IsPlanned (found : List Facts) (now : ℕ) (is_last : Bool) (connection : ServerConnection)
+    (old new : HeldFiles) (plan : ResponsePlan) (number : ℕ) : Type 0 where
   pub asks : connection.machine.phase ≡ Asking
   pub named : Option (List ℕ)
   pub names : Names (uri_path (head_of connection.machine.request).uri) named
@@ -70,14 +71,14 @@ pub record IsPlanned (found : List Facts) (now : ℕ) (is_last : Bool) (connecti
   pub number_is : number ≡ number_of new.service.source (length found)
 
 -- No request waits, or a path is left to open.
-abbrev pub IsEarly : List Facts → HeldFiles → Connection → Type 0
+abbrev pub IsEarly : List Facts → HeldFiles → ServerConnection → Type 0
 IsEarly found files connection =
     (¬ (connection.machine.phase ≡ Asking))
     ⊎ ((next : List ℕ)
     × IsNextPath (negotiates_of files) (uri_path (head_of connection.machine.request).uri) found (Some next))
 
 -- Of a plan for which no memory is left nothing is said.
-abbrev pub PlansFor : List Facts → ℕ → Bool → Connection → (old new : HeldFiles) → (before plan : Plan)
+abbrev pub PlansFor : List Facts → ℕ → Bool → ServerConnection → (old new : HeldFiles) → (before plan : ResponsePlan)
     → Result ℕ Failure → Type 0
 PlansFor found now is_last connection old new before plan (Ok number) =
     IsPlanned found now is_last connection old new plan number

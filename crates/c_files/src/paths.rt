@@ -6,7 +6,7 @@ ghost use Rattle.c_files.specs.Paths.{IsPathFor, is_wanted, next_path, plain_pat
 use crate::entry::Facts;
 use crate::held::HeldFiles;
 use c_parts::Failure;
-use server_connection::Connection;
+use server_connection::ServerConnection;
 use server_files::{is_plain, store_path};
 use std::alloc::{AllocError, Global};
 
@@ -74,7 +74,7 @@ pub(crate) fn next_path(
 pub fn path_for(
     alloc: Global,
     files: &HeldFiles,
-    connection: &Connection,
+    connection: &ServerConnection,
     found: &[Facts],
 ) -> Result<String, Failure>
     ensures { IsPathFor found.now files.now connection.now (result_map_both string_bytes (λ failure. failure) result) }

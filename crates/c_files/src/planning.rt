@@ -8,7 +8,7 @@ use crate::entry::Facts;
 use crate::held::HeldFiles;
 use crate::paths::next_path;
 use c_parts::Failure;
-use server_connection::{Connection, Handler, Plan};
+use server_connection::{Handler, ResponsePlan, ServerConnection};
 use server_files::store_path;
 use server_service::{Reader, Source};
 use std::alloc::Global;
@@ -26,7 +26,7 @@ fn number_of(source: &Option<Source>, count: usize) -> usize
     }
 }
 
-fn path_of(connection: &Connection) -> &str
+fn path_of(connection: &ServerConnection) -> &str
     ensures { result.now ≡ uri_path (head_of connection.now.machine.request).uri }
 {
     connection.request().uri().path()
@@ -61,8 +61,8 @@ fn tell(
 pub fn plan_response(
     alloc: Global,
     files: &mut HeldFiles,
-    connection: &Connection,
-    plan: &mut Plan,
+    connection: &ServerConnection,
+    plan: &mut ResponsePlan,
     found: &[Facts],
     now: u64,
     is_last: bool,

@@ -7,8 +7,8 @@ use crate::tag::tag_of;
 use bytes::Bytes;
 use c_parts::HashKeys;
 use http::Request;
-use server_connection::Plan as Response;
-use server_service::{Coding, Entry, File, Opened, Reader, Source, Store, media_type_at};
+use server_connection::ResponsePlan as Response;
+use server_service::{Coding, Entry, File, FileStore, Opened, Reader, Source, media_type_at};
 use std::alloc::{AllocError, Global};
 
 /// What the host found at the paths of one request, and when.
@@ -94,7 +94,7 @@ impl Found {
     }
 }
 
-impl Store for Found {
+impl FileStore for Found {
     ghost use Rattle.std.specs.Prelude.{◌≡◌, Some};
     ghost use Rattle.c_files.specs.Entries.{entry_in};
 

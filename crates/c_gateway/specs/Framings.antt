@@ -6,7 +6,7 @@ use Rattle.headers_section.specs.Section.{Holds}
 use Rattle.gateway_messages.{specs.Framing.{RejectsFraming, States}, specs.Rejections.status_of}
 use Rattle.gateway_messages.{specs.Responses.{DelimitsContent, RejectsContent}, specs.declared.framing.Framing.Framing}
 use Rattle.gateway_messages.{specs.declared.protocol.Protocol.Protocol, specs.declared.rejection.Rejection.Rejection}
-use Rattle.gateway_messages.specs.declared.response.Content.{Content}
+use Rattle.gateway_messages.specs.declared.response.ContentFraming.{ContentFraming}
 use Rattle.c_parts.{specs.SectionMap.IsMapOf, specs.declared.status.Failure.Failure}
 use Rattle.c_decisions.{specs.Methods.IsMethodOf, specs.StatusCodes.IsStatusOf}
 use Rattle.c_gateway.{specs.Contents.{content_facts, no_content, request_content}, specs.Protocols.IsProtocolOf}
@@ -20,13 +20,13 @@ IsCodeOf number (Ok (Some code)) = (number ≢ 0) × IsStatusOf number (Ok code)
 IsCodeOf number (Err failure) = (number ≢ 0) × IsStatusOf number (Err failure)
 
 -- a request's content is what its fields state, or there is none
-pub record IsRequestContent (protocol : Protocol) (fields : LineMap) (content : Content) : Type 0 where
+pub record IsRequestContent (protocol : Protocol) (fields : LineMap) (content : ContentFraming) : Type 0 where
   pub stated : Framing
   pub states : States protocol fields stated
   pub content_is : content ≡ request_content stated
 
 -- how the content of a message is delimited, by the method of the request, and the status if it is a response
-abbrev pub Delimits : Protocol → List ℕ → Option ℕ → LineMap → Content → Type 0
+abbrev pub Delimits : Protocol → List ℕ → Option ℕ → LineMap → ContentFraming → Type 0
 Delimits protocol method None fields content = IsRequestContent protocol fields content
 Delimits protocol method (Some status) fields content = DelimitsContent protocol method status fields content
 
@@ -35,7 +35,7 @@ abbrev pub RejectsMessage : Protocol → List ℕ → Option ℕ → LineMap →
 RejectsMessage protocol method None fields rejection = RejectsFraming protocol fields rejection
 RejectsMessage protocol method (Some status) fields rejection = RejectsContent protocol method status fields rejection
 
-abbrev pub IsDelimited : Protocol → List ℕ → Option ℕ → LineMap → Result Content Rejection → Type 0
+abbrev pub IsDelimited : Protocol → List ℕ → Option ℕ → LineMap → Result ContentFraming Rejection → Type 0
 IsDelimited protocol method code fields (Ok content) = Delimits protocol method code fields content
 IsDelimited protocol method code fields (Err rejection) = RejectsMessage protocol method code fields rejection
 
@@ -43,7 +43,7 @@ IsDelimited protocol method code fields (Err rejection) = RejectsMessage protoco
 abbrev pub rejection_status : Bool → Rejection → ℕ
 rejection_status is_response rejection = if is_response then 502 else status_of rejection
 
-abbrev pub framing_facts : Bool → Result Content Rejection → FramingFacts
+abbrev pub framing_facts : Bool → Result ContentFraming Rejection → FramingFacts
 framing_facts is_response (Ok content) = record { content = content_facts content; status = 0; reason = 0 }
 framing_facts is_response (Err rejection) =
     record { content = no_content; status = rejection_status is_response rejection; reason = reason_number rejection }
@@ -57,7 +57,7 @@ pub record IsFramed (message : MessageParts) (facts : FramingFacts) : Type 0 whe
   pub is_protocol : IsProtocolOf message.version (Ok protocol)
   pub fields : Entries FieldValue
   pub holds : Holds message.section.now fields
-  pub delimited : Result Content Rejection
+  pub delimited : Result ContentFraming Rejection
   pub is_delimited : IsDelimited protocol message.method.now code (lines_at fields) delimited
   pub facts_are : facts ≡ framing_facts (is_some code) delimited
 

@@ -12,16 +12,17 @@ use Rattle.c_decisions.{specs.Methods.IsMethodOf, specs.StatusCodes.IsStatusOf}
 use Rattle.c_gateway.{specs.Contents.{content_facts, no_content, sent_content}, specs.Dates.IsDateOf}
 use Rattle.c_gateway.{specs.Gateways.IsGatewayOf, specs.Lines.lines_text, specs.Protocols.IsProtocolOf}
 use Rattle.c_gateway.{specs.Reasons.reason_number, specs.declared.gateway.GatewayOptions.GatewayOptions}
-use Rattle.c_gateway.{specs.declared.framing.MessageParts.MessageParts, specs.declared.response.ResponseFacts.ResponseFacts}
+use Rattle.c_gateway.specs.declared.framing.MessageParts.{MessageParts}
+use Rattle.c_gateway.specs.declared.response.ForwardedFacts.{ForwardedFacts}
 use Rattle.c_gateway.specs.declared.response.ResponseStep.{ResponseStep}
 
 -- ---- what a caller is told
 
-abbrev pub without_content : ℕ → ℕ → ℕ → ResponseFacts
+abbrev pub without_content : ℕ → ℕ → ℕ → ForwardedFacts
 without_content status action reason =
     record { received = no_content; sent = no_content; status = status; action = action; reason = reason }
 
-abbrev pub response_facts : ResponseOutcome → ResponseFacts
+abbrev pub response_facts : ResponseOutcome → ForwardedFacts
 response_facts (Forward sent) =
     record {
       received = content_facts sent.content;

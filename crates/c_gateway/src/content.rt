@@ -2,7 +2,7 @@
 ghost use Rattle.std.specs.Prelude.{◌≡◌};
 ghost use Rattle.c_gateway.specs.Contents.{content_facts, request_content, sent_content};
 
-use gateway_messages::{Content, Framing};
+use gateway_messages::{ContentFraming, Framing};
 
 /// How the content of a message is delimited.
 #[repr(C)]
@@ -17,37 +17,37 @@ pub struct ContentFacts {
 
 /// The content of a request whose fields state this: none if they state nothing (RFC 9112, section
 /// 6.3).
-pub(crate) fn request_content(framing: Framing) -> Content
+pub(crate) fn request_content(framing: Framing) -> ContentFraming
     ensures { result ≡ request_content framing }
 {
     match framing {
-        Framing::Unstated => Content::Absent,
-        Framing::Length(bytes) => Content::Length(bytes),
-        Framing::Chunked => Content::Chunked,
+        Framing::Unstated => ContentFraming::Absent,
+        Framing::Length(bytes) => ContentFraming::Length(bytes),
+        Framing::Chunked => ContentFraming::Chunked,
     }
 }
 
 /// The content as it is sent with fields that state this.
-pub(crate) fn sent_content(received: Content, framing: Framing) -> Content
+pub(crate) fn sent_content(received: ContentFraming, framing: Framing) -> ContentFraming
     ensures { result ≡ sent_content received framing }
 {
     match (received, framing) {
-        (Content::Tunnel | Content::Absent, _) => received,
-        (_, Framing::Unstated) => Content::UntilClose,
-        (_, Framing::Length(bytes)) => Content::Length(bytes),
-        (_, Framing::Chunked) => Content::Chunked,
+        (ContentFraming::Tunnel | ContentFraming::Absent, _) => received,
+        (_, Framing::Unstated) => ContentFraming::UntilClose,
+        (_, Framing::Length(bytes)) => ContentFraming::Length(bytes),
+        (_, Framing::Chunked) => ContentFraming::Chunked,
     }
 }
 
 /// What C is told of it.
-pub(crate) fn content_facts(content: Content) -> ContentFacts
+pub(crate) fn content_facts(content: ContentFraming) -> ContentFacts
     ensures { result ≡ content_facts content }
 {
     match content {
-        Content::Absent => ContentFacts { length: 0, kind: 0 },
-        Content::Length(length) => ContentFacts { length, kind: 1 },
-        Content::Chunked => ContentFacts { length: 0, kind: 2 },
-        Content::UntilClose => ContentFacts { length: 0, kind: 3 },
-        Content::Tunnel => ContentFacts { length: 0, kind: 4 },
+        ContentFraming::Absent => ContentFacts { length: 0, kind: 0 },
+        ContentFraming::Length(length) => ContentFacts { length, kind: 1 },
+        ContentFraming::Chunked => ContentFacts { length: 0, kind: 2 },
+        ContentFraming::UntilClose => ContentFacts { length: 0, kind: 3 },
+        ContentFraming::Tunnel => ContentFacts { length: 0, kind: 4 },
     }
 }

@@ -8,7 +8,7 @@ use crate::protocol::read_protocol;
 use crate::reason::reason_number;
 use c_decisions::{read_method, read_status};
 use c_parts::{Failure, HashKeys, read_map};
-use gateway_messages::{Content, Protocol, Rejection, response_content, stated_framing};
+use gateway_messages::{ContentFraming, Protocol, Rejection, response_content, stated_framing};
 use headers::HeaderMap;
 use http::{Method, StatusCode};
 use std::alloc::Global;
@@ -70,7 +70,7 @@ fn delimited(
     method: &Method,
     code: &Option<StatusCode>,
     fields: &HeaderMap,
-) -> Result<Content, Rejection>
+) -> Result<ContentFraming, Rejection>
     ensures { IsDelimited protocol method.now code.now (lines_at fields.now) result }
 {
     match code {
@@ -79,7 +79,7 @@ fn delimited(
     }
 }
 
-fn framing_facts(is_response: bool, delimited: &Result<Content, Rejection>) -> FramingFacts
+fn framing_facts(is_response: bool, delimited: &Result<ContentFraming, Rejection>) -> FramingFacts
     ensures { result ≡ framing_facts is_response delimited.now }
 {
     match delimited {

@@ -20,4 +20,4 @@ pub use crate::framing::{FramingFacts, MessageParts, frame_message};
 pub use crate::gateway::GatewayOptions;
 pub use crate::hop::HopOptions;
 pub use crate::request::{RequestFacts, RequestStep, pass_request};
-pub use crate::response::{ResponseFacts, ResponseStep, pass_response};
+pub use crate::response::{ForwardedFacts, ResponseStep, pass_response};

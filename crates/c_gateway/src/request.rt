@@ -13,7 +13,7 @@ use crate::reason::reason_number;
 use c_decisions::{RequestTexts, flag_of, optional_value, read_method};
 use c_parts::{Failure, HashKeys, read_map};
 use gateway_hops::{HopOutcome, send_request};
-use gateway_messages::{Expectation, Gateway, Protocol, RequestHead};
+use gateway_messages::{Expectation, Gateway, Protocol, ReceivedRequest};
 use std::alloc::{AllocError, Global};
 
 /// What a gateway does with a request.
@@ -59,7 +59,7 @@ pub fn pass_request(
     let method = read_method(alloc, request.method)?;
     let authority = optional_value(alloc, authority)?;
     let fields = read_map(alloc, request.section, keys)?;
-    let head = RequestHead {
+    let head = ReceivedRequest {
         protocol,
         method: &method,
         authority: authority.as_ref(),
@@ -75,7 +75,7 @@ fn step_of(
     hop: &HopOptions<'_>,
     nodes: &Nodes,
     server: Protocol,
-    head: &RequestHead<'_>,
+    head: &ReceivedRequest<'_>,
 ) -> Result<RequestStep, AllocError>
     ensures { IfOk result (IsStepAt gateway.now hop.entry.now nodes.now server (request_of head.now)) }
 {
@@ -89,7 +89,7 @@ fn decide(
     hop: &HopOptions<'_>,
     nodes: &Nodes,
     server: Protocol,
-    head: &RequestHead<'_>,
+    head: &ReceivedRequest<'_>,
 ) -> Result<HopOutcome, AllocError>
     ensures { IfOk result (IsOutcomeAt gateway.now hop.entry.now nodes.now server (request_of head.now)) }
 {

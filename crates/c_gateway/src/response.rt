@@ -20,7 +20,7 @@ use std::alloc::{AllocError, Global};
 /// What a gateway does with a response.
 #[repr(C)]
 #[derive(Clone, Copy)]
-pub struct ResponseFacts {
+pub struct ForwardedFacts {
     /// How its content is delimited as received.
     pub received: ContentFacts,
     /// How it is delimited as sent.
@@ -36,7 +36,7 @@ pub struct ResponseFacts {
 /// What a gateway does with a response, and the field lines that it sends.
 #[derive(Drop)]
 pub struct ResponseStep {
-    pub facts: ResponseFacts,
+    pub facts: ForwardedFacts,
     pub text: Vec<u8>,
 }
 
@@ -82,11 +82,11 @@ fn step_of(
     show(alloc, &outcome)
 }
 
-fn without_content(status: u16, action: u8, reason: u8) -> ResponseFacts
+fn without_content(status: u16, action: u8, reason: u8) -> ForwardedFacts
     ensures { result ≡ without_content status action reason }
 {
     let none = ContentFacts { length: 0, kind: 0 };
-    ResponseFacts {
+    ForwardedFacts {
         received: none,
         sent: none,
         status,
@@ -95,11 +95,11 @@ fn without_content(status: u16, action: u8, reason: u8) -> ResponseFacts
     }
 }
 
-fn response_facts(outcome: &ResponseOutcome) -> ResponseFacts
+fn response_facts(outcome: &ResponseOutcome) -> ForwardedFacts
     ensures { result ≡ response_facts outcome.now }
 {
     match outcome {
-        ResponseOutcome::Forward(sent) => ResponseFacts {
+        ResponseOutcome::Forward(sent) => ForwardedFacts {
             received: content_facts(sent.content),
             sent: content_facts(sent_content(sent.content, sent.framing)),
             status: 0,

@@ -6,7 +6,7 @@ use Rattle.decide_cors.specs.Policy.{Policy}
 use Rattle.c_parts.{specs.SectionMap.IsMapOf, specs.declared.status.Failure.Failure}
 use Rattle.c_parts.specs.declared.status.Failure.TheVariants.{Memory, Absent}
 use Rattle.c_decisions.{specs.Cors.IsSharedBy, specs.Methods.IsMethodOf, specs.Rules.IsPolicyAnswer}
-use Rattle.c_decisions.{specs.declared.cors.Shared.Shared, specs.declared.rules.Rules.Rules}
+use Rattle.c_decisions.{specs.declared.cors.PolicyAnswer.PolicyAnswer, specs.declared.rules.Rules.Rules}
 use Rattle.c_handles.{specs.Sections.OfEach, specs.declared.held.Held.Held}
 use Rattle.c_handles.specs.declared.policy.CorsExchange.{CorsExchange}
 use Rattle.c_handles.specs.declared.held.Held.TheVariants as held
@@ -25,7 +25,7 @@ pub record AreRead (exchange : CorsExchange) : Type 0 where
 
 module _ (exchange : CorsExchange) where
   -- the policy's answer to a request with these fields
-  abbrev pub SharesOf : Policy → Entries FieldValue → Result Shared Failure → Type 0
+  abbrev pub SharesOf : Policy → Entries FieldValue → Result PolicyAnswer Failure → Type 0
   SharesOf policy fields (Ok shared) =
       OfEach fields (λ request. IsSharedBy policy exchange.method.now request exchange.response.now shared)
   SharesOf policy fields (Err failure) =
@@ -33,7 +33,7 @@ module _ (exchange : CorsExchange) where
       ⊎ (IsMapOf exchange.response.now (Err failure) ⊎ ((failure ≡ Memory) × AreRead exchange))
 
   -- the same of two handles: `Absent` if one has none
-  abbrev pub SharesBetween : Option Policy → Option (Entries FieldValue) → Result Shared Failure → Type 0
+  abbrev pub SharesBetween : Option Policy → Option (Entries FieldValue) → Result PolicyAnswer Failure → Type 0
   SharesBetween None fields answer = answer ≡ Err Absent
   SharesBetween (Some policy) None answer = answer ≡ Err Absent
   SharesBetween (Some policy) (Some fields) answer = SharesOf policy fields answer

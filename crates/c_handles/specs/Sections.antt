@@ -12,7 +12,7 @@ use Rattle.c_decisions.{specs.Contents.{IsBoundaryOf, IsContentOf}, specs.Evalua
 use Rattle.c_decisions.{specs.Methods.IsMethodOf, specs.Responses.IsResponded, specs.Selection.{HasRange, IsSelected}}
 use Rattle.c_decisions.{specs.Targets.IsResourceOf, specs.Texts.{AreValuesOf, FailsAt}}
 use Rattle.c_decisions.{specs.declared.content.ContentParts.ContentParts, specs.declared.response.Responded.Responded}
-use Rattle.c_decisions.{specs.declared.selection.Selected.Selected, specs.declared.target.Target.Target}
+use Rattle.c_decisions.{specs.declared.selection.Selected.Selected, specs.declared.target.TargetFacts.TargetFacts}
 use Rattle.c_handles.specs.declared.held.Held.{Held}
 use Rattle.c_handles.specs.declared.held.Held.TheVariants as held
 
@@ -49,7 +49,7 @@ module _ (fields : Entries FieldValue) where
       IsNameOf name (Err Memory) ⊎ (IsFieldName name × HasLine (lines_under (lowercase name)))
   IsWrittenOf name (Err TooLarge) = ⊥
 
-  module _ (method : List ℕ) (target : Target) where
+  module _ (method : List ℕ) (target : TargetFacts) where
     abbrev pub EvaluatesOf : Result ℕ Failure → Type 0
     EvaluatesOf (Ok code) = OfEach (λ input. IsEvaluated method input target code)
     EvaluatesOf (Err failure) = IsMethodOf method (Err failure) ⊎ IsResourceOf target (Err failure)

@@ -7,12 +7,12 @@ ghost use Rattle.c_handles.specs.Sections.{SelectsOf, lines_under};
 use crate::handle::Handle;
 use crate::held::Held;
 use c_decisions::{
-    ContentParts, Responded, Selected, Target, boundary_of, code_of, content_of, given,
+    ContentParts, Responded, Selected, TargetFacts, boundary_of, code_of, content_of, given,
     read_method, read_resource, show_response, show_selection, values_of,
 };
 use c_parts::Failure;
 use decide_negotiation::{Dimension, negotiate};
-use decide_preconditions::{RangeFacts, RangeLimits, RequestHead, Resource, Sending};
+use decide_preconditions::{RangeFacts, RangeLimits, RequestHead, Sending, TargetState};
 use headers::HeaderMap;
 use std::alloc::Global;
 
@@ -20,7 +20,7 @@ fn evaluate_of(
     alloc: Global,
     fields: &HeaderMap,
     method: &[u8],
-    target: &Target<'_>,
+    target: &TargetFacts<'_>,
 ) -> Result<u16, Failure>
     ensures { EvaluatesOf fields.now method.now target.now result }
 {
@@ -38,7 +38,7 @@ fn evaluate_in(
     alloc: Global,
     held: &Held,
     method: &[u8],
-    target: &Target<'_>,
+    target: &TargetFacts<'_>,
 ) -> Result<u16, Failure>
     ensures { OnHeld (λ fields. EvaluatesOf fields method.now target.now) (section_in (Some held.now)) result }
 {
@@ -54,7 +54,7 @@ pub fn evaluate(
     alloc: Global,
     section: &mut Handle,
     method: &[u8],
-    target: &Target<'_>,
+    target: &TargetFacts<'_>,
 ) -> Result<u16, Failure>
     ensures same { section.new.held ≡ section.old.held }
     ensures answer { OnHeld (λ fields. EvaluatesOf fields method.now target.now) (section_in section.old.held) result }
@@ -71,13 +71,13 @@ fn select_of(
     alloc: Global,
     fields: &HeaderMap,
     method: &[u8],
-    target: &Target<'_>,
+    target: &TargetFacts<'_>,
     length: u64,
 ) -> Result<Selected, Failure>
     ensures { SelectsOf fields.now method.now target.now length result }
 {
     let method = read_method(alloc, method)?;
-    let Resource::Current(current) = read_resource(alloc, target)? else {
+    let TargetState::Current(current) = read_resource(alloc, target)? else {
         return Err(Failure::Absent);
     };
     let head = RequestHead {
@@ -98,7 +98,7 @@ fn select_in(
     alloc: Global,
     held: &Held,
     method: &[u8],
-    target: &Target<'_>,
+    target: &TargetFacts<'_>,
     length: u64,
 ) -> Result<Selected, Failure>
     ensures { OnHeld (λ fields. SelectsOf fields method.now target.now length) (section_in (Some held.now)) result }
@@ -115,7 +115,7 @@ pub fn select(
     alloc: Global,
     section: &mut Handle,
     method: &[u8],
-    target: &Target<'_>,
+    target: &TargetFacts<'_>,
     length: u64,
 ) -> Result<Selected, Failure>
     ensures same { section.new.held ≡ section.old.held }
@@ -134,7 +134,7 @@ fn respond_of(
     alloc: Global,
     fields: &HeaderMap,
     method: &[u8],
-    target: &Target<'_>,
+    target: &TargetFacts<'_>,
     parts: &ContentParts<'_>,
 ) -> Result<Responded, Failure>
     ensures { RespondsOf fields.now method.now target.now parts.now result }
@@ -160,7 +160,7 @@ fn respond_in(
     alloc: Global,
     held: &Held,
     method: &[u8],
-    target: &Target<'_>,
+    target: &TargetFacts<'_>,
     parts: &ContentParts<'_>,
 ) -> Result<Responded, Failure>
     ensures { OnHeld (λ fields. RespondsOf fields method.now target.now parts.now) (section_in (Some held.now)) result }
@@ -177,7 +177,7 @@ pub fn respond(
     alloc: Global,
     section: &mut Handle,
     method: &[u8],
-    target: &Target<'_>,
+    target: &TargetFacts<'_>,
     parts: &ContentParts<'_>,
 ) -> Result<Responded, Failure>
     ensures same { section.new.held ≡ section.old.held }

@@ -5,15 +5,15 @@ use c_pass::{Shared, Stepped};
 use decide_cors::CorsPolicy;
 use decide_resource::Resource;
 use headers::HeaderMap;
-use server_connection::{Connection, Plan};
+use server_connection::{ResponsePlan, ServerConnection};
 
 /// A connection, and the plan that is being made for the request that waits.
 #[derive(Drop)]
 pub struct HeldConnection {
     /// The connection.
-    pub connection: Connection,
+    pub connection: ServerConnection,
     /// The plan.
-    pub plan: Plan,
+    pub plan: ResponsePlan,
     /// Whether bytes were received since the last response.
     pub has_begun: bool,
     /// The status by which it rejected what it received, or 0.

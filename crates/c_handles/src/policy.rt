@@ -4,7 +4,7 @@ ghost use Rattle.c_handles.{specs.Handles.{policy_in, section_in}, specs.Policie
 
 use crate::handle::Handle;
 use crate::held::Held;
-use c_decisions::{Shared, read_method, show_shared};
+use c_decisions::{PolicyAnswer, read_method, show_shared};
 use c_parts::{Failure, HashKeys, read_map};
 use decide_cors::{CorsPolicy, RequestHead};
 use headers::HeaderMap;
@@ -26,7 +26,7 @@ fn answer_of(
     fields: &HeaderMap,
     exchange: &CorsExchange<'_>,
     keys: &HashKeys,
-) -> Result<Shared, Failure>
+) -> Result<PolicyAnswer, Failure>
     ensures { SharesOf exchange.now policy.now fields.now result }
 {
     let method = read_method(alloc, exchange.method)?;
@@ -45,7 +45,7 @@ fn answer_in(
     request: &Held,
     exchange: &CorsExchange<'_>,
     keys: &HashKeys,
-) -> Result<Shared, Failure>
+) -> Result<PolicyAnswer, Failure>
     ensures { SharesBetween exchange.now (policy_in (Some policy.now)) (section_in (Some request.now)) result }
 {
     let Held::Policy(policy) = policy else {
@@ -65,7 +65,7 @@ pub fn answer_cross_origin(
     request: &mut Handle,
     exchange: &CorsExchange<'_>,
     keys: &HashKeys,
-) -> Result<Shared, Failure>
+) -> Result<PolicyAnswer, Failure>
     ensures same_policy { policy.new.held ≡ policy.old.held }
     ensures same_request { request.new.held ≡ request.old.held }
     ensures answer { SharesBetween exchange.now (policy_in policy.old.held) (section_in request.old.held) result }

@@ -2,7 +2,7 @@
 use Rattle.std.specs.Prelude.{ℕ, List, Result}
 use Rattle.c_parts.{specs.Endings.TellsAndWrites, specs.declared.status.Failure.Failure}
 use Rattle.c_gateway.{specs.declared.request.RequestFacts.RequestFacts, specs.declared.request.RequestStep.RequestStep}
-use Rattle.c_gateway.specs.declared.response.ResponseFacts.{ResponseFacts}
+use Rattle.c_gateway.specs.declared.response.ForwardedFacts.{ForwardedFacts}
 use Rattle.c_gateway.specs.declared.response.ResponseStep.{ResponseStep}
 
 -- a call that tells what a gateway does with a request has an answer of which P holds
@@ -11,6 +11,6 @@ abbrev pub WritesRequest : (Result RequestStep Failure → Type 0) → (facts ne
 WritesRequest = TellsAndWrites (λ (step : RequestStep). step.facts) (λ (step : RequestStep). step.text.items)
 
 -- the same for a response
-abbrev pub WritesResponse : (Result ResponseStep Failure → Type 0) → (facts new_facts : ResponseFacts)
+abbrev pub WritesResponse : (Result ResponseStep Failure → Type 0) → (facts new_facts : ForwardedFacts)
     → (old new : List ℕ) → (before written status : ℕ) → Type 0
 WritesResponse = TellsAndWrites (λ (step : ResponseStep). step.facts) (λ (step : ResponseStep). step.text.items)

@@ -3,7 +3,7 @@ use Rattle.std.specs.Prelude.{◌≡◌, ℕ, List, Some, Result}
 use Rattle.websocket.specs.Handshake.{IsValidKey, accept_key_of}
 use Rattle.headers.specs.Lines.{Line, only_line}
 use Rattle.c_parts.{specs.Endings.TellsAndWrites, specs.declared.status.Failure.Failure}
-use Rattle.c_decisions.specs.declared.handshake.Answered.{Answered}
+use Rattle.c_decisions.specs.declared.handshake.AnsweredHandshake.{AnsweredHandshake}
 use Rattle.c_decisions.specs.declared.handshake.HandshakeFacts.{HandshakeFacts}
 
 -- the only line is the base64 of sixteen bytes, and this is what is answered to it
@@ -12,6 +12,7 @@ reads_accept lines accept =
     (key : Line) × (only_line lines ≡ Some key) × IsValidKey key × (accept ≡ accept_key_of key)
 
 -- a call that gives a server's answer has an answer of which P holds
-abbrev pub WritesHandshake : (Result Answered Failure → Type 0) → (facts new_facts : HandshakeFacts)
+abbrev pub WritesHandshake : (Result AnsweredHandshake Failure → Type 0) → (facts new_facts : HandshakeFacts)
     → (old new : List ℕ) → (before written status : ℕ) → Type 0
-WritesHandshake = TellsAndWrites (λ (shown : Answered). shown.facts) (λ (shown : Answered). shown.text.items)
+WritesHandshake =
+    TellsAndWrites (λ (shown : AnsweredHandshake). shown.facts) (λ (shown : AnsweredHandshake). shown.text.items)

@@ -6,7 +6,7 @@ ghost use Rattle.c_gateway.{specs.Framings.Frames, specs.Requests.PassesRequest,
 use crate::giving::give;
 use c_decisions::RequestTexts;
 use c_gateway::{
-    FramingFacts, GatewayOptions, HopOptions, MessageParts, RequestFacts, ResponseFacts,
+    ForwardedFacts, FramingFacts, GatewayOptions, HopOptions, MessageParts, RequestFacts,
     frame_message, pass_request, pass_response,
 };
 use c_parts::{DONE, HashKeys, copy_into};
@@ -50,7 +50,7 @@ pub extern "C" fn typed_headers_forward_response(
     keys: &HashKeys,
     client_version: u8,
     received: u64,
-    facts: &mut ResponseFacts,
+    facts: &mut ForwardedFacts,
     room: &mut [u8],
     written: &mut usize,
 ) -> u8

@@ -3,7 +3,7 @@ ghost use Rattle.c_parts.specs.Endings.{Gives};
 ghost use Rattle.c_decisions.specs.Evaluations.{Evaluates};
 
 use crate::giving::give;
-use c_decisions::{RequestTexts, Target, evaluate_request};
+use c_decisions::{RequestTexts, TargetFacts, evaluate_request};
 use c_parts::HashKeys;
 use std::alloc::Global;
 
@@ -14,7 +14,7 @@ pub extern "C" fn typed_headers_evaluate(
     alloc: Global,
     request: &RequestTexts<'_>,
     keys: &HashKeys,
-    target: &Target<'_>,
+    target: &TargetFacts<'_>,
     answer: &mut u16,
 ) -> u8
     ensures { Gives (Evaluates request.now target.now) answer.old answer.new result }

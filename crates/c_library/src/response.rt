@@ -3,7 +3,7 @@ ghost use Rattle.std.specs.Prelude.{◌≡◌};
 ghost use Rattle.c_library.specs.Responses.{WritesResponse, worse};
 ghost use Rattle.c_decisions.specs.Responses.{Responds};
 
-use c_decisions::{BytesRange, ContentParts, RequestTexts, ResponseFacts, Target, respond_to};
+use c_decisions::{BytesRange, ContentParts, RequestTexts, ResponseFacts, TargetFacts, respond_to};
 use c_parts::{DONE, HashKeys, copy_into};
 use std::alloc::Global;
 
@@ -14,7 +14,7 @@ pub extern "C" fn typed_headers_respond(
     alloc: Global,
     request: &RequestTexts<'_>,
     keys: &HashKeys,
-    target: &Target<'_>,
+    target: &TargetFacts<'_>,
     content: &ContentParts<'_>,
     facts: &mut ResponseFacts,
     parts: &mut [BytesRange],

@@ -14,7 +14,7 @@ ghost use Rattle.c_library.{specs.CacheStore.Ends, specs.Responses.WritesRespons
 use crate::giving::give;
 use crate::response::worse;
 use crate::store::ended;
-use c_decisions::{BytesRange, ContentParts, ResponseFacts, Target};
+use c_decisions::{BytesRange, ContentParts, ResponseFacts, TargetFacts};
 use c_handles::{Handle, choose, close, evaluate, open_section, respond, select, written_field};
 use c_parts::{DONE, Failure, HashKeys, copy_into, lines_text};
 use decide_negotiation::{Accept, AcceptEncoding, AcceptLanguage};
@@ -72,7 +72,7 @@ pub extern "C" fn typed_headers_section_evaluate(
     alloc: Global,
     fields: &mut Handle,
     method: &[u8],
-    target: &Target<'_>,
+    target: &TargetFacts<'_>,
     answer: &mut u16,
 ) -> u8
     ensures same { fields.new.held ≡ fields.old.held }
@@ -89,7 +89,7 @@ pub extern "C" fn typed_headers_section_select(
     alloc: Global,
     fields: &mut Handle,
     method: &[u8],
-    target: &Target<'_>,
+    target: &TargetFacts<'_>,
     length: u64,
     answer: &mut u16,
     room: &mut [BytesRange],
@@ -116,7 +116,7 @@ pub extern "C" fn typed_headers_section_respond(
     alloc: Global,
     fields: &mut Handle,
     method: &[u8],
-    target: &Target<'_>,
+    target: &TargetFacts<'_>,
     content: &ContentParts<'_>,
     facts: &mut ResponseFacts,
     parts: &mut [BytesRange],

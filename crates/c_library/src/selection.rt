@@ -1,7 +1,7 @@
 //! Which part of a representation a request selects.
 ghost use Rattle.c_decisions.specs.Selection.{Selects, WritesSelection};
 
-use c_decisions::{BytesRange, RequestTexts, Target, select_ranges};
+use c_decisions::{BytesRange, RequestTexts, TargetFacts, select_ranges};
 use c_parts::{DONE, HashKeys, copy_into};
 use std::alloc::Global;
 
@@ -12,7 +12,7 @@ pub extern "C" fn typed_headers_select(
     alloc: Global,
     request: &RequestTexts<'_>,
     keys: &HashKeys,
-    target: &Target<'_>,
+    target: &TargetFacts<'_>,
     length: u64,
     answer: &mut u16,
     room: &mut [BytesRange],

@@ -5,14 +5,14 @@ use Rattle.cache_pass.specs.declared.replying.First.TheVariants as first
 use Rattle.cache_pass.specs.declared.revalidating.Next.{Next}
 use Rattle.cache_pass.specs.declared.revalidating.Next.TheVariants as next
 use Rattle.c_pass.{specs.declared.outcome.By.By, specs.declared.outcome.By.TheVariants.{Nothing, Fields, Stored, Once}}
-use Rattle.c_pass.specs.declared.outcome.Outcome.{Outcome}
+use Rattle.c_pass.specs.declared.outcome.PassOutcome.{PassOutcome}
 
 -- a stored response is sent, as the reply says
 abbrev pub by_reply : Reply → By
 by_reply reply = Stored reply.number reply.answer
 
 -- what the first step comes to
-abbrev pub first_outcome : First → Outcome
+abbrev pub first_outcome : First → PassOutcome
 first_outcome (first.Reply reply) = record { action = 0; by = by_reply reply }
 first_outcome (first.ReplyAndValidate reply) = record { action = 1; by = by_reply reply }
 first_outcome first.Ask = record { action = 2; by = Nothing }
@@ -20,7 +20,7 @@ first_outcome (first.Validate fields) = record { action = 3; by = Fields fields 
 first_outcome first.Unavailable = record { action = 4; by = Nothing }
 
 -- what it comes to that the origin has answered
-abbrev pub next_outcome : Next → Outcome
+abbrev pub next_outcome : Next → PassOutcome
 next_outcome (next.Reply reply) = record { action = 0; by = by_reply reply }
 next_outcome (next.Once stored answer) = record { action = 0; by = Once stored answer }
 next_outcome next.Ask = record { action = 2; by = Nothing }
@@ -28,6 +28,6 @@ next_outcome (next.PassOn true) = record { action = 5; by = Nothing }
 next_outcome (next.PassOn false) = record { action = 6; by = Nothing }
 
 -- what it comes to that no response came
-abbrev pub failed_outcome : Option Reply → Outcome
+abbrev pub failed_outcome : Option Reply → PassOutcome
 failed_outcome (Some reply) = record { action = 0; by = by_reply reply }
 failed_outcome None = record { action = 7; by = Nothing }

@@ -24,11 +24,11 @@ use Rattle.c_pass.specs.declared.held.Place.TheVariants.{Apart, Waiting}
 use Rattle.c_pass.{specs.Reading.{FailsRequest, IsRequest, asked_by}, specs.Telling.{TakesMemory, is_head}}
 use Rattle.c_pass.specs.Telling.{outcome_told, waiting}
 use Rattle.c_pass.{specs.declared.held.Shared.Shared, specs.declared.held.Stepped.Stepped}
-use Rattle.c_pass.specs.declared.outcome.Outcome.{Outcome}
+use Rattle.c_pass.specs.declared.outcome.PassOutcome.{PassOutcome}
 use Rattle.c_pass.{specs.declared.reading.CacheRequest.CacheRequest, specs.declared.telling.PassFacts.PassFacts}
 
 -- the outcome is told, and the pass shows the content of the stored response that it names in the cache
-abbrev pub Tells : (now : ℕ) → Shared → Stepped → Outcome → PassFacts → Type 0
+abbrev pub Tells : (now : ℕ) → Shared → Stepped → PassOutcome → PassFacts → Type 0
 Tells now shared stepped outcome facts =
     (facts, stepped.text.items, stepped.shown)
     ≡ outcome_told (stored_at (key_of stepped.pass) shared.cache) (is_head stepped.pass) now outcome
@@ -43,7 +43,7 @@ pub record IsSilent (stepped : Stepped) : Type 0 where
   pub text : stepped.text.items ≡ []
 
 -- Memory ran out for what is told of the outcome of a first step, or to enter the queue.
-abbrev pub IsUnstarted : Pass → (now : ℕ) → (old new : Queue) → Outcome → Type 0
+abbrev pub IsUnstarted : Pass → (now : ℕ) → (old new : Queue) → PassOutcome → Type 0
 IsUnstarted pass now old new outcome = (TakesMemory outcome × (new ≡ old)) ⊎ IsUnplaced pass now old new
 
 -- the first step of a pass
@@ -129,7 +129,7 @@ module _ (now : ℕ) (old : Shared) (before : Stepped) (new : Shared) (after : S
   IsNotAsking failure = (failure ≡ Absent) × (asked_of before.pass.phase ≡ None)
 
   -- The step is done with this result. Memory ran out for it, or for what is told of its outcome.
-  abbrev pub IsUntold : {X : Type 0} → (X → Outcome) → Result X AllocError → Failure → Type 0
+  abbrev pub IsUntold : {X : Type 0} → (X → PassOutcome) → Result X AllocError → Failure → Type 0
   IsUntold outcome_of result failure =
       (failure ≡ Memory) × IfOk result (λ it. TakesMemory (outcome_of it)) × IsSilent after
 

@@ -9,7 +9,7 @@ use Rattle.cache_pass.specs.declared.pass.Pass.{Pass}
 use Rattle.c_decisions.specs.FieldLines.{fields_text}
 use Rattle.c_pass.{specs.Sending.{part_sent, status_sent, text_sent}, specs.declared.outcome.By.By}
 use Rattle.c_pass.specs.declared.outcome.By.TheVariants.{Nothing, Fields, Stored, Once}
-use Rattle.c_pass.{specs.declared.outcome.Outcome.Outcome, specs.declared.telling.PassFacts.PassFacts}
+use Rattle.c_pass.{specs.declared.outcome.PassOutcome.PassOutcome, specs.declared.telling.PassFacts.PassFacts}
 use Rattle.c_pass.specs.declared.telling.Told.{Told}
 
 -- the client asks by HEAD, so no content is sent
@@ -52,11 +52,11 @@ module _ (responses : List StoredResponse) (head : Bool) (now action : ℕ) wher
   by_told (Once stored answer) = told_of action stored answer head now
 
 -- what is told of an outcome, by what is stored under the target of the pass
-abbrev pub outcome_told : List StoredResponse → Bool → ℕ → Outcome → Telling
+abbrev pub outcome_told : List StoredResponse → Bool → ℕ → PassOutcome → Telling
 outcome_told responses head now outcome = by_told responses head now outcome.action outcome.by
 
 -- fields are told, or those of a stored response
-abbrev pub TakesMemory : Outcome → Type 0
+abbrev pub TakesMemory : PassOutcome → Type 0
 TakesMemory outcome = TakesMemoryBy outcome.by
   where
     TakesMemoryBy : By → Type 0

@@ -19,7 +19,7 @@ mod waiting;
 pub use crate::content::copy_content;
 pub use crate::held::{Place, Shared, Stepped};
 pub use crate::opening::{CacheExtensions, CacheOptions, new_cache, new_cache_with};
-pub use crate::outcome::{By, Outcome};
+pub use crate::outcome::{By, PassOutcome};
 pub use crate::reading::CacheRequest;
 pub use crate::removing::remove;
 pub use crate::stepping::{begin, came, ended, failed, received, resume};

@@ -8,7 +8,7 @@ use headers::Encoded;
 
 /// What is done with a request: the number of it, and by what.
 #[derive(Drop)]
-pub struct Outcome {
+pub struct PassOutcome {
     /// The number: 0 to send a stored response, 1 to do so and then validate it, 2 to ask the origin, 3 to ask it
     /// with these fields, 4 to send 504, 5 to pass on what came and then end the pass, 6 to pass it on, 7 to send
     /// that no response came. A pass that waits has 8.
@@ -30,7 +30,7 @@ pub enum By {
     Once(StoredResponse, StoredAnswer),
 }
 
-pub(crate) fn first_outcome(first: First) -> Outcome
+pub(crate) fn first_outcome(first: First) -> PassOutcome
     ensures { result ≡ first_outcome first }
 {
     let (action, by) = match first {
@@ -40,10 +40,10 @@ pub(crate) fn first_outcome(first: First) -> Outcome
         First::Validate(fields) => (3, By::Fields(fields)),
         First::Unavailable => (4, By::Nothing),
     };
-    Outcome { action, by }
+    PassOutcome { action, by }
 }
 
-pub(crate) fn next_outcome(next: Next) -> Outcome
+pub(crate) fn next_outcome(next: Next) -> PassOutcome
     ensures { result ≡ next_outcome next }
 {
     let (action, by) = match next {
@@ -53,18 +53,18 @@ pub(crate) fn next_outcome(next: Next) -> Outcome
         Next::PassOn(true) => (5, By::Nothing),
         Next::PassOn(false) => (6, By::Nothing),
     };
-    Outcome { action, by }
+    PassOutcome { action, by }
 }
 
-pub(crate) fn failed_outcome(found: Option<Reply>) -> Outcome
+pub(crate) fn failed_outcome(found: Option<Reply>) -> PassOutcome
     ensures { result ≡ failed_outcome found }
 {
     match found {
-        Some(reply) => Outcome {
+        Some(reply) => PassOutcome {
             action: 0,
             by: By::Stored(reply.number, reply.answer),
         },
-        None => Outcome {
+        None => PassOutcome {
             action: 7,
             by: By::Nothing,
         },

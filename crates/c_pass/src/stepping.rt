@@ -9,7 +9,7 @@ ghost use Rattle.c_pass.{specs.Outcomes.first_outcome, specs.Telling.TakesMemory
 ghost use Rattle.c_pass.specs.declared.held.Place.TheVariants.{Apart};
 
 use crate::held::{Place, Shared, Stepped};
-use crate::outcome::{Outcome, failed_outcome, first_outcome, next_outcome};
+use crate::outcome::{PassOutcome, failed_outcome, first_outcome, next_outcome};
 use crate::reading::{CacheRequest, read_target};
 use crate::telling::{PassFacts, tell, waiting};
 use crate::waiting::{ahead, enter, settle};
@@ -35,7 +35,7 @@ fn tell_step(
     alloc: Global,
     shared: &Shared,
     stepped: &mut Stepped,
-    outcome: Outcome,
+    outcome: PassOutcome,
     now: u64,
 ) -> Result<PassFacts, Failure>
     ensures pass { stepped.new.pass ≡ stepped.old.pass }

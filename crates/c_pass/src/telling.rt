@@ -3,7 +3,7 @@ ghost use Rattle.std.specs.Prelude.{◌≡◌, IfOk, IsErr};
 ghost use Rattle.cache_pass.specs.{Effects.stored_at, Passes.key_of};
 ghost use Rattle.c_pass.specs.Telling.{IsTold, TakesMemory, facts_of, is_head, outcome_told, told_of, waiting};
 
-use crate::outcome::{By, Outcome};
+use crate::outcome::{By, PassOutcome};
 use crate::sending::{part_sent, status_sent, text_sent};
 use bytes::Bytes;
 use c_decisions::fields_text;
@@ -84,7 +84,7 @@ pub(crate) fn tell(
     alloc: Global,
     cache: &Cache,
     pass: &Pass,
-    outcome: &Outcome,
+    outcome: &PassOutcome,
     now: u64,
 ) -> Result<Told, AllocError>
     ensures told { IfOk result (λ told. IsTold told (outcome_told

@@ -11,7 +11,7 @@ use crate::settled::settled_text;
 use crate::shown::{AnswerFacts, facts_of, parts_of};
 use c_decisions::{BytesRange, read_method};
 use c_parts::{Failure, HashKeys, read_map};
-use decide_resource::{Answer, RequestHead, Resource, answer_request};
+use decide_resource::{Answer, Resource, ResourceRequest, answer_request};
 use headers::HeaderMap;
 use std::alloc::{AllocError, Global};
 
@@ -39,7 +39,7 @@ pub fn answer_with(
     let denial = read_denial(alloc, denial)?;
     let host = authority.as_ref();
     let denied = denial.as_ref();
-    let head = RequestHead {
+    let head = ResourceRequest {
         protocol,
         method: &method,
         authority: host,

@@ -10,29 +10,29 @@ use crate::directives::{Directives, nothing};
 use headers_syntax::trim;
 use http_header::{GetAll, HeaderMap, HeaderName, HeaderValue};
 use rfc_fields::{has_line, number};
-use rfc_values::{Member, Value, read_entry};
+use rfc_values::{ItemValue, Member, read_entry};
 
 // Whether a directive is there. One that is false, or has another type, isn't.
-fn is_true(value: &Value<'_>) -> bool
+fn is_true(value: &ItemValue<'_>) -> bool
     ensures { result ≡ is_true (value_of value.now) }
 {
-    matches!(*value, Value::Boolean(true))
+    matches!(*value, ItemValue::Boolean(true))
 }
 
 // Whether a directive is there that may also name fields.
-fn is_true_or_named(value: &Value<'_>) -> bool
+fn is_true_or_named(value: &ItemValue<'_>) -> bool
     ensures { result ≡ is_true_or_named (value_of value.now) }
 {
-    matches!(*value, Value::Boolean(true) | Value::String(_))
+    matches!(*value, ItemValue::Boolean(true) | ItemValue::String(_))
 }
 
 // The seconds of a directive, if it has an integer.
-fn seconds_of(value: &Value<'_>) -> Option<u64>
+fn seconds_of(value: &ItemValue<'_>) -> Option<u64>
     ensures { result ≡ seconds_of (value_of value.now) }
 {
     match *value {
-        Value::Integer(text) => Some(number(text).unwrap_or(0)),
-        Value::Boolean(_) | Value::String(_) | Value::Other => None,
+        ItemValue::Integer(text) => Some(number(text).unwrap_or(0)),
+        ItemValue::Boolean(_) | ItemValue::String(_) | ItemValue::Other => None,
     }
 }
 

@@ -1,6 +1,6 @@
 -- Requests for which the origin is asked now: others for the same may wait for one of them (RFC 9111, section 4).
 use Rattle.{cache_pass.specs.Passes.{asked_of, request_of_pass}, cache_store.specs.Parts.Answering.IsForWhole}
-use Rattle.cache_pass.specs.declared.{pass.Pass.Pass, queue.{Entry.Entry, Queue.Queue}}
+use Rattle.cache_pass.specs.declared.{pass.Pass.Pass, queue.{PendingRequest.PendingRequest, Queue.Queue}}
 use Rattle.std.specs.{declared.alloc.AllocError.AllocError, Prelude.{◌==◌, find, Some}}
 use Rattle.std.specs.Prelude.{[], ◌&&◌, ◌+◌, ◌∷◌, Bool, bytes_eq, is_some, IsSome, None, not, Ok, Option, option_map}
 use Rattle.std.specs.Prelude.{◌++◌, ◌-◌, ◌<◌, ◌^◌, ◌≡◌, Err, filter, List, nat_le, nat_lt, Result, string_bytes, ℕ}
@@ -11,15 +11,15 @@ pub record Collapses (pass : Pass) : Type 0 where
   pub whole : IsForWhole (request_of_pass pass)
 
 -- it asked less than so many seconds ago
-abbrev pub is_within : (limit now : ℕ) → Entry → Bool
+abbrev pub is_within : (limit now : ℕ) → PendingRequest → Bool
 is_within limit now entry = nat_le entry.asked now && nat_lt now (entry.asked + limit)
 
 -- it is for this target, too
-abbrev pub is_ahead : (limit now : ℕ) → List ℕ → Entry → Bool
+abbrev pub is_ahead : (limit now : ℕ) → List ℕ → PendingRequest → Bool
 is_ahead limit now key entry = bytes_eq (string_bytes entry.key) key && is_within limit now entry
 
 -- it has this number, too
-abbrev pub is_named : (limit now number : ℕ) → Entry → Bool
+abbrev pub is_named : (limit now number : ℕ) → PendingRequest → Bool
 is_named limit now number entry = entry.number == number && is_within limit now entry
 
 -- the number of the first request for a target that others may wait for
@@ -43,7 +43,7 @@ pub record HasLeft (number : ℕ) (old new : Queue) : Type 0 where
 
 module _ (key : List ℕ) (now : ℕ) (old new : Queue) where
   -- those that asked too long ago have left
-  abbrev pub still_open : List Entry
+  abbrev pub still_open : List PendingRequest
   still_open = filter (is_within old.limit now) old.entries.items
 
   -- the request has entered behind them, under the next number
@@ -52,7 +52,7 @@ module _ (key : List ℕ) (now : ℕ) (old new : Queue) where
     pub limit : new.limit ≡ old.limit
     pub number_is : number ≡ old.next
     pub next : new.next ≡ old.next + 1
-    pub entry : Entry
+    pub entry : PendingRequest
     pub named : entry.number ≡ number
     pub key_is : string_bytes entry.key ≡ key
     pub asked : entry.asked ≡ now

@@ -20,7 +20,7 @@ mod validation;
 
 pub use crate::cache::Cache;
 pub use crate::pass::{Asked, Pass, Phase};
-pub use crate::queue::{Entry, Queue};
+pub use crate::queue::{PendingRequest, Queue};
 pub use crate::removals::Removals;
 pub use crate::replying::{First, Reply};
 pub use crate::revalidating::Next;

@@ -13,7 +13,7 @@ use std::alloc::{AllocError, Global};
 
 /// A request for which the origin is asked.
 #[derive(Debug, Drop)]
-pub struct Entry {
+pub struct PendingRequest {
     pub(crate) number: u64,
     pub(crate) key: String,
     pub(crate) asked: u64,
@@ -24,30 +24,30 @@ pub struct Entry {
 pub struct Queue {
     pub(crate) limit: u64,
     pub(crate) next: u64,
-    pub(crate) entries: Vec<Entry>,
+    pub(crate) entries: Vec<PendingRequest>,
 }
 
 // Whether a request asked less than so many seconds ago.
-fn is_within(entry: &Entry, limit: u64, now: u64) -> bool
+fn is_within(entry: &PendingRequest, limit: u64, now: u64) -> bool
     ensures { result ≡ is_within limit now entry.now }
 {
     entry.asked <= now && now - entry.asked < limit
 }
 
-fn is_ahead(entry: &Entry, limit: u64, now: u64, key: &str) -> bool
+fn is_ahead(entry: &PendingRequest, limit: u64, now: u64, key: &str) -> bool
     ensures { result ≡ is_ahead limit now key.now entry.now }
 {
     entry.key.as_str() == key && is_within(entry, limit, now)
 }
 
-fn is_named(entry: &Entry, limit: u64, now: u64, number: u64) -> bool
+fn is_named(entry: &PendingRequest, limit: u64, now: u64, number: u64) -> bool
     ensures { result ≡ is_named limit now number entry.now }
 {
     entry.number == number && is_within(entry, limit, now)
 }
 
 // The request with this number, if it asked less than so many seconds ago.
-fn named(entries: &[Entry], limit: u64, now: u64, number: u64) -> Option<&Entry>
+fn named(entries: &[PendingRequest], limit: u64, now: u64, number: u64) -> Option<&PendingRequest>
     ensures { option_copied result ≡ find (is_named limit now number) entries.now }
 {
     entries
@@ -56,14 +56,14 @@ fn named(entries: &[Entry], limit: u64, now: u64, number: u64) -> Option<&Entry>
 }
 
 // Whether there was memory for one more.
-fn push_entry(entries: &mut Vec<Entry>, entry: Entry) -> bool
+fn push_entry(entries: &mut Vec<PendingRequest>, entry: PendingRequest) -> bool
     ensures { entries.new.items ≡ (if result then entries.old.items ++ entry ∷ [] else entries.old.items) }
 {
     entries.push(entry).is_ok()
 }
 
 // Keeps the requests that asked less than so many seconds ago.
-fn keep_within(entries: &mut Vec<Entry>, limit: u64, now: u64)
+fn keep_within(entries: &mut Vec<PendingRequest>, limit: u64, now: u64)
     ensures { entries.new.items ≡ filter (is_within limit now) entries.old.items }
 {
     entries.retain(|entry| is_within(entry, limit, now));
@@ -132,7 +132,7 @@ impl Queue {
         }
         let key = String::from_str(alloc, key)?;
         let number = self.next;
-        let entry = Entry {
+        let entry = PendingRequest {
             number,
             key,
             asked: now,

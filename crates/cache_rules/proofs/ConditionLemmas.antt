@@ -8,7 +8,7 @@ use Rattle.decide_preconditions.{proofs.HeadLemmas.never_unconditional, specs.Co
 use Rattle.decide_preconditions.{specs.Limits.are_too_many, specs.Plans.IsPlanned, specs.declared.part.Part.Part}
 use Rattle.decide_preconditions.{specs.declared.plan.Plan.Plan, specs.declared.resource.Validators.Validators}
 use Rattle.decide_preconditions.specs.Preconditions.{Answers, AreIgnored, IsGetOrHead}
-use Rattle.decide_preconditions.specs.declared.resource.Resource.TheVariants.{Missing, Current}
+use Rattle.decide_preconditions.specs.declared.resource.TargetState.TheVariants.{Missing, Current}
 use Rattle.cache_rules.specs.Conditions.{AreValidators, IsForCache, IsStoredAnswer, answer_of, divisible, one_part}
 use Rattle.cache_rules.specs.declared.stored.StoredResponse.{StoredResponse}
 use Rattle.decide_preconditions.specs.declared.plan.Plan.TheVariants as plan

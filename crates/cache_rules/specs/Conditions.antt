@@ -5,7 +5,7 @@ use Rattle.headers.specs.{Lines.Line, Shapes.only_tag, Typed.HasLine}
 use Rattle.rfc_values.specs.Calendar.{unix_epoch}
 use Rattle.cache_policy.specs.{Fields.date_in, Requests.Request}
 use Rattle.decide_preconditions.specs.{Plans.IsPlan, declared.limits.RangeLimits.RangeLimits, declared.plan.Plan.Plan}
-use Rattle.decide_preconditions.specs.{Preconditions.IsGetOrHead, declared.resource.Resource.TheVariants.Current}
+use Rattle.decide_preconditions.specs.{Preconditions.IsGetOrHead, declared.resource.TargetState.TheVariants.Current}
 use Rattle.decide_preconditions.specs.{declared.resource.Validators.Validators}
 use Rattle.cache_rules.specs.{Stored.fields_of_stored, Stored.made_at, declared.conditions.StoredAnswer.StoredAnswer}
 use Rattle.cache_rules.specs.{declared.stored.StoredResponse.StoredResponse}

@@ -8,7 +8,7 @@ ghost use Rattle.cache_rules.specs.Conditions.{one_part, modified_second, unix_s
 use crate::stored::StoredResponse;
 use cache_policy::{END_OF_DATES, RequestHead, date};
 use decide_preconditions::{
-    Part, Plan, RangeFacts, RangeLimits, Resource, Validators, is_get_or_head, plan_answer,
+    Part, Plan, RangeFacts, RangeLimits, TargetState, Validators, is_get_or_head, plan_answer,
 };
 use headers::{ETag, HeaderMap, HeaderMapExt, LastModified, Refused};
 use http_header::{IF_MATCH, IF_UNMODIFIED_SINCE, LAST_MODIFIED};
@@ -56,7 +56,7 @@ pub fn answer_conditions(
         return Ok(StoredAnswer::Whole);
     }
     let current = validators_of(alloc, stored)?;
-    let resource = Resource::Current(current);
+    let resource = TargetState::Current(current);
     let len = divisible(stored, ranges);
     let limits = one_part();
     let facts = RangeFacts {

@@ -10,7 +10,7 @@ use Rattle.decide_cors.specs.Policy.{Policy}
 use Rattle.decide_preconditions.specs.Fields.{fields_removed, fields_sent, is_known_by, is_whole, keeps_encoding}
 use Rattle.decide_preconditions.{specs.Responses.IsAnswered, specs.declared.content.Content.Content}
 use Rattle.decide_preconditions.specs.declared.plan.Plan.{Plan}
-use Rattle.decide_preconditions.specs.{declared.resource.Resource.Resource as Target}
+use Rattle.decide_preconditions.specs.{declared.resource.TargetState.TargetState as Target}
 use Rattle.decide_preconditions.specs.{declared.response.Response.Response}
 use Rattle.decide_resource.specs.Answers.{AreSent, GivesIf, IsAnswer, IsShared, at_place, content_of, is_admitted}
 use Rattle.decide_resource.specs.Answers.{response_fields, target_of}

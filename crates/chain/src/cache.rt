@@ -13,7 +13,7 @@ use cache_policy::RequestHead as AskedHead;
 use cache_rules::{Reception, StoredResponse};
 use cache_store::{Lookup, LookupTimes, Store};
 use decide_preconditions::is_get_or_head;
-use decide_resource::{RequestContent, RequestHead};
+use decide_resource::{RequestContent, ResourceRequest};
 use gateway_messages::Protocol;
 use headers::{Encoded, HeaderMap, HeaderName, InsertError};
 use headers_syntax::read_text;
@@ -88,7 +88,7 @@ fn has_special(fields: &HeaderMap) -> bool
         || has(fields, IF_RANGE)
 }
 
-fn is_bare_read(request: &RequestHead<'_>) -> bool
+fn is_bare_read(request: &ResourceRequest<'_>) -> bool
     ensures { MatchBool result (IsBareRead (request_of request.now)) (¬ (IsBareRead (request_of request.now))) }
 {
     is_get_or_head(request.method)
@@ -132,7 +132,7 @@ fn bare_host(fields: &HeaderMap) -> Option<&str>
 }
 
 // The host of a plain request. `None` if the request isn't plain.
-fn plain_host<'a>(target: &str, request: &RequestHead<'a>) -> Option<&'a str>
+fn plain_host<'a>(target: &str, request: &ResourceRequest<'a>) -> Option<&'a str>
     ensures { MatchOption result (¬ (IsPlain target.now (request_of request.now)))
         (λ host. IsPlain target.now (request_of request.now)
         × (lines_at request.now.fields.now (codes "host") ≡ host.now ∷ [])) }
@@ -155,7 +155,7 @@ fn key_of(alloc: Global, host: &str, target: &str) -> Result<String, AllocError>
 }
 
 // What is kept of a plain request that is sent on.
-fn sent_on(key: String, request: &RequestHead<'_>, now: u64) -> Result<Pending, AllocError>
+fn sent_on(key: String, request: &ResourceRequest<'_>, now: u64) -> Result<Pending, AllocError>
     ensures { IfOk result (λ pending. (pending.key ≡ key) × (pending.method ≡ request.now.method.now)
         × (pending.requested ≡ now)
         × ((name : List ℕ) → lines_at pending.fields name ≡ lines_at request.now.fields.now name)) }
@@ -172,7 +172,7 @@ fn sent_on(key: String, request: &RequestHead<'_>, now: u64) -> Result<Pending, 
 fn acted(
     lookup: Lookup,
     key: String,
-    request: &RequestHead<'_>,
+    request: &ResourceRequest<'_>,
     now: u64,
 ) -> Result<Action, AllocError>
     ensures { IfOk result (λ action. (target : List ℕ) → IsPlain target (request_of request.now)
@@ -203,7 +203,7 @@ pub fn answer_from_store(
     alloc: Global,
     store: &mut Store,
     target: &str,
-    request: &RequestHead<'_>,
+    request: &ResourceRequest<'_>,
     times: LookupTimes,
 ) -> Result<Action, AllocError>
     ensures ok { IfOk result (λ action. IsAction target.now (request_of request.now) times.now

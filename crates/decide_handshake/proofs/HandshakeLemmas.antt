@@ -6,12 +6,13 @@ use Rattle.http_header.specs.FieldValue.{FieldValue}
 use Rattle.websocket.specs.Handshake.{IsValidKey, accept_key_of}
 use Rattle.headers.{specs.LineMap.LineMap, specs.Lines.{Line, only_line}}
 use Rattle.decide_handshake.{specs.Client.{IsOpened, SendsKey}, specs.Extensions.HasExtensions}
-use Rattle.decide_handshake.{specs.Origins.OriginList, specs.declared.server.Answer.Answer}
+use Rattle.decide_handshake.{specs.Origins.OriginList, specs.declared.server.HandshakeAnswer.HandshakeAnswer}
 use Rattle.decide_handshake.specs.Messages.{Carries, CarriesButOffers, FitsProtocol, answer_fields, request_fields}
 use Rattle.decide_handshake.{specs.Messages.status_of, specs.Protocols.{AsksFor, OffersProtocols, UsesAskedProtocol}}
 use Rattle.decide_handshake.specs.Server.{Answers, HasHost, HasKey, IsHandshake, IsSwitch, Switches}
 use Rattle.decide_handshake.specs.declared.client.Flaw.TheVariants.{NotSwitched, UnaskedProtocol, WrongAccept}
-use Rattle.decide_handshake.specs.declared.server.Answer.TheVariants.{Switch, BadRequest, UpgradeRequired, Forbidden}
+use Rattle.decide_handshake.specs.declared.server.HandshakeAnswer.TheVariants.{Switch, BadRequest, UpgradeRequired}
+use Rattle.decide_handshake.specs.declared.server.HandshakeAnswer.TheVariants.{Forbidden}
 use Rattle.decide_handshake.{proofs.ClientLemmas.opened, proofs.ServerLemmas.one_key, proofs.FieldLemmas.lists_upgrade}
 use Rattle.decide_handshake.{proofs.FieldLemmas.lists_websocket, proofs.ProtocolLemmas.{taken_asked, uses_asked}}
 use Rattle.decide_handshake.proofs.ProtocolLemmas.{uses_this}
@@ -92,7 +93,7 @@ module _ (method : List ℕ) (version : Version) (request : LineMap) (origins : 
 
   -- what a switch answers opens the connection for those that sent another handshake exactly if both keys call for one
   -- value, and it asks for the subprotocol too
-  pub opens_for : (a : Answer) (map response sent : LineMap) (key other : Line)
+  pub opens_for : (a : HandshakeAnswer) (map response sent : LineMap) (key other : Line)
       → Answers method version request origins own a → IsSwitch a → HasKey request key → SendsKey sent other
       → Carries (answer_fields a) map response
       → IsOpened sent (status_of a) response ↔ ((accept_key_of key ≡ accept_key_of other) × FitsProtocol sent a)
@@ -108,7 +109,7 @@ module _ (method : List ℕ) (version : Version) (request : LineMap) (origins : 
   opens_for Forbidden map response sent key other h s has sends carries = absurd s
 
   -- so it opens the connection for the one that sent the request
-  pub opens_for_sender : (a : Answer) (map response : LineMap) → Answers method version request origins own a
+  pub opens_for_sender : (a : HandshakeAnswer) (map response : LineMap) → Answers method version request origins own a
       → IsSwitch a → Carries (answer_fields a) map response → IsOpened request (status_of a) response
   opens_for_sender (Switch accept protocol) map response h s carries =
       let has : HasKey request h.key = h.accepted.handshake.has_key in
@@ -119,7 +120,7 @@ module _ (method : List ℕ) (version : Version) (request : LineMap) (origins : 
   opens_for_sender Forbidden map response h s carries = absurd s
 
 -- no other answer opens a connection
-pub refusal_opens_none : (a : Answer) (sent response : LineMap) → ¬ (IsSwitch a)
+pub refusal_opens_none : (a : HandshakeAnswer) (sent response : LineMap) → ¬ (IsSwitch a)
     → ¬ (IsOpened sent (status_of a) response)
 refusal_opens_none (Switch accept protocol) sent response refuses opens = refuses tt
 refusal_opens_none (BadRequest fault) sent response refuses opens =

@@ -6,11 +6,12 @@ use Rattle.websocket.specs.Handshake.{accept_key_of}
 use Rattle.headers.specs.{LineMap.LineMap, Lines.Line}
 use Rattle.decide_handshake.specs.{Extensions.HasExtensions, Fields.ListsUpgrade, Fields.ListsWebsocket}
 use Rattle.decide_handshake.specs.{Origins.{AllowsOrigin, OriginList}, Protocols.OffersProtocols, Protocols.taken}
-use Rattle.decide_handshake.specs.{Rules.KeepsBelow, declared.server.Answer.Answer}
+use Rattle.decide_handshake.specs.{Rules.KeepsBelow, declared.server.HandshakeAnswer.HandshakeAnswer}
 use Rattle.decide_handshake.specs.{declared.server.Refusal.Refusal}
 use Rattle.decide_handshake.specs.Server.{Answers, HasHost, HasKey, HasVersion13, IsAccepted, IsFirst, IsGet, IsHttp11}
 use Rattle.decide_handshake.specs.Server.{IsRecent, IsSwitch, Rule, refusal_number}
-use Rattle.decide_handshake.specs.declared.server.Answer.TheVariants.{Switch, BadRequest, UpgradeRequired, Forbidden}
+use Rattle.decide_handshake.specs.declared.server.HandshakeAnswer.TheVariants.{Switch, BadRequest, UpgradeRequired}
+use Rattle.decide_handshake.specs.declared.server.HandshakeAnswer.TheVariants.{Forbidden}
 use Rattle.decide_handshake.specs.declared.server.Fault.TheVariants.{NotGet, OldHttp, NotHttp11, NoHost, NoUpgrade}
 use Rattle.decide_handshake.specs.declared.server.Fault.TheVariants.{NoConnection, NoKey, MalformedProtocols}
 use Rattle.decide_handshake.specs.declared.server.Fault.TheVariants.{MalformedExtensions}
@@ -232,7 +233,7 @@ module _ (method : List ℕ) (version : Version) (request : LineMap) (origins : 
   same_refusal = one_first refusal_number refusal_at refusal_back R
 
   module _ (own : List FieldValue) where
-    abbrev A : Answer → Type 0
+    abbrev A : HandshakeAnswer → Type 0
     A = Answers method version request origins own
 
     same_switch : (v w : FieldValue) (p q : Option FieldValue) → A (Switch v p) → A (Switch w q)
@@ -243,7 +244,7 @@ module _ (method : List ℕ) (version : Version) (request : LineMap) (origins : 
         let picked : p ≡ q = h.picked ∙ sym k.picked in
         rw (same, picked) refl
 
-    pub one_answer : (a b : Answer) → A a → A b → a ≡ b
+    pub one_answer : (a b : HandshakeAnswer) → A a → A b → a ≡ b
     one_answer (Switch v p) (Switch w q) h k = same_switch v w p q h k
     one_answer (Switch v p) (BadRequest g) h k = absurd (k.broken (keeps h.key h.accepted (Faulty g)))
     one_answer (Switch v p) UpgradeRequired h k = absurd (k.broken (keeps h.key h.accepted OtherVersion))
@@ -268,18 +269,18 @@ module _ (method : List ℕ) (version : Version) (request : LineMap) (origins : 
         let same : OtherOrigin ≡ OtherVersion = same_refusal OtherOrigin OtherVersion h k in absurd (cc same)
     one_answer Forbidden Forbidden h k = refl
 
-    refuses : (refusal : Refusal) → First refusal → (a : Answer) × A a
+    refuses : (refusal : Refusal) → First refusal → (a : HandshakeAnswer) × A a
     refuses (Faulty fault) first = (BadRequest fault, first)
     refuses OtherVersion first = (UpgradeRequired, first)
     refuses OtherOrigin first = (Forbidden, first)
 
-    switches : (key : Line) → IsAccepted method version request origins key → (a : Answer) × A a
+    switches : (key : Line) → IsAccepted method version request origins key → (a : HandshakeAnswer) × A a
     switches key a = (
       Switch (plain_value (accept_key_of key)) (taken request own),
       record { key = key; accepted = a; value = refl; picked = refl },
     )
 
-    pub some_answer : ¬ (¬ ((a : Answer) × A a))
+    pub some_answer : ¬ (¬ ((a : HandshakeAnswer) × A a))
     some_answer never =
         some_first refusal_number refusal_at refusal_back R at_low 11 (λ found.
         elim found [
@@ -288,14 +289,16 @@ module _ (method : List ℕ) (version : Version) (request : LineMap) (origins : 
         ])
 
     -- an answer switches only if the request is accepted
-    pub switch_only : (a : Answer) → A a → IsSwitch a → (key : Line) × IsAccepted method version request origins key
+    pub switch_only : (a : HandshakeAnswer) → A a → IsSwitch a
+        → (key : Line) × IsAccepted method version request origins key
     switch_only (Switch v p) h s = (h.key, h.accepted)
     switch_only (BadRequest f) h s = absurd s
     switch_only UpgradeRequired h s = absurd s
     switch_only Forbidden h s = absurd s
 
     -- and it switches if the request is
-    pub switch_if : (a : Answer) (key : Line) → A a → IsAccepted method version request origins key → IsSwitch a
+    pub switch_if : (a : HandshakeAnswer) (key : Line) → A a → IsAccepted method version request origins key
+        → IsSwitch a
     switch_if (Switch v p) key h k = tt
     switch_if (BadRequest f) key h k = h.broken (keeps key k (Faulty f))
     switch_if UpgradeRequired key h k = h.broken (keeps key k OtherVersion)

@@ -2,10 +2,11 @@
 use Rattle.std.specs.Prelude.{◌≡◌, ⊤, ℕ, Bool, false, ◌||◌, bytes_eq, List, [], ◌∷◌, Option, Some, None, codes}
 use Rattle.http_header.specs.FieldValue.{FieldValue}
 use Rattle.headers.specs.{LineMap.Field, LineMap.LineMap, LineMap.set_all, Lines.Line}
-use Rattle.decide_handshake.specs.{Protocols.AsksFor, declared.server.Answer.Answer}
-use Rattle.decide_handshake.specs.declared.server.Answer.TheVariants.{Switch, BadRequest, UpgradeRequired, Forbidden}
+use Rattle.decide_handshake.specs.{Protocols.AsksFor, declared.server.HandshakeAnswer.HandshakeAnswer}
+use Rattle.decide_handshake.specs.declared.server.HandshakeAnswer.TheVariants.{Switch, BadRequest, UpgradeRequired}
+use Rattle.decide_handshake.specs.declared.server.HandshakeAnswer.TheVariants.{Forbidden}
 
-abbrev pub status_of : Answer → ℕ
+abbrev pub status_of : HandshakeAnswer → ℕ
 status_of (Switch accept protocol) = 101
 status_of (BadRequest fault) = 400
 status_of UpgradeRequired = 426
@@ -34,7 +35,7 @@ request_fields key =
     )
 
 -- the fields of an answer
-abbrev pub answer_fields : Answer → List Field
+abbrev pub answer_fields : HandshakeAnswer → List Field
 answer_fields (Switch accept protocol) =
     upgrading (
     (codes "sec-websocket-accept", accept.bytes ∷ []) ∷ (codes "sec-websocket-protocol", taken_lines protocol)
@@ -59,7 +60,7 @@ CarriesButOffers fields map message =
     (name : List ℕ) → is_offer name ≡ false → message name ≡ set_all map fields name
 
 -- the answer selects no subprotocol, or one that this handshake offers
-abbrev pub FitsProtocol : LineMap → Answer → Type 0
+abbrev pub FitsProtocol : LineMap → HandshakeAnswer → Type 0
 FitsProtocol sent (Switch accept None) = ⊤
 FitsProtocol sent (Switch accept (Some protocol)) = AsksFor sent protocol.bytes
 FitsProtocol sent (BadRequest fault) = ⊤

@@ -7,9 +7,10 @@ use Rattle.websocket.specs.Handshake.{IsValidKey, accept_key_of}
 use Rattle.headers.specs.{LineMap.LineMap, Lines.Line, Lines.only_line}
 use Rattle.decide_handshake.specs.{Extensions.HasExtensions, Fields.ListsUpgrade, Fields.ListsWebsocket}
 use Rattle.decide_handshake.specs.{Origins.{AllowsOrigin, OriginList}, Protocols.OffersProtocols, Protocols.taken}
-use Rattle.decide_handshake.specs.{Rules.IsFirstBroken, declared.server.Answer.Answer}
+use Rattle.decide_handshake.specs.{Rules.IsFirstBroken, declared.server.HandshakeAnswer.HandshakeAnswer}
 use Rattle.decide_handshake.specs.{declared.server.Refusal.Refusal}
-use Rattle.decide_handshake.specs.declared.server.Answer.TheVariants.{Switch, BadRequest, UpgradeRequired, Forbidden}
+use Rattle.decide_handshake.specs.declared.server.HandshakeAnswer.TheVariants.{Switch, BadRequest, UpgradeRequired}
+use Rattle.decide_handshake.specs.declared.server.HandshakeAnswer.TheVariants.{Forbidden}
 use Rattle.decide_handshake.specs.declared.server.Fault.TheVariants.{NotGet, OldHttp, NotHttp11, NoHost, NoUpgrade}
 use Rattle.decide_handshake.specs.declared.server.Fault.TheVariants.{NoConnection, NoKey, MalformedProtocols}
 use Rattle.decide_handshake.specs.declared.server.Fault.TheVariants.{MalformedExtensions}
@@ -101,14 +102,14 @@ module _ (method : List ℕ) (version : Version) (request : LineMap) (origins : 
     pub picked : protocol ≡ taken request own
 
   -- which facts give each answer of a server that has these subprotocols
-  abbrev pub Answers : List FieldValue → Answer → Type 0
+  abbrev pub Answers : List FieldValue → HandshakeAnswer → Type 0
   Answers own (Switch accept protocol) = Switches own accept protocol
   Answers own (BadRequest fault) = IsFirst (Faulty fault)
   Answers own UpgradeRequired = IsFirst OtherVersion
   Answers own Forbidden = IsFirst OtherOrigin
 
 -- the answer changes to the WebSocket protocol
-abbrev pub IsSwitch : Answer → Type 0
+abbrev pub IsSwitch : HandshakeAnswer → Type 0
 IsSwitch (Switch accept protocol) = ⊤
 IsSwitch (BadRequest fault) = ⊥
 IsSwitch UpgradeRequired = ⊥

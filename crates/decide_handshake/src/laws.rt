@@ -6,7 +6,7 @@ ghost use Rattle.http_header.specs.FieldValue.{FieldValue};
 ghost use Rattle.headers.specs.{LineMap.LineMap, Lines.Line};
 ghost use Rattle.decide_handshake.specs.{Client.Checks, Client.IsOpened, Client.SendsKey, Extensions.HasExtensions};
 ghost use Rattle.decide_handshake.specs.{Protocols.OffersProtocols, declared.client.Checked.Checked};
-ghost use Rattle.decide_handshake.specs.{Origins.OriginList, declared.server.Answer.Answer};
+ghost use Rattle.decide_handshake.specs.{Origins.OriginList, declared.server.HandshakeAnswer.HandshakeAnswer};
 ghost use Rattle.decide_handshake.specs.Messages.{Carries, CarriesButOffers, FitsProtocol, answer_fields};
 ghost use Rattle.decide_handshake.specs.Messages.{request_fields, status_of};
 ghost use Rattle.decide_handshake.specs.Server.{Answers, HasHost, HasKey, IsAccepted, IsHandshake, IsSwitch};
@@ -15,9 +15,10 @@ ghost use Rattle.decide_handshake.specs.Server.{Answers, HasHost, HasKey, IsAcce
 /// the definitions have no test of a key's base64.
 pub fn request_has_one_answer()
     ensures some { (method : List ℕ) (version : Version) (request : LineMap) (origins : OriginList)
-        (own : List FieldValue) → ¬ (¬ ((answer : Answer) × Answers method version request origins own answer)) }
+        (own : List FieldValue)
+        → ¬ (¬ ((answer : HandshakeAnswer) × Answers method version request origins own answer)) }
     ensures one { (method : List ℕ) (version : Version) (request : LineMap) (origins : OriginList)
-        (own : List FieldValue) (a b : Answer) → Answers method version request origins own a
+        (own : List FieldValue) (a b : HandshakeAnswer) → Answers method version request origins own a
         → Answers method version request origins own b → a ≡ b }
 {}
 
@@ -25,10 +26,10 @@ pub fn request_has_one_answer()
 /// origin.
 pub fn switches_for_handshakes()
     ensures only { (method : List ℕ) (version : Version) (request : LineMap) (origins : OriginList)
-        (own : List FieldValue) (a : Answer) → Answers method version request origins own a → IsSwitch a
+        (own : List FieldValue) (a : HandshakeAnswer) → Answers method version request origins own a → IsSwitch a
         → (key : Line) × IsAccepted method version request origins key }
     ensures all { (method : List ℕ) (version : Version) (request : LineMap) (origins : OriginList)
-        (own : List FieldValue) (a : Answer) (key : Line) → Answers method version request origins own a
+        (own : List FieldValue) (a : HandshakeAnswer) (key : Line) → Answers method version request origins own a
         → IsAccepted method version request origins key → IsSwitch a }
 {}
 
@@ -58,15 +59,15 @@ pub fn response_has_one_result()
 /// that doesn't switch opens no connection.
 pub fn ends_agree()
     ensures own { (method : List ℕ) (version : Version) (request : LineMap) (origins : OriginList)
-        (own : List FieldValue) (a : Answer) (map response : LineMap)
+        (own : List FieldValue) (a : HandshakeAnswer) (map response : LineMap)
         → Answers method version request origins own a → IsSwitch a → Carries (answer_fields a) map response
         → IsOpened request (status_of a) response }
     ensures others { (method : List ℕ) (version : Version) (request : LineMap) (origins : OriginList)
-        (own : List FieldValue) (a : Answer) (map response sent : LineMap) (key other : Line)
+        (own : List FieldValue) (a : HandshakeAnswer) (map response sent : LineMap) (key other : Line)
         → Answers method version request origins own a → IsSwitch a → HasKey request key → SendsKey sent other
         → Carries (answer_fields a) map response
         → IsOpened sent (status_of a) response
         ↔ ((accept_key_of key ≡ accept_key_of other) × FitsProtocol sent a) }
-    ensures refusals { (a : Answer) (sent response : LineMap) → ¬ (IsSwitch a)
+    ensures refusals { (a : HandshakeAnswer) (sent response : LineMap) → ¬ (IsSwitch a)
         → ¬ (IsOpened sent (status_of a) response) }
 {}

@@ -12,4 +12,4 @@ mod server;
 
 pub use crate::client::{Checked, Flaw, check, request};
 pub use crate::origins::Origins;
-pub use crate::server::{Answer, Fault, accept};
+pub use crate::server::{Fault, HandshakeAnswer, accept};

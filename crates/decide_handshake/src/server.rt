@@ -5,7 +5,7 @@ ghost use Rattle.websocket.specs.Handshake.{accept_key_of};
 ghost use Rattle.headers.{specs.LineMap.{field_of, fields_of, lines_at}, specs.Lines.Line};
 ghost use Rattle.decide_handshake.{specs.Messages.{answer_fields, status_of, taken_lines}, specs.Server.Answers};
 ghost use Rattle.decide_handshake.specs.Server.{HasHost, HasKey, HasVersion13, IsAccepted, IsFirst, IsHttp11, IsRecent};
-ghost use Rattle.decide_handshake.specs.declared.server.Answer.TheVariants.{Switch, UpgradeRequired};
+ghost use Rattle.decide_handshake.specs.declared.server.HandshakeAnswer.TheVariants.{Switch, UpgradeRequired};
 
 use crate::extensions::has_extensions;
 use crate::fields::{
@@ -50,7 +50,7 @@ pub enum Fault {
 
 /// A server's answer to an opening handshake (RFC 6455, section 4.2.2).
 #[derive(Debug, Drop, PartialEq)]
-pub enum Answer {
+pub enum HandshakeAnswer {
     /// 101: the connection changes to the WebSocket protocol, with this value of
     /// `Sec-WebSocket-Accept`, and with the selected subprotocol, if any.
     Switch(HeaderValue, Option<HeaderValue>),
@@ -72,16 +72,16 @@ pub(crate) enum Refusal {
     OtherOrigin,
 }
 
-impl Answer {
+impl HandshakeAnswer {
     /// Returns the status of the response: 101, 400, 403 or 426.
     pub fn status(&self) -> StatusCode
         ensures { result ≡ status_of self.now }
     {
         match self {
-            Answer::Switch(..) => StatusCode::SWITCHING_PROTOCOLS,
-            Answer::BadRequest(_) => StatusCode::BAD_REQUEST,
-            Answer::UpgradeRequired => StatusCode::UPGRADE_REQUIRED,
-            Answer::Forbidden => StatusCode::FORBIDDEN,
+            HandshakeAnswer::Switch(..) => StatusCode::SWITCHING_PROTOCOLS,
+            HandshakeAnswer::BadRequest(_) => StatusCode::BAD_REQUEST,
+            HandshakeAnswer::UpgradeRequired => StatusCode::UPGRADE_REQUIRED,
+            HandshakeAnswer::Forbidden => StatusCode::FORBIDDEN,
         }
     }
 
@@ -94,10 +94,10 @@ impl Answer {
         ensures memory { IfErr result (λ _. answer_fields self.now ≢ []) }
     {
         match self {
-            Answer::Switch(accept, protocol) => switching_fields(alloc, accept, protocol),
-            Answer::UpgradeRequired => version_fields(alloc),
-            Answer::BadRequest(_) => Ok(Vec::new(alloc)),
-            Answer::Forbidden => Ok(Vec::new(alloc)),
+            HandshakeAnswer::Switch(accept, protocol) => switching_fields(alloc, accept, protocol),
+            HandshakeAnswer::UpgradeRequired => version_fields(alloc),
+            HandshakeAnswer::BadRequest(_) => Ok(Vec::new(alloc)),
+            HandshakeAnswer::Forbidden => Ok(Vec::new(alloc)),
         }
     }
 }
@@ -158,19 +158,19 @@ pub fn accept(
     request: &HeaderMap,
     protocols: &[HeaderValue],
     origins: &Origins,
-) -> Result<Answer, AllocError>
+) -> Result<HandshakeAnswer, AllocError>
     ensures answer { IfOk result (Answers method.now version (lines_at request.now) origins.now protocols.now) }
     ensures memory { IfErr result (λ _. (key : Line)
         × IsAccepted method.now version (lines_at request.now) origins.now key) }
 {
     match judge(method, version, request, origins) {
-        Ok(accept) => Ok(Answer::Switch(
+        Ok(accept) => Ok(HandshakeAnswer::Switch(
             value_of(alloc, &accept)?,
             own_copy(taken(request, protocols))?,
         )),
-        Err(Refusal::Faulty(fault)) => Ok(Answer::BadRequest(fault)),
-        Err(Refusal::OtherVersion) => Ok(Answer::UpgradeRequired),
-        Err(Refusal::OtherOrigin) => Ok(Answer::Forbidden),
+        Err(Refusal::Faulty(fault)) => Ok(HandshakeAnswer::BadRequest(fault)),
+        Err(Refusal::OtherVersion) => Ok(HandshakeAnswer::UpgradeRequired),
+        Err(Refusal::OtherOrigin) => Ok(HandshakeAnswer::Forbidden),
     }
 }
 

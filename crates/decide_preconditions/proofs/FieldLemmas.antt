@@ -10,14 +10,14 @@ use Rattle.decide_preconditions.specs.Fields.{IsModifiedBy, SendsFields, etag_of
 use Rattle.decide_preconditions.specs.Fields.{fields_sent, is_whole, keeps_encoding, length_sent, lines_sent}
 use Rattle.decide_preconditions.specs.Fields.{modified_sent, not_after, range_sent, sent_names, type_sent, units_sent}
 use Rattle.decide_preconditions.specs.declared.{content.Content.Content, plan.Plan.Plan}
-use Rattle.decide_preconditions.specs.declared.resource.Resource.{Resource}
+use Rattle.decide_preconditions.specs.declared.resource.TargetState.{TargetState}
 
 -- another name keeps its field lines
 pub set-other : (before : LineMap) (field : Field) (name : List ℕ) → field.0 ≢ name
     → set before field name ≡ before name
 set-other before field name other = grind (arith, cases_Bool, bytes_eq, bytes_eq-Decides)
 
-module _ (present : ℕ) (plan : Plan) (is_known : Bool) (resource : Resource) (content : Content)
+module _ (present : ℕ) (plan : Plan) (is_known : Bool) (resource : TargetState) (content : Content)
     (multipart : FieldValue) (before : LineMap) where
   abbrev Sends : LineMap → Type 0
   Sends after = SendsFields present plan is_known resource content multipart before after

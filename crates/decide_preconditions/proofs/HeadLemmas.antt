@@ -4,8 +4,9 @@ use Rattle.{headers.specs.LineMap.{LineMap, remove}, decide_preconditions.specs.
 use Rattle.decide_preconditions.specs.Preconditions.{Answers, AreIgnored, IsGetOrHead, IsRead, IsUnconditional}
 use Rattle.decide_preconditions.specs.{Preconditions.StepsAnswer, Selection.Applies}
 use Rattle.decide_preconditions.specs.declared.{limits.RangeLimits.RangeLimits, plan.Plan.Plan}
-use Rattle.decide_preconditions.specs.declared.{precondition.Precondition.Precondition, resource.Resource.Resource}
-use Rattle.decide_preconditions.specs.declared.resource.{Resource.TheVariants.Missing, Validators.Validators}
+use Rattle.decide_preconditions.specs.declared.precondition.Precondition.{Precondition}
+use Rattle.decide_preconditions.specs.declared.resource.TargetState.{TargetState}
+use Rattle.decide_preconditions.specs.declared.resource.{TargetState.TheVariants.Missing, Validators.Validators}
 use Rattle.decide_preconditions.specs.declared.precondition.Precondition.TheVariants as precondition
 
 abbrev without_range : LineMap → LineMap
@@ -20,7 +21,7 @@ head_is_read = inr refl
 pub never_unconditional : (method : List ℕ) → IsGetOrHead method → ¬ (IsUnconditional method)
 never_unconditional method h1 h2 = grind arith
 
-ignored_alike : (resource : Resource) → AreIgnored resource (codes "HEAD") ↔ AreIgnored resource (codes "GET")
+ignored_alike : (resource : TargetState) → AreIgnored resource (codes "HEAD") ↔ AreIgnored resource (codes "GET")
 ignored_alike Missing = ((λ h. inr get_is_read), (λ h. inr head_is_read))
 ignored_alike resource =
     grind (
@@ -38,7 +39,7 @@ none_without : (present : ℕ) (request : LineMap) (current : Validators) (len :
     → ¬ (Applies present (codes "GET") (without_range request) current len set)
 none_without present request current len set h = let asked = h.asked in absurd (cc asked)
 
-module _ (present : ℕ) (request : LineMap) (resource : Resource) where
+module _ (present : ℕ) (request : LineMap) (resource : TargetState) where
   read_alike : IsRead present request resource ↔ IsRead present (without_range request) resource
   read_alike = grind arith
 

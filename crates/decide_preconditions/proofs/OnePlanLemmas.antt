@@ -7,7 +7,8 @@ use Rattle.decide_preconditions.specs.declared.{limits.RangeLimits.RangeLimits, 
 use Rattle.decide_preconditions.specs.declared.plan.Plan.{Plan}
 use Rattle.decide_preconditions.specs.declared.plan.Plan.TheVariants.{NotModified, Failed, Full, Single, Multiple}
 use Rattle.decide_preconditions.specs.declared.plan.Plan.TheVariants.{Unsatisfiable}
-use Rattle.decide_preconditions.specs.declared.{precondition.Precondition.Precondition, resource.Resource.Resource}
+use Rattle.decide_preconditions.specs.declared.precondition.Precondition.{Precondition}
+use Rattle.decide_preconditions.specs.declared.resource.TargetState.{TargetState}
 use Rattle.decide_preconditions.specs.declared.resource.Validators.{Validators}
 use Rattle.decide_preconditions.proofs.PreconditionLemmas.{one_answer, read_or_not, some_answer}
 use Rattle.decide_preconditions.proofs.SelectionLemmas.{Covers, SomeParts, none_covered, same_covers, some_covered}
@@ -45,7 +46,7 @@ status_of_some parts more = grind arith
 parts-by : (plan : Plan) → parts_sent plan ≡ parts_by (asked_of plan)
 parts-by plan = grind arith
 
-module _ (present : ℕ) (method : List ℕ) (request : LineMap) (resource : Resource) (len : ℕ)
+module _ (present : ℕ) (method : List ℕ) (request : LineMap) (resource : TargetState) (len : ℕ)
     (limits : RangeLimits) where
   -- a read, and what it asks for
   abbrev IsReadOf : Plan → Type 0
@@ -127,12 +128,12 @@ module _ (present : ℕ) (method : List ℕ) (request : LineMap) (resource : Res
 -- ---- every request has a plan, or none
 
 module _ (present : ℕ) (method : List ℕ) (request : LineMap) (len : ℕ) (limits : RangeLimits) where
-  planned : (resource : Resource) (answer : Precondition) → Answers present request resource method answer
+  planned : (resource : TargetState) (answer : Precondition) → Answers present request resource method answer
       → HasPlan present method request resource len limits
   planned resource precondition.Failed h = inl h
   planned resource precondition.NotModified h = inr (inl h)
-  planned Resource.Missing precondition.Perform h = inr (inr (inl (h, inl refl)))
-  planned (Resource.Current current) precondition.Perform h =
+  planned TargetState.Missing precondition.Perform h = inr (inr (inl (h, inl refl)))
+  planned (TargetState.Current current) precondition.Perform h =
       elim (read_or_not method) [
         | inl read ↦
             inr (inr (inr (
@@ -143,6 +144,6 @@ module _ (present : ℕ) (method : List ℕ) (request : LineMap) (len : ℕ) (li
         | inr other ↦ inr (inr (inl (h, inr other)))
       ]
 
-  pub some_plan : (resource : Resource) → HasPlan present method request resource len limits
+  pub some_plan : (resource : TargetState) → HasPlan present method request resource len limits
   some_plan resource =
       let some = some_answer present request resource method in planned resource some.0 some.1

@@ -11,8 +11,9 @@ use Rattle.decide_preconditions.specs.Preconditions.{MayBeThere, ReadsMissing, I
 use Rattle.decide_preconditions.specs.{Preconditions.{StateIsLost, StateIsKept, StepsAnswer}, Tags.names}
 use Rattle.decide_preconditions.specs.declared.precondition.Precondition.{Precondition}
 use Rattle.decide_preconditions.specs.declared.precondition.Precondition.TheVariants.{Perform, NotModified, Failed}
-use Rattle.decide_preconditions.specs.declared.resource.Resource.{Resource}
-use Rattle.decide_preconditions.specs.declared.resource.{Resource.TheVariants.{Missing, Current}, Validators.Validators}
+use Rattle.decide_preconditions.specs.declared.resource.TargetState.{TargetState}
+use Rattle.decide_preconditions.specs.declared.resource.TargetState.TheVariants.{Missing, Current}
+use Rattle.decide_preconditions.specs.declared.resource.Validators.{Validators}
 use Rattle.decide_preconditions.specs.declared.tags.Comparison.{Comparison}
 use Rattle.decide_preconditions.specs.declared.tags.Comparison.TheVariants.{Weak}
 
@@ -24,7 +25,7 @@ earlier_or_not : (both : Option (ℕ × ℕ)) → IsSomeAnd both (λ d. unix_epo
     → ¬ (IfSome both (λ d. d.0 < unix_epoch + d.1))
 earlier_or_not both h k = grind arith
 
-lost_or_kept : (present : ℕ) (request : LineMap) (resource : Resource) → StateIsLost present request resource
+lost_or_kept : (present : ℕ) (request : LineMap) (resource : TargetState) → StateIsLost present request resource
     → ¬ (StateIsKept present request resource)
 lost_or_kept present request resource h3 k = grind (arith, later_or_not)
 
@@ -66,16 +67,16 @@ unconditional_or_not method =
       same_or_not method (codes "TRACE"),
     )
 
-missing_or_not : (resource : Resource) (method : List ℕ)
+missing_or_not : (resource : TargetState) (method : List ℕ)
     → ReadsMissing resource method ⊎ ¬ (ReadsMissing resource method)
 missing_or_not Missing method = read_or_not method
 missing_or_not (Current validators) method = inr (λ h. h)
 
-ignored_or_not : (resource : Resource) (method : List ℕ)
+ignored_or_not : (resource : TargetState) (method : List ℕ)
     → AreIgnored resource method ⊎ ¬ (AreIgnored resource method)
 ignored_or_not resource method = grind (arith, unconditional_or_not method, missing_or_not resource method)
 
-module _ (present : ℕ) (request : LineMap) (resource : Resource) where
+module _ (present : ℕ) (request : LineMap) (resource : TargetState) where
   kept_or_lost : StateIsKept present request resource ⊎ StateIsLost present request resource
   kept_or_lost = grind (arith, has_or_not, true_or_not, lacks, later_or_lets)
 
@@ -131,7 +132,7 @@ module _ (present : ℕ) (request : LineMap) (resource : Resource) where
 
 -- ---- at most one
 
-module _ (present : ℕ) (request : LineMap) (resource : Resource) (method : List ℕ) where
+module _ (present : ℕ) (request : LineMap) (resource : TargetState) (method : List ℕ) where
   one_step_answer : (a b : Precondition) → StepsAnswer present request resource method a
       → StepsAnswer present request resource method b → a ≡ b
   one_step_answer a b h k = grind (arith, lost_or_kept, earlier_or_not)
@@ -162,11 +163,11 @@ module _ (present : ℕ) (request : LineMap) (resource : Resource) (method : Lis
       record { unconditional = λ i. refl; conditional = λ counts. performed a b c d }
 
 pub missing_performed : (present : ℕ) (request : LineMap) (method : List ℕ) → IsGetOrHead method
-    → Answers present request Resource.Missing method Perform
+    → Answers present request TargetState.Missing method Perform
 missing_performed present request method read = grind (arith)
 
 -- ---- the star
 
 pub star_names : (comparison : Comparison) (validators : Validators)
-    → names comparison (star ∷ []) (Resource.Current validators) ≡ true
+    → names comparison (star ∷ []) (TargetState.Current validators) ≡ true
 star_names comparison validators = rw ((bytes_eq-Decides star star).1 refl) refl

@@ -3,8 +3,8 @@ use Rattle.std.specs.Prelude.{ℕ, ◌+◌, ◌<◌, ◌≤◌, List, Option, No
 use Rattle.std.specs.Option.{option_and_then, option_zip}
 use Rattle.rfc_values.{specs.Calendar.unix_epoch, specs.Date.timestamp}
 use Rattle.headers.{specs.LineMap.LineMap, specs.Lines.{Line, only_line}, specs.Text.trim, specs.Typed.HasLine}
-use Rattle.decide_preconditions.{specs.Tags.{may_name, names}, specs.declared.resource.Resource.Resource}
-use Rattle.decide_preconditions.specs.declared.resource.Resource.TheVariants.{Missing, Current}
+use Rattle.decide_preconditions.{specs.Tags.{may_name, names}, specs.declared.resource.TargetState.TargetState}
+use Rattle.decide_preconditions.specs.declared.resource.TargetState.TheVariants.{Missing, Current}
 use Rattle.decide_preconditions.specs.declared.tags.Comparison.TheVariants.{Strong, Weak}
 
 -- the request has a field of this name
@@ -16,7 +16,7 @@ abbrev pub only_text : List Line → Option Line
 only_text lines = option_map trim (only_line lines)
 
 -- when the current representation was last modified, in seconds since 1970, if that is known
-abbrev pub modified_of : Resource → Option ℕ
+abbrev pub modified_of : TargetState → Option ℕ
 modified_of Missing = None
 modified_of (Current validators) = validators.last_modified
 
@@ -24,16 +24,16 @@ modified_of (Current validators) = validators.last_modified
 
 -- The condition of If-Match (section 13.1.1). `*` is true for each current representation, and a list for the one whose
 -- tag is strongly equal to a tag of the list. Otherwise it is false, also for a field that is neither.
-abbrev pub IfMatchIsTrue : LineMap → Resource → Type 0
+abbrev pub IfMatchIsTrue : LineMap → TargetState → Type 0
 IfMatchIsTrue request resource = IsTrue (names Strong (request (codes "if-match")) resource)
 
 -- The condition of If-None-Match (section 13.1.2) is false: `*` for each current representation, and a list for the one
 -- whose tag is weakly equal to a tag of the list.
-abbrev pub IfNoneMatchIsFalse : LineMap → Resource → Type 0
+abbrev pub IfNoneMatchIsFalse : LineMap → TargetState → Type 0
 IfNoneMatchIsFalse request resource = IsTrue (names Weak (request (codes "if-none-match")) resource)
 
 -- It is false, or may be: there is a current representation, and the field is malformed.
-abbrev pub IfNoneMatchMayBeFalse : LineMap → Resource → Type 0
+abbrev pub IfNoneMatchMayBeFalse : LineMap → TargetState → Type 0
 IfNoneMatchMayBeFalse request resource = IsTrue (may_name Weak (request (codes "if-none-match")) resource)
 
 -- ---- by dates
@@ -46,25 +46,25 @@ module _ (present : ℕ) where
 
   -- The date of a field, and when the representation was last modified. The field counts only if there are both: it is
   -- ignored if it isn't one valid date, or if the resource has no modification date.
-  abbrev pub dates : List ℕ → LineMap → Resource → Option (ℕ × ℕ)
+  abbrev pub dates : List ℕ → LineMap → TargetState → Option (ℕ × ℕ)
   dates name request resource = option_zip (date_in (request name)) (modified_of resource)
 
   -- the condition of If-Modified-Since (section 13.1.3) counts and is false: the last modification is no later
-  abbrev pub ModifiedSinceIsFalse : LineMap → Resource → Type 0
+  abbrev pub ModifiedSinceIsFalse : LineMap → TargetState → Type 0
   ModifiedSinceIsFalse request resource =
       IsSomeAnd (dates (codes "if-modified-since") request resource) (λ both. unix_epoch + both.1 ≤ both.0)
 
   -- the condition is true, or it doesn't count
-  abbrev pub ModifiedSinceLets : LineMap → Resource → Type 0
+  abbrev pub ModifiedSinceLets : LineMap → TargetState → Type 0
   ModifiedSinceLets request resource =
       IfSome (dates (codes "if-modified-since") request resource) (λ both. both.0 < unix_epoch + both.1)
 
   -- the condition of If-Unmodified-Since (section 13.1.4) counts and is false: the last modification is later
-  abbrev pub UnmodifiedSinceIsFalse : LineMap → Resource → Type 0
+  abbrev pub UnmodifiedSinceIsFalse : LineMap → TargetState → Type 0
   UnmodifiedSinceIsFalse request resource =
       IsSomeAnd (dates (codes "if-unmodified-since") request resource) (λ both. both.0 < unix_epoch + both.1)
 
   -- the condition is true, or it doesn't count
-  abbrev pub UnmodifiedSinceLets : LineMap → Resource → Type 0
+  abbrev pub UnmodifiedSinceLets : LineMap → TargetState → Type 0
   UnmodifiedSinceLets request resource =
       IfSome (dates (codes "if-unmodified-since") request resource) (λ both. unix_epoch + both.1 ≤ both.0)

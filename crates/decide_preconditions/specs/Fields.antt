@@ -6,8 +6,8 @@ use Rattle.headers.specs.{Date.fixdate, LineMap.{LineMap, Field}, Lines.Line}
 use Rattle.decide_preconditions.specs.{Conditions.modified_of, Contents.is_divisible, Parts.part_size}
 use Rattle.decide_preconditions.specs.declared.{content.Content.Content, part.Part.Part, plan.Plan.Plan}
 use Rattle.decide_preconditions.specs.declared.plan.Plan.TheVariants.{NotModified, Failed, Full, Single, Multiple}
-use Rattle.decide_preconditions.specs.declared.{plan.Plan.TheVariants.Unsatisfiable, resource.Resource.Resource}
-use Rattle.decide_preconditions.specs.declared.resource.Resource.TheVariants.{Missing, Current}
+use Rattle.decide_preconditions.specs.declared.{plan.Plan.TheVariants.Unsatisfiable, resource.TargetState.TargetState}
+use Rattle.decide_preconditions.specs.declared.resource.TargetState.TheVariants.{Missing, Current}
 
 -- sections 15.3.1, 15.3.7, 15.4.5, 15.5.13 and 15.5.17
 abbrev pub status_of : Plan → ℕ
@@ -19,7 +19,7 @@ status_of Failed = 412
 status_of Unsatisfiable = 416
 
 -- the entity tag of the current representation, if it has one
-abbrev pub etag_of : Resource → Option FieldValue
+abbrev pub etag_of : TargetState → Option FieldValue
 etag_of Missing = None
 etag_of (Current validators) = validators.etag
 
@@ -130,7 +130,7 @@ fields_removed plan is_known = encoding_removed plan is_known ++ digests_removed
 
 -- The fields of a response at this time with this plan, each by its section above. One without field lines is absent
 -- from the response: a server that has set it removes it. `multipart` is the type of several parts.
-abbrev pub fields_sent : ℕ → Plan → Bool → Resource → Content → FieldValue → List Field
+abbrev pub fields_sent : ℕ → Plan → Bool → TargetState → Content → FieldValue → List Field
 fields_sent present plan is_known resource content multipart =
     (codes "etag", lines_sent (λ (tag : FieldValue). tag.bytes) (etag_sent plan (etag_of resource)))
     ∷ (
@@ -154,7 +154,7 @@ sent_names =
 
 -- A server's fields after those of a response are set: each field of the response has exactly its own field lines,
 -- Content-Encoding and digests of the content stay or are removed, and each other field is unchanged.
-pub record SendsFields (present : ℕ) (plan : Plan) (is_known : Bool) (resource : Resource) (content : Content)
+pub record SendsFields (present : ℕ) (plan : Plan) (is_known : Bool) (resource : TargetState) (content : Content)
     (multipart : FieldValue) (before after : LineMap) : Type 0 where
   pub etag : after (codes "etag") ≡ lines_sent (λ (tag : FieldValue). tag.bytes) (etag_sent plan (etag_of resource))
   pub last_modified : after (codes "last-modified")

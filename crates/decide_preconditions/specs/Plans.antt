@@ -5,12 +5,12 @@ use Rattle.decide_preconditions.specs.{Preconditions.{Answers, IsGetOrHead}, Sel
 use Rattle.decide_preconditions.specs.{Selection.{HasSelection, Selects}, declared.limits.RangeLimits.RangeLimits}
 use Rattle.decide_preconditions.specs.declared.{part.Part.Part, plan.Plan.{Plan, TheVariants.{NotModified, Failed}}}
 use Rattle.decide_preconditions.specs.declared.plan.Plan.TheVariants.{Full, Single, Multiple, Unsatisfiable}
-use Rattle.decide_preconditions.specs.declared.resource.Resource.{Resource, TheVariants.{Missing, Current}}
+use Rattle.decide_preconditions.specs.declared.resource.TargetState.{TargetState, TheVariants.{Missing, Current}}
 use Rattle.decide_preconditions.specs.declared.{resource.Validators.Validators, selection.Selection.Selection}
 use Rattle.decide_preconditions.specs.declared.precondition.Precondition.TheVariants as precondition
 use Rattle.decide_preconditions.specs.declared.selection.Selection.TheVariants as selection
 
-module _ (present : ℕ) (method : List ℕ) (request : LineMap) (resource : Resource) where
+module _ (present : ℕ) (method : List ℕ) (request : LineMap) (resource : TargetState) where
   -- the preconditions let the method pass, and it reads this current representation
   pub record Reads (current : Validators) : Type 0 where
     pub performs : Answers present request resource method precondition.Perform

@@ -3,7 +3,7 @@ use Rattle.std.specs.Prelude.{◌≡◌, ◌⊎◌, ℕ, List, codes}
 use Rattle.{headers.specs.LineMap.LineMap, decide_preconditions.specs.Conditions.{IsPresent, IfMatchIsTrue}}
 use Rattle.decide_preconditions.specs.Conditions.{IfNoneMatchIsFalse, IfNoneMatchMayBeFalse, ModifiedSinceIsFalse}
 use Rattle.decide_preconditions.specs.Conditions.{ModifiedSinceLets, UnmodifiedSinceIsFalse, UnmodifiedSinceLets}
-use Rattle.decide_preconditions.specs.declared.resource.Resource.{Resource, TheVariants.{Missing, Current}}
+use Rattle.decide_preconditions.specs.declared.resource.TargetState.{TargetState, TheVariants.{Missing, Current}}
 use Rattle.decide_preconditions.specs.declared.precondition.Precondition.{Precondition, TheVariants.Perform}
 use Rattle.decide_preconditions.specs.declared.precondition.Precondition.TheVariants.{NotModified, Failed}
 
@@ -17,13 +17,13 @@ abbrev pub IsGetOrHead : List ℕ → Type 0
 IsGetOrHead method = (method ≡ codes "GET") ⊎ (method ≡ codes "HEAD")
 
 -- the method reads a resource without a current representation, which is answered by 404 without preconditions
-abbrev pub ReadsMissing : Resource → List ℕ → Type 0
+abbrev pub ReadsMissing : TargetState → List ℕ → Type 0
 ReadsMissing Missing method = IsGetOrHead method
 ReadsMissing (Current validators) method = ⊥
 
 -- Preconditions don't count (section 13.2.1): the method isn't one of theirs, or they are ignored since the response
 -- without them is neither a 2xx nor a 412.
-abbrev pub AreIgnored : Resource → List ℕ → Type 0
+abbrev pub AreIgnored : TargetState → List ℕ → Type 0
 AreIgnored resource method = IsUnconditional method ⊎ ReadsMissing resource method
 
 abbrev pub HasIfMatch : LineMap → Type 0
@@ -33,14 +33,14 @@ abbrev pub HasIfNoneMatch : LineMap → Type 0
 HasIfNoneMatch request = IsPresent (codes "if-none-match") request
 
 -- step 3 of GET and HEAD: If-None-Match is present and false
-abbrev pub IsStoredByTag : LineMap → Resource → Type 0
+abbrev pub IsStoredByTag : LineMap → TargetState → Type 0
 IsStoredByTag request resource = HasIfNoneMatch request × IfNoneMatchIsFalse request resource
 
 -- step 3 of other methods: If-None-Match is present, and it is false or may be
-abbrev pub MayBeThere : LineMap → Resource → Type 0
+abbrev pub MayBeThere : LineMap → TargetState → Type 0
 MayBeThere request resource = HasIfNoneMatch request × IfNoneMatchMayBeFalse request resource
 
-module _ (present : ℕ) (request : LineMap) (resource : Resource) where
+module _ (present : ℕ) (request : LineMap) (resource : TargetState) where
   -- Steps 1 and 2 give 412: If-Match is present and false; or it is absent, and If-Unmodified-Since is false.
   abbrev pub StateIsLost : Type 0
   StateIsLost = (HasIfMatch request × ¬ (IfMatchIsTrue request resource))

@@ -4,7 +4,7 @@ use Rattle.std.specs.{List.list_any, Option.option_map_or}
 use Rattle.http_header.specs.FieldValue.{FieldValue}
 use Rattle.rfc_fields.specs.{Members.field_members, Scan.{Member, Member.{Whole, Malformed}}}
 use Rattle.headers.specs.{EntityTag.{is_tag, parts_of}, EntityTagRange.star, Lines.{Line, only_line}}
-use Rattle.decide_preconditions.specs.declared.resource.Resource.{Resource, TheVariants.{Missing, Current}}
+use Rattle.decide_preconditions.specs.declared.resource.TargetState.{TargetState, TheVariants.{Missing, Current}}
 use Rattle.decide_preconditions.specs.declared.tags.Comparison.{Comparison, TheVariants.{Strong, Weak}}
 
 -- Both are entity tags, and their opaque parts are equal; in the strong comparison neither is weak (section 8.8.3.2).
@@ -46,13 +46,13 @@ abbrev pub is_malformed : List Line → Bool
 is_malformed lines = not (is_star lines) && not (are_tags lines)
 
 -- the field matches the current representation: it is `*`, or a list with its tag
-abbrev pub names : Comparison → List Line → Resource → Bool
+abbrev pub names : Comparison → List Line → TargetState → Bool
 names comparison lines Missing = false
 names comparison lines (Current validators) =
     is_star lines || (are_tags lines && lists comparison validators.etag lines)
 
 -- the field matches the current representation, or is malformed and so may match it
-abbrev pub may_name : Comparison → List Line → Resource → Bool
+abbrev pub may_name : Comparison → List Line → TargetState → Bool
 may_name comparison lines Missing = false
 may_name comparison lines (Current validators) =
     is_malformed lines || (is_star lines || lists comparison validators.etag lines)

@@ -10,7 +10,7 @@ ghost use Rattle.decide_preconditions.specs.{Fields.{keeps_encoding, not_after, 
 use crate::boundary::Boundary;
 use crate::content::{Content, Sending};
 use crate::plan::Plan;
-use crate::resource::Resource;
+use crate::resource::TargetState;
 use headers::{
     AcceptRanges, ContentLength, ContentRange, ETag, Encoded, Header, HeaderName, HeaderValue,
     LastModified, encoding,
@@ -49,7 +49,7 @@ impl Plan {
         &self,
         alloc: Global,
         is_known: bool,
-        resource: &Resource,
+        resource: &TargetState,
         sending: &Sending<'_>,
     ) -> Result<Vec<Encoded>, AllocError>
         requires { IsSized self.now }
@@ -128,7 +128,7 @@ impl Plan {
         }
     }
 
-    fn etag(&self, alloc: Global, resource: &Resource) -> Result<Encoded, AllocError>
+    fn etag(&self, alloc: Global, resource: &TargetState) -> Result<Encoded, AllocError>
         ensures { IfOk result (λ field. field_of field ≡ (
           codes "etag",
           lines_sent (λ (tag : FieldValue). tag.bytes) (etag_sent self.now (etag_of resource.now)),
@@ -142,7 +142,7 @@ impl Plan {
         alloc: Global,
         present: u64,
         is_known: bool,
-        resource: &Resource,
+        resource: &TargetState,
     ) -> Result<Encoded, AllocError>
         ensures { IfOk result (λ field. field_of field ≡ (
           codes "last-modified",
@@ -206,7 +206,7 @@ impl Plan {
         })
     }
 
-    fn etag_sent<'a>(&self, resource: &'a Resource) -> Option<&'a ETag>
+    fn etag_sent<'a>(&self, resource: &'a TargetState) -> Option<&'a ETag>
         ensures { option_copied result ≡ etag_sent self.now (etag_of resource.now) }
     {
         match self {
@@ -217,10 +217,10 @@ impl Plan {
         }
     }
 
-    fn modified_sent(&self, is_known: bool, resource: &Resource) -> Option<LastModified>
+    fn modified_sent(&self, is_known: bool, resource: &TargetState) -> Option<LastModified>
         ensures { result ≡ modified_sent self.now is_known (etag_of resource.now) (modified_of resource.now) }
     {
-        let Resource::Current(current) = resource else {
+        let TargetState::Current(current) = resource else {
             return None;
         };
         match self {
@@ -289,11 +289,11 @@ fn not_after(present: u64, modified: Option<LastModified>) -> Option<LastModifie
     Some(LastModified::from_unix_secs(present.min(secs)))
 }
 
-fn etag_of(resource: &Resource) -> Option<&ETag>
+fn etag_of(resource: &TargetState) -> Option<&ETag>
     ensures { option_copied result ≡ etag_of resource.now }
 {
     match resource {
-        Resource::Missing => None,
-        Resource::Current(current) => current.etag.as_ref(),
+        TargetState::Missing => None,
+        TargetState::Current(current) => current.etag.as_ref(),
     }
 }

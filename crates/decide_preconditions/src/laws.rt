@@ -11,7 +11,7 @@ ghost use Rattle.decide_preconditions.specs.{Tags.names, declared.selection.Sele
 ghost use Rattle.decide_preconditions.specs.declared.{content.Content.Content, limits.RangeLimits.RangeLimits};
 ghost use Rattle.decide_preconditions.specs.declared.{part.Part.Part, plan.Plan.Plan};
 ghost use Rattle.decide_preconditions.specs.declared.precondition.Precondition.{Precondition, TheVariants.Perform};
-ghost use Rattle.decide_preconditions.specs.declared.resource.Resource.{Resource, TheVariants.{Missing, Current}};
+ghost use Rattle.decide_preconditions.specs.declared.resource.TargetState.{TargetState, TheVariants.{Missing, Current}};
 ghost use Rattle.decide_preconditions.specs.declared.{resource.Validators.Validators, tags.Comparison.Comparison};
 ghost use Rattle.decide_preconditions.specs.declared.tags.Comparison.TheVariants.{Strong, Weak};
 
@@ -19,16 +19,16 @@ ghost use Rattle.decide_preconditions.specs.declared.tags.Comparison.TheVariants
 /// it.
 #[tactic(auto, using(crate::proofs::PreconditionLemmas::some_answer, crate::proofs::PreconditionLemmas::one_answer))]
 pub fn request_has_one_answer()
-    ensures some { (present : ℕ) (request : LineMap) (resource : Resource) (method : List ℕ)
+    ensures some { (present : ℕ) (request : LineMap) (resource : TargetState) (method : List ℕ)
         → (answer : Precondition) × Answers present request resource method answer }
-    ensures one { (present : ℕ) (request : LineMap) (resource : Resource) (method : List ℕ) (a b : Precondition)
+    ensures one { (present : ℕ) (request : LineMap) (resource : TargetState) (method : List ℕ) (a b : Precondition)
         → Answers present request resource method a → Answers present request resource method b → a ≡ b }
 {}
 
 /// Theorem: a request without the four fields is performed.
 #[tactic(auto, using(crate::proofs::PreconditionLemmas::unconditional))]
 pub fn unconditional_is_performed()
-    ensures { (present : ℕ) (request : LineMap) (resource : Resource) (method : List ℕ)
+    ensures { (present : ℕ) (request : LineMap) (resource : TargetState) (method : List ℕ)
         → request (codes "if-match") ≡ [] → request (codes "if-none-match") ≡ []
         → request (codes "if-modified-since") ≡ [] → request (codes "if-unmodified-since") ≡ []
         → Answers present request resource method Perform }
@@ -88,9 +88,9 @@ pub fn request_has_one_selection()
 /// Theorem: every request has a plan, or the server performs its method; and no two plans of a
 /// request differ in status or parts.
 pub fn request_has_one_plan()
-    ensures some { (present : ℕ) (method : List ℕ) (request : LineMap) (resource : Resource) (len : ℕ)
+    ensures some { (present : ℕ) (method : List ℕ) (request : LineMap) (resource : TargetState) (len : ℕ)
         (limits : RangeLimits) → HasPlan present method request resource len limits }
-    ensures one { (present : ℕ) (method : List ℕ) (request : LineMap) (resource : Resource) (len : ℕ)
+    ensures one { (present : ℕ) (method : List ℕ) (request : LineMap) (resource : TargetState) (len : ℕ)
         (limits : RangeLimits) (p q : Option Plan)
         → IsPlanned present method request resource len limits p
         → IsPlanned present method request resource len limits q → IsSamePlan p q }
@@ -100,7 +100,7 @@ pub fn request_has_one_plan()
 /// and fields, which are determined by the plan.
 #[tactic(auto, using(crate::proofs::HeadLemmas::head_as_get))]
 pub fn head_is_planned_as_get()
-    ensures { (present : ℕ) (request : LineMap) (resource : Resource) (len : ℕ) (limits : RangeLimits)
+    ensures { (present : ℕ) (request : LineMap) (resource : TargetState) (len : ℕ) (limits : RangeLimits)
         (plan : Option Plan)
         → IsPlanned present (codes "HEAD") request resource len limits plan
         ↔ IsPlanned present (codes "GET") (remove request (codes "range")) resource len limits plan }
@@ -111,7 +111,7 @@ pub fn head_is_planned_as_get()
 /// field lines that RFC 9110 requires of the plan. Content-Encoding, Content-Digest and Content-MD5
 /// stay or are removed. Each other field is unchanged.
 pub fn response_sets_its_fields()
-    ensures { (present : ℕ) (plan : Plan) (is_known : Bool) (resource : Resource) (content : Content)
+    ensures { (present : ℕ) (plan : Plan) (is_known : Bool) (resource : TargetState) (content : Content)
         (multipart : FieldValue) (before : LineMap)
         → SendsFields present plan is_known resource content multipart before
         (set_all before (fields_sent present plan is_known resource content multipart)) }
@@ -121,7 +121,7 @@ pub fn response_sets_its_fields()
 /// date the resource has and whatever fields the server had set.
 #[tactic(auto, using(crate::proofs::FieldLemmas::modified_by_set))]
 pub fn date_is_not_after_present()
-    ensures { (present : ℕ) (plan : Plan) (is_known : Bool) (resource : Resource) (content : Content)
+    ensures { (present : ℕ) (plan : Plan) (is_known : Bool) (resource : TargetState) (content : Content)
         (multipart : FieldValue) (before : LineMap)
         → IsModifiedBy present
         (set_all before (fields_sent present plan is_known resource content multipart) (codes "last-modified")) }

@@ -22,7 +22,7 @@ pub use crate::limits::{RangeFacts, RangeLimits};
 pub use crate::part::Part;
 pub use crate::plan::{Plan, plan_answer};
 pub use crate::precondition::{Precondition, evaluate, is_get_or_head};
-pub use crate::resource::{Resource, Validators};
+pub use crate::resource::{TargetState, Validators};
 pub use crate::response::{Response, is_known_by, respond};
 pub use crate::selection::{Selection, select};
 pub use crate::tags::is_tag;

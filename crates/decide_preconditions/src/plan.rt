@@ -6,7 +6,7 @@ ghost use Rattle.decide_preconditions.specs.{Plans.{IsPlanned, IsSentAs, ReadsSo
 use crate::limits::RangeFacts;
 use crate::part::Part;
 use crate::precondition::{Precondition, evaluate, is_get_or_head};
-use crate::resource::Resource;
+use crate::resource::TargetState;
 use crate::selection::{Selection, select};
 use http::StatusCode;
 use rfc_fields::RequestHead;
@@ -54,7 +54,7 @@ impl Plan {
 pub fn plan_answer(
     alloc: Global,
     request: &RequestHead<'_>,
-    resource: &Resource,
+    resource: &TargetState,
     facts: &RangeFacts,
 ) -> Result<Option<Plan>, AllocError>
     ensures plan { IfOk result (IsPlanned facts.now.present request.now.method.now (lines_at request.now.fields.now)
@@ -66,7 +66,7 @@ pub fn plan_answer(
         Precondition::Failed => Ok(Some(Plan::Failed)),
         Precondition::NotModified => Ok(Some(Plan::NotModified)),
         Precondition::Perform => match resource {
-            Resource::Current(current) if is_get_or_head(request.method) => {
+            TargetState::Current(current) if is_get_or_head(request.method) => {
                 let selection = select(alloc, request, current, facts)?;
                 Ok(Some(sent_as(selection)))
             }

@@ -7,7 +7,7 @@ ghost use Rattle.decide_preconditions.specs.Preconditions.{Answers, AreIgnored, 
 ghost use Rattle.decide_preconditions.specs.Preconditions.{IsStoredByTag, IsUnconditional, MayBeThere, ReadsMissing};
 ghost use Rattle.decide_preconditions.specs.Preconditions.{StateIsKept, StateIsLost, StepsAnswer};
 
-use crate::resource::Resource;
+use crate::resource::TargetState;
 use crate::tags::{Comparison, may_name, names, only_text};
 use headers::{HeaderMap, HeaderValue};
 use http::Method;
@@ -36,7 +36,7 @@ pub enum Precondition {
 /// HEAD of a resource without representation, which is answered by 404. A malformed
 /// If-Match is false. A malformed If-None-Match is true for GET and HEAD, so the representation is
 /// sent; for other methods it is false if there is a representation.
-pub fn evaluate(request: &RequestHead<'_>, resource: &Resource, present: u64) -> Precondition
+pub fn evaluate(request: &RequestHead<'_>, resource: &TargetState, present: u64) -> Precondition
     ensures { Answers present (lines_at request.now.fields.now) resource.now request.now.method.now result }
 {
     if are_ignored(request.method, resource) {
@@ -46,19 +46,19 @@ pub fn evaluate(request: &RequestHead<'_>, resource: &Resource, present: u64) ->
 }
 
 // Whether preconditions don't count for a method of a resource.
-fn are_ignored(method: &Method, resource: &Resource) -> bool
+fn are_ignored(method: &Method, resource: &TargetState) -> bool
     ensures { MatchBool result (AreIgnored resource.now method.now) (¬ (AreIgnored resource.now method.now)) }
 {
     is_unconditional(method) || reads_missing(method, resource)
 }
 
 // Whether a method reads what is missing.
-fn reads_missing(method: &Method, resource: &Resource) -> bool
+fn reads_missing(method: &Method, resource: &TargetState) -> bool
     ensures { MatchBool result (ReadsMissing resource.now method.now) (¬ (ReadsMissing resource.now method.now)) }
 {
     match resource {
-        Resource::Missing => is_get_or_head(method),
-        Resource::Current(_) => false,
+        TargetState::Missing => is_get_or_head(method),
+        TargetState::Current(_) => false,
     }
 }
 
@@ -70,7 +70,7 @@ fn is_unconditional(method: &Method) -> bool
 }
 
 // What the steps come to.
-fn evaluate_steps(request: &RequestHead<'_>, resource: &Resource, present: u64) -> Precondition
+fn evaluate_steps(request: &RequestHead<'_>, resource: &TargetState, present: u64) -> Precondition
     ensures { StepsAnswer present (lines_at request.now.fields.now) resource.now request.now.method.now result }
 {
     if !is_state_kept(request.fields, resource, present) {
@@ -97,7 +97,7 @@ pub fn is_get_or_head(method: &Method) -> bool
 }
 
 // Steps 1 and 2: whether the state that the client knows is there.
-fn is_state_kept(request: &HeaderMap, resource: &Resource, present: u64) -> bool
+fn is_state_kept(request: &HeaderMap, resource: &TargetState, present: u64) -> bool
     ensures { MatchBool result (StateIsKept present (lines_at request.now) resource.now)
         (StateIsLost present (lines_at request.now) resource.now) }
 {
@@ -109,7 +109,7 @@ fn is_state_kept(request: &HeaderMap, resource: &Resource, present: u64) -> bool
 }
 
 // Steps 3 and 4 of GET and HEAD: whether the client's stored representation is still current.
-fn is_stored(request: &HeaderMap, resource: &Resource, present: u64) -> bool
+fn is_stored(request: &HeaderMap, resource: &TargetState, present: u64) -> bool
     ensures { MatchBool result
         (IsStoredByTag (lines_at request.now) resource.now ⊎ IsStoredByDate present (lines_at request.now) resource.now)
         (IsRead present (lines_at request.now) resource.now) }
@@ -122,7 +122,7 @@ fn is_stored(request: &HeaderMap, resource: &Resource, present: u64) -> bool
 }
 
 // Step 3 of other methods: whether there is, or may be, the representation that they exclude.
-fn may_be_there(request: &HeaderMap, resource: &Resource) -> bool
+fn may_be_there(request: &HeaderMap, resource: &TargetState) -> bool
     ensures { MatchBool result (MayBeThere (lines_at request.now) resource.now)
         (¬ (MayBeThere (lines_at request.now) resource.now)) }
 {
@@ -131,12 +131,12 @@ fn may_be_there(request: &HeaderMap, resource: &Resource) -> bool
 }
 
 // When the current representation was last modified.
-fn modified_of(resource: &Resource) -> Option<u64>
+fn modified_of(resource: &TargetState) -> Option<u64>
     ensures { result ≡ modified_of resource.now }
 {
     match resource {
-        Resource::Missing => None,
-        Resource::Current(validators) => Some(validators.last_modified?.unix_secs()),
+        TargetState::Missing => None,
+        TargetState::Current(validators) => Some(validators.last_modified?.unix_secs()),
     }
 }
 
@@ -148,7 +148,7 @@ fn date_in(field: &GetAll<'_, HeaderValue>, present: u64) -> Option<Timestamp>
 }
 
 // Whether If-Modified-Since is true, or doesn't count.
-fn is_modified_since(request: &HeaderMap, resource: &Resource, present: u64) -> bool
+fn is_modified_since(request: &HeaderMap, resource: &TargetState, present: u64) -> bool
     ensures { MatchBool result (ModifiedSinceLets present (lines_at request.now) resource.now)
         (ModifiedSinceIsFalse present (lines_at request.now) resource.now) }
 {
@@ -160,7 +160,7 @@ fn is_modified_since(request: &HeaderMap, resource: &Resource, present: u64) -> 
 }
 
 // Whether If-Unmodified-Since is true, or doesn't count.
-fn is_unmodified_since(request: &HeaderMap, resource: &Resource, present: u64) -> bool
+fn is_unmodified_since(request: &HeaderMap, resource: &TargetState, present: u64) -> bool
     ensures { MatchBool result (UnmodifiedSinceLets present (lines_at request.now) resource.now)
         (UnmodifiedSinceIsFalse present (lines_at request.now) resource.now) }
 {

@@ -6,7 +6,7 @@ ghost use Rattle.decide_preconditions.specs.{Fields.is_known_by, Responses.{IsAn
 use crate::content::Sending;
 use crate::limits::RangeFacts;
 use crate::plan::{Plan, plan_answer};
-use crate::resource::Resource;
+use crate::resource::TargetState;
 use headers::{Encoded, HeaderMap};
 use http::StatusCode;
 use http_header::IF_RANGE;
@@ -43,7 +43,7 @@ pub struct Response {
 pub fn respond(
     alloc: Global,
     request: &RequestHead<'_>,
-    resource: &Resource,
+    resource: &TargetState,
     sending: &Sending<'_>,
 ) -> Result<Option<Response>, AllocError>
     ensures answer { IfOk result (IsAnswered sending.now.present request.now.method.now

@@ -5,7 +5,7 @@ ghost use Rattle.decide_preconditions.specs.Tags.{are_equal, are_tags, is_malfor
 ghost use Rattle.decide_preconditions.specs.{Tags.{may_name, names}, declared.tags.Comparison.TheVariants.Strong};
 ghost use Rattle.decide_preconditions.specs.declared.tags.Comparison.TheVariants.{Weak};
 
-use crate::resource::Resource;
+use crate::resource::TargetState;
 use headers::{ETag, HeaderValue, trim};
 use headers_conditional::tag_of;
 use headers_syntax::EntityTagRef;
@@ -121,13 +121,13 @@ fn is_malformed(field: &GetAll<'_, HeaderValue>) -> bool
 pub(crate) fn names(
     comparison: Comparison,
     field: &GetAll<'_, HeaderValue>,
-    resource: &Resource,
+    resource: &TargetState,
 ) -> bool
     ensures { result ≡ names comparison (lines_of field.now) resource.now }
 {
     match resource {
-        Resource::Missing => false,
-        Resource::Current(validators) => {
+        TargetState::Missing => false,
+        TargetState::Current(validators) => {
             is_star(field)
                 || (are_tags(field) && lists(comparison, validators.etag.as_ref(), field))
         }
@@ -138,13 +138,13 @@ pub(crate) fn names(
 pub(crate) fn may_name(
     comparison: Comparison,
     field: &GetAll<'_, HeaderValue>,
-    resource: &Resource,
+    resource: &TargetState,
 ) -> bool
     ensures { result ≡ may_name comparison (lines_of field.now) resource.now }
 {
     match resource {
-        Resource::Missing => false,
-        Resource::Current(validators) => {
+        TargetState::Missing => false,
+        TargetState::Current(validators) => {
             is_malformed(field)
                 || (is_star(field) || lists(comparison, validators.etag.as_ref(), field))
         }

@@ -5,7 +5,7 @@ use Rattle.{headers.specs.Lines.Line, decide_cors.{specs.Policy.Policy, proofs.S
 use Rattle.decide_negotiation.proofs.ChoiceLemmas.{picks_one}
 use Rattle.decide_preconditions.specs.{Contents.{divisible_len, limits_of}, Fields.{fields_sent, is_known_by}}
 use Rattle.decide_preconditions.specs.{Plans.IsSamePlan, Responses.IsAnswered, declared.content.Content.Content}
-use Rattle.decide_preconditions.specs.declared.{plan.Plan.Plan, resource.Resource.Resource as Target}
+use Rattle.decide_preconditions.specs.declared.{plan.Plan.Plan, resource.TargetState.TargetState as Target}
 use Rattle.decide_preconditions.{specs.declared.response.Response.Response, proofs.OnePlanLemmas.one_plan}
 use Rattle.decide_resource.specs.Answers.{AreSame, AreSent, Gives, GivesIf, Goes, GoesOn, IsAnswer, IsSelected}
 use Rattle.decide_resource.specs.Answers.{IsShared, Stops, at_place, is_admitted, is_sent, response_fields}

@@ -7,7 +7,7 @@ use Rattle.{std.specs.Option.option_map_or, rfc_values.specs.Calendar.unix_epoch
 use Rattle.headers.specs.{LineMap.{Field, LineMap}, Lines.Line, Typed.HasLine}
 use Rattle.decide_preconditions.specs.{Conditions.{dates, modified_of}, Preconditions.{Answers, AreIgnored}}
 use Rattle.decide_preconditions.specs.Preconditions.{HasIfMatch, IsGetOrHead, IsUnconditional, StepsAnswer}
-use Rattle.decide_preconditions.specs.{Tags.is_star, declared.resource.Resource.Resource as Target}
+use Rattle.decide_preconditions.specs.{Tags.is_star, declared.resource.TargetState.TargetState as Target}
 use Rattle.decide_preconditions.specs.{declared.response.Response.Response, Responses.IsAnswered}
 use Rattle.decide_resource.specs.Answers.{GivesIf, IsAnswer, IsSelected, at_place, content_of, is_admitted, is_sent}
 use Rattle.decide_resource.specs.{Answers.{sent_for, target_of}, Applies.{applies, date_selected, is_dated, is_guarded}}
@@ -21,7 +21,7 @@ use Rattle.decide_resource.specs.declared.representation.Representation.{Represe
 use Rattle.decide_resource.specs.declared.resource.{Resource.Resource, State.State}
 use Rattle.decide_resource.proofs.{ChosenLemmas.date_at, OneReasonLemmas.one_reason}
 use Rattle.decide_preconditions.specs.declared.precondition.Precondition.TheVariants as precondition
-use Rattle.decide_preconditions.specs.declared.resource.Resource.TheVariants as target
+use Rattle.decide_preconditions.specs.declared.resource.TargetState.TheVariants as target
 use Rattle.decide_resource.specs.declared.answer.Sends.TheVariants as sends
 use Rattle.decide_resource.specs.declared.resource.State.TheVariants as state
 

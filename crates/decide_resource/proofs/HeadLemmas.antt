@@ -3,7 +3,7 @@ use Rattle.std.{proofs.Common.{arith, ◌≡◌, ℕ, Bool, true, false, List, O
 use Rattle.{http_header.specs.FieldValue.FieldValue, headers.specs.{LineMap.Field, Lines.Line}}
 use Rattle.decide_cors.specs.{Kinds.IsKindOf, Policy.Policy, declared.kind.CorsKind.CorsKind}
 use Rattle.decide_preconditions.specs.{Responses.IsAnswered, declared.content.Content.Content}
-use Rattle.decide_preconditions.specs.declared.{resource.Resource.Resource as Target, response.Response.Response}
+use Rattle.decide_preconditions.specs.declared.{resource.TargetState.TargetState as Target, response.Response.Response}
 use Rattle.{decide_preconditions.proofs.HeadLemmas.head_as_get, decide_resource.specs.Answers.{GivesIf, IsAnswer}}
 use Rattle.decide_resource.specs.{Answers.{IsSelected, IsShared, response_fields}, Applies.{applies, is_missing}}
 use Rattle.decide_resource.specs.{Applies.{is_unacceptable, rule_for, takes_type}, Fields.reason_fields}

@@ -10,7 +10,8 @@ use Rattle.decide_cors.specs.{Rules.IsPolicyOf, declared.rules.CorsRules.CorsRul
 use Rattle.decide_preconditions.specs.{Conditions.modified_of, Fields.{etag_of, fields_sent, is_known_by, lines_sent}}
 use Rattle.decide_preconditions.specs.{Fields.{modified_without, not_after}, Responses.IsAnswered}
 use Rattle.decide_preconditions.specs.declared.{content.Content.Content, plan.Plan.{Plan, TheVariants.Full}}
-use Rattle.decide_preconditions.specs.declared.{plan.Plan.TheVariants.NotModified, resource.Resource.Resource as Target}
+use Rattle.decide_preconditions.specs.declared.plan.Plan.TheVariants.{NotModified}
+use Rattle.decide_preconditions.specs.declared.resource.TargetState.{TargetState as Target}
 use Rattle.{decide_preconditions.specs.declared.response.Response.Response, decide_resource.specs.Answers.GivesIf}
 use Rattle.decide_resource.specs.Answers.{IsAnswer, IsShared, Stops, at_place, content_of, is_admitted, is_sent}
 use Rattle.decide_resource.specs.{Answers.{response_fields, sent_for, target_of, with_metadata}, Applies.applies}

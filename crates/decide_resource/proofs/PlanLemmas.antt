@@ -3,13 +3,13 @@ use Rattle.std.proofs.Common.{◌≡◌, ℕ, ◌<◌, List, [], ◌∷◌, Some
 use Rattle.{headers.specs.LineMap.LineMap, decide_preconditions.specs.Plans.{IsPlan, IsSamePlan}}
 use Rattle.decide_preconditions.specs.declared.{limits.RangeLimits.RangeLimits, part.Part.Part, plan.Plan.Plan}
 use Rattle.decide_preconditions.specs.declared.plan.Plan.TheVariants.{NotModified, Failed, Full, Single, Multiple}
-use Rattle.decide_preconditions.specs.declared.{plan.Plan.TheVariants.Unsatisfiable, resource.Resource.Resource}
+use Rattle.decide_preconditions.specs.declared.{plan.Plan.TheVariants.Unsatisfiable, resource.TargetState.TargetState}
 
 one_is_not_more : (x : Part) (xs : List Part) → x ∷ [] ≡ xs → ¬ (1 < length xs)
 one_is_not_more x xs e more = let len = ap length e in omega (arith, len, more)
 
 -- what depends on a plan, but of several parts not on which they are
-pub same_by_plan : {X : Type 0} (present : ℕ) (method : List ℕ) (request : LineMap) (resource : Resource) (len : ℕ)
+pub same_by_plan : {X : Type 0} (present : ℕ) (method : List ℕ) (request : LineMap) (resource : TargetState) (len : ℕ)
     (limits : RangeLimits) (of_plan : Plan → X)
     → ((xs ys : _) → of_plan (Multiple xs) ≡ of_plan (Multiple ys)) → (p q : Plan)
     → IsPlan present method request resource len limits p → IsPlan present method request resource len limits q

@@ -10,7 +10,8 @@ use Rattle.decide_preconditions.specs.{Selection.{Applies, AsksFor, Selects}, de
 use Rattle.decide_preconditions.specs.declared.{limits.RangeLimits.RangeLimits, part.Part.Part, plan.Plan.Plan}
 use Rattle.decide_preconditions.specs.declared.plan.Plan.TheVariants.{NotModified, Failed, Full, Single, Multiple}
 use Rattle.decide_preconditions.specs.declared.plan.Plan.TheVariants.{Unsatisfiable}
-use Rattle.decide_preconditions.specs.declared.{precondition.Precondition.Precondition, resource.Resource.Resource}
+use Rattle.decide_preconditions.specs.declared.precondition.Precondition.{Precondition}
+use Rattle.decide_preconditions.specs.declared.resource.TargetState.{TargetState}
 use Rattle.decide_preconditions.specs.declared.{resource.Validators.Validators, response.Response.Response}
 use Rattle.decide_resource.specs.Vary.{AskAlike}
 use Rattle.decide_preconditions.specs.declared.precondition.Precondition.TheVariants as precondition
@@ -34,7 +35,7 @@ conditions_of f =
 same_conditions : (r s : LineMap) → AskAlike r s → conditions_of r ≡ conditions_of s
 same_conditions r s h = grind (arith)
 
-module _ (present : ℕ) (resource : Resource) where
+module _ (present : ℕ) (resource : TargetState) where
   kept : (r s : LineMap) → AskAlike r s → StateIsKept present r resource → StateIsKept present s resource
   kept r s same h = subst (λ (m : LineMap). StateIsKept present m resource) (same_conditions r s same) h
 
@@ -81,12 +82,12 @@ module _ (present : ℕ) (method : List ℕ) (current : Validators) (len : ℕ) 
         → Selects present method s current len limits selection.Unsatisfiable
     none r s same h = (h.0, applies r s same h.0 h.1, h.2)
 
-    sends : (r s : LineMap) → AskAlike r s → (resource : Resource) (parts : List Part)
+    sends : (r s : LineMap) → AskAlike r s → (resource : TargetState) (parts : List Part)
         → SendsParts present method r resource len limits current parts
         → SendsParts present method s resource len limits current parts
     sends r s same resource parts h = record { set = h.set; asks = asks r s same h.set parts h.asks; few = h.few }
 
-module _ (present : ℕ) (method : List ℕ) (resource : Resource) (len : ℕ) (limits : RangeLimits) (r s : LineMap)
+module _ (present : ℕ) (method : List ℕ) (resource : TargetState) (len : ℕ) (limits : RangeLimits) (r s : LineMap)
     (same : AskAlike r s) where
   reads : (current : Validators) → Reads present method r resource current → Reads present method s resource current
   reads current h =
@@ -105,7 +106,7 @@ module _ (present : ℕ) (method : List ℕ) (resource : Resource) (len : ℕ) (
   planned (Multiple parts) h = grind (arith, reads, sends, limits, resource)
   planned Unsatisfiable h = (h.0, reads h.0 h.1, none present method h.0 len limits r s same h.2)
 
-pub answered : (present : ℕ) (method : List ℕ) (target : Resource) (content : Content) (multipart : FieldValue)
+pub answered : (present : ℕ) (method : List ℕ) (target : TargetState) (content : Content) (multipart : FieldValue)
     (r s : LineMap) → AskAlike r s → (response : Option Response)
     → IsAnswered present method r target content multipart response
     → IsAnswered present method s target content multipart response

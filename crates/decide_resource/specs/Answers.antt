@@ -6,13 +6,13 @@ use Rattle.{headers.specs.{LineMap.fields_of, Lines.Line}, decide_cors.specs.Ans
 use Rattle.decide_cors.specs.{Policy.Policy, declared.policy.CorsAnswer.CorsAnswer}
 use Rattle.{decide_negotiation.specs.Choice.Picks, decide_preconditions.specs.{Fields.is_known_by, Plans.IsSamePlan}}
 use Rattle.decide_preconditions.specs.{Responses.IsAnswered, declared.{content.Content.Content, plan.Plan.Plan}}
-use Rattle.decide_preconditions.specs.declared.{resource.Resource.Resource as Target, response.Response.Response}
+use Rattle.decide_preconditions.specs.declared.{resource.TargetState.TargetState as Target, response.Response.Response}
 use Rattle.decide_resource.specs.{Applies.applies, Fields.{describes, metadata_fields, reason_fields, status_of}}
 use Rattle.decide_resource.specs.{Fields.{vary_fields, vary_lines}, Reasons.IsFirst, Representations.score}
 use Rattle.decide_resource.specs.{Requests.Request, declared.answer.{Answer.Answer, Sends.Sends}}
 use Rattle.decide_resource.specs.declared.{reason.Reason.Reason, representation.Representation.Representation}
 use Rattle.decide_resource.specs.declared.resource.{Resource.Resource, State.State}
-use Rattle.decide_preconditions.specs.declared.resource.Resource.TheVariants as target
+use Rattle.decide_preconditions.specs.declared.resource.TargetState.TheVariants as target
 use Rattle.decide_resource.specs.declared.answer.Sends.TheVariants as sends
 use Rattle.decide_resource.specs.declared.resource.State.TheVariants as state
 

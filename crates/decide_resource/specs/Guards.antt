@@ -2,10 +2,10 @@
 use Rattle.std.specs.Prelude.{◌≡◌, ◌⊎◌, ℕ, ◌+◌, true, false, Option, IsSomeAnd, codes}
 use Rattle.{rfc_values.specs.Calendar.unix_epoch, headers.specs.LineMap.LineMap}
 use Rattle.decide_preconditions.specs.{Conditions.{IfMatchIsTrue, dates}, Preconditions.HasIfMatch, Tags.is_star}
-use Rattle.decide_preconditions.specs.declared.resource.Resource.{Resource as Target}
+use Rattle.decide_preconditions.specs.declared.resource.TargetState.{TargetState as Target}
 use Rattle.decide_resource.specs.{Answers.{IsSelected, at_place, target_of}, Requests.Request}
 use Rattle.decide_resource.specs.declared.resource.Resource.{Resource}
-use Rattle.decide_preconditions.specs.declared.resource.Resource.TheVariants as target
+use Rattle.decide_preconditions.specs.declared.resource.TargetState.TheVariants as target
 
 -- If-None-Match is `*`, and there is nothing to replace
 abbrev pub ReplacesNothing : LineMap → Target → Type 0

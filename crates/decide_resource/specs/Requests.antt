@@ -4,7 +4,7 @@ use Rattle.std.specs.List.{list_any}
 use Rattle.headers.specs.{LineMap.{LineMap, lines_at, remove}, Lines.Line}
 use Rattle.gateway_messages.specs.declared.protocol.Protocol.{Protocol}
 use Rattle.decide_resource.specs.declared.{denied.Denied.Denied, request.RequestContent.RequestContent}
-use Rattle.decide_resource.specs.declared.request.RequestHead.{RequestHead}
+use Rattle.decide_resource.specs.declared.request.ResourceRequest.{ResourceRequest}
 
 -- The authority is that of a target in absolute-form. The server may say why it denies the request.
 pub record Request : Type 0 where
@@ -15,7 +15,7 @@ pub record Request : Type 0 where
   pub fields : LineMap
   pub denied : Option Denied
 
-abbrev pub request_of : RequestHead → Request
+abbrev pub request_of : ResourceRequest → Request
 request_of head =
     record {
       protocol = head.protocol;

@@ -9,7 +9,7 @@ use crate::chosen::{at_place, responded, selected};
 use crate::order::reason_for;
 use crate::reason::Reason;
 use crate::representation::Representation;
-use crate::request::RequestHead;
+use crate::request::ResourceRequest;
 use crate::resource::Resource;
 use crate::response::{metadata_fields, reason_fields, sent_for, status_of};
 use crate::shared::{push_vary, shared_fields, vary_lines};
@@ -56,7 +56,7 @@ struct Given {
 fn stopped(
     alloc: Global,
     resource: &Resource,
-    request: &RequestHead<'_>,
+    request: &ResourceRequest<'_>,
     reason: Reason,
 ) -> Result<Given, AllocError>
     ensures { IfOk result (λ given. Stops resource.now (request_of request.now) reason given.status given.sends
@@ -96,7 +96,7 @@ fn with_metadata(
 fn going_on(
     alloc: Global,
     resource: &Resource,
-    request: &RequestHead<'_>,
+    request: &ResourceRequest<'_>,
     present: u64,
     place: Option<usize>,
     representation: Option<&Representation>,
@@ -131,7 +131,7 @@ fn going_on(
 fn admitted(
     alloc: Global,
     resource: &Resource,
-    request: &RequestHead<'_>,
+    request: &ResourceRequest<'_>,
     present: u64,
 ) -> Result<Given, AllocError>
     ensures { IfOk result (λ given. Goes present resource.now (request_of request.now) given.status given.sends
@@ -151,7 +151,7 @@ fn is_admitted(reason: Reason) -> bool
 fn given_by(
     alloc: Global,
     resource: &Resource,
-    request: &RequestHead<'_>,
+    request: &ResourceRequest<'_>,
     present: u64,
     reason: Reason,
 ) -> Result<Given, AllocError>
@@ -173,7 +173,7 @@ fn given_by(
 pub fn answer_request(
     alloc: Global,
     resource: &Resource,
-    request: &RequestHead<'_>,
+    request: &ResourceRequest<'_>,
     present: u64,
 ) -> Result<Answer, AllocError>
     ensures { IfOk result (IsAnswer present resource.now (request_of request.now)) }

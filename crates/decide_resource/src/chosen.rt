@@ -1,14 +1,16 @@
 //! The representation that a request selects, and what its preconditions and Range make of it.
 ghost use Rattle.std.specs.Prelude.{◌≡◌, ◌<◌, IfOk, IfSome, length, option_copied};
 ghost use Rattle.headers.specs.LineMap.{lines_at};
-ghost use Rattle.decide_preconditions.specs.{Responses.IsAnswered, declared.resource.Resource.TheVariants.Current};
+ghost use Rattle.decide_preconditions.specs.{Responses.IsAnswered, declared.resource.TargetState.TheVariants.Current};
 ghost use Rattle.decide_resource.specs.Answers.{IsSelected, at_place, bare, content_of, place_in, place_of, target_of};
 ghost use Rattle.decide_resource.specs.Requests.{request_of};
 
 use crate::representation::{Representation, preferred};
-use crate::request::RequestHead;
+use crate::request::ResourceRequest;
 use crate::resource::{Resource, State};
-use decide_preconditions::{Content, Resource as Target, Response, Sending, Validators, respond};
+use decide_preconditions::{
+    Content, Response, Sending, TargetState as Target, Validators, respond,
+};
 use headers::HeaderMap;
 use std::alloc::{AllocError, Global};
 
@@ -94,7 +96,7 @@ fn current_of(alloc: Global, validators: &Validators) -> Result<Target, AllocErr
 pub(crate) fn responded(
     alloc: Global,
     resource: &Resource,
-    request: &RequestHead<'_>,
+    request: &ResourceRequest<'_>,
     present: u64,
     representation: Option<&Representation>,
 ) -> Result<Option<Response>, AllocError>

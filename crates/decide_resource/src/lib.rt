@@ -20,5 +20,5 @@ pub use crate::answer::{Answer, Sends, answer_request};
 pub use crate::denied::Denied;
 pub use crate::reason::Reason;
 pub use crate::representation::{Negotiation, Representation};
-pub use crate::request::{RequestContent, RequestHead};
+pub use crate::request::{RequestContent, ResourceRequest};
 pub use crate::resource::{MethodRule, Redirect, Resource, State};

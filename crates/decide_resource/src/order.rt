@@ -9,7 +9,7 @@ use crate::content::{
 };
 use crate::reason::Reason;
 use crate::representation::are_unacceptable;
-use crate::request::RequestHead;
+use crate::request::ResourceRequest;
 use crate::resource::{MethodRule, Resource};
 use crate::target::{
     has_method_by, has_moved, is_current, is_gone, is_implemented, is_misdirected, is_missing,
@@ -18,7 +18,7 @@ use crate::target::{
 use gateway_messages::{has_host, has_known_expectation};
 
 #[tactic(auto, unfolding(crate::specs::Applies::is_unacceptable))]
-fn is_unacceptable(resource: &Resource, request: &RequestHead<'_>) -> bool
+fn is_unacceptable(resource: &Resource, request: &ResourceRequest<'_>) -> bool
     ensures { result ≡ is_unacceptable resource.now (request_of request.now) }
 {
     is_read(request.method.as_str())
@@ -33,7 +33,7 @@ fn is_unacceptable(resource: &Resource, request: &RequestHead<'_>) -> bool
 }
 
 // The rule for the method of a request, if the resource has one.
-fn rule_of<'a>(resource: &'a Resource, request: &RequestHead<'_>) -> Option<&'a MethodRule>
+fn rule_of<'a>(resource: &'a Resource, request: &ResourceRequest<'_>) -> Option<&'a MethodRule>
     ensures { option_copied result ≡ rule resource.now (request_of request.now) }
 {
     rule_for(&resource.rules, request.method.as_str())
@@ -42,7 +42,7 @@ fn rule_of<'a>(resource: &'a Resource, request: &RequestHead<'_>) -> Option<&'a 
 // Whether a reason applies, where this is the rule for the method.
 fn applies_by(
     resource: &Resource,
-    request: &RequestHead<'_>,
+    request: &ResourceRequest<'_>,
     present: u64,
     rule: Option<&MethodRule>,
     reason: Reason,
@@ -82,7 +82,7 @@ fn applies_by(
 // The first of some reasons that applies, where this is the rule for the method.
 fn first_of(
     resource: &Resource,
-    request: &RequestHead<'_>,
+    request: &ResourceRequest<'_>,
     present: u64,
     rule: Option<&MethodRule>,
     reasons: &[Reason],
@@ -94,7 +94,7 @@ fn first_of(
 }
 
 /// Why a request is answered as it is. `present` is the time, in seconds since 1970.
-pub(crate) fn reason_for(resource: &Resource, request: &RequestHead<'_>, present: u64) -> Reason
+pub(crate) fn reason_for(resource: &Resource, request: &ResourceRequest<'_>, present: u64) -> Reason
     ensures { IsFirst (applies present resource.now (request_of request.now)) result }
 {
     let in_order = [

@@ -18,7 +18,7 @@ pub enum RequestContent {
 
 /// A request for a resource, without its content.
 #[derive(Clone, Copy)]
-pub struct RequestHead<'a> {
+pub struct ResourceRequest<'a> {
     /// The version of HTTP. A later version than 1.1 counts as 1.1, with Host as `:authority`.
     pub protocol: Protocol,
     /// The method.

@@ -14,7 +14,7 @@ use crate::answer::Sends;
 use crate::denied::{Denied, denied_status, push_denied};
 use crate::reason::Reason;
 use crate::representation::Representation;
-use crate::request::RequestHead;
+use crate::request::ResourceRequest;
 use crate::resource::{MethodRule, Redirect, Resource, State};
 use crate::target::rule_for;
 use decide_preconditions::Plan;
@@ -218,7 +218,7 @@ fn push_allow(
 pub(crate) fn reason_fields(
     alloc: Global,
     resource: &Resource,
-    request: &RequestHead<'_>,
+    request: &ResourceRequest<'_>,
     reason: Reason,
 ) -> Result<Vec<Encoded>, AllocError>
     ensures { IfOk result (λ fields. fields_of fields.items

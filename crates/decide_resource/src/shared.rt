@@ -6,7 +6,7 @@ ghost use Rattle.decide_resource.{specs.Fields.{vary_fields, vary_lines}, specs.
 
 use crate::reason::Reason;
 use crate::representation::Negotiation;
-use crate::request::RequestHead;
+use crate::request::ResourceRequest;
 use crate::resource::Resource;
 use decide_cors::CorsPolicy;
 use decide_negotiation::{Accept, AcceptEncoding, AcceptLanguage, varies_by};
@@ -95,7 +95,7 @@ fn varying(alloc: Global, lines: &[HeaderValue]) -> Result<HeaderMap, AllocError
 fn policy_fields(
     alloc: Global,
     policy: &CorsPolicy,
-    request: &RequestHead<'_>,
+    request: &ResourceRequest<'_>,
     lines: &[HeaderValue],
 ) -> Result<Vec<Encoded>, AllocError>
     ensures { IfOk result (λ fields. IsShared (Some policy.now) (request_of request.now) (lines_of lines.now)
@@ -114,7 +114,7 @@ fn policy_fields(
 pub(crate) fn shared_fields(
     alloc: Global,
     policy: &Option<CorsPolicy>,
-    request: &RequestHead<'_>,
+    request: &ResourceRequest<'_>,
     lines: &[HeaderValue],
 ) -> Result<Vec<Encoded>, AllocError>
     ensures { IfOk result (λ fields. IsShared policy.now (request_of request.now) (lines_of lines.now)

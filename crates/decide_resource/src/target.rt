@@ -7,7 +7,7 @@ ghost use Rattle.decide_resource.specs.Applies.{creates, has_method_by, has_move
 ghost use Rattle.decide_resource.specs.Applies.{is_gone, is_implemented, is_misdirected, is_missing, is_own, is_port};
 ghost use Rattle.decide_resource.specs.{Applies.{is_read, rule_for, ruled}, Requests.request_of};
 
-use crate::request::RequestHead;
+use crate::request::ResourceRequest;
 use crate::resource::{MethodRule, Resource, State};
 use headers::{HeaderMap, HeaderValue};
 use http::Method;
@@ -25,7 +25,7 @@ fn only_host(fields: &HeaderMap) -> Option<&HeaderValue>
     }
 }
 
-fn host_named<'a>(request: &RequestHead<'a>) -> Option<&'a HeaderValue>
+fn host_named<'a>(request: &ResourceRequest<'a>) -> Option<&'a HeaderValue>
     ensures { option_map (λ value. value.now.bytes) result
         ≡ host_named (request_of request.now).authority (lines_at request.now.fields.now (codes "host")) }
 {
@@ -78,7 +78,7 @@ fn is_own(hosts: &[HeaderValue], host: Option<&HeaderValue>) -> bool
     }
 }
 
-pub(crate) fn is_misdirected(resource: &Resource, request: &RequestHead<'_>) -> bool
+pub(crate) fn is_misdirected(resource: &Resource, request: &ResourceRequest<'_>) -> bool
     ensures { result ≡ is_misdirected resource.now (request_of request.now) }
 {
     match &resource.hosts {

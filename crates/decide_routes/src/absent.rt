@@ -11,7 +11,7 @@ use std::alloc::{AllocError, Global};
 
 /// What all resources of a server have in common.
 #[derive(Debug, Drop)]
-pub struct Server {
+pub struct ServerWide {
     /// The hosts that it is served for, as they are written in Host, or `None` for any.
     pub hosts: Option<Vec<HeaderValue>>,
     /// The methods that it implements for some resource, beside GET and HEAD (RFC 9110, section 9.1).
@@ -48,7 +48,7 @@ fn idle_rules(alloc: Global, methods: &[Method]) -> Result<Vec<MethodRule>, Allo
 }
 
 // A resource of this state, which has each method of the server and no representation.
-fn resource_of(alloc: Global, server: Server, state: State) -> Result<Resource, AllocError>
+fn resource_of(alloc: Global, server: ServerWide, state: State) -> Result<Resource, AllocError>
     ensures rules { IfOk result (λ resource. map told_of resource.rules.items
         ≡ (codes "GET", false) ∷ map idle_rule resource.implemented.items) }
     ensures implemented { IfOk result (λ resource. resource.implemented ≡ server.implemented) }
@@ -57,7 +57,7 @@ fn resource_of(alloc: Global, server: Server, state: State) -> Result<Resource, 
     ensures cors { IfOk result (λ resource. resource.cors ≡ server.cors) }
 {
     let rules = idle_rules(alloc, &server.implemented)?;
-    let Server {
+    let ServerWide {
         hosts,
         implemented,
         boundary,
@@ -85,7 +85,7 @@ fn resource_of(alloc: Global, server: Server, state: State) -> Result<Resource, 
 
 /// Makes the resource for each path that has none: each method that the server implements gets 404,
 /// and so does OPTIONS. Fails only if an allocation fails.
-pub fn nowhere(alloc: Global, server: Server) -> Result<Resource, AllocError>
+pub fn nowhere(alloc: Global, server: ServerWide) -> Result<Resource, AllocError>
     ensures nowhere { IfOk result IsNowhere }
     ensures implemented { IfOk result (λ resource. resource.implemented ≡ server.implemented) }
     ensures hosts { IfOk result (λ resource. resource.hosts ≡ server.hosts) }
@@ -97,7 +97,7 @@ pub fn nowhere(alloc: Global, server: Server) -> Result<Resource, AllocError>
 /// Makes the resource of `*`, which is the server in general (RFC 9110, section 9.3.7). OPTIONS gets
 /// the methods that the server implements, and each of the others 404: there is nothing of the server
 /// to represent or to replace. Fails only if an allocation fails.
-pub fn server_wide(alloc: Global, server: Server) -> Result<Resource, AllocError>
+pub fn server_wide(alloc: Global, server: ServerWide) -> Result<Resource, AllocError>
     ensures wide { IfOk result IsServerWide }
     ensures implemented { IfOk result (λ resource. resource.implemented ≡ server.implemented) }
     ensures hosts { IfOk result (λ resource. resource.hosts ≡ server.hosts) }

@@ -6,5 +6,5 @@ mod absent;
 pub mod laws;
 mod routes;
 
-pub use crate::absent::{Server, nowhere, server_wide};
-pub use crate::routes::{Asked, Routes};
+pub use crate::absent::{ServerWide, nowhere, server_wide};
+pub use crate::routes::{RoutedRequest, Routes};

@@ -4,7 +4,7 @@ ghost use Rattle.matchit.specs.Seek.{first};
 ghost use Rattle.decide_resource.specs.Requests.{request_of};
 ghost use Rattle.decide_routes.specs.Routes.{IsAnswerTo, IsTaken, is_asterisk};
 
-use decide_resource::{Answer, RequestHead, Resource, answer_request};
+use decide_resource::{Answer, Resource, ResourceRequest, answer_request};
 use matchit::{Params, Router};
 use std::alloc::{AllocError, Global};
 
@@ -21,12 +21,12 @@ pub struct Routes<T> {
 
 /// A request by the path of its target.
 #[derive(Clone, Copy)]
-pub struct Asked<'a> {
+pub struct RoutedRequest<'a> {
     /// The path, without the query; or `*`, if the target is in asterisk-form (RFC 9112, section
     /// 3.2.4).
     pub path: &'a str,
     /// The request.
-    pub request: RequestHead<'a>,
+    pub request: ResourceRequest<'a>,
     /// The time, in seconds since 1970.
     pub present: u64,
 }
@@ -44,7 +44,7 @@ impl<T: Drop> Routes<T> {
     pub fn answer_at<E: From<AllocError>, F: FnOnce(&T, &Params<'_, '_>) -> Result<Resource, E>>(
         &self,
         alloc: Global,
-        asked: &Asked<'_>,
+        asked: &RoutedRequest<'_>,
         describe: F,
     ) -> Result<Answer, E>
         requires { F.IsAlwaysCallable describe }

@@ -10,7 +10,7 @@ use Rattle.serde_json.specs.Data.{Data}
 use Rattle.serde_json.specs.Read.{read as read_text}
 use Rattle.headers.specs.{Date.fixdate, LineMap.{Field, fields_of, lines_at, set_all}}
 use Rattle.server_connection.{specs.declared.piece.Piece.Piece, specs.declared.piece.Piece.TheVariants.Literal}
-use Rattle.server_connection.specs.declared.plan.Plan.{Plan}
+use Rattle.server_connection.specs.declared.plan.ResponsePlan.{ResponsePlan}
 use Rattle.gateway_messages.specs.declared.protocol.Protocol.TheVariants.{Http10, Http11}
 use Rattle.decide_preconditions.specs.declared.plan.Plan.TheVariants.{Full}
 use Rattle.decide_resource.specs.Answers.{IsAnswer}
@@ -132,7 +132,7 @@ pieces_of (sends.Planned place Full) (Some note) = Literal note.text ∷ []
 pieces_of sent text = []
 
 -- the field lines of the plan are those that these fields leave, each set in its order
-abbrev pub Carries : List Field → Plan → Type 0
+abbrev pub Carries : List Field → ResponsePlan → Type 0
 Carries sent plan =
     (m : Entries FieldValue) × (fields plan.headers.items ≡ map (λ p. (p.0, p.1.bytes)) (pairs m))
     × ((name : List ℕ) → lines_at m name ≡ set_all (lines_at []) sent name)
@@ -143,7 +143,8 @@ date_fields None = []
 date_fields (Some second) = (codes "date", fixdate second ∷ []) ∷ []
 
 -- The plan is the answer of the resource that the path leads to, with what performing the method did.
-pub record IsPlanned (before : Service) (request : Request (List ℕ)) (plan : Plan) (after : Service) : Type 0 where
+pub record IsPlanned (before : Service) (request : Request (List ℕ)) (plan : ResponsePlan) (after : Service)
+    : Type 0 where
   pub at : Target
   pub is_at : IsTarget before.routes.router (uri_path (head_of request).uri) at
   pub text : Option Note

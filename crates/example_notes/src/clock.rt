@@ -8,15 +8,15 @@ const LAST: u64 = 253_402_300_799;
 
 /// The clock of the system, or none.
 #[derive(Drop)]
-pub struct Clock<'a> {
+pub struct OptionalClock<'a> {
     rt: &'a HostRuntime,
     is_there: bool,
 }
 
-impl<'a> Clock<'a> {
+impl<'a> OptionalClock<'a> {
     /// The clock, if it is to be read.
-    pub fn new(rt: &'a HostRuntime, is_there: bool) -> Clock<'a> {
-        Clock { rt, is_there }
+    pub fn new(rt: &'a HostRuntime, is_there: bool) -> OptionalClock<'a> {
+        OptionalClock { rt, is_there }
     }
 
     /// The time, if there is a clock that tells one that a Date can have.

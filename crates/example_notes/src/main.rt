@@ -14,7 +14,7 @@ mod service;
 mod target;
 mod text;
 
-use crate::clock::Clock;
+use crate::clock::OptionalClock;
 use crate::service::new_service;
 use http_server::Config;
 use server_connection::serve_exchanges;
@@ -32,7 +32,7 @@ fn main(rt: HostRuntime) -> anyhow::Result<ExitCode> {
     } else {
         RandomState::new(&rt)?.hash_one(0u64)
     };
-    let mut service = new_service(alloc, series, Clock::new(&rt, !is_replayed))?;
+    let mut service = new_service(alloc, series, OptionalClock::new(&rt, !is_replayed))?;
     let (mut reader, mut writer) = (rt.stdin(), rt.stdout());
     match serve_exchanges(
         alloc,

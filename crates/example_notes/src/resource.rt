@@ -7,7 +7,7 @@ use crate::text::tag_of;
 use decide_cors::{Allowed, AllowedNames, CorsPolicy, CorsRules};
 use decide_preconditions::{Boundary, Content, Validators};
 use decide_resource::{MethodRule, Negotiation, Representation, Resource, State};
-use decide_routes::Server;
+use decide_routes::ServerWide;
 use headers::{ETag, HeaderMap, HeaderValue, Refused};
 use http::Method;
 use http_header::{ACCEPT, CONTENT_TYPE, ETAG, IF_MATCH, IF_NONE_MATCH, LOCATION};
@@ -46,8 +46,8 @@ fn implemented(alloc: Global) -> Result<Vec<Method>, AllocError> {
 }
 
 /// Makes what all resources of the server have in common.
-pub fn server(alloc: Global) -> Result<Server, AllocError> {
-    Ok(Server {
+pub fn server(alloc: Global) -> Result<ServerWide, AllocError> {
+    Ok(ServerWide {
         hosts: None,
         implemented: implemented(alloc)?,
         boundary: boundary(alloc)?,

@@ -8,7 +8,7 @@ ghost use Rattle.decide_resource.specs.Requests.{request_of};
 ghost use Rattle.example_notes.specs.Plans.{Carries, Does, IsAnswerAt, IsAnswerBy, IsAsked, IsText, date_fields};
 ghost use Rattle.example_notes.specs.Plans.{pieces_of};
 
-use crate::clock::Clock;
+use crate::clock::OptionalClock;
 use crate::notes::{Note, Notes};
 use crate::perform::{Done, only, perform};
 use crate::resource::{collection, note, server};
@@ -16,12 +16,12 @@ use crate::target::{RouteTarget, Target, router, target_of};
 use crate::text::list_text;
 use bytes::Bytes;
 use decide_preconditions::Plan as Planned;
-use decide_resource::{Answer, RequestContent, RequestHead, Resource, Sends, answer_request};
+use decide_resource::{Answer, RequestContent, Resource, ResourceRequest, Sends, answer_request};
 use decide_routes::{Routes, nowhere, server_wide};
 use gateway_messages::Protocol;
 use headers::{Date, Encoded, HeaderMap, encoding, set_all};
 use http::{Request, Version};
-use server_connection::{Handler, Piece, Plan};
+use server_connection::{Handler, Piece, ResponsePlan};
 use std::alloc::{AllocError, Global};
 use std::collections::BTreeMap;
 use std::io;
@@ -32,7 +32,7 @@ pub struct Service<'a> {
     alloc: Global,
     routes: Routes<RouteTarget>,
     notes: Notes,
-    clock: Clock<'a>,
+    clock: OptionalClock<'a>,
 }
 
 /// Makes a service without notes, whose changes are of this series. Fails only if an allocation
@@ -40,7 +40,7 @@ pub struct Service<'a> {
 pub fn new_service(
     alloc: Global,
     series: u64,
-    clock: Clock<'_>,
+    clock: OptionalClock<'_>,
 ) -> Result<Service<'_>, AllocError> {
     let Ok(router) = router(alloc) else {
         return Err(AllocError);
@@ -65,7 +65,7 @@ pub fn new_service(
 }
 
 // What a decision reads of a request.
-fn asked(request: &Request<Bytes>) -> RequestHead<'_>
+fn asked(request: &Request<Bytes>) -> ResourceRequest<'_>
     ensures { IsAsked request.now (request_of result) }
 {
     let protocol = if request.version() == Version::HTTP_10 {
@@ -74,7 +74,7 @@ fn asked(request: &Request<Bytes>) -> RequestHead<'_>
         Protocol::Http11
     };
     let authority = None;
-    RequestHead {
+    ResourceRequest {
         protocol,
         method: request.method(),
         authority,
@@ -180,7 +180,7 @@ fn dated(
 }
 
 // Adds the field lines of a map.
-fn add_lines(plan: &mut Plan, lines: &HeaderMap) -> Result<(), AllocError>
+fn add_lines(plan: &mut ResponsePlan, lines: &HeaderMap) -> Result<(), AllocError>
     requires { fields plan.old.headers.items ≡ [] }
     ensures headers { OnOk result
         (fields plan.new.headers.items ≡ map (λ p. (p.0, p.1.bytes)) (pairs lines.now)) }
@@ -194,7 +194,7 @@ fn add_lines(plan: &mut Plan, lines: &HeaderMap) -> Result<(), AllocError>
 }
 
 // Adds the field lines of fields that are set in their order.
-fn add_fields(alloc: Global, plan: &mut Plan, sent: Vec<Encoded>) -> Result<(), AllocError>
+fn add_fields(alloc: Global, plan: &mut ResponsePlan, sent: Vec<Encoded>) -> Result<(), AllocError>
     requires { fields plan.old.headers.items ≡ [] }
     ensures headers { OnOk result (Carries (fields_of sent.items) plan.new) }
     ensures status { plan.new.status ≡ plan.old.status }
@@ -208,7 +208,7 @@ fn add_fields(alloc: Global, plan: &mut Plan, sent: Vec<Encoded>) -> Result<(), 
 }
 
 // Adds the text, if the answer sends it whole.
-fn add_content(plan: &mut Plan, sends: &Sends, text: Option<Note>) -> Result<(), AllocError>
+fn add_content(plan: &mut ResponsePlan, sends: &Sends, text: Option<Note>) -> Result<(), AllocError>
     requires { plan.old.pieces.items ≡ [] }
     ensures pieces { OnOk result (plan.new.pieces.items ≡ pieces_of sends.now text) }
     ensures status { plan.new.status ≡ plan.old.status }
@@ -228,7 +228,11 @@ impl Handler for Service<'_> {
 
     ghost gives = { λ _ _ _. ⊤ };
 
-    fn plan(&mut self, request: &Request<Bytes>, plan: &mut Plan) -> Result<(), AllocError> {
+    fn plan(
+        &mut self,
+        request: &Request<Bytes>,
+        plan: &mut ResponsePlan,
+    ) -> Result<(), AllocError> {
         let alloc = self.alloc;
         let target = target_of(&self.routes.router, request.uri().path());
         let text = self.text_at(target)?;

@@ -19,21 +19,22 @@ use Rattle.http1.specs.{declared.decode.Decoder.Decoder, declared.framing.Framin
 use Rattle.http1.specs.declared.framing.MethodKind.{MethodKind}
 use Rattle.gateway_relay.specs.{Content.map_of, Failures.HasNoMap}
 use Rattle.gateway_connection.specs.Responses.{IsFieldsFault, IsUnder}
-use Rattle.gateway_connection.specs.{declared.event.Fault.Fault, declared.event.Response.Response}
+use Rattle.gateway_connection.specs.declared.event.OriginFault.{OriginFault}
+use Rattle.gateway_connection.specs.declared.event.OriginResponse.{OriginResponse}
 use Rattle.gateway_connection.specs.Steps.{Fails, Finds, HasInvalidFields, IsDue, IsFault, TakesPiece}
 use Rattle.gateway_connection.specs.Steps.{TakesResponse, Waits, WaitsAt}
-use Rattle.gateway_connection.specs.declared.origin.Origin.{Origin}
+use Rattle.gateway_connection.specs.declared.origin.OriginConnection.{OriginConnection}
 use Rattle.http1.specs.declared.conn.BodySize.TheVariants as Size
 use Rattle.http1.specs.declared.conn.Event.TheVariants as Found
 use Rattle.http1.specs.declared.conn.Reading.TheVariants as Reads
 use Rattle.http1.specs.declared.framing.Framing.TheVariants as Framed
 use Rattle.http1.specs.declared.framing.MethodKind.TheVariants as Method
-use Rattle.gateway_connection.specs.declared.event.Fault.TheVariants as Faults
-use Rattle.gateway_connection.specs.declared.event.Event.TheVariants as Is
-use Rattle.gateway_connection.specs.declared.event.Event as Saying
+use Rattle.gateway_connection.specs.declared.event.OriginFault.TheVariants as Faults
+use Rattle.gateway_connection.specs.declared.event.OriginEvent.TheVariants as Is
+use Rattle.gateway_connection.specs.declared.event.OriginEvent as Saying
 
 abbrev pub Said : Type 0
-Said = Saying.Event
+Said = Saying.OriginEvent
 
 abbrev pub Spans : Type 0
 Spans = ResponseSpans
@@ -103,7 +104,8 @@ module _ (c new : Client) (input : List ℕ) (spans : List HeaderSpan) where
 -- ---- heads
 
 -- the parts of the head that was taken
-pub takes_response : (old new : Origin) (spans : List HeaderSpan) (len : ℕ) (r : ResponseSpans) (response : Response)
+pub takes_response : (old new : OriginConnection) (spans : List HeaderSpan) (len : ℕ) (r : ResponseSpans)
+    (response : OriginResponse)
     (seen : List ℕ) → seen ≡ old.input.items → IsDue old.client → TakesHead old.client seen spans new.client len r
     → IsUnder old.input.items spans r response → new.input.items ≡ drop r.len old.input.items
     → new ≡ record old { client = new.client; input = new.input; silent = false }
@@ -128,7 +130,7 @@ takes_response old new spans len r response seen same due head u left rest =
     }
 
 -- the status of the spans is that of the response
-pub interim_of : (b : Bool) (input : List ℕ) (spans : List HeaderSpan) (r : ResponseSpans) (response : Response)
+pub interim_of : (b : Bool) (input : List ℕ) (spans : List HeaderSpan) (r : ResponseSpans) (response : OriginResponse)
     → IsUnder input spans r response → is_interim r.code ≡ b → is_interim response.status ≡ b
 interim_of b input spans r response u is = ap is_interim u.status ∙ is
 
@@ -148,8 +150,8 @@ final_stays c h framing final stays = rw (stays, final_high c c.method (status_c
 -- ---- steps
 
 -- what is said of a final head, by what is unread after it
-module _ (old new : Origin) (spans : List HeaderSpan) (len : ℕ) (r : ResponseSpans) (response : Response)
-    (seen : List ℕ) (same : seen ≡ old.input.items) (due : IsDue old.client)
+module _ (old new : OriginConnection) (spans : List HeaderSpan) (len : ℕ) (r : ResponseSpans)
+    (response : OriginResponse) (seen : List ℕ) (same : seen ≡ old.input.items) (due : IsDue old.client)
     (head : IsFalse (is_interim r.code) × TakesHead old.client seen spans new.client len r)
     (u : IsUnder old.input.items spans r response) (left : new.input.items ≡ drop r.len old.input.items)
     (rest : new ≡ record old { client = new.client; input = new.input; silent = false }) (size : BodySize)
@@ -162,7 +164,7 @@ module _ (old new : Origin) (spans : List HeaderSpan) (len : ℕ) (r : ResponseS
       t = takes_response old new spans len r response seen same due head.1 u left rest
 
       status : status_code t.head ≡ response.status
-      status = sym (ap (λ (x : Response). x.status) t.parts)
+      status = sym (ap (λ (x : OriginResponse). x.status) t.parts)
 
       final : is_interim response.status ≡ false
       final = interim_of false old.input.items spans r response u head.0
@@ -182,7 +184,7 @@ module _ (old new : Origin) (spans : List HeaderSpan) (len : ℕ) (r : ResponseS
 
 -- ---- content
 
-pub takes_piece : (old new : Origin) (len : ℕ) (s : Span) (piece seen : List ℕ) (d : Decoder)
+pub takes_piece : (old new : OriginConnection) (len : ℕ) (s : Span) (piece seen : List ℕ) (d : Decoder)
     (next : Reading) → seen ≡ old.input.items → old.client.reading ≡ Reads.Body d
     → ReadsPiece {H = ResponseSpans} d seen [] next len (Found.Data s)
     → new.client ≡ after_piece old.client next → piece ≡ span_bytes old.input.items s
@@ -212,18 +214,18 @@ takes_piece old new len s piece seen d next same reading found goes bytes left r
 
 -- ---- faults
 
-pub breaks : (old : Origin) (next : Client) (rest : Filled) (fault : Fault) → IsFault old fault
+pub breaks : (old : OriginConnection) (next : Client) (rest : Filled) (fault : OriginFault) → IsFault old fault
     → Fails old fault (record old { client = next; input = rest })
 breaks old next rest fault because = inl (record { because = because; rest = refl })
 
-pub fields_fault : (m : Origin) (fields : List Header) (fault : Fault) → IsFieldsFault fields fault
+pub fields_fault : (m : OriginConnection) (fields : List Header) (fault : OriginFault) → IsFieldsFault fields fault
     → (HasNoMap fields → HasInvalidFields m.client m.input.items) → IsFault m fault
 fields_fault m fields Faults.InvalidFields is invalid = invalid is
 fields_fault m fields Faults.OutOfMemory is invalid = tt
 fields_fault m fields fault is invalid = absurd is
 
-pub head_fault : (m : Origin) (new : Client) (spans : List HeaderSpan) (len : ℕ) (r : ResponseSpans) (seen : List ℕ)
-    (fault : Fault) → seen ≡ m.input.items → TakesHead m.client seen spans new len r
+pub head_fault : (m : OriginConnection) (new : Client) (spans : List HeaderSpan) (len : ℕ) (r : ResponseSpans)
+    (seen : List ℕ) (fault : OriginFault) → seen ≡ m.input.items → TakesHead m.client seen spans new len r
     → IsFieldsFault (headers_at m.input.items spans r.headers) fault → IsFault m fault
 head_fault m new spans len r seen fault same head why =
     let t : TakesHead m.client m.input.items spans new len r =
@@ -236,8 +238,8 @@ head_fault m new spans len r seen fault same head why =
       subst HasNoMap t.covered.fields none,
     ))
 
-pub trailers_fault : (m : Origin) (spans : List HeaderSpan) (next : Reading) (len count : ℕ) (seen : List ℕ)
-    (fault : Fault) (d : Decoder) → seen ≡ m.input.items → m.client.reading ≡ Reads.Body d
+pub trailers_fault : (m : OriginConnection) (spans : List HeaderSpan) (next : Reading) (len count : ℕ) (seen : List ℕ)
+    (fault : OriginFault) (d : Decoder) → seen ≡ m.input.items → m.client.reading ≡ Reads.Body d
     → ReadsPiece {H = ResponseSpans} d seen spans next len (Found.End count)
     → IsFieldsFault (headers_at m.input.items spans count) fault → IsFault m fault
 trailers_fault m spans next len count seen fault d same reading found why =
@@ -254,7 +256,7 @@ trailers_fault m spans next len count seen fault d same reading found why =
 
 -- ---- nothing is found
 
-pub still : (old new : Origin) (spans : List HeaderSpan) (read : Progress ResponseSpans) (seen : List ℕ)
+pub still : (old new : OriginConnection) (spans : List HeaderSpan) (read : Progress ResponseSpans) (seen : List ℕ)
     → seen ≡ old.input.items → ClientReads old.client seen spans new.client read
     → (read.event ≡ Found.NeedMore) ⊎ (read.event ≡ Found.Paused) → new.input.items ≡ drop read.consumed old.input.items
     → new ≡ record old { client = new.client; input = new.input } → Waits old new

@@ -32,18 +32,19 @@ use Rattle.gateway_connection.specs.History.{Fresh, Asked, Hears, Over, Opened, 
 use Rattle.gateway_connection.specs.History.{Refused, Written, Said}
 use Rattle.gateway_relay.{specs.Content.{after_pieces, map_of, pieces_text}}
 use Rattle.gateway_relay.proofs.RelayLemmas.{after_pieces-append, pieces_text-append}
-use Rattle.gateway_connection.specs.{Responses.response_of, declared.event.Event.Event}
-use Rattle.gateway_connection.specs.{declared.event.Fault.Fault, declared.event.Response.Response}
+use Rattle.gateway_connection.specs.{Responses.response_of, declared.event.OriginEvent.OriginEvent}
+use Rattle.gateway_connection.specs.declared.event.OriginFault.{OriginFault}
+use Rattle.gateway_connection.specs.declared.event.OriginResponse.{OriginResponse}
 use Rattle.gateway_connection.specs.Steps.{Begins, Ends, EndsContent, Fails, Finds, Finishes, HandsOut, IsDue}
 use Rattle.gateway_connection.specs.Steps.{IsOver, Puts, PutsNothing, Receives, SaysAt}
 use Rattle.gateway_connection.specs.Steps.{TakesEnd, Waits, WaitsAt}
-use Rattle.gateway_connection.specs.declared.origin.Origin.{Origin}
+use Rattle.gateway_connection.specs.declared.origin.OriginConnection.{OriginConnection}
 use Rattle.gateway_connection.proofs.FindLemmas.{final_stays}
 use Rattle.http1.specs.Message as Message
 use Rattle.http1.specs.declared.conn.Reading.TheVariants as Reads
 use Rattle.http1.specs.declared.conn.Writing.TheVariants as Writes
 use Rattle.http1.specs.declared.framing.MethodKind.TheVariants as Method
-use Rattle.gateway_connection.specs.declared.event.Event.TheVariants as Is
+use Rattle.gateway_connection.specs.declared.event.OriginEvent.TheVariants as Is
 
 -- ---- requests
 
@@ -81,8 +82,8 @@ module _ (head : List ℕ) (pieces : List (List ℕ)) (first : Encoder) (w : Wri
 
 -- ---- the stream
 
-interim-append : {limits : Limits} {method : MethodKind} {middle rest : List ℕ} (rs : List Response) (stream : List ℕ)
-    (m : Message.Response) (response : Response) → ReadsInterim limits method stream rs middle
+interim-append : {limits : Limits} {method : MethodKind} {middle rest : List ℕ} (rs : List OriginResponse)
+    (stream : List ℕ) (m : Message.Response) (response : OriginResponse) → ReadsInterim limits method stream rs middle
     → ReadsResponseMessage limits method middle m rest → response ≡ response_of m.head
     → IsTrue (is_interim response.status) → ReadsInterim limits method stream (rs ++ response ∷ []) rest
 interim-append [] stream m response reads message is low = (m, _, rw reads message, is, low, refl)
@@ -381,7 +382,7 @@ module _ {k : Frame} {c : Client} {input : List ℕ} where
   )
 
   -- content goes on
-  hears_now : {next : Client} {rest : List ℕ} (r : Request) (interim : List Response) (response : Response)
+  hears_now : {next : Client} {rest : List ℕ} (r : Request) (interim : List OriginResponse) (response : OriginResponse)
       (content piece : List ℕ) (after : Decoder) (len : ℕ) (g : Goes k c input (Hears r interim response content))
       → Continues g.told.decoder input after len piece → rest ≡ drop len input
       → next ≡ record c { reading = Reads.Body after }
@@ -420,7 +421,7 @@ module _ {k : Frame} {c : Client} {input : List ℕ} where
 
   -- a response is read
   heard : (P : Now → Type 0) {d : Decoder} → c.reading ≡ Reads.Body d
-      → ((r : Request) (interim : List Response) (response : Response) (content : List ℕ)
+      → ((r : Request) (interim : List OriginResponse) (response : OriginResponse) (content : List ℕ)
       (g : Goes k c input (Hears r interim response content)) → g.told.decoder ≡ d
       → P (Hears r interim response content))
       → (now : Now) → Goes k c input now → P now
@@ -478,7 +479,7 @@ module _ {k : Frame} {c : Client} {input : List ℕ} where
   -- the head of a response to a request
   module _ (h : ResponseHead) (framing : Framing) {rest : List ℕ}
       (accepts : AcceptsResponse c.limits c.method input h framing rest) (due : IsDue c) where
-    asked : (P : Now → Type 0) → ((r : Request) (interim : List Response) → Goes k c input (Asked r interim)
+    asked : (P : Now → Type 0) → ((r : Request) (interim : List OriginResponse) → Goes k c input (Asked r interim)
         → ((more : List ℕ) → AcceptsResponse c.limits (method_kind r.method) (input ++ more) h framing (rest ++ more))
         → P (Asked r interim)) → (now : Now) → Goes k c input now → P now
     asked P f Fresh g = absurd (rests_due c.writing due.1 (rw due.0 at g.at))
@@ -567,32 +568,32 @@ frame limits ended output p = record {
   before = p.before;
 }
 
-abbrev GoesAt : Limits → Origin → Past → Now → Type 0
+abbrev GoesAt : Limits → OriginConnection → Past → Now → Type 0
 GoesAt limits m p now = Goes (frame limits m.ended m.output.items p) m.client m.input.items now
 
 -- any connection: it goes on, or it did until it failed
-record Run (limits : Limits) (ended : Bool) (c : Client) (input output : List ℕ) (fault : Option Fault) (p : Past)
+record Run (limits : Limits) (ended : Bool) (c : Client) (input output : List ℕ) (fault : Option OriginFault) (p : Past)
     : Type 0 where
   client : Client
   unread : List ℕ
   goes : Goes (frame limits ended output p) client unread p.now
   left : fault ≡ None → (client ≡ c) × (unread ≡ input)
 
-abbrev RunAt : Limits → Origin → Past → Type 0
+abbrev RunAt : Limits → OriginConnection → Past → Type 0
 RunAt limits m p = Run limits m.ended m.client m.input.items m.output.items m.fault p
 
-goes_of : {limits : Limits} {ended : Bool} {c : Client} {i o : List ℕ} {f : Option Fault} {p : Past}
+goes_of : {limits : Limits} {ended : Bool} {c : Client} {i o : List ℕ} {f : Option OriginFault} {p : Past}
     → Run limits ended c i o f p → f ≡ None → Goes (frame limits ended o p) c i p.now
 goes_of r none = let left = r.left none in rw (← left.0, ← left.1) r.goes
 
-run_of : {limits : Limits} {ended : Bool} {c : Client} {i o : List ℕ} {f : Option Fault} {p : Past}
+run_of : {limits : Limits} {ended : Bool} {c : Client} {i o : List ℕ} {f : Option OriginFault} {p : Past}
     → Goes (frame limits ended o p) c i p.now → Run limits ended c i o f p
 run_of {limits} {ended} {c} {i} {o} {f} {p} g =
     record { client = c; unread = i; goes = g; left = λ none. (refl, refl) }
 
 run_grows : {limits : Limits} {old new : Bool} (bytes : List ℕ)
     → ((more : List ℕ) → MayFollow new more → MayFollow old (bytes ++ more))
-    → {c : Client} {i o : List ℕ} {f : Option Fault} {p : Past} → Run limits old c i o f p
+    → {c : Client} {i o : List ℕ} {f : Option OriginFault} {p : Past} → Run limits old c i o f p
     → Run limits new c (i ++ bytes) o f (record p { received = p.received ++ bytes })
 run_grows {limits} {old} {new} bytes follows {c} {i} {o} {f} {p} r = record {
   client = r.client;
@@ -615,7 +616,7 @@ waits_empty (Reads.Body d) c next input rest is found until =
     ]
 waits_empty r c next input rest is found until = absurd found
 
-module _ {limits : Limits} {old new : Origin} {p : Past} where
+module _ {limits : Limits} {old new : OriginConnection} {p : Past} where
   wait_goes : Waits old new → GoesAt limits old p p.now → GoesAt limits new p p.now
   wait_goes w g = rw w.rest (wait_now p.now g w.found)
 
@@ -638,7 +639,7 @@ module _ {limits : Limits} {old new : Origin} {p : Past} where
       (λ more may. rw (empty, may ended) (refl, refl, refl)) t.parts t.limits
       (λ r m framing sends. rw (t.writing, t.over) (tt, λ idle. absurd (cc))) p.now g)
 
-find_goes : {limits : Limits} {p : Past} (old new : Origin) (event : Event) → Finds old event new
+find_goes : {limits : Limits} {p : Past} (old new : OriginConnection) (event : OriginEvent) → Finds old event new
     → GoesAt limits old p p.now → GoesAt limits new p (tell event p.now)
 find_goes old new Is.NeedsInput found g = wait_goes found.1 g
 find_goes {limits} {p} old new (Is.Interim response) found g =
@@ -654,7 +655,7 @@ find_goes {limits} {p} old new (Is.Content piece) found g =
 find_goes old new (Is.End trailers) (inl found) g = end_goes found g
 find_goes {limits} {p} old new (Is.End trailers) (inr found) g =
     let w = found.2 in
-    close_goes {old = found.1} {new = new} (ap (λ (m : Origin). m.ended) w.rest ∙ found.0)
+    close_goes {old = found.1} {new = new} (ap (λ (m : OriginConnection). m.ended) w.rest ∙ found.0)
     (waits_empty old.client.reading old.client found.1.client old.input.items found.1.input.items refl w.found
     found.3.reading) found.3 (wait_goes w g)
 find_goes {limits} {p} old new (Is.Switched response) found g =
@@ -665,12 +666,13 @@ find_goes old new Is.Closed (inl found) g = rw found.1 g
 find_goes old new Is.Closed (inr found) g = rw found.3.0 (wait_goes found.2 g)
 find_goes old new (Is.Broken fault) found g = absurd found
 
-fails_same : {old new : Origin} {fault : Fault} → Fails old fault new
+fails_same : {old new : OriginConnection} {fault : OriginFault} → Fails old fault new
     → (new.ended ≡ old.ended) × (new.output.items ≡ old.output.items)
 fails_same (inl breaks) = rw breaks.rest (refl, refl)
 fails_same (inr cut) = rw (cut.3.rest, cut.2.rest) (refl, refl)
 
-said : {limits : Limits} {p : Past} (old new : Origin) (event : Event) (f : Option Fault) → old.fault ≡ f
+said : {limits : Limits} {p : Past} (old new : OriginConnection) (event : OriginEvent) (f : Option OriginFault)
+    → old.fault ≡ f
     → SaysAt f old event new → RunAt limits old p → RunAt limits new (record p { now = tell event p.now })
 said old new event (Some fault) is says r = rw (says.0, says.1) r
 said old new event None is (inl found) r = run_of (find_goes old new event found (goes_of r is))
@@ -688,7 +690,7 @@ requests : (c : Client) (method : List ℕ) (headers : List Header) (line : Bool
 requests c method headers line (Ok plan) accepted = (refl, refl, refl, refl, refl)
 requests c method headers line (Err error) accepted = absurd (cc)
 
-begun : {limits : Limits} {old new : Origin} {p : Past} {method target : List ℕ} {headers : List Header}
+begun : {limits : Limits} {old new : OriginConnection} {p : Past} {method target : List ℕ} {headers : List Header}
     {size : BodySize} → Begins old method target headers size new → RunAt limits old p
     → RunAt limits new
     (record p { before = p.before ++ is_over p.now; now = Asked (asks method target headers size) [] })
@@ -710,7 +712,7 @@ begun {limits} {old} {new} {p} {method} {target} {headers} {size} b r =
       at = (s.1 ∙ next.2, s.2, s.3, s.4);
     }))
 
-new_run : {limits : Limits} {ended : Bool} {c : Client} {i o : List ℕ} {f : Option Fault} → ended ≡ false
+new_run : {limits : Limits} {ended : Bool} {c : Client} {i o : List ℕ} {f : Option OriginFault} → ended ≡ false
     → c ≡ new_client limits → i ≡ [] → o ≡ [] → f ≡ None → Run limits ended c i o f no_past
 new_run {limits} is_going is_new no_input no_output is_whole =
     let new : Run limits false (new_client limits) [] [] None no_past = run_of (record {
@@ -720,36 +722,36 @@ new_run {limits} is_going is_new no_input no_output is_whole =
       at = refl;
     }) in rw (is_going, is_new, no_input, no_output, is_whole) new
 
-received : {limits : Limits} {old new : Origin} {p : Past} {bytes : List ℕ} → old.ended ≡ false
+received : {limits : Limits} {old new : OriginConnection} {p : Past} {bytes : List ℕ} → old.ended ≡ false
     → Receives old bytes new → RunAt limits old p → RunAt limits new (record p { received = p.received ++ bytes })
 received {limits} {old} {new} {p} {bytes} going r run =
     rw (r.rest, r.input) (run_grows bytes (λ more may ended. absurd (cc (going, ended))) run)
 
-finished : {limits : Limits} {p : Past} (old new : Origin) → Finishes old new → RunAt limits old p
+finished : {limits : Limits} {p : Past} (old new : OriginConnection) → Finishes old new → RunAt limits old p
     → RunAt limits new p
 finished {limits} {p} old new is run = rw is (rw (append-nil p.received, append-nil old.input.items) at
     (run_grows [] (λ more may ended. may refl) run))
 
-put : {limits : Limits} {p : Past} (old new : Origin) (piece : List ℕ) → Puts old piece new → RunAt limits old p
-    → RunAt limits new (record p { now = change (with_piece piece) p.now })
+put : {limits : Limits} {p : Past} (old new : OriginConnection) (piece : List ℕ) → Puts old piece new
+    → RunAt limits old p → RunAt limits new (record p { now = change (with_piece piece) p.now })
 put {limits} {p} old new piece puts run = rw (puts.2.rest, puts.2.output, puts.2.client) (run_of (put_now
     (λ r. r.pieces ++ piece ∷ []) (λ r. r.trailers) _ _ (takes_data _ _ puts.1)
     (λ r is. put_at (head_text r) r.pieces (encoder_in (plan_of r)) _ r.trailers piece is puts.1)
     p.now (goes_of run puts.0)))
 
-closed : {limits : Limits} {p : Past} (old new : Origin) (trailers : List Header) → Ends old trailers new
+closed : {limits : Limits} {p : Past} (old new : OriginConnection) (trailers : List Header) → Ends old trailers new
     → RunAt limits old p → RunAt limits new (record p { now = change (with_trailers trailers) p.now })
 closed {limits} {p} old new trailers ends run = rw (ends.2.rest, ends.2.output, ends.2.client) (run_of (put_now
     (λ r. r.pieces) (λ r. Some trailers) _ _ (takes_end _ _ ends.1)
     (λ r is. (refl, end_at (head_text r) r.pieces (encoder_in (plan_of r)) _ r.trailers trailers is ends.1))
     p.now (goes_of run ends.0)))
 
-refused : {limits : Limits} {old new : Origin} {p : Past} → PutsNothing old new → RunAt limits old p
+refused : {limits : Limits} {old new : OriginConnection} {p : Past} → PutsNothing old new → RunAt limits old p
     → RunAt limits new p
 refused kept run = rw (kept.rest, kept.output) run
 
-written : {limits : Limits} {old new : Origin} {p : Past} {count : ℕ} → HandsOut old count new → RunAt limits old p
-    → RunAt limits new (record p { sent = p.sent ++ take count old.output.items })
+written : {limits : Limits} {old new : OriginConnection} {p : Past} {count : ℕ} → HandsOut old count new
+    → RunAt limits old p → RunAt limits new (record p { sent = p.sent ++ take count old.output.items })
 written {limits} {old} {new} {p} {count} out run =
     let g = run.goes in
     rw (out.rest, out.output) (record {
@@ -769,7 +771,7 @@ written {limits} {old} {new} {p} {count} out run =
       left = run.left;
     })
 
-runs : {limits : Limits} {m : Origin} {p : Past} → IsReached limits m p → RunAt limits m p
+runs : {limits : Limits} {m : OriginConnection} {p : Past} → IsReached limits m p → RunAt limits m p
 runs (Opened m new) = new_run new.ended new.client new.input new.output new.fault
 runs (Received old new p bytes before going r) = received going r (runs before)
 runs (Finished old new p before is) = finished old new is (runs before)
@@ -780,7 +782,7 @@ runs (Refused old new p before kept) = refused kept (runs before)
 runs (Written old new p count before within out) = written out (runs before)
 runs (Said old new p event before says) = said old new event old.fault refl says (runs before)
 
-pub exchanged : {limits : Limits} {m : Origin} {p : Past} → IsReached limits m p → Exchanged limits m p
+pub exchanged : {limits : Limits} {m : OriginConnection} {p : Past} → IsReached limits m p → Exchanged limits m p
 exchanged reached =
     let r = runs reached in
     record {

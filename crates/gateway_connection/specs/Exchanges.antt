@@ -14,7 +14,7 @@ use Rattle.http1.specs.declared.framing.MethodKind.{MethodKind}
 use Rattle.http1.specs.Message as Message
 use Rattle.http1.specs.declared.encode.Encoder.TheVariants as Encodes
 use Rattle.gateway_relay.specs.Content.{after_pieces, map_of, pieces_text}
-use Rattle.gateway_connection.specs.{Responses.response_of, declared.event.Response.Response}
+use Rattle.gateway_connection.specs.{Responses.response_of, declared.event.OriginResponse.OriginResponse}
 
 -- ---- requests
 
@@ -57,7 +57,7 @@ request_bytes r =
 
 -- a whole response, as a caller gets it
 pub record Told : Type 0 where
-  pub response : Response
+  pub response : OriginResponse
   pub content : List ℕ
   pub trailers : Entries FieldValue
 
@@ -69,7 +69,7 @@ told_of m = record {
 }
 
 -- the stream begins with these interim responses to a request with this method
-abbrev pub ReadsInterim : Limits → MethodKind → List ℕ → List Response → List ℕ → Type 0
+abbrev pub ReadsInterim : Limits → MethodKind → List ℕ → List OriginResponse → List ℕ → Type 0
 ReadsInterim limits method stream [] rest = stream ≡ rest
 ReadsInterim limits method stream (first ∷ later) rest =
     (m : Message.Response) × (after : List ℕ) × ReadsResponseMessage limits method stream m after
@@ -78,7 +78,7 @@ ReadsInterim limits method stream (first ∷ later) rest =
 -- a request, and the responses to it
 pub record Exchange : Type 0 where
   pub request : Request
-  pub interim : List Response
+  pub interim : List OriginResponse
   pub final : Told
 
 -- the stream begins with the responses of the exchange, of which this is the final one

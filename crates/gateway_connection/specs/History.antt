@@ -9,17 +9,18 @@ use Rattle.http1.specs.Message as Message
 use Rattle.gateway_connection.specs.Exchanges.{Exchange, IsFront, ReadsExchange, ReadsInterim, ReadsKept, Request}
 use Rattle.gateway_connection.specs.Exchanges.{request_bytes, told_of}
 use Rattle.gateway_connection.specs.Responses.{response_of}
-use Rattle.gateway_connection.specs.{declared.event.Event.Event, declared.event.Response.Response}
+use Rattle.gateway_connection.specs.declared.event.OriginEvent.{OriginEvent}
+use Rattle.gateway_connection.specs.declared.event.OriginResponse.{OriginResponse}
 use Rattle.gateway_connection.specs.Steps.{Begins, Ends, Finishes, HandsOut, IsNew, Puts, PutsNothing, Receives, Says}
-use Rattle.gateway_connection.specs.declared.origin.Origin.{Origin}
-use Rattle.gateway_connection.specs.declared.event.Event.TheVariants as Is
+use Rattle.gateway_connection.specs.declared.origin.OriginConnection.{OriginConnection}
+use Rattle.gateway_connection.specs.declared.event.OriginEvent.TheVariants as Is
 
 -- what was said of the exchange now: nothing was sent yet; or a request was, and these interim responses came; or the
 -- head of the final response did, and this content; or the exchange is over
 pub data Now : Type 0 where
   Fresh : Now
-  Asked : Request → List Response → Now
-  Hears : Request → List Response → Response → List ℕ → Now
+  Asked : Request → List OriginResponse → Now
+  Hears : Request → List OriginResponse → OriginResponse → List ℕ → Now
   Over : Exchange → Now
 
 pub record Past : Type 0 where
@@ -78,7 +79,7 @@ now_text (Over e) = request_bytes e.request
 -- ---- responses
 
 -- the exchange now, after this was said
-abbrev pub tell : Event → Now → Now
+abbrev pub tell : OriginEvent → Now → Now
 tell (Is.Interim response) (Asked r interim) = Asked r (interim ++ response ∷ [])
 tell (Is.Head response) (Asked r interim) = Hears r interim response []
 tell (Is.Switched response) (Asked r interim) = Over (record {
@@ -97,24 +98,26 @@ tell event now = now
 -- ---- histories
 
 -- a history of calls led to this connection, and this was received, written, put and said in it
-pub data IsReached (limits : Limits) : Origin → Past → Type 0 where
-  Opened : (m : Origin) → IsNew limits m → IsReached limits m no_past
-  Received : (old new : Origin) (p : Past) (bytes : List ℕ) → IsReached limits old p → old.ended ≡ false
+pub data IsReached (limits : Limits) : OriginConnection → Past → Type 0 where
+  Opened : (m : OriginConnection) → IsNew limits m → IsReached limits m no_past
+  Received : (old new : OriginConnection) (p : Past) (bytes : List ℕ) → IsReached limits old p → old.ended ≡ false
       → Receives old bytes new → IsReached limits new (record p { received = p.received ++ bytes })
-  Finished : (old new : Origin) (p : Past) → IsReached limits old p → Finishes old new → IsReached limits new p
-  Begun : (old new : Origin) (p : Past) (method target : List ℕ) (headers : List Header) (size : BodySize)
+  Finished : (old new : OriginConnection) (p : Past) → IsReached limits old p → Finishes old new
+      → IsReached limits new p
+  Begun : (old new : OriginConnection) (p : Past) (method target : List ℕ) (headers : List Header) (size : BodySize)
       → IsReached limits old p → Begins old method target headers size new
       → IsReached limits new
       (record p { before = p.before ++ is_over p.now; now = Asked (asks method target headers size) [] })
-  Put : (old new : Origin) (p : Past) (piece : List ℕ) → IsReached limits old p → Puts old piece new
+  Put : (old new : OriginConnection) (p : Past) (piece : List ℕ) → IsReached limits old p → Puts old piece new
       → IsReached limits new (record p { now = change (with_piece piece) p.now })
-  Closed : (old new : Origin) (p : Past) (trailers : List Header) → IsReached limits old p → Ends old trailers new
-      → IsReached limits new (record p { now = change (with_trailers trailers) p.now })
-  Refused : (old new : Origin) (p : Past) → IsReached limits old p → PutsNothing old new → IsReached limits new p
-  Written : (old new : Origin) (p : Past) (count : ℕ) → IsReached limits old p → count ≤ length old.output.items
-      → HandsOut old count new
+  Closed : (old new : OriginConnection) (p : Past) (trailers : List Header) → IsReached limits old p
+      → Ends old trailers new → IsReached limits new (record p { now = change (with_trailers trailers) p.now })
+  Refused : (old new : OriginConnection) (p : Past) → IsReached limits old p → PutsNothing old new
+      → IsReached limits new p
+  Written : (old new : OriginConnection) (p : Past) (count : ℕ) → IsReached limits old p
+      → count ≤ length old.output.items → HandsOut old count new
       → IsReached limits new (record p { sent = p.sent ++ take count old.output.items })
-  Said : (old new : Origin) (p : Past) (event : Event) → IsReached limits old p → Says old event new
+  Said : (old new : OriginConnection) (p : Past) (event : OriginEvent) → IsReached limits old p → Says old event new
       → IsReached limits new (record p { now = tell event p.now })
 
 -- ---- what is true after every history
@@ -124,8 +127,8 @@ abbrev pub MayFollow : Bool → List ℕ → Type 0
 MayFollow ended more = ended ≡ true → more ≡ []
 
 -- the head of the final response came, and this content of it
-pub record IsHeard (limits : Limits) (ended : Bool) (start : List ℕ) (method : MethodKind) (interim : List Response)
-    (response : Response) (content unread : List ℕ) : Type 0 where
+pub record IsHeard (limits : Limits) (ended : Bool) (start : List ℕ) (method : MethodKind)
+    (interim : List OriginResponse) (response : OriginResponse) (content unread : List ℕ) : Type 0 where
   pub at : List ℕ
   pub came : (more : List ℕ) → MayFollow ended more
       → ReadsInterim limits method (start ++ more) interim (at ++ more)
@@ -158,7 +161,7 @@ IsTold limits ended start (Over e) unread = IsOver limits ended start e unread
 -- the responses of the exchanges before, each matched with its own request, after each of which the connection was
 -- kept; and then with those that were told of the exchange now, as far as they were. Unless the connection failed, what
 -- is unread is the input.
-pub record Exchanged (limits : Limits) (m : Origin) (p : Past) : Type 0 where
+pub record Exchanged (limits : Limits) (m : OriginConnection) (p : Past) : Type 0 where
   pub written : p.sent ++ m.output.items ≡ texts p.before ++ now_text p.now
   pub start : List ℕ
   pub before : (more : List ℕ) → MayFollow m.ended more

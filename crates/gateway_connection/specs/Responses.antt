@@ -5,12 +5,13 @@ use Rattle.httparse.specs.{declared.spans.HeaderSpan.HeaderSpan, declared.spans.
 use Rattle.http.specs.declared.error.Error.{Error}
 use Rattle.http1.specs.{Fields.Header, ServerTrace.headers_at}
 use Rattle.gateway_relay.specs.{Content.map_of, Failures.HasNoMap}
-use Rattle.gateway_connection.specs.{declared.event.Fault.Fault, declared.event.Response.Response}
+use Rattle.gateway_connection.specs.declared.event.OriginFault.{OriginFault}
+use Rattle.gateway_connection.specs.declared.event.OriginResponse.{OriginResponse}
 use Rattle.http.specs.declared.error.Error.TheVariants as Mapped
-use Rattle.gateway_connection.specs.declared.event.Fault.TheVariants as Faults
+use Rattle.gateway_connection.specs.declared.event.OriginFault.TheVariants as Faults
 
 -- the parts of a head of the grammar
-abbrev pub response_of : ResponseHead → Response
+abbrev pub response_of : ResponseHead → OriginResponse
 response_of h = record {
   minor = h.minor;
   status = status_code h;
@@ -19,19 +20,20 @@ response_of h = record {
 }
 
 -- the parts under the spans
-pub record IsUnder (input : List ℕ) (spans : List HeaderSpan) (r : ResponseSpans) (response : Response) : Type 0 where
+pub record IsUnder (input : List ℕ) (spans : List HeaderSpan) (r : ResponseSpans) (response : OriginResponse)
+    : Type 0 where
   pub minor : response.minor ≡ r.version
   pub status : response.status ≡ r.code
   pub reason : response.reason ≡ span_bytes input r.reason
   pub fields : response.fields ≡ map_of (headers_at input spans r.headers)
 
 -- the reason that `http1_typed` tells
-abbrev pub map_fault : Error → Fault
+abbrev pub map_fault : Error → OriginFault
 map_fault Mapped.OutOfMemory = Faults.OutOfMemory
 map_fault error = Faults.InvalidFields
 
 -- the fields have no map, or memory ran out
-abbrev pub IsFieldsFault : List Header → Fault → Type 0
+abbrev pub IsFieldsFault : List Header → OriginFault → Type 0
 IsFieldsFault fields Faults.InvalidFields = HasNoMap fields
 IsFieldsFault fields Faults.OutOfMemory = ⊤
 IsFieldsFault fields fault = ⊥

@@ -15,16 +15,18 @@ use Rattle.http1.specs.declared.error.ReadError.{ReadError}
 use Rattle.http1.specs.{declared.error.WriteError.WriteError, declared.framing.Framing.Framing}
 use Rattle.http1.specs.declared.decode.Decoder.TheVariants.{UntilClose}
 use Rattle.gateway_relay.specs.{Content.map_of, Failures.HasNoMap}
-use Rattle.gateway_connection.specs.{Responses.response_of, declared.event.Event.Event}
-use Rattle.gateway_connection.specs.{declared.event.Fault.Fault, declared.event.Response.Response}
-use Rattle.gateway_connection.specs.{declared.head.TheConstants.MAX_FIELDS, declared.origin.Origin.Origin}
+use Rattle.gateway_connection.specs.{Responses.response_of, declared.event.OriginEvent.OriginEvent}
+use Rattle.gateway_connection.specs.declared.event.OriginFault.{OriginFault}
+use Rattle.gateway_connection.specs.declared.event.OriginResponse.{OriginResponse}
+use Rattle.gateway_connection.specs.declared.head.TheConstants.{MAX_FIELDS}
+use Rattle.gateway_connection.specs.declared.origin.OriginConnection.{OriginConnection}
 use Rattle.http1.specs.declared.conn.Reading.TheVariants as Reads
 use Rattle.http1.specs.declared.conn.Writing.TheVariants as Writes
 use Rattle.http1.specs.declared.error.WriteError.TheVariants as Write
-use Rattle.gateway_connection.specs.declared.event.Event.TheVariants as Is
-use Rattle.gateway_connection.specs.declared.event.Fault.TheVariants as Faults
+use Rattle.gateway_connection.specs.declared.event.OriginEvent.TheVariants as Is
+use Rattle.gateway_connection.specs.declared.event.OriginFault.TheVariants as Faults
 
-pub record IsNew (limits : Limits) (m : Origin) : Type 0 where
+pub record IsNew (limits : Limits) (m : OriginConnection) : Type 0 where
   pub client : m.client ≡ new_client limits
   pub input : m.input.items ≡ []
   pub output : m.output.items ≡ []
@@ -36,7 +38,7 @@ pub record IsNew (limits : Limits) (m : Origin) : Type 0 where
 
 -- No request is outstanding and both sides keep the connection, since `http1` would send another request. All was
 -- written, and no byte came that isn't of a response.
-pub record IsFit (m : Origin) : Type 0 where
+pub record IsFit (m : OriginConnection) : Type 0 where
   pub idle : m.client.writing ≡ Writes.Head
   pub input : m.input.items ≡ []
   pub output : m.output.items ≡ []
@@ -44,13 +46,13 @@ pub record IsFit (m : Origin) : Type 0 where
   pub whole : m.fault ≡ None
 
 -- nothing is put
-pub record PutsNothing (old new : Origin) : Type 0 where
+pub record PutsNothing (old new : OriginConnection) : Type 0 where
   pub rest : new ≡ record old { output = new.output }
   pub output : new.output.items ≡ old.output.items
 
 -- the head that `http1` writes is put
-pub record Begins (old : Origin) (method target : List ℕ) (headers : List Header) (size : BodySize) (new : Origin)
-    : Type 0 where
+pub record Begins (old : OriginConnection) (method target : List ℕ) (headers : List Header) (size : BodySize)
+    (new : OriginConnection) : Type 0 where
   pub fit : IsFit old
   pub accepted : request_refusal old.client method target size headers ≡ None
   pub output : new.output.items ≡ old.output.items ++ planned_request old.client method target size headers
@@ -64,48 +66,49 @@ pub record Begins (old : Origin) (method target : List ℕ) (headers : List Head
     idempotent = new.idempotent;
   }
 
-abbrev pub RefusesRequest : Origin → List ℕ → List ℕ → List Header → BodySize → WriteError → Origin → Type 0
+abbrev pub RefusesRequest : OriginConnection → List ℕ → List ℕ → List Header → BodySize → WriteError → OriginConnection
+    → Type 0
 RefusesRequest old method target headers size error new =
     PutsNothing old new
     × ((error ≡ Write.OutOfMemory) ⊎ ((¬ (IsFit old)) × (error ≡ Write.State))
     ⊎ (request_refusal old.client method target size headers ≡ Some error))
 
 -- these bytes are put, and the client has written them
-pub record PutsText (old : Origin) (text : List ℕ) (next : Client) (new : Origin) : Type 0 where
+pub record PutsText (old : OriginConnection) (text : List ℕ) (next : Client) (new : OriginConnection) : Type 0 where
   pub output : new.output.items ≡ old.output.items ++ text
   pub client : new.client ≡ next
   pub rest : new ≡ record old { client = new.client; output = new.output }
 
 -- a piece of content is put in its frame
-abbrev pub Puts : Origin → List ℕ → Origin → Type 0
+abbrev pub Puts : OriginConnection → List ℕ → OriginConnection → Type 0
 Puts old piece new =
     (old.fault ≡ None) × (data_refusal old.client.writing (length piece) ≡ None)
     × PutsText old (data_text old.client.writing piece)
     (with_writing old.client (after_data old.client.writing (length piece))) new
 
 -- what ends the content is put
-abbrev pub Ends : Origin → List Header → Origin → Type 0
+abbrev pub Ends : OriginConnection → List Header → OriginConnection → Type 0
 Ends old trailers new =
     (old.fault ≡ None) × (finish_refusal old.client.writing trailers ≡ None)
     × PutsText old (finish_text old.client.writing trailers) (after_end old.client) new
 
-abbrev pub RefusesWrite : Option WriteError → Origin → WriteError → Origin → Type 0
+abbrev pub RefusesWrite : Option WriteError → OriginConnection → WriteError → OriginConnection → Type 0
 RefusesWrite refusal old error new =
     PutsNothing old new
     × ((error ≡ Write.OutOfMemory) ⊎ ((old.fault ≢ None) × (error ≡ Write.State)) ⊎ (refusal ≡ Some error))
 
 -- so many bytes of the output were written
-pub record HandsOut (old : Origin) (count : ℕ) (new : Origin) : Type 0 where
+pub record HandsOut (old : OriginConnection) (count : ℕ) (new : OriginConnection) : Type 0 where
   pub output : new.output.items ≡ drop count old.output.items
   pub rest : new ≡ record old { output = new.output; untouched = old.untouched && (count == 0) }
 
 -- ---- input
 
-pub record Receives (old : Origin) (bytes : List ℕ) (new : Origin) : Type 0 where
+pub record Receives (old : OriginConnection) (bytes : List ℕ) (new : OriginConnection) : Type 0 where
   pub input : new.input.items ≡ old.input.items ++ bytes
   pub rest : new ≡ record old { input = new.input }
 
-abbrev pub Finishes : Origin → Origin → Type 0
+abbrev pub Finishes : OriginConnection → OriginConnection → Type 0
 Finishes old new = new ≡ record old { ended = true }
 
 -- ---- responses
@@ -122,7 +125,7 @@ IsOver Reads.Closed = ⊤
 IsOver reading = ⊥
 
 -- the input begins with the head of a response, with these parts
-pub record TakesResponse (old : Origin) (response : Response) (new : Origin) : Type 0 where
+pub record TakesResponse (old : OriginConnection) (response : OriginResponse) (new : OriginConnection) : Type 0 where
   pub due : IsDue old.client
   pub head : ResponseHead
   pub framing : Framing
@@ -133,7 +136,7 @@ pub record TakesResponse (old : Origin) (response : Response) (new : Origin) : T
   pub rest : new ≡ record old { client = new.client; input = new.input; silent = false }
 
 -- content goes on with this piece
-pub record TakesPiece (old : Origin) (piece : List ℕ) (new : Origin) : Type 0 where
+pub record TakesPiece (old : OriginConnection) (piece : List ℕ) (new : OriginConnection) : Type 0 where
   pub decoder : Decoder
   pub next : Decoder
   pub len : ℕ
@@ -145,7 +148,7 @@ pub record TakesPiece (old : Origin) (piece : List ℕ) (new : Origin) : Type 0 
   pub rest : new ≡ record old { client = new.client; input = new.input }
 
 -- content ends, with these trailer fields
-pub record TakesEnd (old : Origin) (trailers : Entries FieldValue) (new : Origin) : Type 0 where
+pub record TakesEnd (old : OriginConnection) (trailers : Entries FieldValue) (new : OriginConnection) : Type 0 where
   pub decoder : Decoder
   pub fields : List Field
   pub reading : old.client.reading ≡ Reads.Body decoder
@@ -167,12 +170,12 @@ WaitsAt (Reads.Body d) c input next rest =
 WaitsAt reading c input next rest = ⊥
 
 -- nothing more can be said of what was received
-pub record Waits (old new : Origin) : Type 0 where
+pub record Waits (old new : OriginConnection) : Type 0 where
   pub rest : new ≡ record old { client = new.client; input = new.input }
   pub found : WaitsAt old.client.reading old.client old.input.items new.client new.input.items
 
 -- only the end of the input ends the content
-pub record EndsContent (old : Origin) (trailers : Entries FieldValue) (new : Origin) : Type 0 where
+pub record EndsContent (old : OriginConnection) (trailers : Entries FieldValue) (new : OriginConnection) : Type 0 where
   pub reading : old.client.reading ≡ Reads.Body UntilClose
   pub writing : new.client.writing ≡ Writes.Closed
   pub over : new.client.reading ≡ Reads.Closed
@@ -181,17 +184,17 @@ pub record EndsContent (old : Origin) (trailers : Entries FieldValue) (new : Ori
   pub rest : new ≡ record old { client = new.client; answered = true }
 
 -- what the end of the input is, where nothing more can be said of what was received before it
-abbrev pub FindsEnd : Origin → Event → Origin → Type 0
+abbrev pub FindsEnd : OriginConnection → OriginEvent → OriginConnection → Type 0
 FindsEnd old (Is.End trailers) new = EndsContent old trailers new
 FindsEnd old Is.Closed new = (new ≡ old) × ((old.client.writing ≡ Writes.Head) ⊎ IsOver old.client.reading)
 FindsEnd old event new = ⊥
 
 -- this follows the end of the input
-abbrev pub AtEnd : Origin → (Origin → Type 0) → Type 0
-AtEnd old P = (old.ended ≡ true) × (between : Origin) × Waits old between × P between
+abbrev pub AtEnd : OriginConnection → (OriginConnection → Type 0) → Type 0
+AtEnd old P = (old.ended ≡ true) × (between : OriginConnection) × Waits old between × P between
 
 -- what comes next
-abbrev pub Finds : Origin → Event → Origin → Type 0
+abbrev pub Finds : OriginConnection → OriginEvent → OriginConnection → Type 0
 Finds old Is.NeedsInput new = (old.ended ≡ false) × Waits old new
 Finds old (Is.Interim response) new = IsTrue (is_interim response.status) × TakesResponse old response new
 Finds old (Is.Head response) new =
@@ -208,11 +211,11 @@ Finds old (Is.Broken fault) new = ⊥
 -- ---- faults
 
 -- the input ended before any byte of a response, on a connection that has answered before
-abbrev pub IsUnanswered : Origin → Type 0
+abbrev pub IsUnanswered : OriginConnection → Type 0
 IsUnanswered m = (m.answered ≡ true) × (m.silent ≡ true) × (m.input.items ≡ [])
 
 -- what the end of the input breaks off
-pub record CutsOff (old : Origin) (fault : Fault) (new : Origin) : Type 0 where
+pub record CutsOff (old : OriginConnection) (fault : OriginFault) (new : OriginConnection) : Type 0 where
   pub outstanding : old.client.writing ≢ Writes.Head
   pub until : old.client.reading ≢ Reads.Body UntilClose
   pub because : (IsUnanswered old × (fault ≡ Faults.Unanswered))
@@ -228,7 +231,7 @@ HasInvalidFields c input =
     × Completes d input body rest × HasNoMap (map name_and_value body.trailers))
 
 -- what is wrong with what was received, whatever bytes follow
-abbrev pub IsFault : Origin → Fault → Type 0
+abbrev pub IsFault : OriginConnection → OriginFault → Type 0
 IsFault m Faults.Unasked =
     (m.client.writing ≡ Writes.Head) × (error : ReadError) × ClientRefuses m.client m.input.items MAX_FIELDS error
 IsFault m (Faults.Malformed error) =
@@ -237,26 +240,26 @@ IsFault m Faults.InvalidFields = HasInvalidFields m.client m.input.items
 IsFault m Faults.OutOfMemory = ⊤
 IsFault m fault = ⊥
 
-pub record Breaks (old : Origin) (fault : Fault) (new : Origin) : Type 0 where
+pub record Breaks (old : OriginConnection) (fault : OriginFault) (new : OriginConnection) : Type 0 where
   pub because : IsFault old fault
   pub rest : new ≡ record old { client = new.client; input = new.input }
 
-abbrev pub Fails : Origin → Fault → Origin → Type 0
+abbrev pub Fails : OriginConnection → OriginFault → OriginConnection → Type 0
 Fails old fault new = Breaks old fault new ⊎ AtEnd old (λ between. CutsOff between fault new)
 
 -- after a fault, nothing else is said
-abbrev pub SaysAt : Option Fault → Origin → Event → Origin → Type 0
+abbrev pub SaysAt : Option OriginFault → OriginConnection → OriginEvent → OriginConnection → Type 0
 SaysAt (Some fault) old event new = (event ≡ Is.Broken fault) × (new ≡ old)
 SaysAt None old event new =
     Finds old event new
-    ⊎ ((fault : Fault) × (between : Origin) × Fails old fault between
+    ⊎ ((fault : OriginFault) × (between : OriginConnection) × Fails old fault between
     × (event ≡ Is.Broken fault) × (new ≡ record between { fault = Some fault }))
 
-abbrev pub Says : Origin → Event → Origin → Type 0
+abbrev pub Says : OriginConnection → OriginEvent → OriginConnection → Type 0
 Says old event new = SaysAt old.fault old event new
 
 -- The request may be sent again on a new connection by itself: this connection, which has answered before, ended before
 -- any byte of a response, and the method is idempotent or nothing of the request was written.
-abbrev pub MayRepeat : Origin → Type 0
+abbrev pub MayRepeat : OriginConnection → Type 0
 MayRepeat m =
     (m.fault ≡ Some Faults.Unanswered) × ((m.idempotent ≡ true) ⊎ (m.untouched ≡ true))

@@ -5,7 +5,7 @@ ghost use Rattle.http1.specs.ServerTrace.{headers_at};
 ghost use Rattle.gateway_relay.specs.Content.{map_of};
 ghost use Rattle.gateway_connection.specs.Responses.{IsFieldsFault, IsUnder};
 
-use crate::event::{Fault, Response};
+use crate::event::{OriginFault, OriginResponse};
 use bytes::{Bytes, BytesMut};
 use http::{HeaderMap, StatusCode};
 use http1_typed::header_map;
@@ -24,7 +24,7 @@ pub(crate) fn take_fields(
     len: usize,
     spans: &[HeaderSpan],
     count: usize,
-) -> Result<HeaderMap, Fault>
+) -> Result<HeaderMap, OriginFault>
     requires { IsSectionWithin input.old.items spans.now len count }
     ensures fields { IfOk result (λ fields. fields ≡ map_of (headers_at input.old.items spans.now count)) }
     ensures rest { OnOk result (input.new.items ≡ drop len input.old.items) }
@@ -41,7 +41,7 @@ pub(crate) fn take_response(
     input: &mut BytesMut,
     head: &ResponseSpans,
     spans: &[HeaderSpan],
-) -> Result<Response, Fault>
+) -> Result<OriginResponse, OriginFault>
     requires within { IsResponseWithin input.old.items spans.now head.now }
     requires status { 100 ≤ head.now.code }
     ensures parts { IfOk result (IsUnder input.old.items spans.now head.now) }
@@ -49,11 +49,11 @@ pub(crate) fn take_response(
     ensures reason { IfErr result (IsFieldsFault (headers_at input.old.items spans.now head.now.headers)) }
 {
     let Ok(status) = StatusCode::from_u16(head.code) else {
-        return Err(Fault::OutOfMemory);
+        return Err(OriginFault::OutOfMemory);
     };
     let reason = Bytes::copy_from_slice(alloc, head.reason.of(input.as_slice()))?;
     let fields = take_fields(alloc, keys, input, head.len, spans, head.headers)?;
-    Ok(Response {
+    Ok(OriginResponse {
         minor: head.version,
         status,
         reason,

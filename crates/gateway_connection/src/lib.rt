@@ -6,6 +6,6 @@ mod event;
 mod head;
 mod origin;
 
-pub use crate::event::{Event, Fault, Response};
+pub use crate::event::{OriginEvent, OriginFault, OriginResponse};
 pub use crate::head::MAX_FIELDS;
-pub use crate::origin::Origin;
+pub use crate::origin::OriginConnection;

@@ -9,7 +9,7 @@ ghost use Rattle.gateway_connection.specs.Steps.{Begins, CutsOff, Ends, Fails, F
 ghost use Rattle.gateway_connection.specs.Steps.{IsFit, IsNew, MayRepeat, Puts, Receives, RefusesRequest};
 ghost use Rattle.gateway_connection.specs.Steps.{RefusesWrite, Says};
 
-use crate::event::{Event, Fault, Response};
+use crate::event::{OriginEvent, OriginFault, OriginResponse};
 use crate::head::{MAX_FIELDS, take_fields, take_piece, take_response};
 use bytes::BytesMut;
 use http::{HeaderMap, Method};
@@ -21,7 +21,7 @@ use std::hash::RandomState;
 /// One HTTP/1.1 connection to an origin server, without input and output. Requests are put in, and
 /// `output` is to be written. Input is received in any cuts, and `next` says what is in it.
 #[derive(Drop)]
-pub struct Origin {
+pub struct OriginConnection {
     pub(crate) alloc: Global,
     pub(crate) keys: RandomState,
     pub(crate) client: Client,
@@ -39,27 +39,27 @@ pub struct Origin {
     pub(crate) untouched: bool,
     /// Whether the method of the request is idempotent.
     pub(crate) idempotent: bool,
-    pub(crate) fault: Option<Fault>,
+    pub(crate) fault: Option<OriginFault>,
 }
 
 // After a head, something is unread unless the connection is no longer HTTP.
-fn head_event(response: Response, unread: BodySize) -> Event
-    ensures switched { unread ≡ BodySize.Empty → result ≡ Event.Switched response }
-    ensures stays { unread ≢ BodySize.Empty → result ≡ Event.Head response }
+fn head_event(response: OriginResponse, unread: BodySize) -> OriginEvent
+    ensures switched { unread ≡ BodySize.Empty → result ≡ OriginEvent.Switched response }
+    ensures stays { unread ≢ BodySize.Empty → result ≡ OriginEvent.Head response }
 {
     match unread {
-        BodySize::Empty => Event::Switched(response),
-        _ => Event::Head(response),
+        BodySize::Empty => OriginEvent::Switched(response),
+        _ => OriginEvent::Head(response),
     }
 }
 
-impl Origin {
+impl OriginConnection {
     /// A new connection. It allocates nothing. The server chooses the names of fields, so their maps
     /// take secret keys.
-    pub fn new(alloc: Global, keys: RandomState, limits: Limits) -> Origin
+    pub fn new(alloc: Global, keys: RandomState, limits: Limits) -> OriginConnection
         ensures { IsNew limits result }
     {
-        Origin {
+        OriginConnection {
             alloc,
             keys,
             client: Client::new(limits),
@@ -187,23 +187,23 @@ impl Origin {
     }
 
     /// Says what comes next in what was received.
-    pub fn next(&mut self) -> Event
+    pub fn next(&mut self) -> OriginEvent
         ensures { Says self.old result self.new }
     {
         if let Some(fault) = self.fault {
-            return Event::Broken(fault);
+            return OriginEvent::Broken(fault);
         }
         match self.find() {
             Ok(event) => event,
             Err(fault) => {
                 self.fault = Some(fault);
-                Event::Broken(fault)
+                OriginEvent::Broken(fault)
             }
         }
     }
 
     // Reads what comes next.
-    fn find(&mut self) -> Result<Event, Fault>
+    fn find(&mut self) -> Result<OriginEvent, OriginFault>
         requires { self.old.fault ≡ None }
         ensures ok { IfOk result (λ event. Finds self.old event self.new) }
         ensures err { IfErr result (λ fault. Fails self.old fault self.new) }
@@ -212,8 +212,8 @@ impl Origin {
         let is_idle = self.client.is_idle();
         let read = match self.client.read(self.input.as_slice(), &mut spans) {
             Ok(read) => read,
-            Err(_) if is_idle => return Err(Fault::Unasked),
-            Err(error) => return Err(Fault::Malformed(error)),
+            Err(_) if is_idle => return Err(OriginFault::Unasked),
+            Err(error) => return Err(OriginFault::Malformed(error)),
         };
         match read.event {
             Found::Head(head) => {
@@ -236,11 +236,11 @@ impl Origin {
                     &spans,
                 )?;
                 self.silent = false;
-                Ok(Event::Interim(response))
+                Ok(OriginEvent::Interim(response))
             }
             Found::Data(piece) => {
                 let bytes = take_piece(&mut self.input, piece)?;
-                Ok(Event::Content(bytes))
+                Ok(OriginEvent::Content(bytes))
             }
             Found::End(count) => {
                 let trailers = take_fields(
@@ -252,37 +252,37 @@ impl Origin {
                     count,
                 )?;
                 self.answered = true;
-                Ok(Event::End(trailers))
+                Ok(OriginEvent::End(trailers))
             }
             Found::NeedMore | Found::Paused => {
                 self.input.advance(read.consumed);
                 if self.ended {
                     return self.find_end();
                 }
-                Ok(Event::NeedsInput)
+                Ok(OriginEvent::NeedsInput)
             }
-            Found::Upgraded | Found::Closed => Ok(Event::Closed),
+            Found::Upgraded | Found::Closed => Ok(OriginEvent::Closed),
         }
     }
 
     // What the end of the input means, where more is needed.
-    fn find_end(&mut self) -> Result<Event, Fault>
+    fn find_end(&mut self) -> Result<OriginEvent, OriginFault>
         ensures ok { IfOk result (λ event. FindsEnd self.old event self.new) }
         ensures err { IfErr result (λ fault. CutsOff self.old fault self.new) }
     {
         if self.client.is_idle() {
-            return Ok(Event::Closed);
+            return Ok(OriginEvent::Closed);
         }
         match self.client.read_eof() {
             Ok(Found::End(_)) => {
                 self.answered = true;
-                Ok(Event::End(HeaderMap::with_hasher(self.alloc, self.keys)))
+                Ok(OriginEvent::End(HeaderMap::with_hasher(self.alloc, self.keys)))
             }
-            Ok(_) => Ok(Event::Closed),
+            Ok(_) => Ok(OriginEvent::Closed),
             Err(_) if self.answered && self.silent && self.input.is_empty() => {
-                Err(Fault::Unanswered)
+                Err(OriginFault::Unanswered)
             }
-            Err(_) => Err(Fault::CutShort),
+            Err(_) => Err(OriginFault::CutShort),
         }
     }
 
@@ -292,7 +292,7 @@ impl Origin {
     pub fn may_repeat(&self) -> bool
         ensures { IsTrue result ↔ MayRepeat self.now }
     {
-        matches!(self.fault, Some(Fault::Unanswered)) && (self.idempotent || self.untouched)
+        matches!(self.fault, Some(OriginFault::Unanswered)) && (self.idempotent || self.untouched)
     }
 
     /// Gives what was received and isn't used, as after `Switched`.

@@ -11,7 +11,7 @@ use crate::connection::NextConnection;
 use crate::fields::{Forwarding, forwarding_fields};
 use crate::replace::replace_fields;
 use gateway_messages::{
-    Expectation, FieldLine, Framing, Gateway, Protocol, Rejection, RequestHead, RequestOutcome,
+    Expectation, FieldLine, Framing, Gateway, Protocol, ReceivedRequest, Rejection, RequestOutcome,
     expectation_of, forward_request,
 };
 use headers::{Encoded, HeaderMap};
@@ -99,7 +99,7 @@ pub fn send_request(
     connection: &NextConnection<'_>,
     forwarding: Forwarding,
     arrival: &Arrival<'_>,
-    request: &RequestHead<'_>,
+    request: &ReceivedRequest<'_>,
 ) -> Result<HopOutcome, AllocError>
     ensures ok { IfOk result
         (IsHopOutcome gateway.now (hop_of server connection.now forwarding arrival.now) (request_of request.now)) }

@@ -7,7 +7,7 @@ use Rattle.gateway_messages.specs.{HopByHop.{HasFairOptions, RejectsOptions}, Ho
 use Rattle.gateway_messages.specs.{HostTests.is_host, Via.is_loop, declared.framing.Framing.Framing}
 use Rattle.gateway_messages.specs.declared.{gateway.Gateway.Gateway, protocol.Protocol.{Protocol, TheVariants.Http10}}
 use Rattle.gateway_messages.specs.declared.{protocol.Protocol.TheVariants.Http11, rejection.Rejection.Rejection}
-use Rattle.gateway_messages.specs.declared.request.{ForwardedRequest.ForwardedRequest, RequestHead.RequestHead}
+use Rattle.gateway_messages.specs.declared.request.{ForwardedRequest.ForwardedRequest, ReceivedRequest.ReceivedRequest}
 use Rattle.gateway_messages.specs.declared.request.RequestOutcome.{RequestOutcome, TheVariants.{Forward, Respond}}
 use Rattle.gateway_messages.specs.declared.request.RequestOutcome.TheVariants.{Reject}
 
@@ -18,7 +18,7 @@ pub record Request : Type 0 where
   pub authority : Option Line
   pub fields : LineMap
 
-abbrev pub request_of : RequestHead → Request
+abbrev pub request_of : ReceivedRequest → Request
 request_of head =
     record {
       protocol = head.protocol;

@@ -7,7 +7,7 @@ use Rattle.gateway_messages.specs.{Framing.States, HopByHop.{HasFairOptions, Rej
 use Rattle.gateway_messages.specs.declared.framing.Framing.{Framing, TheVariants.{Unstated, Length, Chunked}}
 use Rattle.gateway_messages.specs.declared.{gateway.Gateway.Gateway, protocol.Protocol.{Protocol, TheVariants.Http10}}
 use Rattle.gateway_messages.specs.declared.{protocol.Protocol.TheVariants.Http11, rejection.Rejection.Rejection}
-use Rattle.gateway_messages.specs.declared.response.{Content.Content, ForwardedResponse.ForwardedResponse}
+use Rattle.gateway_messages.specs.declared.response.{ContentFraming.ContentFraming, ForwardedResponse.ForwardedResponse}
 use Rattle.gateway_messages.specs.declared.response.{ResponseHead.ResponseHead, ResponseOutcome.ResponseOutcome}
 use Rattle.gateway_messages.specs.declared.response.ResponseOutcome.TheVariants.{Forward, Discard, Reject}
 
@@ -49,16 +49,16 @@ abbrev pub states_nothing : List ℕ → ℕ → Bool
 states_nothing method status = is_tunnel method status || (is_interim status || status == 204)
 
 -- how the content is delimited by the fields
-abbrev pub content_stated : Framing → Content
-content_stated Unstated = Content.UntilClose
-content_stated (Length len) = Content.Length len
-content_stated Chunked = Content.Chunked
+abbrev pub content_stated : Framing → ContentFraming
+content_stated Unstated = ContentFraming.UntilClose
+content_stated (Length len) = ContentFraming.Length len
+content_stated Chunked = ContentFraming.Chunked
 
 -- how the content is delimited by the method of the request, the status and the fields
-abbrev pub content_of : List ℕ → ℕ → Framing → Content
+abbrev pub content_of : List ℕ → ℕ → Framing → ContentFraming
 content_of method status framing =
-    if is_tunnel method status then Content.Tunnel else (if has_no_content method status then Content.Absent else
-    content_stated framing)
+    if is_tunnel method status then ContentFraming.Tunnel else (if has_no_content method status then
+    ContentFraming.Absent else content_stated framing)
 
 -- what the fields state, or nothing where they are ignored
 abbrev pub StatesUnless : Bool → Protocol → LineMap → Framing → Type 0
@@ -71,8 +71,8 @@ RejectsContent protocol method status fields rejection =
     (states_nothing method status ≡ false) × RejectsFraming protocol fields rejection
 
 -- how the content of a response is delimited (RFC 9112, section 6.3)
-pub record DelimitsContent (protocol : Protocol) (method : List ℕ) (status : ℕ) (fields : LineMap) (content : Content)
-    : Type 0 where
+pub record DelimitsContent (protocol : Protocol) (method : List ℕ) (status : ℕ) (fields : LineMap)
+    (content : ContentFraming) : Type 0 where
   pub stated : Framing
   pub states : StatesUnless (states_nothing method status) protocol fields stated
   pub content_is : content ≡ content_of method status stated

@@ -32,9 +32,10 @@ pub use crate::hop_by_hop::is_hop_by_hop;
 pub use crate::host::{has_host, is_port};
 pub use crate::protocol::Protocol;
 pub use crate::rejection::Rejection;
-pub use crate::request::{ForwardedRequest, RequestHead, RequestOutcome, forward_request};
+pub use crate::request::{ForwardedRequest, ReceivedRequest, RequestOutcome, forward_request};
 pub use crate::response::{
-    Content, ForwardedResponse, ResponseHead, ResponseOutcome, forward_response, response_content,
+    ContentFraming, ForwardedResponse, ResponseHead, ResponseOutcome, forward_response,
+    response_content,
 };
 pub use crate::target::{authority_len, scheme_len};
 pub use crate::trailers::{MessageHead, forward_trailers};

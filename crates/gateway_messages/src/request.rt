@@ -19,7 +19,7 @@ use std::alloc::{AllocError, Global};
 
 /// A request as a gateway receives it, without its content.
 #[derive(Clone, Copy)]
-pub struct RequestHead<'a> {
+pub struct ReceivedRequest<'a> {
     /// The version of HTTP.
     pub protocol: Protocol,
     /// The method.
@@ -55,7 +55,7 @@ pub enum RequestOutcome {
 }
 
 // What the fields of an accepted request state about its content.
-fn accepted_request(gateway: &Gateway, request: &RequestHead<'_>) -> Result<Framing, Rejection>
+fn accepted_request(gateway: &Gateway, request: &ReceivedRequest<'_>) -> Result<Framing, Rejection>
     ensures ok { IfOk result (IsAccepted gateway.now (request_of request.now)) }
     ensures err { IfErr result (Rejects gateway.now (request_of request.now)) }
 {
@@ -77,7 +77,7 @@ fn accepted_request(gateway: &Gateway, request: &RequestHead<'_>) -> Result<Fram
 pub fn forward_request(
     alloc: Global,
     gateway: &Gateway,
-    request: &RequestHead<'_>,
+    request: &ReceivedRequest<'_>,
 ) -> Result<RequestOutcome, AllocError>
     ensures ok { IfOk result (IsOutcome gateway.now (request_of request.now)) }
     ensures err { OnErr result (IsForwardable gateway.now (request_of request.now)) }

@@ -35,7 +35,7 @@ pub struct ResponseHead<'a> {
 
 /// How the content of a received response is delimited (RFC 9112, section 6.3).
 #[derive(Clone, Copy, Debug, PartialEq, Eq)]
-pub enum Content {
+pub enum ContentFraming {
     /// The connection is a tunnel from here on: the response is a 2xx to CONNECT.
     Tunnel,
     /// It has no content, whatever its fields state.
@@ -52,7 +52,7 @@ pub enum Content {
 #[derive(Debug, Drop)]
 pub struct ForwardedResponse {
     /// How the content is delimited as received.
-    pub content: Content,
+    pub content: ContentFraming,
     /// What the forwarded fields state. Where it is nothing and there is content, it ends with the
     /// connection, which the gateway has to close.
     pub framing: Framing,
@@ -106,19 +106,19 @@ fn states_nothing(method: &Method, status: StatusCode) -> bool
 }
 
 // How the content is delimited, if this is stated.
-fn content_of(method: &Method, status: StatusCode, framing: Framing) -> Content
+fn content_of(method: &Method, status: StatusCode, framing: Framing) -> ContentFraming
     ensures { result ≡ content_of method.now status framing }
 {
     if is_tunnel(method, status) {
-        return Content::Tunnel;
+        return ContentFraming::Tunnel;
     }
     if has_no_content(method, status) {
-        return Content::Absent;
+        return ContentFraming::Absent;
     }
     match framing {
-        Framing::Unstated => Content::UntilClose,
-        Framing::Length(bytes) => Content::Length(bytes),
-        Framing::Chunked => Content::Chunked,
+        Framing::Unstated => ContentFraming::UntilClose,
+        Framing::Length(bytes) => ContentFraming::Length(bytes),
+        Framing::Chunked => ContentFraming::Chunked,
     }
 }
 
@@ -145,7 +145,7 @@ pub fn response_content(
     method: &Method,
     status: StatusCode,
     fields: &HeaderMap,
-) -> Result<Content, Rejection>
+) -> Result<ContentFraming, Rejection>
     ensures ok { IfOk result (DelimitsContent protocol method.now status (lines_at fields.now)) }
     ensures err { IfErr result (RejectsContent protocol method.now status (lines_at fields.now)) }
 {

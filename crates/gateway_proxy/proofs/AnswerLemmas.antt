@@ -18,9 +18,10 @@ use Rattle.gateway_messages.specs.declared.response.ForwardedResponse.{Forwarded
 use Rattle.gateway_messages.specs.declared.response.ResponseOutcome.{ResponseOutcome}
 use Rattle.gateway_messages.specs.declared.response.ResponseOutcome.TheVariants.{Forward}
 use Rattle.gateway_relay.{specs.Failures.FailsToWrite, specs.Heads.ReadsResponseHead}
-use Rattle.gateway_relay.specs.declared.failure.Failure.{Failure}
-use Rattle.gateway_relay.specs.declared.failure.Failure.TheVariants as Failed
-use Rattle.gateway_relay.{specs.declared.request.Request.Request, specs.declared.response.Response.Response}
+use Rattle.gateway_relay.specs.declared.failure.RelayFailure.{RelayFailure}
+use Rattle.gateway_relay.specs.declared.failure.RelayFailure.TheVariants as Failed
+use Rattle.gateway_relay.specs.declared.request.Request.{Request}
+use Rattle.gateway_relay.specs.declared.response.ReceivedResponse.{ReceivedResponse}
 use Rattle.gateway_proxy.{specs.Decisions.protocol_of, specs.Exchanges.{IsFinalUnsent, IsHeadUnsent, ReadsFinal}}
 use Rattle.gateway_proxy.{specs.Faults.{IsUnsent, IsUnusable}, specs.Passing.response_size, specs.Responses.received}
 use Rattle.gateway_proxy.{specs.Responses.written_fields, specs.declared.answer.Final.Final}
@@ -51,7 +52,7 @@ reads_content c h framing same final =
     else reading_body c h.minor (known_of h.fields) framing)) same
     ∙ ap (λ (b : Bool). if b then c else reading_body c h.minor (known_of h.fields) framing) final
 
-module _ {c new : Client} {before after : List ℕ} {left left_after : Option (List ℕ)} {response : Response}
+module _ {c new : Client} {before after : List ℕ} {left left_after : Option (List ℕ)} {response : ReceivedResponse}
     (r : ReadsResponseHead c new before after left left_after response) (connect : is_connect c.method ≡ false)
     (same : (response.status == 101) ≡ false) where
   stays : switches c (status_code r.head) ≡ false
@@ -78,7 +79,7 @@ as_client P now client same reading writing connect known =
 -- ---- what is forwarded
 
 -- a response of these versions, as `gateway_messages` sees it
-abbrev seen : Request → Response → Protocol → Protocol → Answers.Response
+abbrev seen : Request → ReceivedResponse → Protocol → Protocol → Answers.Response
 seen request response protocol client =
     record {
       protocol = protocol;
@@ -88,7 +89,7 @@ seen request response protocol client =
       client = client;
     }
 
-pub outcome_as : (gateway : Gateway) (date : ℕ) (request : Request) (response : Response) (p q : Protocol)
+pub outcome_as : (gateway : Gateway) (date : ℕ) (request : Request) (response : ReceivedResponse) (p q : Protocol)
     (outcome : ResponseOutcome) → p ≡ protocol_of response.minor → q ≡ protocol_of request.minor
     → IsResponseOutcome gateway date (record {
       protocol = p;
@@ -105,7 +106,7 @@ outcome_as gateway date request response p q outcome first second found =
     (subst (λ (x : Protocol). IsResponseOutcome gateway date (seen request response x q) outcome) first found)
 
 -- the same of a response that is forwarded
-pub forwarded_as : (gateway : Gateway) (date : ℕ) (request : Request) (response : Response) (p q : Protocol)
+pub forwarded_as : (gateway : Gateway) (date : ℕ) (request : Request) (response : ReceivedResponse) (p q : Protocol)
     (outcome : ResponseOutcome) (sent : ForwardedResponse) → p ≡ protocol_of response.minor
     → q ≡ protocol_of request.minor → IsResponseOutcome gateway date (seen request response p q) outcome
     → outcome ≡ Forward sent → IsForwardedResponse gateway date (received request response) sent
@@ -116,8 +117,8 @@ forwarded_as gateway date request response p q outcome sent first second found i
 -- ---- responses of which no byte is sent
 
 -- an interim response
-pub interim_unsent : (proxy : Proxy) (request : Request) (server : Server) (response : Response) (date : ℕ)
-    (sent : ForwardedResponse) (text : List ℕ) (held held_after : Option (List ℕ)) (failure : Failure)
+pub interim_unsent : (proxy : Proxy) (request : Request) (server : Server) (response : ReceivedResponse) (date : ℕ)
+    (sent : ForwardedResponse) (text : List ℕ) (held held_after : Option (List ℕ)) (failure : RelayFailure)
     → IsForwardedResponse proxy.gateway date (received request response) sent → nat_lt response.status 200 ≡ true
     → FailsToWrite (informational_refusal server response.status response.reason (fields_of sent.fields.items)) text
     held held_after failure
@@ -161,8 +162,8 @@ final_unusable proxy request client client_after server before after left left_a
           reads.forwards reads.is_final unsent,
     )
   where
-    head_unsent : (proxy : Proxy) (request : Request) (server : Server) (final : Final) (failure : Failure) (date : ℕ)
-        → IsForwardedResponse proxy.gateway date (received request final.response) final.sent
+    head_unsent : (proxy : Proxy) (request : Request) (server : Server) (final : Final) (failure : RelayFailure)
+        (date : ℕ) → IsForwardedResponse proxy.gateway date (received request final.response) final.sent
         → nat_lt final.response.status 200 ≡ false → IsHeadUnsent server final failure
         → IsUnsent proxy request server final.response failure
     head_unsent proxy request server final (Failed.Unsendable e) date forwards is_final unsent = (
@@ -182,7 +183,7 @@ final_unusable proxy request client client_after server before after left left_a
 
 -- the head of a final response isn't sent
 pub head_fails : (server : Server) (final : Final) (text : List ℕ) (held held_after : Option (List ℕ))
-    (failure : Failure)
+    (failure : RelayFailure)
     → FailsToWrite (response_refusal server final.response.status final.response.reason
     (response_size final.sent.content) (written_fields final.response final.sent)) text held held_after failure
     → failure ≢ Failed.Writer → IsHeadUnsent server final failure × (held_after ≡ held)

@@ -14,8 +14,8 @@ use Rattle.http1.specs.declared.framing.MethodKind.TheVariants as Method
 use Rattle.http1.specs.declared.server.Server.{Server}
 use Rattle.headers.specs.LineMap.{lines_at}
 use Rattle.gateway_relay.{specs.Content.{Kept, content_read}, specs.Failures.{Copies, FailsToWrite}}
-use Rattle.gateway_relay.specs.declared.failure.Failure.{Failure}
-use Rattle.gateway_relay.specs.declared.failure.Failure.TheVariants as Failed
+use Rattle.gateway_relay.specs.declared.failure.RelayFailure.{RelayFailure}
+use Rattle.gateway_relay.specs.declared.failure.RelayFailure.TheVariants as Failed
 use Rattle.gateway_relay.specs.declared.request.Request.{Request}
 use Rattle.gateway_proxy.specs.Cuts.{CutsFinal, CutsResponse, IsCut, broken, in_answer, in_final, responded}
 use Rattle.gateway_proxy.{specs.Decisions.IsDecision, specs.Exchanges.{Accepted, BeginsAnswer, BreaksOff, EndsInterims}}
@@ -68,7 +68,7 @@ module _ (proxy : Proxy) {final : Final} {server server_begun : Server} {d : Dec
       )
 
   -- or it didn't
-  pub cuts_content : (failure : Failure)
+  pub cuts_content : (failure : RelayFailure)
       → FailsToPass true proxy.gateway (lines_at final.response.fields) final.sent.framing d
       (encoder_for begins.plan.framing) before after left left_after held_head held_after failure
       → CutsFinal proxy server final d before after left left_after held held_after failure
@@ -110,7 +110,7 @@ module _ {proxy : Proxy} {request : Request} {client client_read : Client} {serv
         finds.rest rest final fault finds.finds because)));
   }
 
-  pub responds : (r : Result Turn Failure)
+  pub responds : (r : Result Turn RelayFailure)
       → IfOk r (IsDelivered proxy server_told final (decoder_for client.limits finds.finds.reads.framing) unread after
       rest left_after told held_after)
       → IfOk r (IsResponded proxy request client server before after left left_after held held_after)
@@ -122,7 +122,7 @@ module _ {proxy : Proxy} {request : Request} {client client_read : Client} {serv
   responds (Ok turn) d = absurd d
   responds (Err failure) d = tt
 
-  pub cuts_final : (r : Result Turn Failure)
+  pub cuts_final : (r : Result Turn RelayFailure)
       → IfErr r (CutsFinal proxy server_told final (decoder_for client.limits finds.finds.reads.framing) unread after
       rest left_after told held_after)
       → IfErr r (CutsResponse proxy request client server before left left_after held held_after)
@@ -132,10 +132,10 @@ module _ {proxy : Proxy} {request : Request} {client client_read : Client} {serv
 
 -- no byte of a final response was sent, and the gateway answers itself
 module _ (proxy : Proxy) (server : Server) (final : Final) (d : Decoder) (before : List ℕ)
-    (left held held_then held_after : Option (List ℕ)) (text : List ℕ) (failure : Failure)
+    (left held held_then held_after : Option (List ℕ)) (text : List ℕ) (failure : RelayFailure)
     (fails : FailsToWrite (Serving.response_refusal server final.response.status final.response.reason
     (response_size final.sent.content) (written_fields final.response final.sent)) text held held_then failure)
-    (other : failure ≢ Failed.Writer) (r : Result Turn Failure) where
+    (other : failure ≢ Failed.Writer) (r : Result Turn RelayFailure) where
   unsent_head : IsHeadUnsent server final failure × (held_then ≡ held)
   unsent_head = head_fails server final text held held_then failure fails other
 
@@ -143,7 +143,7 @@ module _ (proxy : Proxy) (server : Server) (final : Final) (d : Decoder) (before
       → IfOk r (IsDelivered proxy server final d before before left left held held_after)
   answers_unsent = by_answer r
     where
-      by_answer : (r : Result Turn Failure) → IfOk r (BreaksOff (Faults.Unsent failure) held_then held_after)
+      by_answer : (r : Result Turn RelayFailure) → IfOk r (BreaksOff (Faults.Unsent failure) held_then held_after)
           → IfOk r (IsDelivered proxy server final d before before left left held held_after)
       by_answer (Ok turn) b =
           subst (IsDelivered proxy server final d before before left left held held_after) (sym b.0) (
@@ -159,7 +159,7 @@ module _ (proxy : Proxy) (server : Server) (final : Final) (d : Decoder) (before
       → IfErr r (CutsFinal proxy server final d before before left left held held_after)
   cuts_unsent = by_answer r
     where
-      by_answer : (r : Result Turn Failure)
+      by_answer : (r : Result Turn RelayFailure)
           → IfErr r (FailsToWrite None (own_text (fault_status (Faults.Unsent failure))) held_then held_after)
           → IfErr r (CutsFinal proxy server final d before before left left held held_after)
       by_answer (Ok turn) b = tt
@@ -175,7 +175,8 @@ module _ (proxy : Proxy) (server : Server) (final : Final) (d : Decoder) (before
 -- an answer of the gateway's own in the place of the response is cut
 pub cuts_own : (proxy : Proxy) (request : Request) (client : Client) (before after : List ℕ)
     (left left_after held told held_after : Option (List ℕ)) (server : Server) (fault : Fault)
-    → FindsNone proxy request client before after left left_after held told server fault → (r : Result Turn Failure)
+    → FindsNone proxy request client before after left left_after held told server fault
+    → (r : Result Turn RelayFailure)
     → IfErr r (FailsToWrite None (own_text (fault_status fault)) told held_after)
     → IfErr r (CutsResponse proxy request client server before left left_after held held_after)
 cuts_own proxy request client before after left left_after held told held_after server fault finds (Ok turn) b = tt
@@ -205,7 +206,7 @@ module _ (proxy : Proxy) (answered : Bool) (before after : Wires) (told : Option
     (passed : PassesOn proxy before after told) (unread : List ℕ) (rest : Option (List ℕ))
     (begins : BeginsAnswer answered before.answered unread before.answered_left rest) where
   -- a fault of the request isn't one of the response
-  no_request : (count : ℕ) (failure : Failure) (now : Server) (read read_after : List ℕ)
+  no_request : (count : ℕ) (failure : RelayFailure) (now : Server) (read read_after : List ℕ)
       (rest_then rest_after : Option (List ℕ))
       → EndsInterims proxy passed.accepted.request passed.client now count read read_after rest_then rest_after
       (Faults.Request failure) → ⊥
@@ -226,7 +227,7 @@ module _ (proxy : Proxy) (answered : Bool) (before after : Wires) (told : Option
     responded = became;
   }
 
-  by_turn : (r : Result Turn Failure)
+  by_turn : (r : Result Turn RelayFailure)
       → IfOk r (IsResponded proxy passed.accepted.request passed.client passed.server unread after.answered rest
       after.answered_left told after.told)
       → IfOk r (IsTurn proxy answered before after)
@@ -238,7 +239,7 @@ module _ (proxy : Proxy) (answered : Bool) (before after : Wires) (told : Option
   by_turn (Ok turn) d = absurd d
   by_turn (Err failure) d = tt
 
-  cut_by : (r : Result Turn Failure)
+  cut_by : (r : Result Turn RelayFailure)
       → IfErr r (CutsResponse proxy passed.accepted.request passed.client passed.server unread rest
       after.answered_left told after.told)
       → IfErr r (IsCut proxy answered before after)
@@ -257,29 +258,29 @@ module _ (proxy : Proxy) (answered : Bool) (before after : Wires) (told : Option
       (ap (λ (m : MethodKind). is_connect m) passed.passes.same_method
       ∙ no_connect proxy passed.accepted.request passed.accepted.outgoing passed.accepted.decides)
 
-  exchanges : (r : Result Turn Failure)
+  exchanges : (r : Result Turn RelayFailure)
       → IfAwaited (IfOk r (IsResponded proxy passed.accepted.request passed.client passed.server unread
       after.answered rest after.answered_left told after.told))
       → IfOk r (IsTurn proxy answered before after)
   exchanges r d = by_turn r (awaited _ d)
 
-  cuts_response : (r : Result Turn Failure)
+  cuts_response : (r : Result Turn RelayFailure)
       → IfAwaited (IfErr r (CutsResponse proxy passed.accepted.request passed.client passed.server unread rest
       after.answered_left told after.told))
       → IfErr r (IsCut proxy answered before after)
   cuts_response r d = cut_by r (awaited _ d)
 
 -- a request that passed in part
-module _ (proxy : Proxy) (answered : Bool) (before after : Wires) (told : Option (List ℕ)) (failure : Failure)
+module _ (proxy : Proxy) (answered : Bool) (before after : Wires) (told : Option (List ℕ)) (failure : RelayFailure)
     (passed : PassesInPart proxy before after told failure) where
-  pub breaks : (answered ≡ true → failure ≢ Failed.Writer) → (r : Result Turn Failure)
+  pub breaks : (answered ≡ true → failure ≢ Failed.Writer) → (r : Result Turn RelayFailure)
       → IfOk r (BreaksOff (Faults.Request failure) told after.told) → IfOk r (IsTurn proxy answered before after)
   breaks other (Ok turn) b =
       subst (IsTurn proxy answered before after) (sym b.0)
       (record { told = told; passed = passed; answers = b.1 }, other)
   breaks other (Err error) b = tt
 
-  pub cuts_answer : (r : Result Turn Failure)
+  pub cuts_answer : (r : Result Turn RelayFailure)
       → IfErr r (FailsToWrite None (own_text (request_status failure)) told after.told)
       → IfErr r (IsCut proxy answered before after)
   cuts_answer (Ok turn) b = tt
@@ -389,7 +390,7 @@ module _ {proxy : Proxy} {before : Wires} (head : Accepted proxy before) (server
       after.sent))
       (same : IfRead (IsSameRequest server_continued server)) (unread : List ℕ) (rest_read : Option (List ℕ))
       (begins : BeginsAnswer answered before.answered unread before.answered_left rest_read)
-      (r : Result Turn Failure) where
+      (r : Result Turn RelayFailure) where
     abbrev IfAsked : Type 0 → Type 0
     IfAsked Fact =
         client_after.reading ≡ Reads.Head → awaits_head client_after.writing ≡ false
@@ -411,7 +412,7 @@ module _ {proxy : Proxy} {before : Wires} (head : Accepted proxy before) (server
         cuts_response proxy answered before after told (passed_on client_after server passes same) unread rest_read
         begins r became
 
-  pub passed_in_part : (unread_then : List ℕ) (rest_then : Option (List ℕ)) (failure : Failure)
+  pub passed_in_part : (unread_then : List ℕ) (rest_then : Option (List ℕ)) (failure : RelayFailure)
       → IfRead (FailsToPassRequest proxy.gateway client head.request head.outgoing
       (decoder_for proxy.limits head.reads.framing) head.unread unread_then head.rest rest_then before.sent after.sent
       failure)
@@ -433,7 +434,7 @@ module _ {proxy : Proxy} {before : Wires} (head : Accepted proxy before) (server
   -- the origin server ended the connection first
   module _ (answered : Bool) (is_answered : answered ≡ true) (repeats : Bool)
       (is : repeats ≡ is_repeatable head.request head.outgoing head.server) (is_told : after.told ≡ told)
-      (failure : Failure) (asked : List ℕ) (turn : Turn) (begun copy : Option Filled)
+      (failure : RelayFailure) (asked : List ℕ) (turn : Turn) (begun copy : Option Filled)
       (begins : IfSome begun (λ first. first.items ≡ head.unread))
       (copies : Copies begun copy head.rest after.asked_left)
       (became : GivesUp repeats head.request.text copy failure after.asked asked turn) where

@@ -24,9 +24,10 @@ use Rattle.gateway_messages.{specs.declared.framing.Framing.Framing, specs.decla
 use Rattle.gateway_messages.specs.declared.response.ForwardedResponse.{ForwardedResponse}
 use Rattle.gateway_relay.{specs.Content.{Asked, Kept, after_pieces}, specs.Failures.{FailsToWrite, Writes}}
 use Rattle.gateway_relay.{specs.Failures.write_failure, specs.Relay.{Relays, Sends}}
-use Rattle.gateway_relay.specs.declared.failure.Failure.{Failure}
-use Rattle.gateway_relay.specs.declared.failure.Failure.TheVariants as Failed
-use Rattle.gateway_relay.{specs.declared.request.Request.Request, specs.declared.response.Response.Response}
+use Rattle.gateway_relay.specs.declared.failure.RelayFailure.{RelayFailure}
+use Rattle.gateway_relay.specs.declared.failure.RelayFailure.TheVariants as Failed
+use Rattle.gateway_relay.specs.declared.request.Request.{Request}
+use Rattle.gateway_relay.specs.declared.response.ReceivedResponse.{ReceivedResponse}
 use Rattle.gateway_relay.proofs.RelayLemmas.{writes_refused, writes_sent}
 use Rattle.gateway_proxy.{specs.Own.{close_field, own_fields, own_text}, specs.Passing.{BeginsRequest, BeginsResponse}}
 use Rattle.gateway_proxy.specs.Passing.{FailsToPass, FailsToPassRequest, IsSameRequest, Passes, PassesContent}
@@ -54,7 +55,8 @@ sent_whole old new text sent unsent is told empty =
     subst (λ (t : List ℕ). Appends old new t) (sym (is ∙ ap (λ (t : List ℕ). sent ++ t) empty ∙ append-nil sent)) told
 
 -- the head of a response that `http1` accepted
-module _ (server new : Server) (response : Response) (sent : ForwardedResponse) (old held : Option (List ℕ)) where
+module _ (server new : Server) (response : ReceivedResponse) (sent : ForwardedResponse)
+    (old held : Option (List ℕ)) where
   planned_as : (plan : Result Plan WriteError)
       → Serving.response_plan server response.status (response_size sent.content) (written_fields response sent) ≡ plan
       → plan_refusal plan (is_status_line server.request.minor response.status response.reason)
@@ -66,7 +68,7 @@ module _ (server new : Server) (response : Response) (sent : ForwardedResponse) 
       record { plan = plan; planned = is; valid = valid; head = text; next = next }
   planned_as (Err e) is valid text next = absurd (cc)
 
-  pub begun_response : (r : Result (Unit {0}) Failure)
+  pub begun_response : (r : Result (Unit {0}) RelayFailure)
       → Writes (Serving.response_refusal server response.status response.reason (response_size sent.content)
       (written_fields response sent))
       (Serving.planned_response server response.status response.reason (response_size sent.content)
@@ -93,7 +95,7 @@ module _ (client new : Client) (request : Request) (outgoing : Outgoing) (old he
       record { plan = plan; planned = is; valid = valid; head = text; next = next }
   request_as (Err e) is valid text next = absurd (cc)
 
-  pub begun_request : (r : Result (Unit {0}) Failure)
+  pub begun_request : (r : Result (Unit {0}) RelayFailure)
       → Writes (Asking.request_refusal client request.method outgoing.target (request_size outgoing.framing)
       (fields_of outgoing.fields.items))
       (Asking.planned_request client request.method outgoing.target (request_size outgoing.framing)
@@ -145,8 +147,8 @@ module _ (status number : ℕ) (reason : List ℕ) (close : Header) where
       ∙ ap (λ (h : Header). response_text 1 status (reason_of status)
       (h ∷ (codes "content-length", codes "0") ∷ [])) own.2
 
-  pub own_refused : {T : Type 0} (held : Option (List ℕ)) (spare len : ℕ) (e : WriteError) (r : Result T Failure)
-      (y : Failure) → IsOwn
+  pub own_refused : {T : Type 0} (held : Option (List ℕ)) (spare len : ℕ) (e : WriteError) (r : Result T RelayFailure)
+      (y : RelayFailure) → IsOwn
       → GivesOrRefuses {T = Unit {0}} (head_refusal (is_status_line 1 number reason)
       (close ∷ (codes "content-length", codes "0") ∷ [])) spare len (Err e) → r ≡ Err y → y ≡ write_failure e
       → Writes None (own_text status) held held r
@@ -156,7 +158,7 @@ module _ (status number : ℕ) (reason : List ℕ) (close : Header) where
       is same
 
   pub own_sent : {U : Type 0} (old new : Option (List ℕ)) (seen : List ℕ) (spare len : ℕ) (value : U)
-      (r : Result (Unit {0}) Failure) → IsOwn
+      (r : Result (Unit {0}) RelayFailure) → IsOwn
       → GivesOrRefuses (head_refusal (is_status_line 1 number reason)
       (close ∷ (codes "content-length", codes "0") ∷ [])) spare len (Ok value)
       → seen ≡ response_text 1 number reason (close ∷ (codes "content-length", codes "0") ∷ [])
@@ -185,7 +187,7 @@ module _ {source : Bool} {gateway : Gateway} {fields : LineMap} {framing : Frami
     (content : PassesContent source gateway fields framing d e before after left left_after held held_content written
     sent) (held_after : Option (List ℕ)) (trailers : List Header) (same : trailers ≡ sent) where
   -- all of it is written
-  pub content_passes : (r : Result (Unit {0}) Failure)
+  pub content_passes : (r : Result (Unit {0}) RelayFailure)
       → Writes (end_refusal (after_pieces content.relays.pieces e) trailers)
       (end_text (after_pieces content.relays.pieces e) trailers) held_content held_after r
       → OnOk r (Passes source gateway fields framing d e before after left left_after held held_after)
@@ -203,7 +205,7 @@ module _ {source : Bool} {gateway : Gateway} {fields : LineMap} {framing : Frami
   content_passes (Err failure) writes = tt
 
   -- or a first part of it
-  pub content_fails : (r : Result (Unit {0}) Failure)
+  pub content_fails : (r : Result (Unit {0}) RelayFailure)
       → Writes (end_refusal (after_pieces content.relays.pieces e) trailers)
       (end_text (after_pieces content.relays.pieces e) trailers) held_content held_after r
       → IfErr r (FailsToPass source gateway fields framing d e before after left left_after held held_after)
@@ -219,7 +221,7 @@ module _ {source : Bool} {gateway : Gateway} {fields : LineMap} {framing : Frami
 module _ {client client_begun : Client} {request : Request} {outgoing : Outgoing} {held held_head : Option (List ℕ)}
     (begins : BeginsRequest client client_begun request outgoing held held_head) (gateway : Gateway) (d : Decoder)
     (before after : List ℕ) (left left_after held_after : Option (List ℕ)) where
-  pub request_passes : (client_after : Client) (r : Result (Unit {0}) Failure)
+  pub request_passes : (client_after : Client) (r : Result (Unit {0}) RelayFailure)
       → OnOk r (Passes false gateway (lines_at request.fields) outgoing.framing d (encoder_for begins.plan.framing)
       before after left left_after held_head held_after)
       → OnOk r ((last : Client) × (kept_by last ≡ kept_by client_begun) × (client_after ≡ Asking.after_end last))
@@ -238,7 +240,7 @@ module _ {client client_begun : Client} {request : Request} {outgoing : Outgoing
   }
   request_passes client_after (Err failure) content ended = tt
 
-  pub request_fails : (r : Result (Unit {0}) Failure)
+  pub request_fails : (r : Result (Unit {0}) RelayFailure)
       → IfErr r (FailsToPass false gateway (lines_at request.fields) outgoing.framing d
       (encoder_for begins.plan.framing) before after left left_after held_head held_after)
       → IfErr r (FailsToPassRequest gateway client request outgoing d before after left left_after held held_after)
@@ -246,7 +248,7 @@ module _ {client client_begun : Client} {request : Request} {outgoing : Outgoing
   request_fails (Err failure) fails = past_request_head client_begun held_head begins fails
 
 -- the same request still
-pub request_same : (server server_after : Server) (r : Result (Unit {0}) Failure)
+pub request_same : (server server_after : Server) (r : Result (Unit {0}) RelayFailure)
     → OnOk r (asked_by server_after ≡ asked_by server) → OnOk r (expects_continue server_after ≡ false)
     → OnOk r (IsSameRequest server server_after)
 request_same server server_after (Ok value) asked waits = record {

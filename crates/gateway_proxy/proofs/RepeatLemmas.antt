@@ -6,7 +6,7 @@ use Rattle.bytes.specs.Filled.{Filled}
 use Rattle.httparse.specs.Grammar.{print_request}
 use Rattle.http.specs.Method.{idempotent_methods, is_among}
 use Rattle.http1.{specs.Conn.unread_size, specs.declared.server.Server.Server}
-use Rattle.gateway_relay.{specs.Failures.{Copies, Receives as Takes}, specs.declared.failure.Failure.Failure}
+use Rattle.gateway_relay.{specs.Failures.{Copies, Receives as Takes}, specs.declared.failure.RelayFailure.RelayFailure}
 use Rattle.gateway_proxy.specs.Exchanges.{Accepted, EndsFirst, GivesUp, IsContinued, IsTurn, Wires, is_short}
 use Rattle.gateway_proxy.specs.Exchanges.{may_repeat}
 use Rattle.gateway_proxy.{specs.declared.exchange.Turn.Turn, specs.declared.proxy.Proxy.Proxy}
@@ -48,7 +48,7 @@ module _ {proxy : Proxy} {before : Wires} (head : Accepted proxy before) where
       }
 
   -- what becomes of it, with a copy that was begun behind its head
-  module _ (answered : Bool) (after : Wires) (unread : List ℕ) (repeats : Bool) (failure : Failure)
+  module _ (answered : Bool) (after : Wires) (unread : List ℕ) (repeats : Bool) (failure : RelayFailure)
       (is_answered : answered ≡ true) (ends : EndsFirst proxy before (record after { asked = unread }) repeats failure)
       (begun copy : Option Filled) (begins : IfSome begun (λ first. first.items ≡ head.unread))
       (copies : Copies begun copy head.rest after.asked_left) (told : repeats ≡ true → after.told ≡ before.told) where

@@ -13,9 +13,10 @@ use Rattle.gateway_messages.{specs.FieldLines.fields_of, specs.Responses.{IsDisc
 use Rattle.gateway_messages.specs.declared.response.ForwardedResponse.{ForwardedResponse}
 use Rattle.gateway_relay.specs.Failures.{IsReceiveFailure, Receives as Takes}
 use Rattle.gateway_relay.specs.Heads.{FailsToReadRequest, IsClosedBefore, ReadsRequestHead, ReadsResponseHead}
-use Rattle.gateway_relay.specs.declared.failure.Failure.{Failure}
-use Rattle.gateway_relay.specs.declared.failure.Failure.TheVariants as Failed
-use Rattle.gateway_relay.{specs.declared.request.Request.Request, specs.declared.response.Response.Response}
+use Rattle.gateway_relay.specs.declared.failure.RelayFailure.{RelayFailure}
+use Rattle.gateway_relay.specs.declared.failure.RelayFailure.TheVariants as Failed
+use Rattle.gateway_relay.specs.declared.request.Request.{Request}
+use Rattle.gateway_relay.specs.declared.response.ReceivedResponse.{ReceivedResponse}
 use Rattle.gateway_proxy.{specs.Decisions.IsDecision, specs.Faults.{IsUnusable, fault_status, request_status}}
 use Rattle.gateway_proxy.{specs.Own.own_text, specs.Passing.{FailsToPassRequest, IsSameRequest, PassesRequest}}
 use Rattle.gateway_proxy.{specs.Passing.{PassesResponse, response_size}, specs.Responses.{received, written_fields}}
@@ -37,7 +38,7 @@ use Rattle.gateway_proxy.{specs.declared.fault.Fault.TheVariants.Endless, specs.
 -- An interim response of the origin server is read, and dropped or forwarded as `gateway_messages` has it.
 pub record PassesInterim (proxy : Proxy) (request : Request) (client : Client) (before after : List ℕ)
     (left left_after held held_after : Option (List ℕ)) (server server_after : Server) : Type 0 where
-  pub response : Response
+  pub response : ReceivedResponse
   pub reads : ReadsResponseHead client client before after left left_after response
   pub passes : (IsDiscarded proxy.gateway (received request response) × (held_after ≡ held) × (server_after ≡ server))
       ⊎ ((date : ℕ) × (sent : ForwardedResponse)
@@ -133,7 +134,7 @@ pub record PassesAnswer (proxy : Proxy) (request : Request) (client : Client) (s
 abbrev pub IsReceived : Proxy → List ℕ → List ℕ → Option (List ℕ) → Option (List ℕ) → Server → Received → Type 0
 IsReceived proxy before after left left_after server Receives.Closed = IsClosedBefore before left left_after
 IsReceived proxy before after left left_after server (Receives.Unread status) =
-    (failure : Failure) × FailsToReadRequest proxy.limits before after left left_after failure
+    (failure : RelayFailure) × FailsToReadRequest proxy.limits before after left left_after failure
     × (status ≡ request_status failure)
 IsReceived proxy before after left left_after server (Receives.Refused status) =
     (request : Request) × ReadsRequestHead proxy.limits before after left left_after server request
@@ -156,7 +157,7 @@ BreaksOff fault held held_after turn =
     (turn ≡ Turns.Broken fault) × Appends held held_after (own_text (fault_status fault))
 
 -- why the head of a final response isn't sent
-abbrev pub IsHeadUnsent : Server → Final → Failure → Type 0
+abbrev pub IsHeadUnsent : Server → Final → RelayFailure → Type 0
 IsHeadUnsent server final (Failed.Unsendable e) =
     Serving.response_refusal server final.response.status final.response.reason (response_size final.sent.content)
     (written_fields final.response final.sent) ≡ Some e
@@ -213,12 +214,13 @@ pub record BeginsAnswer (answered : Bool) (before after : List ℕ) (left left_a
   pub begun : answered ≡ true → after ≢ []
 
 -- why no byte of an answer is read: the origin server ended the connection, a read failed, or memory ran out
-abbrev pub EndsUnread : Option (List ℕ) → Failure → Type 0
+abbrev pub EndsUnread : Option (List ℕ) → RelayFailure → Type 0
 EndsUnread left Failed.CutShort = IsAtEnd left
 EndsUnread left failure = IsReceiveFailure failure
 
 -- no byte of the next answer is there, and none is read
-pub record IsUnanswered (before after : List ℕ) (left left_after : Option (List ℕ)) (failure : Failure) : Type 0 where
+pub record IsUnanswered (before after : List ℕ) (left left_after : Option (List ℕ)) (failure : RelayFailure)
+    : Type 0 where
   pub receives : Takes before after left left_after
   pub none : after ≡ []
   pub because : EndsUnread left_after failure
@@ -273,18 +275,18 @@ pub record PassesOn (proxy : Proxy) (before after : Wires) (told : Option (List 
   pub same_request : IsSameRequest accepted.server server
 
 -- A request passes in part: its content can't be read, or it can't be written.
-pub record PassesInPart (proxy : Proxy) (before after : Wires) (told : Option (List ℕ)) (failure : Failure) : Type 0
-  where
-    pub accepted : Accepted proxy before
-    pub server_continued : Server
-    pub continued : IsContinued accepted.outgoing.is_awaited accepted.server server_continued before.told told
-    pub unread_then : List ℕ
-    pub rest_then : Option (List ℕ)
-    pub fails : FailsToPassRequest proxy.gateway (new_client proxy.limits) accepted.request accepted.outgoing
-        (decoder_for proxy.limits accepted.reads.framing) accepted.unread unread_then accepted.rest rest_then
-        before.sent after.sent failure
-    pub answered : after.answered ≡ before.answered
-    pub answered_left : after.answered_left ≡ before.answered_left
+pub record PassesInPart (proxy : Proxy) (before after : Wires) (told : Option (List ℕ)) (failure : RelayFailure)
+    : Type 0 where
+  pub accepted : Accepted proxy before
+  pub server_continued : Server
+  pub continued : IsContinued accepted.outgoing.is_awaited accepted.server server_continued before.told told
+  pub unread_then : List ℕ
+  pub rest_then : Option (List ℕ)
+  pub fails : FailsToPassRequest proxy.gateway (new_client proxy.limits) accepted.request accepted.outgoing
+      (decoder_for proxy.limits accepted.reads.framing) accepted.unread unread_then accepted.rest rest_then
+      before.sent after.sent failure
+  pub answered : after.answered ≡ before.answered
+  pub answered_left : after.answered_left ≡ before.answered_left
 
 -- A request passes to the origin server, and then the response to the client. What became of the response is a turn.
 pub record PassesExchange (proxy : Proxy) (answered : Bool) (before after : Wires) (turn : Turn) : Type 0 where
@@ -297,7 +299,7 @@ pub record PassesExchange (proxy : Proxy) (answered : Bool) (before after : Wire
       after.answered_left told after.told turn
 
 -- A request passes in part, and the gateway answers it itself.
-pub record BreaksRequest (proxy : Proxy) (before after : Wires) (failure : Failure) : Type 0 where
+pub record BreaksRequest (proxy : Proxy) (before after : Wires) (failure : RelayFailure) : Type 0 where
   pub told : Option (List ℕ)
   pub passed : PassesInPart proxy before after told failure
   pub answers : Appends told after.told (own_text (request_status failure))
@@ -320,7 +322,7 @@ may_repeat accepted = is_repeatable accepted.request accepted.outgoing accepted.
 
 -- A request passes, maybe in part, to an origin server that answered before, and that ended its connection before a
 -- byte of this answer. It may be sent again, or not.
-pub data EndsFirst (proxy : Proxy) (before after : Wires) (repeats : Bool) (failure : Failure) : Type 0 where
+pub data EndsFirst (proxy : Proxy) (before after : Wires) (repeats : Bool) (failure : RelayFailure) : Type 0 where
   in_part : (told : Option (List ℕ)) (passed : PassesInPart proxy before after told failure)
       → failure ≡ Failed.Writer → after.told ≡ told → may_repeat passed.accepted ≡ repeats
       → EndsFirst proxy before after repeats failure
@@ -329,23 +331,23 @@ pub data EndsFirst (proxy : Proxy) (before after : Wires) (repeats : Bool) (fail
       → after.told ≡ told → may_repeat passed.accepted ≡ repeats → EndsFirst proxy before after repeats failure
 
 -- The client gets no answer to it, as it may not be sent again, or memory ran out.
-pub record IsDropped (proxy : Proxy) (before after : Wires) (failure : Failure) : Type 0 where
+pub record IsDropped (proxy : Proxy) (before after : Wires) (failure : RelayFailure) : Type 0 where
   pub repeats : Bool
-  pub reason : Failure
+  pub reason : RelayFailure
   pub ends : EndsFirst proxy before after repeats reason
   pub because : ((repeats ≡ false) × (failure ≡ reason)) ⊎ (failure ≡ Failed.OutOfMemory)
 
 -- It may be sent again: it is in the input again, before what followed it, and the client was sent nothing.
 pub record IsPutBack (proxy : Proxy) (before after : Wires) : Type 0 where
   pub unread : List ℕ
-  pub reason : Failure
+  pub reason : RelayFailure
   pub ends : EndsFirst proxy before (record after { asked = unread }) true reason
   pub receives : Takes before.asked after.asked before.asked_left after.asked_left
   pub told : after.told ≡ before.told
 
 -- what becomes of a request whose head has this text, with this copy of all that was received since, and of the input,
 -- that ended so
-abbrev pub GivesUp : Bool → List ℕ → Option Filled → Failure → List ℕ → List ℕ → Turn → Type 0
+abbrev pub GivesUp : Bool → List ℕ → Option Filled → RelayFailure → List ℕ → List ℕ → Turn → Type 0
 GivesUp repeats text copy failure before after Turns.Unanswered =
     (repeats ≡ true) × (received : Filled) × (copy ≡ Some received) × (after ≡ text ++ received.items)
 GivesUp repeats text copy failure before after (Turns.Dropped error) =

@@ -7,9 +7,11 @@ use Rattle.http1.specs.declared.server.Server.{Server}
 use Rattle.gateway_messages.{specs.FieldLines.fields_of, specs.Responses.{IsForwardableResponse, IsForwardedResponse}}
 use Rattle.gateway_messages.specs.Responses.{RejectsResponse}
 use Rattle.gateway_messages.specs.declared.response.ForwardedResponse.{ForwardedResponse}
-use Rattle.gateway_relay.{specs.Heads.{FailsToReadResponse, ReadsResponseHead}, specs.declared.failure.Failure.Failure}
-use Rattle.gateway_relay.specs.declared.failure.Failure.TheVariants as Failed
-use Rattle.gateway_relay.{specs.declared.request.Request.Request, specs.declared.response.Response.Response}
+use Rattle.gateway_relay.specs.Heads.{FailsToReadResponse, ReadsResponseHead}
+use Rattle.gateway_relay.specs.declared.failure.RelayFailure.{RelayFailure}
+use Rattle.gateway_relay.specs.declared.failure.RelayFailure.TheVariants as Failed
+use Rattle.gateway_relay.specs.declared.request.Request.{Request}
+use Rattle.gateway_relay.specs.declared.response.ReceivedResponse.{ReceivedResponse}
 use Rattle.gateway_proxy.{specs.Passing.response_size, specs.Responses.{received, written_fields}}
 use Rattle.gateway_proxy.specs.declared.fault.Fault.{Fault}
 use Rattle.gateway_proxy.specs.declared.fault.Fault.TheVariants as Faults
@@ -18,7 +20,7 @@ use Rattle.gateway_proxy.specs.declared.proxy.Proxy.{Proxy}
 -- ---- the status
 
 -- for a request that can't be read or sent
-abbrev pub request_status : Failure → ℕ
+abbrev pub request_status : RelayFailure → ℕ
 request_status Failed.Reader = 408
 request_status Failed.CutShort = 400
 request_status Failed.InvalidFields = 400
@@ -29,7 +31,7 @@ request_status Failed.Writer = 502
 request_status Failed.OutOfMemory = 500
 
 -- for a response that can't be read or sent
-abbrev pub response_status : Failure → ℕ
+abbrev pub response_status : RelayFailure → ℕ
 response_status Failed.Reader = 504
 response_status Failed.OutOfMemory = 500
 response_status failure = 502
@@ -42,13 +44,13 @@ fault_status (Faults.Unsent failure) = response_status failure
 fault_status Faults.Endless = 502
 
 -- the request isn't written to the origin server: a write failed, or `http1` doesn't write it
-abbrev pub IsUnwritten : Failure → Type 0
+abbrev pub IsUnwritten : RelayFailure → Type 0
 IsUnwritten failure = (failure ≡ Failed.Writer) ⊎ ((e : WriteError) × (failure ≡ Failed.Unsendable e))
 
 -- ---- responses
 
 -- `http1` doesn't write the head of this response, which is interim or final
-abbrev pub RefusesResponse : Server → Response → ForwardedResponse → WriteError → Type 0
+abbrev pub RefusesResponse : Server → ReceivedResponse → ForwardedResponse → WriteError → Type 0
 RefusesResponse server response sent e =
     MatchBool (nat_lt response.status 200)
     (Serving.informational_refusal server response.status response.reason (fields_of sent.fields.items) ≡ Some e)
@@ -56,7 +58,7 @@ RefusesResponse server response sent e =
     (written_fields response sent) ≡ Some e)
 
 -- why no byte of a response that was read is sent
-abbrev pub IsUnsent : Proxy → Request → Server → Response → Failure → Type 0
+abbrev pub IsUnsent : Proxy → Request → Server → ReceivedResponse → RelayFailure → Type 0
 IsUnsent proxy request server response (Failed.Unsendable e) =
     (date : ℕ) × (sent : ForwardedResponse) × IsForwardedResponse proxy.gateway date (received request response) sent
     × RefusesResponse server response sent e
@@ -70,11 +72,11 @@ abbrev pub IsUnusable : Proxy → Request → Client → Server → List ℕ →
 IsUnusable proxy request client server before after left left_after (Faults.Unread failure) =
     FailsToReadResponse client before after left left_after failure
 IsUnusable proxy request client server before after left left_after (Faults.Rejected rejection) =
-    (response : Response) × (client_after : Client)
+    (response : ReceivedResponse) × (client_after : Client)
     × ReadsResponseHead client client_after before after left left_after response
     × RejectsResponse proxy.gateway (received request response) rejection
 IsUnusable proxy request client server before after left left_after (Faults.Unsent failure) =
-    (response : Response) × (client_after : Client)
+    (response : ReceivedResponse) × (client_after : Client)
     × ReadsResponseHead client client_after before after left left_after response
     × IsUnsent proxy request server response failure
 IsUnusable proxy request client server before after left left_after fault = ⊥

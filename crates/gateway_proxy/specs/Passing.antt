@@ -21,13 +21,15 @@ use Rattle.headers.specs.LineMap.{LineMap, lines_at}
 use Rattle.gateway_messages.{specs.FieldLines.{Field, fields_of, lines_under}, specs.Trailers.ForwardsTrailers}
 use Rattle.gateway_messages.specs.declared.framing.Framing.{Framing}
 use Rattle.gateway_messages.specs.declared.framing.Framing.TheVariants as Framed
-use Rattle.gateway_messages.{specs.declared.gateway.Gateway.Gateway, specs.declared.response.Content.Content}
-use Rattle.gateway_messages.specs.declared.response.Content.TheVariants as Ends
+use Rattle.gateway_messages.specs.declared.gateway.Gateway.{Gateway}
+use Rattle.gateway_messages.specs.declared.response.ContentFraming.{ContentFraming}
+use Rattle.gateway_messages.specs.declared.response.ContentFraming.TheVariants as Ends
 use Rattle.gateway_messages.specs.declared.response.ForwardedResponse.{ForwardedResponse}
 use Rattle.gateway_relay.{specs.Content.after_pieces, specs.Failures.FailsToWrite, specs.Relay.Relays}
-use Rattle.gateway_relay.specs.declared.failure.Failure.{Failure}
-use Rattle.gateway_relay.specs.declared.failure.Failure.TheVariants as Failed
-use Rattle.gateway_relay.{specs.declared.request.Request.Request, specs.declared.response.Response.Response}
+use Rattle.gateway_relay.specs.declared.failure.RelayFailure.{RelayFailure}
+use Rattle.gateway_relay.specs.declared.failure.RelayFailure.TheVariants as Failed
+use Rattle.gateway_relay.specs.declared.request.Request.{Request}
+use Rattle.gateway_relay.specs.declared.response.ReceivedResponse.{ReceivedResponse}
 use Rattle.gateway_proxy.specs.Responses.{keeps_origin, says_close, written_fields}
 use Rattle.gateway_proxy.specs.declared.decision.Outgoing.{Outgoing}
 
@@ -38,7 +40,7 @@ request_size (Framed.Length len) = Size.Known len
 request_size Framed.Chunked = Size.Unknown
 
 -- and of a response's
-abbrev pub response_size : Content → BodySize
+abbrev pub response_size : ContentFraming → BodySize
 response_size Ends.Tunnel = Size.Empty
 response_size Ends.Absent = Size.Empty
 response_size (Ends.Length len) = Size.Known len
@@ -69,7 +71,7 @@ pub record Passes (source : Bool) (gateway : Gateway) (fields : LineMap) (framin
 -- Why a message doesn't pass to its end after its head, and what of it is sent nevertheless: its content isn't relayed
 -- whole, memory runs out for its trailer fields, or its end isn't written.
 pub data FailsToPass (source : Bool) (gateway : Gateway) (fields : LineMap) (framing : Framing) (d : Decoder)
-    (e : Encoder) (before after : List ℕ) (left left_after held held_after : Option (List ℕ)) (failure : Failure)
+    (e : Encoder) (before after : List ℕ) (left left_after held held_after : Option (List ℕ)) (failure : RelayFailure)
     : Type 0 where
   at_content : (written : Writing)
       → Relays source d e before after left left_after held held_after written (Err failure)
@@ -120,7 +122,7 @@ pub record PassesRequest (gateway : Gateway) (client client_after : Client) (req
 
 -- Why a request doesn't pass, and what of it is sent nevertheless: its head isn't written, or what follows isn't.
 pub data FailsToPassRequest (gateway : Gateway) (client : Client) (request : Request) (outgoing : Outgoing)
-    (d : Decoder) (before after : List ℕ) (left left_after held held_after : Option (List ℕ)) (failure : Failure)
+    (d : Decoder) (before after : List ℕ) (left left_after held held_after : Option (List ℕ)) (failure : RelayFailure)
     : Type 0 where
   at_request_head :
       FailsToWrite (Asking.request_refusal client request.method outgoing.target (request_size outgoing.framing)
@@ -138,7 +140,7 @@ pub data FailsToPassRequest (gateway : Gateway) (client : Client) (request : Req
 -- ---- responses
 
 -- the head of a final response is sent to a client, whose connection was in this state
-pub record BeginsResponse (server server_after : Server) (response : Response) (sent : ForwardedResponse)
+pub record BeginsResponse (server server_after : Server) (response : ReceivedResponse) (sent : ForwardedResponse)
     (held held_after : Option (List ℕ)) : Type 0 where
   pub plan : Plan
   pub planned : Serving.response_plan server response.status (response_size sent.content)
@@ -151,7 +153,7 @@ pub record BeginsResponse (server server_after : Server) (response : Response) (
   pub next : server_after ≡ Serving.responding server (Ok plan)
 
 -- the framing that a final response states to the client, but for HEAD
-abbrev pub stated_framing : Server → Response → ForwardedResponse → Result Stated FramingError
+abbrev pub stated_framing : Server → ReceivedResponse → ForwardedResponse → Result Stated FramingError
 stated_framing server response sent =
     let fields = written_fields response sent in
     let first = Serving.framing_headers server.request response.status (response_size sent.content) fields in
@@ -160,7 +162,7 @@ stated_framing server response sent =
 -- All that keeps the client's connection after a final response of this framing: the client asked to keep it, in
 -- HTTP/1.1 or by `keep-alive`, and waits for no 100; the origin server keeps its own; the response has an end of its
 -- own, as each to HEAD has; and no forwarded field says `close`.
-pub record KeepsClient (server : Server) (response : Response) (sent : ForwardedResponse) (framing : Stated)
+pub record KeepsClient (server : Server) (response : ReceivedResponse) (sent : ForwardedResponse) (framing : Stated)
     : Type 0 where
   pub asked : server.request.keep_alive ≡ true
   pub waits : server.request.expects_continue ≡ false
@@ -169,7 +171,7 @@ pub record KeepsClient (server : Server) (response : Response) (sent : Forwarded
   pub unsaid : says_close (fields_of sent.fields.items) ≡ false
 
 -- A final response passes to the client: its head, and then the content in the framing that this states.
-pub record PassesResponse (gateway : Gateway) (server : Server) (response : Response) (sent : ForwardedResponse)
+pub record PassesResponse (gateway : Gateway) (server : Server) (response : ReceivedResponse) (sent : ForwardedResponse)
     (d : Decoder) (before after : List ℕ) (left left_after held held_after : Option (List ℕ)) : Type 0 where
   pub server_begun : Server
   pub held_head : Option (List ℕ)
@@ -179,8 +181,9 @@ pub record PassesResponse (gateway : Gateway) (server : Server) (response : Resp
 
 -- Why a final response doesn't pass, and what of it is sent nevertheless: a write of its head failed, or what follows
 -- isn't written.
-pub data FailsToPassResponse (gateway : Gateway) (server : Server) (response : Response) (sent : ForwardedResponse)
-    (d : Decoder) (before after : List ℕ) (left left_after held held_after : Option (List ℕ)) (failure : Failure)
+pub data FailsToPassResponse (gateway : Gateway) (server : Server) (response : ReceivedResponse)
+    (sent : ForwardedResponse)
+    (d : Decoder) (before after : List ℕ) (left left_after held held_after : Option (List ℕ)) (failure : RelayFailure)
     : Type 0 where
   at_response_head : failure ≡ Failed.Writer
       → FailsToWrite (Serving.response_refusal server response.status response.reason (response_size sent.content)

@@ -7,14 +7,15 @@ use Rattle.headers.specs.LineMap.{lines_at}
 use Rattle.rfc_fields.{specs.Directives.is_same_token, specs.Members.field_members}
 use Rattle.gateway_messages.specs.FieldLines.{fields_of}
 use Rattle.gateway_messages.specs.Responses as Answers
-use Rattle.gateway_messages.specs.declared.response.Content.{Content}
-use Rattle.gateway_messages.specs.declared.response.Content.TheVariants as Ends
+use Rattle.gateway_messages.specs.declared.response.ContentFraming.{ContentFraming}
+use Rattle.gateway_messages.specs.declared.response.ContentFraming.TheVariants as Ends
 use Rattle.gateway_messages.specs.declared.response.ForwardedResponse.{ForwardedResponse}
-use Rattle.gateway_relay.{specs.declared.request.Request.Request, specs.declared.response.Response.Response}
+use Rattle.gateway_relay.specs.declared.request.Request.{Request}
+use Rattle.gateway_relay.specs.declared.response.ReceivedResponse.{ReceivedResponse}
 use Rattle.gateway_proxy.{specs.Decisions.protocol_of, specs.Own.close_field}
 
 -- the response as `gateway_messages` sees it
-abbrev pub received : Request → Response → Answers.Response
+abbrev pub received : Request → ReceivedResponse → Answers.Response
 received request response =
     record {
       protocol = protocol_of response.minor;
@@ -25,7 +26,7 @@ received request response =
     }
 
 -- both sides know the end of the response
-abbrev pub has_end : Content → Bool
+abbrev pub has_end : ContentFraming → Bool
 has_end Ends.Tunnel = true
 has_end Ends.Absent = true
 has_end (Ends.Length len) = true
@@ -33,7 +34,7 @@ has_end Ends.Chunked = true
 has_end Ends.UntilClose = false
 
 -- and the origin server keeps the connection after it
-abbrev pub keeps_origin : Response → Content → Bool
+abbrev pub keeps_origin : ReceivedResponse → ContentFraming → Bool
 keeps_origin response content =
     not (response.minor == 0) && (has_end content
     && not (list_any (is_same_token (codes "close")) (field_members true (lines_at response.fields
@@ -45,7 +46,7 @@ close_unless true = []
 close_unless false = close_field ∷ []
 
 -- the fields that are given to `http1` for a final response
-abbrev pub written_fields : Response → ForwardedResponse → List Header
+abbrev pub written_fields : ReceivedResponse → ForwardedResponse → List Header
 written_fields response sent = fields_of sent.fields.items ++ close_unless (keeps_origin response sent.content)
 
 -- an option of Connection is `close`, as `http1` reads it

@@ -1,8 +1,8 @@
 -- A client's connection over several to the origin server, one after another (RFC 9112, section 9.3.1).
 use Rattle.std.specs.Prelude.{◌≡◌, ◌≢◌, ℕ, ◌+◌, ◌-◌, ◌^◌, List, [], Option, Some, None}
 use Rattle.std.specs.Io.KnownBytes.{Appends}
-use Rattle.gateway_relay.{specs.Failures.FailsToWrite, specs.declared.failure.Failure.Failure}
-use Rattle.gateway_relay.specs.declared.failure.Failure.TheVariants as Failed
+use Rattle.gateway_relay.{specs.Failures.FailsToWrite, specs.declared.failure.RelayFailure.RelayFailure}
+use Rattle.gateway_relay.specs.declared.failure.RelayFailure.TheVariants as Failed
 use Rattle.gateway_proxy.{specs.Cuts.IsCutAfter, specs.Exchanges.{IsServed, Wires, wires}, specs.Own.own_text}
 use Rattle.gateway_proxy.specs.declared.exchange.Turn.{Turn}
 use Rattle.gateway_proxy.specs.declared.exchange.Turn.TheVariants as Turns
@@ -54,7 +54,7 @@ pub data EndsSessions {O : Type 0} (connects : O → O → Option Opened → Typ
 -- Why a connection ends with a failure after so many to the origin server: the last one is cut, or the gateway's own
 -- answer is; or there was none at all; or there are too many to count.
 pub data CutsSessions {O : Type 0} (connects : O → O → Option Opened → Type 0) (proxy : Proxy) (count : ℕ)
-    (origin origin_after : O) (before after : Side) (failure : Failure) : Type 0 where
+    (origin origin_after : O) (before after : Side) (failure : RelayFailure) : Type 0 where
   cut : (ends : Opened) (last : Wires) → connects origin origin_after (Some ends)
       → IsCutAfter proxy (over before ends) last failure → after ≡ side_of last
       → CutsSessions connects proxy count origin origin_after before after failure
@@ -78,7 +78,7 @@ pub record IsServedFrom {O : Type 0} (connects : O → O → Option Opened → T
 
 -- and one that ended with a failure
 pub record IsCutFrom {O : Type 0} (connects : O → O → Option Opened → Type 0) (proxy : Proxy) (first last : O)
-    (asked told asked_after told_after : Option (List ℕ)) (failure : Failure) : Type 0 where
+    (asked told asked_after told_after : Option (List ℕ)) (failure : RelayFailure) : Type 0 where
   pub count : ℕ
   pub origin : O
   pub before : Side

@@ -4,7 +4,7 @@ ghost use Rattle.gateway_messages.specs.FieldLines.{fields_of};
 ghost use Rattle.http1.{specs.Conn.{awaits_head, is_connect}, specs.Head.response_text};
 ghost use Rattle.http1.specs.Server.{after_informational, informational_refusal};
 ghost use Rattle.http1.specs.declared.conn.Reading.TheVariants as Reads;
-ghost use Rattle.gateway_relay.{specs.Failures.Writes, specs.declared.failure.Failure.TheVariants.Writer};
+ghost use Rattle.gateway_relay.{specs.Failures.Writes, specs.declared.failure.RelayFailure.TheVariants.Writer};
 ghost use Rattle.gateway_proxy.{specs.Cuts.{CutsInterim, CutsResponse}, specs.Exchanges.{FindsReply, IsFound}};
 
 use crate::decision::protocol_of;
@@ -13,7 +13,7 @@ use crate::pass::header_list;
 use crate::proxy::{Clock, Proxy};
 use bytes::BytesMut;
 use gateway_messages::{ForwardedResponse, ResponseHead, ResponseOutcome, forward_response};
-use gateway_relay::{Failure, Request, Response, read_response, send_interim};
+use gateway_relay::{ReceivedResponse, RelayFailure, Request, read_response, send_interim};
 use http::StatusCode;
 use http1::{Client, Server};
 use std::alloc::Global;
@@ -24,7 +24,7 @@ use std::io::{Read, Write};
 #[derive(Debug, Drop)]
 pub(crate) struct Final {
     /// The response.
-    pub(crate) response: Response,
+    pub(crate) response: ReceivedResponse,
     /// What is forwarded of it.
     pub(crate) sent: ForwardedResponse,
 }
@@ -58,11 +58,11 @@ fn is_interim(status: StatusCode) -> bool
 // Sends an interim response on to the client.
 fn forward_interim<W: Write>(
     alloc: Global,
-    response: &Response,
+    response: &ReceivedResponse,
     sent: &ForwardedResponse,
     server: &mut Server,
     writer: &mut W,
-) -> Result<(), Failure>
+) -> Result<(), RelayFailure>
     ensures writes { Writes (informational_refusal server.old response.now.status response.now.reason
         (fields_of sent.now.fields.items))
         (response_text 1 response.now.status response.now.reason (fields_of sent.now.fields.items))
@@ -92,7 +92,7 @@ fn next_response<C: Clock, R: Read, W: Write>(
     reader: &mut R,
     server: &mut Server,
     writer: &mut W,
-) -> Result<Found, Failure>
+) -> Result<Found, RelayFailure>
     ensures found { client.old.reading ≡ Reads.Head → awaits_head client.old.writing ≡ false
         → is_connect client.old.method ≡ false
         → IfOk result (IsFound proxy.now request.now client.old client.new input.old.items input.new.items
@@ -121,7 +121,7 @@ fn next_response<C: Clock, R: Read, W: Write>(
         Ok(ResponseOutcome::Reject(rejection)) => {
             return Ok(Found::Unusable(Fault::Rejected(rejection)));
         }
-        Err(error) => return Ok(Found::Unusable(Fault::Unsent(Failure::from(error)))),
+        Err(error) => return Ok(Found::Unusable(Fault::Unsent(RelayFailure::from(error)))),
     };
     if !is_interim(response.status) {
         return Ok(Found::Whole(Final { response, sent }));
@@ -145,7 +145,7 @@ pub(crate) fn final_response<C: Clock, R: Read, W: Write>(
     reader: &mut R,
     server: &mut Server,
     writer: &mut W,
-) -> Result<Reply, Failure>
+) -> Result<Reply, RelayFailure>
     ensures finds { client.old.reading ≡ Reads.Head → awaits_head client.old.writing ≡ false
         → is_connect client.old.method ≡ false
         → IfOk result (FindsReply proxy.now request.now client.old client.new

@@ -11,7 +11,7 @@ use crate::proxy::Proxy;
 use crate::target::{Target, origin_form, target_of};
 use bytes::Bytes;
 use gateway_hops::{HopOutcome, SentRequest, replace_fields, send_request};
-use gateway_messages::{Expectation, FieldLine, Framing, Protocol, RequestHead, has_host};
+use gateway_messages::{Expectation, FieldLine, Framing, Protocol, ReceivedRequest, has_host};
 use gateway_relay::Request;
 use headers::{HeaderMap, HeaderValue};
 use http::StatusCode;
@@ -120,7 +120,7 @@ fn decide_for<'a>(
     ensures { IfOk result (IsDecisionFor proxy.now request.now
         (option_map (λ value. value.now.bytes) authority.entry) target) }
 {
-    let head = RequestHead {
+    let head = ReceivedRequest {
         protocol: protocol_of(request.minor),
         method: &request.method,
         authority: given_authority(proxy, &request.fields, authority),

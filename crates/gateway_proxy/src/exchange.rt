@@ -5,7 +5,7 @@ ghost use Rattle.http1.{specs.Conn.{awaits_head, is_connect}, specs.Head.respons
 ghost use Rattle.http1.specs.Server.{informational_refusal, new_server};
 ghost use Rattle.http1.specs.declared.conn.Reading.TheVariants as Reads;
 ghost use Rattle.http1.specs.declared.decode.Decoder.{Decoder};
-ghost use Rattle.gateway_relay.{specs.Failures.FailsToWrite, specs.declared.failure.Failure.TheVariants.Writer};
+ghost use Rattle.gateway_relay.{specs.Failures.FailsToWrite, specs.declared.failure.RelayFailure.TheVariants.Writer};
 ghost use Rattle.gateway_proxy.{specs.Cuts.{CutsFinal, CutsResponse, IsCut, IsUndecided}, specs.Exchanges.BreaksOff};
 ghost use Rattle.gateway_proxy.specs.Exchanges.{IsContinued, IsDelivered, IsReceived, IsResponded, IsTurn};
 ghost use Rattle.gateway_proxy.{specs.Exchanges.{BeginsAnswer, IsUnanswered, wires}, specs.Faults.fault_status};
@@ -19,7 +19,7 @@ use crate::own::send_own;
 use crate::pass::{begin_response, pass_content, pass_request};
 use crate::proxy::{Clock, Proxy};
 use bytes::BytesMut;
-use gateway_relay::{Failure, Request, read_request, receive, send_interim};
+use gateway_relay::{RelayFailure, Request, read_request, receive, send_interim};
 use http::StatusCode;
 use http1::{BodySize, Client, Server};
 use std::alloc::Global;
@@ -64,7 +64,7 @@ pub(crate) enum Turn {
     Unanswered,
     /// The same, but it may not be sent again, or memory ran out. The connections end without an answer, so
     /// that the client may send it again.
-    Dropped(Failure),
+    Dropped(RelayFailure),
 }
 
 // Reads what the client still sends, so that it gets to read the answer.
@@ -79,7 +79,7 @@ fn drain<R: Read>(input: &mut BytesMut, reader: &mut R) {
 }
 
 // Answers the client in the place of the origin server.
-fn break_off<W: Write>(alloc: Global, fault: Fault, writer: &mut W) -> Result<Turn, Failure>
+fn break_off<W: Write>(alloc: Global, fault: Fault, writer: &mut W) -> Result<Turn, RelayFailure>
     ensures answers { IfOk result (BreaksOff fault (W.contents writer.old) (W.contents writer.new)) }
     ensures cut { IfErr result (FailsToWrite None (own_text (fault_status fault))
         (W.contents writer.old) (W.contents writer.new)) }
@@ -96,7 +96,7 @@ fn receive_request<R: Read>(
     server: &mut Server,
     input: &mut BytesMut,
     reader: &mut R,
-) -> Result<Received, Failure>
+) -> Result<Received, RelayFailure>
     ensures received { server.old ≡ new_server proxy.now.limits → IfOk result (IsReceived proxy.now
         input.old.items input.new.items (R.remaining reader.old) (R.remaining reader.new) server.new) }
     ensures memory { server.old ≡ new_server proxy.now.limits → IfErr result (IsUndecided proxy.now
@@ -131,7 +131,7 @@ fn deliver<R: Read, W: Write>(
     reader: &mut R,
     server: &mut Server,
     writer: &mut W,
-) -> Result<Turn, Failure>
+) -> Result<Turn, RelayFailure>
     ensures delivered { (d : Decoder) → client.old.reading ≡ Reads.Body d → IfOk result (IsDelivered proxy.now
         server.old answer.now d input.old.items input.new.items (R.remaining reader.old) (R.remaining reader.new)
         (W.contents writer.old) (W.contents writer.new)) }
@@ -141,7 +141,7 @@ fn deliver<R: Read, W: Write>(
 {
     match begin_response(alloc, &answer.response, &answer.sent, server, writer) {
         Ok(()) => {}
-        Err(Failure::Writer) => return Err(Failure::Writer),
+        Err(RelayFailure::Writer) => return Err(RelayFailure::Writer),
         Err(failure) => return break_off(alloc, Fault::Unsent(failure), writer),
     }
     pass_content(
@@ -176,7 +176,7 @@ fn respond<C: Clock, R: Read, W: Write>(
     reader: &mut R,
     server: &mut Server,
     writer: &mut W,
-) -> Result<Turn, Failure>
+) -> Result<Turn, RelayFailure>
     ensures responded { client.old.reading ≡ Reads.Head → awaits_head client.old.writing ≡ false
         → is_connect client.old.method ≡ false
         → IfOk result (IsResponded proxy.now request.now client.old server.old input.old.items input.new.items
@@ -198,12 +198,12 @@ fn respond<C: Clock, R: Read, W: Write>(
 }
 
 // Whether a request failed since its origin server answered before, and takes no more.
-fn has_ended(answered: bool, failure: Failure) -> bool
+fn has_ended(answered: bool, failure: RelayFailure) -> bool
     ensures ended { result ≡ true → (answered ≡ true) × (failure ≡ Writer) }
     ensures other { result ≡ false → answered ≡ true → failure ≢ Writer }
 {
     match failure {
-        Failure::Writer => answered,
+        RelayFailure::Writer => answered,
         _ => false,
     }
 }
@@ -214,7 +214,7 @@ fn await_answer<R: Read>(
     answered: bool,
     input: &mut BytesMut,
     reader: &mut R,
-) -> Result<(), Failure>
+) -> Result<(), RelayFailure>
     ensures begins { OnOk result (BeginsAnswer answered input.old.items input.new.items
         (R.remaining reader.old) (R.remaining reader.new)) }
     ensures ends { IfErr result (λ failure. (answered ≡ true) × IsUnanswered input.old.items input.new.items
@@ -224,7 +224,7 @@ fn await_answer<R: Read>(
         return Ok(());
     }
     if receive(reader, input)? == 0 {
-        return Err(Failure::CutShort);
+        return Err(RelayFailure::CutShort);
     }
     Ok(())
 }
@@ -263,7 +263,7 @@ fn give_up(
     repeats: bool,
     request: &Request,
     copy: Option<BytesMut>,
-    failure: Failure,
+    failure: RelayFailure,
     requests: &mut BytesMut,
 ) -> Turn
     ensures { GivesUp repeats request.now.text copy failure requests.old.items requests.new.items result }
@@ -272,13 +272,13 @@ fn give_up(
         return Turn::Dropped(failure);
     }
     let Some(received) = copy else {
-        return Turn::Dropped(Failure::OutOfMemory);
+        return Turn::Dropped(RelayFailure::OutOfMemory);
     };
     let Ok(mut input) = BytesMut::copy_from_slice(alloc, request.text.as_slice()) else {
-        return Turn::Dropped(Failure::OutOfMemory);
+        return Turn::Dropped(RelayFailure::OutOfMemory);
     };
     if input.extend_from_slice(received.as_slice()).is_err() {
-        return Turn::Dropped(Failure::OutOfMemory);
+        return Turn::Dropped(RelayFailure::OutOfMemory);
     }
     *requests = input;
     Turn::Unanswered
@@ -290,7 +290,7 @@ fn continue_if<W: Write>(
     is_awaited: bool,
     server: &mut Server,
     writer: &mut W,
-) -> Result<(), Failure>
+) -> Result<(), RelayFailure>
     ensures continued { OnOk result (IsContinued is_awaited server.old server.new (W.contents writer.old)
         (W.contents writer.new)) }
     ensures cut { IfErr result (λ failure. (is_awaited ≡ true)
@@ -317,7 +317,7 @@ pub(crate) fn exchange<C: Clock, R: Read, W: Write, S: Read, T: Write>(
     responses: &mut BytesMut,
     from_origin: &mut S,
     to_origin: &mut T,
-) -> Result<Turn, Failure>
+) -> Result<Turn, RelayFailure>
     ensures turn { IfOk result (IsTurn proxy.now answered
         (wires requests.old.items (R.remaining reader.old) (W.contents writer.old)
         responses.old.items (S.remaining from_origin.old) (T.contents to_origin.old))

@@ -7,7 +7,7 @@ ghost use Rattle.gateway_relay.specs.Failures.{Writes};
 ghost use Rattle.gateway_proxy.specs.Own.{close_field, own_text};
 
 use bytes::BytesMut;
-use gateway_relay::{Failure, send};
+use gateway_relay::{RelayFailure, send};
 use http::StatusCode;
 use http1::{Header, head};
 use std::alloc::Global;
@@ -32,7 +32,11 @@ pub(crate) fn close_field() -> Header<'static>
 
 /// Sends a response of the gateway's own: of that status, without content, and the last one on the
 /// connection. It fails only if a write does, after a first part of the response, or if memory runs out.
-pub fn send_own<W: Write>(alloc: Global, status: StatusCode, writer: &mut W) -> Result<(), Failure>
+pub fn send_own<W: Write>(
+    alloc: Global,
+    status: StatusCode,
+    writer: &mut W,
+) -> Result<(), RelayFailure>
     ensures { Writes None (own_text status) (W.contents writer.old) (W.contents writer.new) result }
 {
     let headers = [

@@ -19,11 +19,11 @@ use crate::own::close_field;
 use crate::proxy::Proxy;
 use bytes::BytesMut;
 use gateway_messages::{
-    Content, FieldLine, ForwardedResponse, Framing, Gateway, MessageHead, forward_trailers,
+    ContentFraming, FieldLine, ForwardedResponse, Framing, Gateway, MessageHead, forward_trailers,
 };
 use gateway_relay::{
-    ContentSink, ContentSource, Failure, Request, Response, end_content, relay_content,
-    send_request_head, send_response_head,
+    ContentSink, ContentSource, ReceivedResponse, RelayFailure, Request, end_content,
+    relay_content, send_request_head, send_response_head,
 };
 use headers::HeaderMap;
 use http_header::CONNECTION;
@@ -60,13 +60,13 @@ fn request_size(framing: Framing) -> BodySize
     }
 }
 
-fn response_size(content: Content) -> BodySize
+fn response_size(content: ContentFraming) -> BodySize
     ensures { result ≡ response_size content }
 {
     match content {
-        Content::Tunnel | Content::Absent => BodySize::Empty,
-        Content::Length(len) => BodySize::Known(len),
-        Content::Chunked | Content::UntilClose => BodySize::Unknown,
+        ContentFraming::Tunnel | ContentFraming::Absent => BodySize::Empty,
+        ContentFraming::Length(len) => BodySize::Known(len),
+        ContentFraming::Chunked | ContentFraming::UntilClose => BodySize::Unknown,
     }
 }
 
@@ -84,7 +84,7 @@ pub(crate) fn pass_content<S: ContentSource, R: Read, T: ContentSink, W: Write>(
     copy: &mut Option<BytesMut>,
     sink: &mut T,
     writer: &mut W,
-) -> Result<(), Failure>
+) -> Result<(), RelayFailure>
     ensures passes { (d : Decoder) (e : Encoder) → S.reading source.old ≡ Reads.Body d
         → T.writing sink.old ≡ Writes.Body e → OnOk result (Passes S.ends_with_connection gateway.now
         (lines_at fields.now) framing d e input.old.items input.new.items (R.remaining reader.old)
@@ -113,7 +113,7 @@ fn begin_request<W: Write>(
     outgoing: &Outgoing,
     client: &mut Client,
     writer: &mut W,
-) -> Result<(), Failure>
+) -> Result<(), RelayFailure>
     ensures begins { OnOk result (BeginsRequest client.old client.new request.now outgoing.now
         (W.contents writer.old) (W.contents writer.new)) }
     ensures fails { IfErr result (FailsToWrite (Asking.request_refusal client.old request.now.method
@@ -148,7 +148,7 @@ pub(crate) fn pass_request<R: Read, W: Write>(
     copy: &mut Option<BytesMut>,
     client: &mut Client,
     writer: &mut W,
-) -> Result<(), Failure>
+) -> Result<(), RelayFailure>
     ensures same { (d : Decoder) → content_read (Serving.writing server.old) (Serving.reading server.old)
         ≡ Reads.Body d → OnOk result (IsSameRequest server.old server.new) }
     ensures passes { (d : Decoder) → content_read (Serving.writing server.old) (Serving.reading server.old)
@@ -178,18 +178,18 @@ pub(crate) fn pass_request<R: Read, W: Write>(
 }
 
 // Whether the origin server keeps the connection after this response, and both sides know its end.
-fn keeps_origin(response: &Response, content: Content) -> bool
+fn keeps_origin(response: &ReceivedResponse, content: ContentFraming) -> bool
     ensures { result ≡ keeps_origin response.now content }
 {
     response.minor != 0
-        && content != Content::UntilClose
+        && content != ContentFraming::UntilClose
         && !contains_token(&response.fields.get_all(CONNECTION), b"close")
 }
 
 // The fields of a final response, with `close` if the origin server ends its connection.
 fn written_list<'a>(
     alloc: Global,
-    response: &Response,
+    response: &ReceivedResponse,
     sent: &'a ForwardedResponse,
 ) -> Result<Vec<Header<'a>>, AllocError>
     ensures { IfOk result (λ list. pairs list.items ≡ written_fields response.now sent.now) }
@@ -205,11 +205,11 @@ fn written_list<'a>(
 /// connection, since the client's then ends too.
 pub(crate) fn begin_response<W: Write>(
     alloc: Global,
-    response: &Response,
+    response: &ReceivedResponse,
     sent: &ForwardedResponse,
     server: &mut Server,
     writer: &mut W,
-) -> Result<(), Failure>
+) -> Result<(), RelayFailure>
     ensures begins { OnOk result (BeginsResponse server.old server.new response.now sent.now
         (W.contents writer.old) (W.contents writer.new)) }
     ensures fails { IfErr result (FailsToWrite (Serving.response_refusal server.old response.now.status

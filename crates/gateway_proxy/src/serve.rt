@@ -7,7 +7,7 @@ use crate::exchange::{Turn, exchange};
 use crate::own::send_own;
 use crate::proxy::{Clock, Proxy};
 use bytes::BytesMut;
-use gateway_relay::Failure;
+use gateway_relay::RelayFailure;
 use http::StatusCode;
 use std::alloc::Global;
 use std::hash::RandomState;
@@ -41,7 +41,7 @@ fn serve_connection<C: Clock, R: Read, W: Write, S: Read, T: Write>(
     writer: &mut W,
     from_origin: &mut S,
     to_origin: &mut T,
-) -> Result<Turn, Failure>
+) -> Result<Turn, RelayFailure>
     ensures served { IfOk result (λ turn. (unasked : List ℕ) × IsServed proxy.now
         (wires requests.old.items (R.remaining reader.old) (W.contents writer.old)
         [] (S.remaining from_origin.old) (T.contents to_origin.old))
@@ -74,7 +74,7 @@ fn serve_connection<C: Clock, R: Read, W: Write, S: Read, T: Write>(
             _ => return Ok(turn),
         }
     }
-    Err(Failure::CutShort)
+    Err(RelayFailure::CutShort)
 }
 
 /// Passes requests on from a client to an origin server, and the responses back, one after another,
@@ -90,7 +90,7 @@ pub fn serve_gateway<C: Clock, R: Read, W: Write, O: Connector>(
     reader: &mut R,
     writer: &mut W,
     connector: &mut O,
-) -> Result<(), Failure>
+) -> Result<(), RelayFailure>
     ensures served { OnOk result (IsServedFrom O.connects proxy.now connector.old connector.new
         (R.remaining reader.old) (W.contents writer.old) (R.remaining reader.new) (W.contents writer.new)) }
     ensures cut { IfErr result (IsCutFrom O.connects proxy.now connector.old connector.new
@@ -100,7 +100,7 @@ pub fn serve_gateway<C: Clock, R: Read, W: Write, O: Connector>(
     for opened in 0..u64::MAX {
         let Some((mut from_origin, mut to_origin)) = connector.connect() else {
             if opened == 0 {
-                return Err(Failure::Writer);
+                return Err(RelayFailure::Writer);
             }
             return send_own(alloc, StatusCode::BAD_GATEWAY, writer);
         };
@@ -120,5 +120,5 @@ pub fn serve_gateway<C: Clock, R: Read, W: Write, O: Connector>(
             _ => return Ok(()),
         }
     }
-    Err(Failure::CutShort)
+    Err(RelayFailure::CutShort)
 }

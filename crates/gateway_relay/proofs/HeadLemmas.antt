@@ -12,27 +12,28 @@ use Rattle.http1.{specs.declared.conn.Event.TheVariants.{Head, Informational}, s
 use Rattle.http1.{specs.declared.conn.Progress.Progress, specs.declared.conn.Reading.Reading}
 use Rattle.http1.{specs.declared.error.ReadError.ReadError, specs.declared.framing.Framing.Framing}
 use Rattle.http1.specs.declared.server.Server.{Server}
-use Rattle.gateway_relay.{specs.Content.map_of, specs.declared.failure.Failure.Failure}
-use Rattle.gateway_relay.{specs.declared.response.Response.Response, specs.Failures.{HasNoMap, IsMapFailure}}
+use Rattle.gateway_relay.{specs.Content.map_of, specs.declared.failure.RelayFailure.RelayFailure}
+use Rattle.gateway_relay.specs.declared.response.ReceivedResponse.{ReceivedResponse}
+use Rattle.gateway_relay.specs.Failures.{HasNoMap, IsMapFailure}
 use Rattle.gateway_relay.specs.Heads.{FailsToReadRequest, FailsToReadResponse, IsHeadFailure, IsRequestAt, IsResponseAt}
 use Rattle.gateway_relay.specs.{Heads.{ReadsRequestHead, ReadsResponseHead}, declared.request.Request.Request}
 use Rattle.http1.specs.Server as Serving
 use Rattle.http1.specs.declared.conn.Reading.TheVariants as Reads
-use Rattle.gateway_relay.specs.declared.failure.Failure.TheVariants as Failed
+use Rattle.gateway_relay.specs.declared.failure.RelayFailure.TheVariants as Failed
 
 -- ---- failures
 
 -- the fields of a head have no map
-unmapped : (is_cut has_no_map : Type 0) (is_malformed : ReadError → Type 0) (fields : List Header) (f : Failure)
+unmapped : (is_cut has_no_map : Type 0) (is_malformed : ReadError → Type 0) (fields : List Header) (f : RelayFailure)
     → IsMapFailure fields f → (HasNoMap fields → has_no_map) → IsHeadFailure is_cut has_no_map is_malformed f
 unmapped is_cut has_no_map is_malformed fields Failed.InvalidFields is because = because is
 unmapped is_cut has_no_map is_malformed fields Failed.OutOfMemory is because = tt
 unmapped is_cut has_no_map is_malformed fields f is because = absurd is
 
 -- a call that fails so
-module _ {T : Type 0} (r : Result T Failure) {f y : Failure} (is : r ≡ Err y) (same : y ≡ f) where
-  pub fails_as : (P : Failure → Type 0) → P f → IfErr r P
-  fails_as P because = subst (λ (x : Result T Failure). IfErr x P) (sym is) (subst P (sym same) because)
+module _ {T : Type 0} (r : Result T RelayFailure) {f y : RelayFailure} (is : r ≡ Err y) (same : y ≡ f) where
+  pub fails_as : (P : RelayFailure → Type 0) → P f → IfErr r P
+  fails_as P because = subst (λ (x : Result T RelayFailure). IfErr x P) (sym is) (subst P (sym same) because)
 
   pub request_has_no_map : (limits : Limits) (before input : List ℕ) (left left_now : Option (List ℕ))
       (taken : List ℕ) (head : RequestHead) (framing : Framing) (rest : List ℕ) → Consumes left left_now taken
@@ -113,7 +114,7 @@ takes_head client old new input spans read r same reading writing reads is =
 
 -- its parts were taken
 pub head_taken : (client new : Client) (before taken input after : List ℕ) (left left_after : Option (List ℕ))
-    (spans : List HeaderSpan) (len : ℕ) (r : ResponseSpans) (response : Response)
+    (spans : List HeaderSpan) (len : ℕ) (r : ResponseSpans) (response : ReceivedResponse)
     → TakesHead client input spans new len r → Consumes left left_after taken → input ≡ before ++ taken
     → after ≡ drop r.len input → IsResponseAt input spans r response
     → ReadsResponseHead client new before after left left_after response

@@ -25,14 +25,15 @@ use Rattle.gateway_relay.specs.Content.{ArePassed, Finds, FindsPart, Gives, afte
 use Rattle.gateway_relay.{specs.Content.{reads, receives, waits}, specs.Failures.{Copies, FailsToWrite, HasNoMap}}
 use Rattle.gateway_relay.specs.Failures.{IsMapFailure, IsPieceFailure, IsReceiveFailure, IsRelayFailure, Writes}
 use Rattle.gateway_relay.specs.Failures.{write_failure}
-use Rattle.gateway_relay.{specs.Relay.{HasEnd, IsRelayed, Relays, Sends}, specs.declared.failure.Failure.Failure}
+use Rattle.gateway_relay.specs.Relay.{HasEnd, IsRelayed, Relays, Sends}
+use Rattle.gateway_relay.specs.declared.failure.RelayFailure.{RelayFailure}
 use Rattle.gateway_relay.specs.declared.relay.TheConstants.{MAX_TRAILERS}
 use Rattle.http1.specs.Client as Asking
 use Rattle.http1.specs.Server as Serving
 use Rattle.http1.specs.declared.conn.Reading.TheVariants as Reads
 use Rattle.http1.specs.declared.conn.Writing.TheVariants as Writes
 use Rattle.http1.specs.declared.error.WriteError.TheVariants as Write
-use Rattle.gateway_relay.specs.declared.failure.Failure.TheVariants as Failed
+use Rattle.gateway_relay.specs.declared.failure.RelayFailure.TheVariants as Failed
 
 -- ---- sending
 
@@ -137,16 +138,16 @@ on_ok (Err e) then fact = tt
 
 -- `http1` doesn't write the text
 pub writes_refused : {T : Type 0} (refusal : Option WriteError) (text : List ℕ) (held : Option (List ℕ))
-    (spare len : ℕ) (e : WriteError) (r : Result T Failure) (y : Failure)
+    (spare len : ℕ) (e : WriteError) (r : Result T RelayFailure) (y : RelayFailure)
     → GivesOrRefuses {T = Unit {0}} refusal spare len (Err e) → r ≡ Err y → y ≡ write_failure e
     → Writes refusal text held held r
 writes_refused {T} refusal text held spare len e r y outcome is same =
-    subst (λ (x : Result T Failure). Writes refusal text held held x) (sym (is ∙ ap Err same))
+    subst (λ (x : Result T RelayFailure). Writes refusal text held held x) (sym (is ∙ ap Err same))
     (refused_as refusal text held spare len e outcome)
 
 -- it writes the text, which is then sent
 pub writes_sent : {U : Type 0} (refusal : Option WriteError) (old new : Option (List ℕ)) (text seen : List ℕ)
-    (spare len : ℕ) (value : U) (r : Result (Unit {0}) Failure) → GivesOrRefuses refusal spare len (Ok value)
+    (spare len : ℕ) (value : U) (r : Result (Unit {0}) RelayFailure) → GivesOrRefuses refusal spare len (Ok value)
     → seen ≡ text → Sends r old new seen → IfErr r (λ f. f ≡ Failed.Writer) → Writes refusal text old new r
 writes_sent refusal old new text seen spare len value (Ok v) outcome same s writer = (
   accepted_as refusal spare len value outcome,
@@ -154,7 +155,7 @@ writes_sent refusal old new text seen spare len value (Ok v) outcome same s writ
       (sym (sym same ∙ s.2 ∙ ap (λ (t : List ℕ). s.0 ++ t) s.4 ∙ append-nil s.0)) s.3,
 )
 writes_sent refusal old new text seen spare len value (Err f) outcome same s writer =
-    subst (λ (x : Failure). FailsToWrite refusal text old new x) (sym writer) (
+    subst (λ (x : RelayFailure). FailsToWrite refusal text old new x) (sym writer) (
       accepted_as refusal spare len value outcome,
       record { sent = s.0; unsent = s.1; parts = sym same ∙ s.2; told = s.3 },
     )
@@ -382,12 +383,12 @@ module _ {d : Decoder} {e : Encoder} {before input : List ℕ} {left left_now he
       }
 
   -- the relay fails, and no more is sent
-  pub relays_failed : (ends : Bool) (left_new : Option (List ℕ)) (result : Result (Entries FieldValue) Failure)
-      (after : List ℕ) (written : Writing) (failure : Failure) → result ≡ Err failure → Keeps left_now left_new
+  pub relays_failed : (ends : Bool) (left_new : Option (List ℕ)) (result : Result (Entries FieldValue) RelayFailure)
+      (after : List ℕ) (written : Writing) (failure : RelayFailure) → result ≡ Err failure → Keeps left_now left_new
       → IsRelayFailure ends d e (before ++ p.taken) left_new p.pieces failure → after ≡ input
       → Relays ends d e before after left left_new held held_now written result
   relays_failed ends left_new result after written failure is keeps because remains =
-      subst (λ (x : Result (Entries FieldValue) Failure). Relays ends d e before after left left_new held held_now
+      subst (λ (x : Result (Entries FieldValue) RelayFailure). Relays ends d e before after left left_new held held_now
       written x) (sym is)
       (record {
         taken = p.taken;
@@ -423,7 +424,7 @@ module _ {d : Decoder} {e : Encoder} {before input : List ℕ} {left left_now he
       }
 
   -- a read fails
-  pub receive_fails : (ends : Bool) (left_new : Option (List ℕ)) (failure : Failure) → IsReceiveFailure failure
+  pub receive_fails : (ends : Bool) (left_new : Option (List ℕ)) (failure : RelayFailure) → IsReceiveFailure failure
       → IsRelayFailure ends d e (before ++ p.taken) left_new p.pieces failure
   receive_fails ends left_new Failed.Reader is = tt
   receive_fails ends left_new Failed.OutOfMemory is = tt
@@ -431,7 +432,7 @@ module _ {d : Decoder} {e : Encoder} {before input : List ℕ} {left left_now he
 
   -- a piece is refused
   pub piece_fails : (ends : Bool) (left_new : Option (List ℕ)) (piece : List ℕ) (new : Decoder) (len : ℕ)
-      (failure : Failure) → Continues p.last input new len piece
+      (failure : RelayFailure) → Continues p.last input new len piece
       → IsPieceFailure (data_refusal w (length piece)) failure
       → IsRelayFailure ends d e (before ++ p.taken) left_new p.pieces failure
   piece_fails ends left_new piece new len (Failed.Unsendable error) continues is = (
@@ -446,7 +447,7 @@ module _ {d : Decoder} {e : Encoder} {before input : List ℕ} {left left_now he
 
   -- no header map takes the trailer fields
   pub trailers_fail : (ends : Bool) (left_new : Option (List ℕ)) (spans : List HeaderSpan) (len count : ℕ)
-      (failure : Failure) → Ends p.last input spans len count → IsMapFailure (headers_at input spans count) failure
+      (failure : RelayFailure) → Ends p.last input spans len count → IsMapFailure (headers_at input spans count) failure
       → IsRelayFailure ends d e (before ++ p.taken) left_new p.pieces failure
   trailers_fail ends left_new spans len count Failed.InvalidFields found is = (
     _,
@@ -562,7 +563,7 @@ module _ {d : Decoder} {e : Encoder} {before old_input input : List ℕ}
         completes),
   )
 
-  pub relays_closed : (result : Result (Entries FieldValue) Failure) → pending ≡ []
+  pub relays_closed : (result : Result (Entries FieldValue) RelayFailure) → pending ≡ []
       → IfOk result (λ fields. fields ≡ []) → OnOk result (input ≡ []) → OnOk result (p.last ≡ UntilClose)
       → IfErr result (λ failure. (failure ≡ Failed.CutShort) × (IsTrue ends → input ≡ [] → p.last ≢ UntilClose))
       → Relays ends d e before input left left_now held held_now w result
@@ -570,7 +571,7 @@ module _ {d : Decoder} {e : Encoder} {before old_input input : List ℕ}
       relays_ended p ends trailers _ sent (end_closed p.last _ trailers until all empty)
   relays_closed (Err failure) sent empty all until cut =
       relays_failed p ends _ (Err failure) _ _ failure refl (Keeps-refl _)
-      (subst (λ (f : Failure). IsRelayFailure ends d e (before ++ p.taken) left_now p.pieces f) (sym cut.0)
+      (subst (λ (f : RelayFailure). IsRelayFailure ends d e (before ++ p.taken) left_now p.pieces f) (sym cut.0)
       (closed_early cut.1)) refl
 
 -- ---- what was relayed is the content of the message

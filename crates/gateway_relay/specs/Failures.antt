@@ -11,10 +11,10 @@ use Rattle.http1.specs.{declared.decode.Decoder.Decoder, declared.decode.Decoder
 use Rattle.http1.specs.{declared.encode.Encoder.Encoder, declared.error.WriteError.WriteError}
 use Rattle.http1.specs.Decoder.{Completes, HasNoBody}
 use Rattle.gateway_relay.specs.Content.{Gives, after_pieces, map_of}
-use Rattle.gateway_relay.specs.{declared.failure.Failure.Failure, declared.relay.TheConstants.MAX_TRAILERS}
+use Rattle.gateway_relay.specs.{declared.failure.RelayFailure.RelayFailure, declared.relay.TheConstants.MAX_TRAILERS}
 use Rattle.http.specs.declared.error.Error.TheVariants as Mapped
 use Rattle.http1.specs.declared.error.WriteError.TheVariants as Write
-use Rattle.gateway_relay.specs.declared.failure.Failure.TheVariants as Failed
+use Rattle.gateway_relay.specs.declared.failure.RelayFailure.TheVariants as Failed
 
 -- ---- reading
 
@@ -31,7 +31,7 @@ Copies before (Some copy) left left_after =
     (begun : Filled) × (before ≡ Some begun) × Receives begun.items copy.items left left_after
 
 -- a read failed, or memory ran out
-abbrev pub IsReceiveFailure : Failure → Type 0
+abbrev pub IsReceiveFailure : RelayFailure → Type 0
 IsReceiveFailure Failed.Reader = ⊤
 IsReceiveFailure Failed.OutOfMemory = ⊤
 IsReceiveFailure failure = ⊥
@@ -44,12 +44,12 @@ HasNoMap fields =
     ⊎ ((count : ℕ) × (name : List ℕ) × RefusesAppend (map_of (take count fields)) name))
 
 -- the reason that `http1_typed` tells
-abbrev pub map_failure : Error → Failure
+abbrev pub map_failure : Error → RelayFailure
 map_failure Mapped.OutOfMemory = Failed.OutOfMemory
 map_failure error = Failed.InvalidFields
 
 -- the fields have no map, or memory ran out
-abbrev pub IsMapFailure : List Header → Failure → Type 0
+abbrev pub IsMapFailure : List Header → RelayFailure → Type 0
 IsMapFailure fields Failed.InvalidFields = HasNoMap fields
 IsMapFailure fields Failed.OutOfMemory = ⊤
 IsMapFailure fields failure = ⊥
@@ -57,7 +57,7 @@ IsMapFailure fields failure = ⊥
 -- Why content isn't passed on, where the decoder gave these pieces of the stream: the input, and what was taken of a
 -- reader, of which this is left. It is malformed, and no bytes that follow would mend it; or it is cut short; or its
 -- trailer fields have no map; or the encoder refuses a piece; or else a read or a write failed, or memory ran out.
-abbrev pub IsRelayFailure : Bool → Decoder → Encoder → List ℕ → Option (List ℕ) → List (List ℕ) → Failure → Type 0
+abbrev pub IsRelayFailure : Bool → Decoder → Encoder → List ℕ → Option (List ℕ) → List (List ℕ) → RelayFailure → Type 0
 IsRelayFailure ends_with_connection d e stream left pieces Failed.Reader = ⊤
 IsRelayFailure ends_with_connection d e stream left pieces Failed.CutShort =
     IsAtEnd left × (IsTrue ends_with_connection → d ≢ UntilClose)
@@ -78,7 +78,7 @@ IsRelayFailure ends_with_connection d e stream left pieces Failed.OutOfMemory = 
 -- ---- writing
 
 -- `http1` doesn't write a message, or memory runs out
-abbrev pub write_failure : WriteError → Failure
+abbrev pub write_failure : WriteError → RelayFailure
 write_failure Write.OutOfMemory = Failed.OutOfMemory
 write_failure e = Failed.Unsendable e
 
@@ -88,7 +88,7 @@ Refuses refusal result =
     MatchResult result (λ _. refusal ≡ None) (λ e. (e ≡ Write.OutOfMemory) ⊎ (refusal ≡ Some e))
 
 -- why a piece of content isn't written to a buffer
-abbrev pub IsPieceFailure : Option WriteError → Failure → Type 0
+abbrev pub IsPieceFailure : Option WriteError → RelayFailure → Type 0
 IsPieceFailure refusal (Failed.Unsendable e) = refusal ≡ Some e
 IsPieceFailure refusal Failed.OutOfMemory = ⊤
 IsPieceFailure refusal failure = ⊥
@@ -101,15 +101,15 @@ pub record WritesPart (text : List ℕ) (held held_after : Option (List ℕ)) : 
   pub told : Appends held held_after sent
 
 -- why a text isn't written, and what is written nevertheless; `http1` may refuse it
-abbrev pub FailsToWrite : Option WriteError → List ℕ → Option (List ℕ) → Option (List ℕ) → Failure → Type 0
+abbrev pub FailsToWrite : Option WriteError → List ℕ → Option (List ℕ) → Option (List ℕ) → RelayFailure → Type 0
 FailsToWrite refusal text held held_after (Failed.Unsendable e) = (refusal ≡ Some e) × (held_after ≡ held)
 FailsToWrite refusal text held held_after Failed.Writer = (refusal ≡ None) × WritesPart text held held_after
 FailsToWrite refusal text held held_after Failed.OutOfMemory = held_after ≡ held
 FailsToWrite refusal text held held_after failure = ⊥
 
 -- The text is written, if `http1` doesn't refuse it. If it does, or memory runs out, nothing is written.
-abbrev pub Writes : {T : Type 0} → Option WriteError → List ℕ → Option (List ℕ) → Option (List ℕ) → Result T Failure
-    → Type 0
+abbrev pub Writes : {T : Type 0} → Option WriteError → List ℕ → Option (List ℕ) → Option (List ℕ)
+    → Result T RelayFailure → Type 0
 Writes refusal text held held_after result =
     MatchResult result (λ _. (refusal ≡ None) × Appends held held_after text)
     (λ failure. FailsToWrite refusal text held held_after failure)

@@ -10,11 +10,13 @@ use Rattle.http1.specs.{Message.AcceptsResponse, ServerTrace.headers_at, declare
 use Rattle.http1.specs.{declared.conn.Limits.Limits, declared.error.ReadError.ReadError}
 use Rattle.http1.specs.{declared.framing.Framing.Framing, declared.server.Server.Server}
 use Rattle.http1.specs.Server.{RefusesAt, new_server, request_of}
-use Rattle.gateway_relay.specs.{Content.map_of, declared.failure.Failure.Failure, declared.request.Request.Request}
-use Rattle.gateway_relay.specs.{declared.request.TheConstants.MAX_FIELDS, declared.response.Response.Response}
+use Rattle.gateway_relay.specs.{Content.map_of, declared.failure.RelayFailure.RelayFailure}
+use Rattle.gateway_relay.specs.declared.request.Request.{Request}
+use Rattle.gateway_relay.specs.declared.request.TheConstants.{MAX_FIELDS}
+use Rattle.gateway_relay.specs.declared.response.ReceivedResponse.{ReceivedResponse}
 use Rattle.gateway_relay.specs.Failures.{HasNoMap, Receives}
 use Rattle.http1.specs.declared.conn.Reading.TheVariants as Reads
-use Rattle.gateway_relay.specs.declared.failure.Failure.TheVariants as Failed
+use Rattle.gateway_relay.specs.declared.failure.RelayFailure.TheVariants as Failed
 
 -- ---- requests
 
@@ -56,7 +58,7 @@ abbrev pub IsClosedBefore : List ℕ → Option (List ℕ) → Option (List ℕ)
 IsClosedBefore before left left_after = (before ≡ []) × Consumes left left_after [] × IsAtEnd left_after
 
 -- why no head is read: a read failed, it is cut short, its fields have no map, it is malformed, or memory ran out
-abbrev pub IsHeadFailure : Type 0 → Type 0 → (ReadError → Type 0) → Failure → Type 0
+abbrev pub IsHeadFailure : Type 0 → Type 0 → (ReadError → Type 0) → RelayFailure → Type 0
 IsHeadFailure is_cut has_no_map is_malformed Failed.Reader = ⊤
 IsHeadFailure is_cut has_no_map is_malformed Failed.CutShort = is_cut
 IsHeadFailure is_cut has_no_map is_malformed Failed.InvalidFields = has_no_map
@@ -65,7 +67,7 @@ IsHeadFailure is_cut has_no_map is_malformed Failed.OutOfMemory = ⊤
 IsHeadFailure is_cut has_no_map is_malformed failure = ⊥
 
 -- why no request is read, when this is in the input and this is left of the reader
-abbrev pub IsRequestFailure : Limits → List ℕ → Option (List ℕ) → Failure → Type 0
+abbrev pub IsRequestFailure : Limits → List ℕ → Option (List ℕ) → RelayFailure → Type 0
 IsRequestFailure limits input left failure =
     IsHeadFailure ((input ≢ []) × HasNoRequest input × IsAtEnd left)
     ((head : RequestHead) × (framing : Framing) × (rest : List ℕ)
@@ -75,22 +77,22 @@ IsRequestFailure limits input left failure =
 -- No request is read: it is malformed, and no bytes that follow would mend it; or cut short, or its fields have no map;
 -- or else a read failed, or memory ran out.
 pub record FailsToReadRequest (limits : Limits) (before after : List ℕ) (left left_after : Option (List ℕ))
-    (failure : Failure) : Type 0 where
+    (failure : RelayFailure) : Type 0 where
   pub receives : Receives before after left left_after
   pub because : IsRequestFailure limits after left_after failure
 
 -- ---- responses
 
 -- the parts under the spans
-pub record IsResponseAt (input : List ℕ) (spans : List HeaderSpan) (r : ResponseSpans) (response : Response) : Type 0
-  where
-    pub minor : response.minor ≡ r.version
-    pub status : response.status ≡ r.code
-    pub reason : response.reason ≡ span_bytes input r.reason
-    pub fields : response.fields ≡ map_of (headers_at input spans r.headers)
+pub record IsResponseAt (input : List ℕ) (spans : List HeaderSpan) (r : ResponseSpans) (response : ReceivedResponse)
+    : Type 0 where
+  pub minor : response.minor ≡ r.version
+  pub status : response.status ≡ r.code
+  pub reason : response.reason ≡ span_bytes input r.reason
+  pub fields : response.fields ≡ map_of (headers_at input spans r.headers)
 
 -- the parts of a head of the grammar
-pub record IsResponseOf (h : ResponseHead) (response : Response) : Type 0 where
+pub record IsResponseOf (h : ResponseHead) (response : ReceivedResponse) : Type 0 where
   pub minor : response.minor ≡ h.minor
   pub status : response.status ≡ status_code h
   pub reason : response.reason ≡ reason_phrase h.reason
@@ -98,7 +100,7 @@ pub record IsResponseOf (h : ResponseHead) (response : Response) : Type 0 where
 
 -- The input, and what was taken of the reader, begin with the head of a response that is accepted.
 pub record ReadsResponseHead (client client_after : Client) (before after : List ℕ) (left left_after : Option (List ℕ))
-    (response : Response) : Type 0 where
+    (response : ReceivedResponse) : Type 0 where
   pub taken : List ℕ
   pub received : Consumes left left_after taken
   pub head : ResponseHead
@@ -108,7 +110,7 @@ pub record ReadsResponseHead (client client_after : Client) (before after : List
   pub next : client_after ≡ after_head client head framing
 
 -- why no response is read, when this is in the input and this is left of the reader
-abbrev pub IsResponseFailure : Client → List ℕ → Option (List ℕ) → Failure → Type 0
+abbrev pub IsResponseFailure : Client → List ℕ → Option (List ℕ) → RelayFailure → Type 0
 IsResponseFailure client input left failure =
     IsHeadFailure (HasNoResponse input × IsAtEnd left)
     ((head : ResponseHead) × (framing : Framing) × (rest : List ℕ)
@@ -118,6 +120,6 @@ IsResponseFailure client input left failure =
 
 -- no response is read, for the same reasons
 pub record FailsToReadResponse (client : Client) (before after : List ℕ) (left left_after : Option (List ℕ))
-    (failure : Failure) : Type 0 where
+    (failure : RelayFailure) : Type 0 where
   pub receives : Receives before after left left_after
   pub because : IsResponseFailure client after left_after failure

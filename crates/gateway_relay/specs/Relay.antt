@@ -6,7 +6,7 @@ use Rattle.http_header.specs.{FieldValue.FieldValue, HeaderMap.Entries}
 use Rattle.http1.specs.{Body.Body, Body.body_of, Decoder.Completes, declared.conn.Writing.Writing}
 use Rattle.http1.specs.{declared.decode.Decoder.Decoder, declared.encode.Encoder.Encoder}
 use Rattle.gateway_relay.specs.Content.{ArePassed, Gives, after_pieces, map_of, pieces_text}
-use Rattle.gateway_relay.specs.{Failures.IsRelayFailure, declared.failure.Failure.Failure}
+use Rattle.gateway_relay.specs.{Failures.IsRelayFailure, declared.failure.RelayFailure.RelayFailure}
 use Rattle.http1.specs.declared.conn.Writing.TheVariants as Writes
 
 -- the text is written, or after a failure a first part of it
@@ -25,7 +25,7 @@ HasEnd last unread trailers after =
 -- the content ended, and else a first part. What isn't a piece of it then is still in the input.
 pub record Relays (ends_with_connection : Bool) (d : Decoder) (e : Encoder) (before after : List ℕ)
     (left left_after held held_after : Option (List ℕ)) (written : Writing)
-    (result : Result (Entries FieldValue) Failure) : Type 0 where
+    (result : Result (Entries FieldValue) RelayFailure) : Type 0 where
   pub taken : List ℕ
   pub received : Consumes left left_after taken
   pub pieces : List (List ℕ)

@@ -5,7 +5,7 @@ ghost use Rattle.http1.{specs.Head.response_text, specs.Server.{after_informatio
 ghost use Rattle.http1.specs.Server.{informational_refusal, planned_response, response_refusal};
 ghost use Rattle.gateway_relay.specs.Failures.{Writes};
 
-use crate::failure::Failure;
+use crate::failure::RelayFailure;
 use crate::transfer::send;
 use bytes::BytesMut;
 use http1::{BodySize, Client, Header, Server};
@@ -21,7 +21,7 @@ pub fn send_request_head<W: Write>(
     headers: &[Header<'_>],
     size: BodySize,
     writer: &mut W,
-) -> Result<(), Failure>
+) -> Result<(), RelayFailure>
     ensures writes { Writes (request_refusal client.old method.now target.now size (pairs headers.now))
         (planned_request client.old method.now target.now size (pairs headers.now))
         (W.contents writer.old) (W.contents writer.new) result }
@@ -40,7 +40,7 @@ pub fn send_interim<W: Write>(
     reason: &[u8],
     headers: &[Header<'_>],
     writer: &mut W,
-) -> Result<(), Failure>
+) -> Result<(), RelayFailure>
     ensures writes { Writes (informational_refusal server.old status reason.now (pairs headers.now))
         (response_text 1 status reason.now (pairs headers.now))
         (W.contents writer.old) (W.contents writer.new) result }
@@ -60,7 +60,7 @@ pub fn send_response_head<W: Write>(
     headers: &[Header<'_>],
     size: BodySize,
     writer: &mut W,
-) -> Result<(), Failure>
+) -> Result<(), RelayFailure>
     ensures writes { Writes (response_refusal server.old status reason.now size (pairs headers.now))
         (planned_response server.old status reason.now size (pairs headers.now))
         (W.contents writer.old) (W.contents writer.new) result }

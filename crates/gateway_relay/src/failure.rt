@@ -7,7 +7,7 @@ use std::fmt;
 
 /// Why a message could not be relayed.
 #[derive(Clone, Copy, Debug, PartialEq, Eq)]
-pub enum Failure {
+pub enum RelayFailure {
     /// Reading from the sender failed.
     Reader,
     /// The sender closed the connection within the message.
@@ -26,58 +26,58 @@ pub enum Failure {
     OutOfMemory,
 }
 
-impl fmt::Display for Failure {
+impl fmt::Display for RelayFailure {
     fn fmt<W: fmt::Write>(&self, f: &mut fmt::Formatter<W>) -> fmt::Result {
         match self {
-            Failure::Reader => f.write_str("reading failed"),
-            Failure::CutShort => f.write_str("the connection closed within a message"),
-            Failure::InvalidFields => f.write_str("invalid fields"),
-            Failure::Malformed(error) => write!(f, "{error}"),
-            Failure::TooLong => f.write_str("the content is too long"),
-            Failure::Unsendable(error) => write!(f, "{error}"),
-            Failure::Writer => f.write_str("writing failed"),
-            Failure::OutOfMemory => f.write_str("out of memory"),
+            RelayFailure::Reader => f.write_str("reading failed"),
+            RelayFailure::CutShort => f.write_str("the connection closed within a message"),
+            RelayFailure::InvalidFields => f.write_str("invalid fields"),
+            RelayFailure::Malformed(error) => write!(f, "{error}"),
+            RelayFailure::TooLong => f.write_str("the content is too long"),
+            RelayFailure::Unsendable(error) => write!(f, "{error}"),
+            RelayFailure::Writer => f.write_str("writing failed"),
+            RelayFailure::OutOfMemory => f.write_str("out of memory"),
         }
     }
 }
 
-impl Error for Failure {}
+impl Error for RelayFailure {}
 
-impl From<AllocError> for Failure {
+impl From<AllocError> for RelayFailure {
     ghost use Rattle.std.specs.Prelude.{◌≡◌};
-    ghost use Rattle.gateway_relay.specs.declared.failure.Failure.TheVariants.{OutOfMemory};
+    ghost use Rattle.gateway_relay.specs.declared.failure.RelayFailure.TheVariants.{OutOfMemory};
 
     ghost from_gives = { λ _ failure. failure ≡ OutOfMemory };
 
-    fn from(_: AllocError) -> Failure {
-        Failure::OutOfMemory
+    fn from(_: AllocError) -> RelayFailure {
+        RelayFailure::OutOfMemory
     }
 }
 
-impl From<WriteError> for Failure {
+impl From<WriteError> for RelayFailure {
     ghost use Rattle.std.specs.Prelude.{◌≡◌};
     ghost use Rattle.gateway_relay.specs.Failures.{write_failure};
 
     ghost from_gives = { λ error failure. failure ≡ write_failure error };
 
-    fn from(error: WriteError) -> Failure {
+    fn from(error: WriteError) -> RelayFailure {
         match error {
-            WriteError::OutOfMemory => Failure::OutOfMemory,
-            error => Failure::Unsendable(error),
+            WriteError::OutOfMemory => RelayFailure::OutOfMemory,
+            error => RelayFailure::Unsendable(error),
         }
     }
 }
 
-impl From<http::Error> for Failure {
+impl From<http::Error> for RelayFailure {
     ghost use Rattle.std.specs.Prelude.{◌≡◌};
     ghost use Rattle.gateway_relay.specs.Failures.{map_failure};
 
     ghost from_gives = { λ error failure. failure ≡ map_failure error };
 
-    fn from(error: http::Error) -> Failure {
+    fn from(error: http::Error) -> RelayFailure {
         match error {
-            http::Error::OutOfMemory => Failure::OutOfMemory,
-            _ => Failure::InvalidFields,
+            http::Error::OutOfMemory => RelayFailure::OutOfMemory,
+            _ => RelayFailure::InvalidFields,
         }
     }
 }

@@ -13,10 +13,10 @@ mod source;
 mod transfer;
 
 pub use crate::answer::{send_interim, send_request_head, send_response_head};
-pub use crate::failure::Failure;
+pub use crate::failure::RelayFailure;
 pub use crate::relay::{end_content, fields_at, relay_content};
 pub use crate::request::{MAX_FIELDS, Request, read_request};
-pub use crate::response::{Response, read_response};
+pub use crate::response::{ReceivedResponse, read_response};
 pub use crate::sink::ContentSink;
 pub use crate::source::ContentSource;
 pub use crate::transfer::{receive, send};

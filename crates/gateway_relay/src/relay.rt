@@ -8,10 +8,10 @@ ghost use Rattle.http1.specs.declared.conn.Reading.TheVariants as Reads;
 ghost use Rattle.http1.specs.declared.conn.Writing.TheVariants as Written;
 ghost use Rattle.http1.specs.{declared.decode.Decoder.Decoder, declared.decode.Decoder.TheVariants.UntilClose};
 ghost use Rattle.http1.specs.{declared.encode.Encoder.Encoder};
-ghost use Rattle.gateway_relay.specs.{Content.map_of, declared.failure.Failure.TheVariants.CutShort, Relay.Relays};
+ghost use Rattle.gateway_relay.specs.{Content.map_of, declared.failure.RelayFailure.TheVariants.CutShort, Relay.Relays};
 ghost use Rattle.gateway_relay.specs.Failures.{Copies, IsMapFailure, IsPieceFailure, Writes};
 
-use crate::failure::Failure;
+use crate::failure::RelayFailure;
 use crate::sink::ContentSink;
 use crate::source::ContentSource;
 use crate::transfer::{receive_copied, send};
@@ -34,7 +34,7 @@ fn pass_piece<T: ContentSink>(
     input: &mut BytesMut,
     piece: Span,
     output: &mut BytesMut,
-) -> Result<(), Failure>
+) -> Result<(), RelayFailure>
     requires { IsWithin (length input.old.items) piece }
     ensures unread { OnOk result (input.new.items ≡ drop piece.end input.old.items) }
     ensures written { OnOk result (output.new.items
@@ -62,7 +62,7 @@ pub fn fields_at(
     len: usize,
     spans: &[HeaderSpan],
     count: usize,
-) -> Result<HeaderMap, Failure>
+) -> Result<HeaderMap, RelayFailure>
     requires { IsSectionWithin input.now spans.now len count }
     ensures fields { IfOk result (λ fields. fields ≡ map_of (headers_at input.now spans.now count)) }
     ensures reason { IfErr result (IsMapFailure (headers_at input.now spans.now count)) }
@@ -83,7 +83,7 @@ pub fn relay_content<S: ContentSource, R: Read, T: ContentSink, W: Write>(
     copy: &mut Option<BytesMut>,
     sink: &mut T,
     writer: &mut W,
-) -> Result<HeaderMap, Failure>
+) -> Result<HeaderMap, RelayFailure>
     ensures relays { (d : Decoder) (e : Encoder) → S.reading source.old ≡ Reads.Body d
         → T.writing sink.old ≡ Written.Body e
         → Relays S.ends_with_connection d e input.old.items input.new.items
@@ -101,7 +101,7 @@ pub fn relay_content<S: ContentSource, R: Read, T: ContentSink, W: Write>(
     for _turn in 0..u64::MAX {
         let found = match source.read_content(input.as_slice(), &mut spans) {
             Ok(found) => found,
-            Err(error) => return Err(Failure::Malformed(error)),
+            Err(error) => return Err(RelayFailure::Malformed(error)),
         };
         match found {
             Decoded::Data(piece) => pass_piece(sink, input, piece, &mut output)?,
@@ -121,7 +121,7 @@ pub fn relay_content<S: ContentSource, R: Read, T: ContentSink, W: Write>(
             }
         }
     }
-    Err(Failure::TooLong)
+    Err(RelayFailure::TooLong)
 }
 
 // The content at the end of the input: it is whole only if nothing else ends it.
@@ -130,7 +130,7 @@ fn end_of_input<S: ContentSource>(
     keys: RandomState,
     source: &mut S,
     input: &BytesMut,
-) -> Result<HeaderMap, Failure>
+) -> Result<HeaderMap, RelayFailure>
     ensures fields { IfOk result (λ fields. fields ≡ []) }
     ensures read { OnOk result (input.now.items ≡ []) }
     ensures until_close { (d : Decoder) → S.reading source.old ≡ Reads.Body d → OnOk result (d ≡ UntilClose) }
@@ -142,11 +142,11 @@ fn end_of_input<S: ContentSource>(
         → OnOk result (S.is_waiting source.new ≡ false) }
 {
     if !input.is_empty() {
-        return Err(Failure::CutShort);
+        return Err(RelayFailure::CutShort);
     }
     match source.read_end(input.as_slice()) {
         Ok(()) => Ok(HeaderMap::with_hasher(alloc, keys)),
-        Err(_) => Err(Failure::CutShort),
+        Err(_) => Err(RelayFailure::CutShort),
     }
 }
 
@@ -157,7 +157,7 @@ pub fn end_content<T: ContentSink, W: Write>(
     sink: &mut T,
     trailers: &[Header<'_>],
     writer: &mut W,
-) -> Result<(), Failure>
+) -> Result<(), RelayFailure>
     ensures writes { (e : Encoder) → T.writing sink.old ≡ Written.Body e
         → Writes (end_refusal e (pairs trailers.now)) (end_text e (pairs trailers.now))
         (W.contents writer.old) (W.contents writer.new) result }

@@ -5,7 +5,7 @@ ghost use Rattle.http1.specs.{Server.new_server, ServerTrace.headers_at};
 ghost use Rattle.gateway_relay.specs.Failures.{IsMapFailure};
 ghost use Rattle.gateway_relay.specs.Heads.{FailsToReadRequest, IsClosedBefore, IsRequestAt, ReadsRequestHead};
 
-use crate::failure::Failure;
+use crate::failure::RelayFailure;
 use crate::relay::fields_at;
 use crate::transfer::receive;
 use bytes::{Bytes, BytesMut};
@@ -41,13 +41,13 @@ fn request_at(
     input: &[u8],
     head: &RequestSpans,
     spans: &[HeaderSpan],
-) -> Result<Request, Failure>
+) -> Result<Request, RelayFailure>
     requires { IsRequestWithin input.now spans.now head.now }
     ensures parts { IfOk result (IsRequestAt input.now spans.now head.now) }
     ensures reason { IfErr result (IsMapFailure (headers_at input.now spans.now head.now.headers)) }
 {
     let Ok(method) = Method::from_bytes(alloc, head.method.of(input)) else {
-        return Err(Failure::OutOfMemory);
+        return Err(RelayFailure::OutOfMemory);
     };
     let target = Bytes::copy_from_slice(alloc, head.path.of(input))?;
     let fields = fields_at(alloc, keys, input, head.len, spans, head.headers)?;
@@ -69,7 +69,7 @@ pub fn read_request<R: Read>(
     server: &mut Server,
     input: &mut BytesMut,
     reader: &mut R,
-) -> Result<Option<Request>, Failure>
+) -> Result<Option<Request>, RelayFailure>
     ensures ok { server.old ≡ new_server server.old.limits → IfOk result (λ read. MatchOption read
         (IsClosedBefore input.old.items (R.remaining reader.old) (R.remaining reader.new))
         (ReadsRequestHead server.old.limits input.old.items input.new.items (R.remaining reader.old)
@@ -84,7 +84,7 @@ pub fn read_request<R: Read>(
         let _len = input.len();
         let read = match server.read(input.as_slice(), &mut spans) {
             Ok(read) => read,
-            Err(error) => return Err(Failure::Malformed(error)),
+            Err(error) => return Err(RelayFailure::Malformed(error)),
         };
         match read.event {
             Event::Head(head) => {
@@ -97,7 +97,7 @@ pub fn read_request<R: Read>(
                     return if input.is_empty() {
                         Ok(None)
                     } else {
-                        Err(Failure::CutShort)
+                        Err(RelayFailure::CutShort)
                     };
                 }
             }

@@ -7,7 +7,7 @@ ghost use Rattle.http1.specs.ServerTrace.{headers_at};
 ghost use Rattle.gateway_relay.specs.Failures.{IsMapFailure};
 ghost use Rattle.gateway_relay.specs.Heads.{FailsToReadResponse, IsResponseAt, ReadsResponseHead};
 
-use crate::failure::Failure;
+use crate::failure::RelayFailure;
 use crate::relay::fields_at;
 use crate::request::MAX_FIELDS;
 use crate::transfer::receive;
@@ -21,7 +21,7 @@ use std::io::Read;
 
 /// The head of a response, as it was received.
 #[derive(Debug, Drop)]
-pub struct Response {
+pub struct ReceivedResponse {
     /// The minor version of HTTP/1.
     pub minor: u8,
     /// The status code.
@@ -39,18 +39,18 @@ fn response_at(
     input: &[u8],
     head: &ResponseSpans,
     spans: &[HeaderSpan],
-) -> Result<Response, Failure>
+) -> Result<ReceivedResponse, RelayFailure>
     requires { IsResponseWithin input.now spans.now head.now }
     ensures parts { IfOk result (IsResponseAt input.now spans.now head.now) }
     ensures reason { 100 ≤ head.now.code
         → IfErr result (IsMapFailure (headers_at input.now spans.now head.now.headers)) }
 {
     let Ok(status) = StatusCode::from_u16(head.code) else {
-        return Err(Failure::InvalidFields);
+        return Err(RelayFailure::InvalidFields);
     };
     let reason = Bytes::copy_from_slice(alloc, head.reason.of(input))?;
     let fields = fields_at(alloc, keys, input, head.len, spans, head.headers)?;
-    Ok(Response {
+    Ok(ReceivedResponse {
         minor: head.version,
         status,
         reason,
@@ -66,7 +66,7 @@ pub fn read_response<R: Read>(
     client: &mut Client,
     input: &mut BytesMut,
     reader: &mut R,
-) -> Result<Response, Failure>
+) -> Result<ReceivedResponse, RelayFailure>
     ensures ok { client.old.reading ≡ Reads.Head → awaits_head client.old.writing ≡ false
         → IfOk result (ReadsResponseHead client.old client.new input.old.items input.new.items
         (R.remaining reader.old) (R.remaining reader.new)) }
@@ -80,7 +80,7 @@ pub fn read_response<R: Read>(
         let _len = input.len();
         let read = match client.read(input.as_slice(), &mut spans) {
             Ok(read) => read,
-            Err(error) => return Err(Failure::Malformed(error)),
+            Err(error) => return Err(RelayFailure::Malformed(error)),
         };
         match read.event {
             Event::Head(head) | Event::Informational(head) => {
@@ -90,7 +90,7 @@ pub fn read_response<R: Read>(
             }
             _ => {
                 if receive(reader, input)? == 0 {
-                    return Err(Failure::CutShort);
+                    return Err(RelayFailure::CutShort);
                 }
             }
         }

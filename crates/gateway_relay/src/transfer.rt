@@ -3,7 +3,7 @@ ghost use Rattle.std.specs.Prelude.{◌≡◌, ◌++◌, ℕ, List, [], length, 
 ghost use Rattle.std.specs.Io.KnownBytes.{Consumes, IsAtEnd, Keeps};
 ghost use Rattle.gateway_relay.specs.{Failures.{Copies, IsReceiveFailure}, Relay.Sends};
 
-use crate::failure::Failure;
+use crate::failure::RelayFailure;
 use bytes::BytesMut;
 use std::io::{Read, Write};
 
@@ -12,26 +12,26 @@ const READ_SIZE: usize = 64 * 1024;
 
 /// Writes the bytes, and lets the writer send what it holds. After a failure, a first part of them is
 /// written.
-pub fn send<W: Write>(writer: &mut W, text: &[u8]) -> Result<(), Failure>
+pub fn send<W: Write>(writer: &mut W, text: &[u8]) -> Result<(), RelayFailure>
     ensures sends { Sends result (W.contents writer.old) (W.contents writer.new) text.now }
-    ensures err { IfErr result (λ failure. failure ≡ Failure.Writer) }
+    ensures err { IfErr result (λ failure. failure ≡ RelayFailure.Writer) }
 {
     let mut at = 0;
     while at < text.len() {
         match writer.write(&text[at..]) {
-            Ok(0) => return Err(Failure::Writer),
+            Ok(0) => return Err(RelayFailure::Writer),
             Ok(count) => at += count,
-            Err(_) => return Err(Failure::Writer),
+            Err(_) => return Err(RelayFailure::Writer),
         }
     }
     match writer.flush() {
         Ok(()) => Ok(()),
-        Err(_) => Err(Failure::Writer),
+        Err(_) => Err(RelayFailure::Writer),
     }
 }
 
 /// Reads once, and appends what was read to the input. No byte is the end of what the reader gives.
-pub fn receive<R: Read>(reader: &mut R, input: &mut BytesMut) -> Result<usize, Failure>
+pub fn receive<R: Read>(reader: &mut R, input: &mut BytesMut) -> Result<usize, RelayFailure>
     ensures ok { IfOk result (λ count. (more : List ℕ) × (length more ≡ count)
         × (input.new.items ≡ input.old.items ++ more)
         × Consumes (R.remaining reader.old) (R.remaining reader.new) more) }
@@ -41,11 +41,11 @@ pub fn receive<R: Read>(reader: &mut R, input: &mut BytesMut) -> Result<usize, F
     ensures reason { IfErr result IsReceiveFailure }
 {
     if input.reserve(READ_SIZE).is_err() {
-        return Err(Failure::OutOfMemory);
+        return Err(RelayFailure::OutOfMemory);
     }
     match input.read_from(reader) {
         Ok(count) => Ok(count),
-        Err(_) => Err(Failure::Reader),
+        Err(_) => Err(RelayFailure::Reader),
     }
 }
 
@@ -54,7 +54,7 @@ pub(crate) fn receive_copied<R: Read>(
     reader: &mut R,
     input: &mut BytesMut,
     copy: &mut Option<BytesMut>,
-) -> Result<usize, Failure>
+) -> Result<usize, RelayFailure>
     ensures ok { IfOk result (λ count. (more : List ℕ) × (length more ≡ count)
         × (input.new.items ≡ input.old.items ++ more)
         × Consumes (R.remaining reader.old) (R.remaining reader.new) more) }

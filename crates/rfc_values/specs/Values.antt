@@ -3,13 +3,14 @@ use Rattle.std.specs.Prelude.{ℕ, List, option_copied}
 use Rattle.rfc_values.specs.Dictionaries.{Entry as EntryParts, MemberParts}
 use Rattle.rfc_values.specs.Items.{Reading as Read, Step as StepParts, ValueParts}
 use Rattle.rfc_values.{specs.Items.Step.{Ends, Fails, Goes}, specs.Items.ValueParts.{Integer, Boolean, Text, Other}}
-use Rattle.rfc_values.{specs.declared.dictionaries.Entry.Entry, specs.declared.dictionaries.Member.Member}
-use Rattle.rfc_values.{specs.declared.items.Reading.Reading, specs.declared.items.Value.Value}
-use Rattle.rfc_values.specs.declared.items.Value.TheVariants as value
+use Rattle.rfc_values.specs.declared.dictionaries.DictionaryMember.{DictionaryMember}
+use Rattle.rfc_values.specs.declared.dictionaries.Member.{Member}
+use Rattle.rfc_values.{specs.declared.items.Reading.Reading, specs.declared.items.ItemValue.ItemValue}
+use Rattle.rfc_values.specs.declared.items.ItemValue.TheVariants as value
 use Rattle.rfc_values.specs.declared.parameters.Step.{Step}
 use Rattle.rfc_values.specs.declared.parameters.Step.TheVariants as step
 
-abbrev pub value_of : Value → ValueParts
+abbrev pub value_of : ItemValue → ValueParts
 value_of (value.Integer text) = Integer text.now
 value_of (value.Boolean is) = Boolean is
 value_of (value.String text) = Text text.now
@@ -26,5 +27,5 @@ step_of (step.Goes rest) = Goes rest.now
 abbrev pub member_of : Member → MemberParts
 member_of member = record { key = member.key.now; value = value_of member.value }
 
-abbrev pub entry_of : Entry → EntryParts
+abbrev pub entry_of : DictionaryMember → EntryParts
 entry_of entry = record { member = member_of entry.member; next = option_copied entry.next }

@@ -4,7 +4,7 @@ ghost use Rattle.rfc_values.specs.Dictionaries.{after_comma, entry, entry_by, me
 ghost use Rattle.rfc_values.{specs.Dictionaries.value_behind, specs.Values.{entry_of, reading_of}};
 
 use crate::bytes::{Class, before, skip};
-use crate::items::{Reading, Value, after_key, bare_item};
+use crate::items::{ItemValue, Reading, after_key, bare_item};
 use crate::parameters::{after_inner, after_parameters};
 
 /// A member of a dictionary: its key, and its value without parameters (RFC 8941, section 3.2).
@@ -13,12 +13,12 @@ pub struct Member<'a> {
     /// The key, in lower case.
     pub key: &'a [u8],
     /// The value. A member without one is true.
-    pub value: Value<'a>,
+    pub value: ItemValue<'a>,
 }
 
 /// The first member of a dictionary, and the text of the members after it.
 #[derive(Clone, Copy, Debug)]
-pub struct Entry<'a> {
+pub struct DictionaryMember<'a> {
     /// The first member.
     pub member: Member<'a>,
     /// The text of the members that follow, if there are any.
@@ -30,7 +30,7 @@ fn inner_list(text: &[u8]) -> Option<Reading<'_>>
     ensures { option_map reading_of result ≡ member_value (40 ∷ text.now) }
 {
     Some(Reading {
-        value: Value::Other,
+        value: ItemValue::Other,
         rest: after_inner(text)?,
     })
 }
@@ -52,7 +52,7 @@ fn value_behind(text: &[u8]) -> Option<Reading<'_>>
     match text {
         [b'=', after @ ..] => member_value(after),
         _ => Some(Reading {
-            value: Value::Boolean(true),
+            value: ItemValue::Boolean(true),
             rest: text,
         }),
     }
@@ -81,14 +81,14 @@ fn next_members(text: &[u8]) -> Option<Option<&[u8]>>
 }
 
 // The member with this text behind its key.
-fn entry_by<'a>(text: &'a [u8], behind: &'a [u8]) -> Option<Entry<'a>>
+fn entry_by<'a>(text: &'a [u8], behind: &'a [u8]) -> Option<DictionaryMember<'a>>
     requires { length behind.now < length text.now }
     ensures { option_map entry_of result ≡ entry_by text.now behind.now }
 {
     let Reading { value, rest } = value_behind(behind)?;
     let end = after_parameters(rest)?;
     let next = next_members(skip(Class::Blank, end))?;
-    Some(Entry {
+    Some(DictionaryMember {
         member: Member {
             key: before(text, behind),
             value,
@@ -100,7 +100,7 @@ fn entry_by<'a>(text: &'a [u8], behind: &'a [u8]) -> Option<Entry<'a>>
 /// Parses the first member of a dictionary (RFC 8941, section 4.2.2), with the members after it.
 /// The text is what follows the blanks at the beginning of a field line, or `next` of the entry
 /// before. `None` if it is malformed or empty, which makes the whole field malformed.
-pub fn read_entry(text: &[u8]) -> Option<Entry<'_>>
+pub fn read_entry(text: &[u8]) -> Option<DictionaryMember<'_>>
     ensures { option_map entry_of result ≡ entry text.now }
 {
     entry_by(text, after_key(text)?)

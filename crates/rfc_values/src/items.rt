@@ -8,7 +8,7 @@ use crate::bytes::{Class, before, begins_key, begins_token, is_printable, skip};
 
 /// The parsed value of an item (RFC 8941, section 3.3).
 #[derive(Clone, Copy, Debug)]
-pub enum Value<'a> {
+pub enum ItemValue<'a> {
     /// An integer, with its text: up to 15 digits, perhaps after a minus sign.
     Integer(&'a [u8]),
     /// A boolean.
@@ -22,7 +22,7 @@ pub enum Value<'a> {
 // The value with which a text begins, and what follows it.
 #[derive(Clone, Copy)]
 pub(crate) struct Reading<'a> {
-    pub(crate) value: Value<'a>,
+    pub(crate) value: ItemValue<'a>,
     pub(crate) rest: &'a [u8],
 }
 
@@ -44,7 +44,7 @@ fn integer<'a>(text: &'a [u8], digits: usize, rest: &'a [u8]) -> Option<Reading<
 {
     if digits <= 15 {
         Some(Reading {
-            value: Value::Integer(before(text, rest)),
+            value: ItemValue::Integer(before(text, rest)),
             rest,
         })
     } else {
@@ -60,7 +60,7 @@ fn decimal(digits: usize, after_point: &[u8]) -> Option<Reading<'_>>
     let places = after_point.len() - rest.len();
     if digits <= 12 && 1 <= places && places <= 3 {
         Some(Reading {
-            value: Value::Other,
+            value: ItemValue::Other,
             rest,
         })
     } else {
@@ -128,7 +128,7 @@ fn string(text: &[u8]) -> Option<Reading<'_>>
 {
     let rest = after_string(text)?;
     Some(Reading {
-        value: Value::String(&text[..text.len() - rest.len() - 1]),
+        value: ItemValue::String(&text[..text.len() - rest.len() - 1]),
         rest,
     })
 }
@@ -139,11 +139,11 @@ fn boolean(text: &[u8]) -> Option<Reading<'_>>
 {
     match text {
         [b'1', rest @ ..] => Some(Reading {
-            value: Value::Boolean(true),
+            value: ItemValue::Boolean(true),
             rest,
         }),
         [b'0', rest @ ..] => Some(Reading {
-            value: Value::Boolean(false),
+            value: ItemValue::Boolean(false),
             rest,
         }),
         _ => None,
@@ -156,7 +156,7 @@ fn after_colon(text: &[u8]) -> Option<Reading<'_>>
 {
     match text {
         [b':', rest @ ..] => Some(Reading {
-            value: Value::Other,
+            value: ItemValue::Other,
             rest,
         }),
         _ => None,
@@ -172,7 +172,7 @@ pub(crate) fn bare_item(text: &[u8]) -> Option<Reading<'_>>
         b'-' | b'0'..=b'9' => number(text),
         b'"' => string(after),
         b'*' | b'a'..=b'z' | b'A'..=b'Z' => Some(Reading {
-            value: Value::Other,
+            value: ItemValue::Other,
             rest: skip(Class::Token, after),
         }),
         b':' => after_colon(skip(Class::Base64, after)),

@@ -15,7 +15,7 @@ mod parameters;
 mod parser;
 mod timestamp;
 
-pub use crate::dictionaries::{Entry, Member, read_entry};
-pub use crate::items::Value;
+pub use crate::dictionaries::{DictionaryMember, Member, read_entry};
+pub use crate::items::ItemValue;
 pub use crate::laws::{http_dates_read_back, timestamps_by_the_calendar};
 pub use crate::timestamp::{Timestamp, read_date};

@@ -1,7 +1,7 @@
 -- The bytes that pieces send, one step after another.
 use Rattle.std.proofs.Common.{◌≡◌, ℕ, ◌+◌, ◌-◌, ◌≤◌, List, [], ◌∷◌, ◌++◌, length, refl, sym, ap, ◌∙◌, subst, arith}
 use Rattle.std.proofs.Common.{append_assoc, append-nil, length-append}
-use Rattle.server_connection.{specs.declared.piece.Extent.Extent, specs.declared.piece.Piece.Piece}
+use Rattle.server_connection.{specs.declared.piece.OpenRange.OpenRange, specs.declared.piece.Piece.Piece}
 use Rattle.server_connection.{specs.declared.piece.Piece.TheVariants.{Literal, Range}, specs.Pieces.{Gives, Emits}}
 use Rattle.server_connection.specs.Pieces.{Advances, piece_len, total_len, rest_of, Shortens}
 use Rattle.server_connection.specs.Pieces.Advances.{stays, emits, skips}
@@ -47,7 +47,7 @@ module _ (gives : Gives) where
       (skips (Literal []) pieces pieces [] refl (stays pieces)))
 
   -- the first bytes of a range are sent
-  pub sends_range : (extent : Extent) (bytes : List ℕ) (pieces : List Piece) → length bytes ≤ extent.len
+  pub sends_range : (extent : OpenRange) (bytes : List ℕ) (pieces : List Piece) → length bytes ≤ extent.len
       → gives extent.start bytes
       → Advances gives (Range extent ∷ pieces) bytes (Range (rest_of extent (length bytes)) ∷ pieces)
   sends_range extent bytes pieces fits given =
@@ -57,21 +57,21 @@ module _ (gives : Gives) where
       (emits (Range extent) rest pieces (rest ∷ pieces) bytes [] (given, refl, whole) (stays (rest ∷ pieces)))
 
   -- an empty range is skipped
-  pub skips_range : (extent : Extent) (pieces : List Piece) → extent.len ≡ 0 → Advances gives (Range extent ∷ pieces)
+  pub skips_range : (extent : OpenRange) (pieces : List Piece) → extent.len ≡ 0 → Advances gives (Range extent ∷ pieces)
       [] pieces
   skips_range extent pieces none = skips (Range extent) pieces pieces [] none (stays pieces)
 
   -- the same at the front of a list
-  pub sends_range_at : {old after : List Piece} {extent : Extent} (bytes : List ℕ) → old ≡ Range extent ∷ after
+  pub sends_range_at : {old after : List Piece} {extent : OpenRange} (bytes : List ℕ) → old ≡ Range extent ∷ after
       → length bytes ≤ extent.len → gives extent.start bytes
       → Advances gives old bytes (Range (rest_of extent (length bytes)) ∷ after)
   sends_range_at {after = after} {extent = extent} bytes front fits given =
       rw front (sends_range extent bytes after fits given)
 
   -- and taken off it
-  pub sends_short : {old new after : List Piece} {extent : Extent} (bytes : List ℕ) → old ≡ Range extent ∷ after
+  pub sends_short : {old new after : List Piece} {extent : OpenRange} (bytes : List ℕ) → old ≡ Range extent ∷ after
       → Shortens old new (length bytes) → gives extent.start bytes → Advances gives old bytes new
   sends_short {extent = extent} bytes front short given =
       let both : Range extent ∷ _ ≡ Range short.0 ∷ short.1 = sym front ∙ short.2 in
       let same : extent ≡ short.0 = cc in
-      rw short.4 (sends_range_at bytes short.2 short.3 (subst (λ (e : Extent). gives e.start bytes) same given))
+      rw short.4 (sends_range_at bytes short.2 short.3 (subst (λ (e : OpenRange). gives e.start bytes) same given))

@@ -16,7 +16,8 @@ use Rattle.http_server.{specs.Exchange.{Serves, keeps_open}, specs.History.{Hist
 use Rattle.http_server.specs.Machine.{Core, HasRequest, HasResponse, IsRunning, Base}
 use Rattle.http_server.{proofs.AnswerLemmas.{body_is_taken, final_answer, starts_over}, proofs.ReplyLemmas.closes}
 use Rattle.http_server.{proofs.ReplyLemmas.goes_on, proofs.StreamLemmas.Serves-push}
-use Rattle.server_connection.{specs.declared.piece.Piece.Piece, specs.declared.plan.Plan.Plan, specs.Encoding.Frames}
+use Rattle.server_connection.{specs.declared.piece.Piece.Piece, specs.declared.plan.ResponsePlan.ResponsePlan}
+use Rattle.server_connection.specs.Encoding.{Frames}
 use Rattle.server_connection.specs.Encoding.{content_len, head_text, plan_fields, prefix_of}
 use Rattle.server_connection.{specs.Literal.{IsLater, SendsCall}, specs.Machine.{Account, IsLaid, IsSending, Sends}}
 use Rattle.server_connection.{specs.Machine.View, specs.Pieces.{Advances, Gives}, specs.Pieces.Advances.stays}
@@ -28,7 +29,7 @@ use Rattle.http_server.specs.Encoding as Whole
 
 -- ---- a response with this content
 
-abbrev pub response_of : Plan → List ℕ → Response
+abbrev pub response_of : ResponsePlan → List ℕ → Response
 response_of plan content = record {
   status = plan.status;
   headers = plan.headers;
@@ -47,7 +48,8 @@ framed_text Writes.Closed content taken = absurd (cc)
 abbrev pub shown : Bool → List ℕ → List ℕ
 shown bodiless content = cond bodiless [] content
 
-module _ (plan : Plan) (old new : Server) (head tail content : List ℕ) (same : length content ≡ content_len plan) where
+module _ (plan : ResponsePlan) (old new : Server) (head tail content : List ℕ)
+    (same : length content ≡ content_len plan) where
   abbrev r : Response
   r = response_of plan content
 
@@ -120,7 +122,7 @@ module _ {H : Type 0} (plans : Plans H) (gives : H → Gives) (first before now 
         has_head = has_head;
       })
       → (request : Request (List ℕ)) → ArePartsOf x.message.head (head_of request)
-      → body_of request ≡ k.body → (plan : Plan) → plans before request plan now → (bodiless : Bool)
+      → body_of request ≡ k.body → (plan : ResponsePlan) → plans before request plan now → (bodiless : Bool)
       → bodiless ≡ is_head (method_kind x.message.head.method) → (new : Server) (after tail : List ℕ)
       → Frames bodiless plan k.server k.history.pending [] new after tail
       → IsSending plans gives first before now (record {

@@ -12,8 +12,9 @@ use Rattle.server_connection.specs.Machine.{Past, Runs, RunsAt, SendsOn, TakesIn
 use Rattle.server_connection.specs.Machine.{new_past, past_after, view, account, sends_left, with_calls, work}
 use Rattle.server_connection.proofs.SendLemmas.{base_out, answers, call, closes_after, cuts, hands_on, laid_closed}
 use Rattle.server_connection.{proofs.SendLemmas.{laid_open, moves, stays_open}, specs.declared.machine.Machine.Machine}
-use Rattle.server_connection.{specs.declared.piece.Extent.Extent, specs.declared.piece.Piece.Piece}
-use Rattle.server_connection.{specs.declared.plan.Plan.Plan, specs.Connection.{Exchanged, HasEnded, IsClosing}}
+use Rattle.server_connection.{specs.declared.piece.OpenRange.OpenRange, specs.declared.piece.Piece.Piece}
+use Rattle.server_connection.specs.declared.plan.ResponsePlan.{ResponsePlan}
+use Rattle.server_connection.specs.Connection.{Exchanged, HasEnded, IsClosing}
 use Rattle.server_connection.{specs.Connection.{IsReached, IsSentLiterally, Turns}, specs.Connection.IsReached.begun}
 use Rattle.server_connection.{specs.Connection.IsReached.moved, specs.Literal.{IsLater, IsLiteral}}
 use Rattle.server_connection.{specs.Pieces.{Shortens, Advances, Gives}, specs.declared.machine.Phase.Phase}
@@ -114,7 +115,7 @@ account_ended : (p : Past) (calls : List Call) (old new : Machine) (state : Stat
 account_ended p calls old new state x is head = cc
 
 -- the connection once a response begins
-pub view_begun : (p : Past) (plan : Plan) (bodiless : Bool) (old new : Machine) → Begins plan bodiless old new
+pub view_begun : (p : Past) (plan : ResponsePlan) (bodiless : Bool) (old new : Machine) → Begins plan bodiless old new
     → old.has_head ≡ false → old.body.items ≡ [] → view new p ≡ record {
       config = old.config;
       history = record (history_of old p) { pending = new.output.items };
@@ -439,7 +440,7 @@ module _ {H : Type 0} (plans : Plans H) (gives : H → Gives) where
   -- or, where they are not so many, those of a range,
   abbrev pub OffersRange : Machine → H → List ℕ → Type 0
   OffersRange m h bytes =
-      (m.output.items ≡ []) × (extent : Extent) × IsNextRange m extent × (length bytes ≤ extent.len)
+      (m.output.items ≡ []) × (extent : OpenRange) × IsNextRange m extent × (length bytes ≤ extent.len)
       × gives h extent.start bytes
 
   pub offers_range : (m : Machine) (h : H) (bytes : List ℕ) → ¬ (length bytes ≤ length m.output.items)

@@ -8,7 +8,8 @@ use Rattle.server_connection.{specs.Literal.{IsLiteral, SendsCalls}, specs.decla
 use Rattle.server_connection.specs.declared.connection.Event.TheVariants as Says
 use Rattle.server_connection.specs.declared.machine.Machine.{Machine}
 use Rattle.server_connection.specs.declared.machine.Phase.TheVariants.{Receiving, Asking}
-use Rattle.server_connection.{specs.declared.piece.Extent.Extent, specs.Machine.{IsNextRange, Moves, Past, Runs, Sends}}
+use Rattle.server_connection.specs.declared.piece.OpenRange.{OpenRange}
+use Rattle.server_connection.specs.Machine.{IsNextRange, Moves, Past, Runs, Sends}
 use Rattle.server_connection.{specs.Machine.{history_of, new_past}, specs.Pieces.Gives, specs.Plan.{Answers, Plans}}
 
 -- the connection ended as HTTP has it
@@ -58,7 +59,7 @@ IsSaid m Says.NeedsInput = (m.state ≡ Open) × (m.phase ≡ Receiving) × (m.o
 IsSaid m Says.Request = (m.state ≡ Open) × (m.phase ≡ Asking)
 IsSaid m Says.Output =
     (¬ ((m.state ≡ Open) × (m.phase ≡ Asking)))
-    × ((m.output.items ≢ []) ⊎ ((m.output.items ≡ []) × (extent : Extent) × IsNextRange m extent))
+    × ((m.output.items ≢ []) ⊎ ((m.output.items ≡ []) × (extent : OpenRange) × IsNextRange m extent))
 IsSaid m (Says.Closed why) = (m.state ≡ Closing why) × (m.output.items ≡ [])
 IsSaid m Says.Aborted = (m.state ≢ Open) × (¬ (IsClosing m.state)) × (m.output.items ≡ [])
 

@@ -6,32 +6,33 @@ use Rattle.http1.{specs.Fields.Header, specs.Server.{writing, with_writing, afte
 use Rattle.http1.specs.Server.{planned_response, after_response}
 use Rattle.http1_typed.specs.Parts.{reason_of}
 use Rattle.http_server.specs.Response.{fields}
-use Rattle.server_connection.{specs.declared.plan.Plan.Plan, specs.Pieces.total_len}
+use Rattle.server_connection.{specs.declared.plan.ResponsePlan.ResponsePlan, specs.Pieces.total_len}
 
 -- how long a plan's content is
-abbrev pub content_len : Plan → ℕ
+abbrev pub content_len : ResponsePlan → ℕ
 content_len plan = total_len plan.pieces.items
 
 -- the size of a content of this length, as `http1` is told it
 abbrev pub size_for : ℕ → BodySize
 size_for len = if len == 0 then Empty else Known len
 
-abbrev pub plan_size : Plan → BodySize
+abbrev pub plan_size : ResponsePlan → BodySize
 plan_size plan = size_for (content_len plan)
 
-abbrev pub plan_fields : Plan → List Header
+abbrev pub plan_fields : ResponsePlan → List Header
 plan_fields plan = fields plan.headers.items
 
 -- the head of the response
-abbrev pub head_text : Server → Plan → List ℕ
+abbrev pub head_text : Server → ResponsePlan → List ℕ
 head_text s plan = planned_response s plan.status (reason_of plan.status) (plan_size plan) (plan_fields plan)
 
 -- the server after the head
-abbrev pub after_head : Server → Plan → Server
+abbrev pub after_head : Server → ResponsePlan → Server
 after_head s plan = after_response s plan.status (plan_size plan) (plan_fields plan)
 
 -- the head was accepted and appended
-pub record WritesHead (plan : Plan) (old : Server) (before : List ℕ) (new : Server) (after : List ℕ) : Type 0 where
+pub record WritesHead (plan : ResponsePlan) (old : Server) (before : List ℕ) (new : Server) (after : List ℕ)
+    : Type 0 where
   pub late : plan.status ≢ 101
   pub short : content_len plan < 2 ^ 64
   pub valid : response_refusal old plan.status (reason_of plan.status) (plan_size plan) (plan_fields plan) ≡ None
@@ -39,23 +40,23 @@ pub record WritesHead (plan : Plan) (old : Server) (before : List ℕ) (new : Se
   pub next : new ≡ after_head old plan
 
 -- what goes before the content and after it, unless the method is `HEAD`
-abbrev pub prefix_of : Bool → Server → Plan → List ℕ
+abbrev pub prefix_of : Bool → Server → ResponsePlan → List ℕ
 prefix_of true s plan = []
 prefix_of false s plan = data_prefix (writing (after_head s plan)) (content_len plan)
 
-abbrev pub suffix_of : Bool → Server → Plan → List ℕ
+abbrev pub suffix_of : Bool → Server → ResponsePlan → List ℕ
 suffix_of true s plan = []
 suffix_of false s plan = data_suffix (writing (after_head s plan)) (content_len plan)
 
 -- the server after the content
-abbrev pub after_content : Bool → Server → Plan → Server
+abbrev pub after_content : Bool → Server → ResponsePlan → Server
 after_content true s plan = after_head s plan
 after_content false s plan =
     with_writing (after_head s plan) (after_data (writing (after_head s plan)) (content_len plan))
 
 -- The head of the response was appended to the output, with what goes before its content, and what goes after it to the
 -- tail.
-pub record Frames (bodiless : Bool) (plan : Plan) (old : Server) (before tail_before : List ℕ) (new : Server)
+pub record Frames (bodiless : Bool) (plan : ResponsePlan) (old : Server) (before tail_before : List ℕ) (new : Server)
     (after tail_after : List ℕ) : Type 0 where
   pub late : plan.status ≢ 101
   pub short : content_len plan < 2 ^ 64

@@ -6,7 +6,8 @@ use Rattle.http_server.{specs.declared.state.Config.Config, specs.declared.state
 use Rattle.http_server.specs.declared.state.State.TheVariants.{Open, Closing, Upgraded, Aborted}
 use Rattle.http_server.{specs.declared.state.Reason.TheVariants.{Asked, EndOfInput, Refused}, specs.Encoding.answering}
 use Rattle.http_server.{specs.Exchange.{Call, Exchanges, IsInterim}, specs.Refusal.refusal_text}
-use Rattle.server_connection.{specs.declared.plan.Plan.Plan, specs.Encoding.Frames, specs.Pieces.{AreSent, Gives}}
+use Rattle.server_connection.{specs.declared.plan.ResponsePlan.ResponsePlan, specs.Encoding.Frames}
+use Rattle.server_connection.specs.Pieces.{AreSent, Gives}
 use Rattle.server_connection.specs.Plan.{HasHeadOf, Plans, sent_pieces}
 
 -- The stream begins with the request of the call, and the text is all that was sent for it. Its response carries out a
@@ -16,7 +17,7 @@ pub record SendsCall {H : Type 0} (plans : Plans H) (gives : H → Gives) (confi
     (stream : List ℕ) (c : Call) (text rest : List ℕ) : Type 0 where
   pub stays : Bool
   pub exchange : Exchanges config stays stream c text rest
-  pub plan : Plan
+  pub plan : ResponsePlan
   pub planned : plans before c.0 plan now
   pub has_head : HasHeadOf plan c.1
   pub bodiless : Bool

@@ -15,8 +15,9 @@ use Rattle.http_server.{specs.Exchange.{Serves, continue_text}, specs.History.{H
 use Rattle.http_server.{specs.Machine.{HasRequest, Holds, MayAbort}, specs.Refusal.refusal_text}
 use Rattle.server_connection.{specs.declared.machine.Machine.Machine, specs.declared.machine.Phase.Phase}
 use Rattle.server_connection.specs.declared.machine.Phase.TheVariants.{Receiving, Asking, Responding}
-use Rattle.server_connection.{specs.declared.piece.Extent.Extent, specs.declared.piece.Piece.Piece}
-use Rattle.server_connection.{specs.declared.piece.Piece.TheVariants.Range, specs.declared.plan.Plan.Plan}
+use Rattle.server_connection.{specs.declared.piece.OpenRange.OpenRange, specs.declared.piece.Piece.Piece}
+use Rattle.server_connection.specs.declared.piece.Piece.TheVariants.{Range}
+use Rattle.server_connection.specs.declared.plan.ResponsePlan.{ResponsePlan}
 use Rattle.server_connection.{specs.Encoding.Frames, specs.Literal.{IsLiteral, SendsCalls}, specs.Pieces.Gives}
 use Rattle.server_connection.{specs.Pieces.{Advances, CanShorten, Shortens, rest_of}, specs.Plan.{Plans, Answers}}
 use Rattle.server_connection.specs.Plan.{sent_pieces}
@@ -73,7 +74,7 @@ pub record Sends {H : Type 0} (plans : Plans H) (gives : H → Gives) (before no
   pub message : Wire.Request
   pub request : Request (List ℕ)
   pub reads : ReadsCall config rest message request h.unread
-  pub plan : Plan
+  pub plan : ResponsePlan
   pub planned : plans before request plan now
   pub bodiless : Bool
   pub kind : bodiless ≡ is_head (method_kind message.head.method)
@@ -254,13 +255,13 @@ abbrev pub Puts : Machine → List ℕ → Machine → Type 0
 Puts old bytes new = PutsBytes old bytes old.left.items new ⊎ CutsOff old new
 
 -- the first bytes of a range, and the range after them
-pub record PutsRange (gives : Gives) (extent : Extent) (old new : Machine) : Type 0 where
+pub record PutsRange (gives : Gives) (extent : OpenRange) (old new : Machine) : Type 0 where
   pub bytes : List ℕ
   pub fits : length bytes ≤ extent.len
   pub given : gives extent.start bytes
   pub puts : PutsBytes old bytes (Range (rest_of extent (length bytes)) ∷ old.left.items) new
 
-abbrev pub SendsRange : Gives → Extent → Machine → Machine → Type 0
+abbrev pub SendsRange : Gives → OpenRange → Machine → Machine → Type 0
 SendsRange gives extent old new =
     ((extent.len ≡ 0) × (new ≡ old)) ⊎ PutsRange gives extent old new ⊎ CutsOff old new
 
@@ -285,7 +286,7 @@ abbrev pub SendsOn : Gives → Machine → Machine → Type 0
 SendsOn gives old new = MovesOn gives old new ⊎ ((old.left.items ≡ []) × Ends old new) ⊎ CutsOff old new
 
 -- the response that a plan says begins, or it is none that `http1` sends
-pub record Begins (plan : Plan) (bodiless : Bool) (old new : Machine) : Type 0 where
+pub record Begins (plan : ResponsePlan) (bodiless : Bool) (old new : Machine) : Type 0 where
   pub config : new.config ≡ old.config
   pub ended : new.ended ≡ old.ended
   pub input : new.input.items ≡ old.input.items
@@ -305,7 +306,7 @@ pub record Aborts (old new : Machine) : Type 0 where
   pub state : new.state ≡ Aborted
   pub output : new.output.items ≡ []
 
-abbrev pub Starts : Plan → Bool → Machine → Machine → Type 0
+abbrev pub Starts : ResponsePlan → Bool → Machine → Machine → Type 0
 Starts plan bodiless old new = Begins plan bodiless old new ⊎ Aborts old new
 
 -- what stays when the connection reads or writes
@@ -328,20 +329,20 @@ pub record HandsOut (old new : Machine) (count : ℕ) : Type 0 where
   pub output : new.output.items ≡ drop count old.output.items
 
 -- this range is to be sent next, once the output is: it is the first of the pieces that are left, and isn't empty
-abbrev pub IsNextRange : Machine → Extent → Type 0
+abbrev pub IsNextRange : Machine → OpenRange → Type 0
 IsNextRange m extent =
     (m.state ≡ Open) × (m.phase ≡ Responding) × (after : List Piece) × (m.left.items ≡ Range extent ∷ after)
     × (0 < extent.len)
 
 -- no range is to be sent next
 abbrev pub HasNoRange : Machine → Type 0
-HasNoRange m = (extent : Extent) → ¬ (IsNextRange m extent)
+HasNoRange m = (extent : OpenRange) → ¬ (IsNextRange m extent)
 
 -- So many bytes of the range that is next were handed out, where no others wait, it is so long, and they end below
 -- 2^64.
 abbrev pub HandsOutRange : Machine → Machine → ℕ → Type 0
 HandsOutRange old new count =
-    (extent : Extent) → IsNextRange old extent → old.output.items ≡ [] → 0 < count → CanShorten old.left.items count
+    (extent : OpenRange) → IsNextRange old extent → old.output.items ≡ [] → 0 < count → CanShorten old.left.items count
     → (new ≡ record old { left = new.left }) × Shortens old.left.items new.left.items count
 
 -- these bytes were read, or the end of the input was found
@@ -386,19 +387,19 @@ Drops old new bytes = ((new ≡ old) × (bytes ≡ [])) ⊎ DropsContent old new
 abbrev pub Offers : Gives → Machine → List ℕ → Type 0
 Offers gives m bytes =
     ((more : List ℕ) × (m.output.items ≡ bytes ++ more))
-    ⊎ ((m.output.items ≡ []) × (extent : Extent) × IsNextRange m extent × (length bytes ≤ extent.len)
+    ⊎ ((m.output.items ≡ []) × (extent : OpenRange) × IsNextRange m extent × (length bytes ≤ extent.len)
     × gives extent.start bytes)
 
 -- it offers so many bytes
 abbrev pub OffersCount : Machine → ℕ → Type 0
 OffersCount m count =
     (count ≤ length m.output.items)
-    ⊎ ((m.output.items ≡ []) × (extent : Extent) × IsNextRange m extent × (count ≤ extent.len))
+    ⊎ ((m.output.items ≡ []) × (extent : OpenRange) × IsNextRange m extent × (count ≤ extent.len))
 
 -- no step is left: while a response is sent, something is offered
 abbrev pub HasStopped : Machine → Type 0
 HasStopped m =
-    m.state ≡ Open → m.phase ≡ Responding → m.output.items ≡ [] → (extent : Extent) × IsNextRange m extent
+    m.state ≡ Open → m.phase ≡ Responding → m.output.items ≡ [] → (extent : OpenRange) × IsNextRange m extent
 
 -- the pieces and the end of a response that is being sent
 abbrev pub sends_left : Phase → State → ℕ → ℕ

@@ -1,6 +1,6 @@
 -- The bytes that the pieces of a plan send.
 use Rattle.std.specs.Prelude.{◌≡◌, ℕ, ◌+◌, ◌-◌, ◌^◌, ◌<◌, ◌≤◌, List, [], ◌∷◌, ◌++◌, length}
-use Rattle.server_connection.{specs.declared.piece.Extent.Extent, specs.declared.piece.Piece.Piece}
+use Rattle.server_connection.{specs.declared.piece.OpenRange.OpenRange, specs.declared.piece.Piece.Piece}
 use Rattle.server_connection.specs.declared.piece.Piece.TheVariants.{Literal, Range}
 
 -- how many bytes a piece sends
@@ -18,19 +18,19 @@ abbrev pub Gives : Type 1
 Gives = ℕ → List ℕ → Type 0
 
 -- what is left of consecutive bytes after the first ones
-abbrev pub rest_of : Extent → ℕ → Extent
+abbrev pub rest_of : OpenRange → ℕ → OpenRange
 rest_of extent count = record { start = extent.start + count; len = extent.len - count }
 
 -- so many bytes may be taken off the range at the front
 abbrev pub CanShorten : List Piece → ℕ → Type 0
 CanShorten pieces count =
-    (extent : Extent) × (after : List Piece) × (pieces ≡ Range extent ∷ after) × (count ≤ extent.len)
+    (extent : OpenRange) × (after : List Piece) × (pieces ≡ Range extent ∷ after) × (count ≤ extent.len)
     × (extent.start + count < 2 ^ 64)
 
 -- and they were
 abbrev pub Shortens : List Piece → List Piece → ℕ → Type 0
 Shortens old new count =
-    (extent : Extent) × (after : List Piece) × (old ≡ Range extent ∷ after) × (count ≤ extent.len)
+    (extent : OpenRange) × (after : List Piece) × (old ≡ Range extent ∷ after) × (count ≤ extent.len)
     × (new ≡ Range (rest_of extent count) ∷ after)
 
 -- The piece sends these bytes first, and then what the other piece sends: bytes of its own, or bytes that what is open

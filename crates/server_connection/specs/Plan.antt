@@ -3,36 +3,37 @@ use Rattle.std.specs.Prelude.{◌≡◌, ℕ, Bool, true, false, List, [], lengt
 use Rattle.http.{specs.declared.request.Request.Request, specs.Request.head_of}
 use Rattle.http1.{specs.Framing.method_kind, specs.Server.is_head}
 use Rattle.http_server.{specs.declared.response.Response.Response, specs.Response.{fields, fields_of}}
-use Rattle.server_connection.{specs.declared.plan.Plan.Plan, specs.declared.piece.Piece.Piece, specs.Pieces.Gives}
+use Rattle.server_connection.{specs.declared.plan.ResponsePlan.ResponsePlan, specs.declared.piece.Piece.Piece}
+use Rattle.server_connection.specs.Pieces.{Gives}
 use Rattle.server_connection.specs.Pieces.{AreSent, total_len}
 
 -- what an application is given to fill: a 200 with no field line and no content
-pub record IsBlank (plan : Plan) : Type 0 where
+pub record IsBlank (plan : ResponsePlan) : Type 0 where
   pub status : plan.status ≡ 200
   pub headers : fields plan.headers.items ≡ []
   pub pieces : plan.pieces.items ≡ []
 
 -- the response has the plan's status and field lines
-pub record HasHeadOf (plan : Plan) (response : Response) : Type 0 where
+pub record HasHeadOf (plan : ResponsePlan) (response : Response) : Type 0 where
   pub status : response.status ≡ plan.status
   pub headers : fields_of response ≡ fields plan.headers.items
 
 -- The content is what the pieces send. To HEAD it isn't sent, and only its length counts.
-abbrev pub IsContentOf : Bool → Gives → Plan → List ℕ → Type 0
+abbrev pub IsContentOf : Bool → Gives → ResponsePlan → List ℕ → Type 0
 IsContentOf true gives plan content = length content ≡ total_len plan.pieces.items
 IsContentOf false gives plan content = AreSent gives plan.pieces.items content
 
 -- the pieces that are sent: none to HEAD
-abbrev pub sent_pieces : Bool → Plan → List Piece
+abbrev pub sent_pieces : Bool → ResponsePlan → List Piece
 sent_pieces true plan = []
 sent_pieces false plan = plan.pieces.items
 
 -- from one state of an application, a plan answers a request and leaves another state
 abbrev pub Plans : Type 0 → Type 1
-Plans H = H → Request (List ℕ) → Plan → H → Type 0
+Plans H = H → Request (List ℕ) → ResponsePlan → H → Type 0
 
 -- from one state of an application, the response carries out a plan that answers the request, and leaves another state
 abbrev pub Answers : {H : Type 0} → Plans H → (H → Gives) → H → Request (List ℕ) → Response → H → Type 0
 Answers plans gives before request response now =
-    (plan : Plan) × plans before request plan now × HasHeadOf plan response
+    (plan : ResponsePlan) × plans before request plan now × HasHeadOf plan response
     × IsContentOf (is_head (method_kind (head_of request).method)) (gives now) plan response.body.items

@@ -1,7 +1,7 @@
 //! What the contracts of a connection know of the application.
 ghost use Rattle.std.specs.Prelude.{ℕ, List};
 ghost use Rattle.http.specs.declared.request.Request.{Request};
-ghost use Rattle.server_connection.specs.declared.plan.Plan.{Plan};
+ghost use Rattle.server_connection.specs.declared.plan.ResponsePlan.{ResponsePlan};
 
 use crate::handler::Handler;
 
@@ -9,7 +9,7 @@ use crate::handler::Handler;
 /// `respond`, and its host sends the ranges of what is open.
 pub trait Application {
     // From the first state, the plan answers the request and leaves the second state.
-    ghost plans: { Self → Request (List ℕ) → Plan → Self → Type 0 };
+    ghost plans: { Self → Request (List ℕ) → ResponsePlan → Self → Type 0 };
 
     // What the application has open may give these bytes from this place on.
     ghost gives: { Self → ℕ → List ℕ → Type 0 };

@@ -7,8 +7,8 @@ ghost use Rattle.server_connection.specs.Machine.{IsNextRange, Moves, Offers, Of
 
 use crate::application::Application;
 use crate::machine::{Machine, Phase};
-use crate::piece::Extent;
-use crate::plan::Plan;
+use crate::piece::OpenRange;
+use crate::plan::ResponsePlan;
 use bytes::Bytes;
 use http::Request;
 use http_server::{Config, MAX_HEADERS, Reason, State};
@@ -33,18 +33,18 @@ pub enum Event {
 
 /// One connection of a server. Ask `next` what it wants, do so, and ask again.
 #[derive(Drop)]
-pub struct Connection {
+pub struct ServerConnection {
     pub(crate) machine: Machine,
 }
 
-impl Connection {
+impl ServerConnection {
     /// A connection that has received nothing. It allocates nothing. The client chooses the names of header fields,
     /// so their maps take secret keys.
-    pub fn new<A: Application>(alloc: Global, keys: RandomState, config: Config) -> Connection
+    pub fn new<A: Application>(alloc: Global, keys: RandomState, config: Config) -> ServerConnection
         ensures begins { (first : A) → IsReached A.plans A.gives config first result.machine first [] [] }
         ensures phase { result.machine.phase ≡ Phase.Receiving }
     {
-        Connection {
+        ServerConnection {
             machine: Machine::new(alloc, keys, config),
         }
     }
@@ -113,7 +113,7 @@ impl Connection {
     }
 
     /// Answers the request that waits.
-    pub fn respond<A: Application>(&mut self, plan: Plan)
+    pub fn respond<A: Application>(&mut self, plan: ResponsePlan)
         requires { self.old.machine.phase ≡ Phase.Asking }
         ensures { (before now : A) → A.plans before self.old.machine.request plan now
             → Moves A.plans A.gives self.old.machine before [] [] self.new.machine now }
@@ -130,7 +130,7 @@ impl Connection {
 
     /// What is to be written next, if there is no output: bytes of what the application has open. `None` if a response
     /// isn't being sent, or none of its bytes are to be read.
-    pub fn range(&self) -> Option<Extent>
+    pub fn range(&self) -> Option<OpenRange>
         ensures some { IfSome result (λ extent. IsNextRange self.now.machine extent) }
         ensures none { IfNone result (HasNoRange self.now.machine) }
     {

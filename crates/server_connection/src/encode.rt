@@ -6,7 +6,7 @@ ghost use Rattle.http1_typed.specs.Parts.{reason_of};
 ghost use Rattle.http_server.specs.Response.{fields};
 ghost use Rattle.server_connection.specs.Encoding.{Frames, WritesHead, plan_size};
 
-use crate::plan::Plan;
+use crate::plan::ResponsePlan;
 use bytes::BytesMut;
 use http::{HeaderName, HeaderValue, StatusCode};
 use http1::{BodySize, Header, Server, WriteError};
@@ -18,7 +18,7 @@ pub(crate) fn encode(
     server: &mut Server,
     output: &mut BytesMut,
     tail: &mut BytesMut,
-    plan: &Plan,
+    plan: &ResponsePlan,
     is_head: bool,
 ) -> Result<(), WriteError>
     ensures { OnOk result (Frames is_head plan.now server.old output.old.items tail.old.items
@@ -36,7 +36,7 @@ fn write_head(
     alloc: Global,
     server: &mut Server,
     output: &mut BytesMut,
-    plan: &Plan,
+    plan: &ResponsePlan,
 ) -> Result<(), WriteError>
     ensures { OnOk result (WritesHead plan.now server.old output.old.items server.new output.new.items) }
 {
@@ -72,7 +72,7 @@ fn reason(status: StatusCode) -> &'static [u8]
     status.canonical_reason().unwrap_or("").as_bytes()
 }
 
-fn plan_size(plan: &Plan) -> BodySize
+fn plan_size(plan: &ResponsePlan) -> BodySize
     ensures value { result ≡ plan_size plan.now }
     ensures short { plan.now.len < 2 ^ 64 }
 {

@@ -1,9 +1,9 @@
 //! What an application gives to a connection.
 ghost use Rattle.std.{specs.Prelude.{◌≡◌, ℕ, List, take, OnOk, IfOk}, specs.Io.ReadsAtMost};
 ghost use Rattle.http.specs.declared.request.Request.{Request};
-ghost use Rattle.server_connection.{specs.declared.plan.Plan.Plan, specs.Plan.IsBlank};
+ghost use Rattle.server_connection.{specs.declared.plan.ResponsePlan.ResponsePlan, specs.Plan.IsBlank};
 
-use crate::Plan;
+use crate::ResponsePlan;
 use bytes::Bytes;
 use http::{Request, StatusCode};
 use std::alloc::AllocError;
@@ -12,7 +12,7 @@ use std::io;
 /// An application: it answers a request with a plan, and gives the bytes of the plan's ranges.
 pub trait Handler {
     // From the first state, the plan answers the request and leaves the second state.
-    ghost plans: { Self → Request (List ℕ) → Plan → Self → Type 0 };
+    ghost plans: { Self → Request (List ℕ) → ResponsePlan → Self → Type 0 };
 
     // What the handler has open may give these bytes from this place on.
     ghost gives: { Self → ℕ → List ℕ → Type 0 };
@@ -22,7 +22,7 @@ pub trait Handler {
     ///
     /// Fails only if an allocation fails, which ends the connection. Answer any other fault with a
     /// status.
-    fn plan(&mut self, request: &Request<Bytes>, plan: &mut Plan) -> Result<(), AllocError>
+    fn plan(&mut self, request: &Request<Bytes>, plan: &mut ResponsePlan) -> Result<(), AllocError>
         requires { IsBlank plan.old }
         ensures { OnOk result (plans self.old request.now plan.new self.new) };
 

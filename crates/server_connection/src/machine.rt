@@ -19,8 +19,8 @@ ghost use Rattle.server_connection.specs.Pieces.{CanShorten, Shortens};
 use crate::application::Application;
 use crate::encode::encode;
 use crate::host::are_hosts;
-use crate::piece::{Extent, Piece};
-use crate::plan::Plan;
+use crate::piece::{OpenRange, Piece};
+use crate::plan::ResponsePlan;
 use crate::refusal::refusal_text;
 use bytes::{Bytes, BytesMut};
 use http::request::Parts;
@@ -318,7 +318,7 @@ impl Machine {
     }
 
     /// The range that is to be sent next, once the output is.
-    pub(crate) fn range(&self) -> Option<Extent>
+    pub(crate) fn range(&self) -> Option<OpenRange>
         ensures some { IfSome result (λ extent. IsNextRange self.now extent) }
         ensures none { IfNone result (HasNoRange self.now) }
     {
@@ -332,7 +332,7 @@ impl Machine {
     }
 
     /// The same, unless much output waits already.
-    pub(crate) fn range_to_read(&self) -> Option<Extent>
+    pub(crate) fn range_to_read(&self) -> Option<OpenRange>
         ensures some { IfSome result (λ extent. IsNextRange self.now extent
             × (length self.now.output.items ≤ self.now.config.max_pending)) }
         ensures none { IfNone result (HasNoRange self.now
@@ -474,7 +474,7 @@ impl Machine {
     }
 
     /// Answers the request that waits.
-    pub(crate) fn respond<A: Application>(&mut self, plan: Plan)
+    pub(crate) fn respond<A: Application>(&mut self, plan: ResponsePlan)
         requires { self.old.phase ≡ Phase.Asking }
         ensures { (before now : A) → A.plans before self.old.request plan now
             → Leads A.plans A.gives self.old before self.new now }
@@ -497,7 +497,7 @@ impl Machine {
     }
 
     // Begins to send what a plan says.
-    fn start(&mut self, plan: Plan, is_head: bool)
+    fn start(&mut self, plan: ResponsePlan, is_head: bool)
         ensures { Starts plan is_head self.old self.new }
     {
         self.tail.clear();
@@ -525,7 +525,7 @@ impl Machine {
 
     /// Puts the first bytes of the range that is next into the output.
     pub(crate) fn fill<A: Application>(&mut self, bytes: &[u8])
-        ensures { (now : A) (extent : Extent) → IsNextRange self.old extent → A.gives now extent.start bytes.now
+        ensures { (now : A) (extent : OpenRange) → IsNextRange self.old extent → A.gives now extent.start bytes.now
             → SendsOn (A.gives now) self.old self.new }
     {
         if !shorten(&mut self.left, bytes.len()) {
@@ -565,7 +565,7 @@ impl Machine {
         }
     }
 
-    fn skip(&mut self, extent: Extent)
+    fn skip(&mut self, extent: OpenRange)
         ensures { ((extent.len ≡ 0) × (self.new ≡ self.old)) ⊎ CutsOff self.old self.new }
     {
         if extent.len > 0 {
@@ -605,7 +605,8 @@ fn shorten(left: &mut VecDeque<Piece>, count: usize) -> bool
     let Some(len) = extent.len.checked_sub(count as u64) else {
         return false;
     };
-    left.push_front(Piece::Range(Extent { start, len })).is_ok()
+    left.push_front(Piece::Range(OpenRange { start, len }))
+        .is_ok()
 }
 
 fn set_body(request: &mut Request<Bytes>, body: Bytes)

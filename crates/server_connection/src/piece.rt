@@ -6,7 +6,7 @@ use bytes::Bytes;
 
 /// Consecutive bytes of what an application has open.
 #[derive(Clone, Copy, Debug, PartialEq, Eq)]
-pub struct Extent {
+pub struct OpenRange {
     /// The position of the first byte.
     pub start: u64,
     /// The number of bytes.
@@ -19,7 +19,7 @@ pub enum Piece {
     /// Literal bytes.
     Literal(Bytes),
     /// Bytes of what the application has open, which the host sends by itself.
-    Range(Extent),
+    Range(OpenRange),
 }
 
 impl Piece {

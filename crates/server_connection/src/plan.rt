@@ -12,7 +12,7 @@ use std::collections::VecDeque;
 /// The connection adds Content-Length and Connection where they are needed. A response to HEAD has the
 /// plan of a GET, and its content isn't sent.
 #[derive(Debug, Drop)]
-pub struct Plan {
+pub struct ResponsePlan {
     /// The status code.
     pub status: StatusCode,
     /// The field lines, in order.
@@ -24,16 +24,16 @@ pub struct Plan {
     ghost is_len: { len ≡ total_len pieces.items },
 }
 
-impl Plan {
+impl ResponsePlan {
     ghost use Rattle.std.specs.Prelude.{[], ◌∷◌, ◌++◌, OnOk, OnErr};
     ghost use Rattle.http_server.specs.Response.{fields};
     ghost use Rattle.server_connection.specs.Plan.{IsBlank};
 
     /// Makes a plan without field lines and content. It never allocates.
-    pub fn new(alloc: Global) -> Plan
+    pub fn new(alloc: Global) -> ResponsePlan
         ensures { IsBlank result }
     {
-        Plan {
+        ResponsePlan {
             status: StatusCode::OK,
             headers: Vec::new(alloc),
             pieces: VecDeque::new(alloc),
@@ -82,7 +82,7 @@ impl Plan {
     pub(crate) fn into_pieces(self) -> VecDeque<Piece>
         ensures { result.items ≡ self.pieces.items }
     {
-        let Plan { pieces, .. } = self;
+        let ResponsePlan { pieces, .. } = self;
         pieces
     }
 }

@@ -3,11 +3,11 @@ ghost use Rattle.std.{specs.Prelude.{◌≡◌, ℕ, List, [], is_ok}, specs.Io.
 ghost use Rattle.server_connection.{specs.Connection.{Exchanged, IsSaid, Turns}, specs.Machine.{IsNextRange, Leads}};
 ghost use Rattle.server_connection.specs.Machine.{Moves};
 
-use crate::connection::{Connection, Event};
+use crate::connection::{Event, ServerConnection};
 use crate::handler::Handler;
 use crate::machine::Phase;
-use crate::piece::Extent;
-use crate::plan::Plan;
+use crate::piece::OpenRange;
+use crate::plan::ResponsePlan;
 use crate::refusal::rejection_status;
 use http_server::{Config, Reason, State};
 use std::alloc::Global;
@@ -38,7 +38,7 @@ pub fn serve_exchanges<H: Handler, R: Read, W: Write>(
         × Appends (W.contents writer.old) (W.contents writer.new) sent
         × Exchanged H.plans H.gives config handler.old handler.new received sent (is_ok result) }
 {
-    let mut connection = Connection::new::<H>(alloc, keys, config);
+    let mut connection = ServerConnection::new::<H>(alloc, keys, config);
     let mut buffer = vec![in alloc; 0; PIECE_LEN]?;
     // A loop is proved to end, so this one counts its turns.
     for _ in 0..u64::MAX {
@@ -51,7 +51,7 @@ pub fn serve_exchanges<H: Handler, R: Read, W: Write>(
 
 // Does what the connection wants once. Returns whether it is done.
 fn turn<H: Handler, R: Read, W: Write>(
-    connection: &mut Connection,
+    connection: &mut ServerConnection,
     handler: &mut H,
     buffer: &mut [u8],
     reader: &mut R,
@@ -81,7 +81,7 @@ fn turn<H: Handler, R: Read, W: Write>(
 }
 
 // Asks the connection what it wants, and tells the handler of a rejection.
-fn next<H: Handler>(connection: &mut Connection, handler: &H) -> Event
+fn next<H: Handler>(connection: &mut ServerConnection, handler: &H) -> Event
     ensures moves { Moves H.plans H.gives connection.old.machine handler.now [] [] connection.new.machine handler.now }
     ensures said { IsSaid connection.new.machine result }
 {
@@ -99,11 +99,11 @@ fn note<H: Handler>(handler: &H, state: State) {
     }
 }
 
-fn answer<H: Handler>(connection: &mut Connection, handler: &mut H)
+fn answer<H: Handler>(connection: &mut ServerConnection, handler: &mut H)
     requires { connection.old.machine.phase ≡ Phase.Asking }
     ensures { Leads H.plans H.gives connection.old.machine handler.old connection.new.machine handler.new }
 {
-    let mut plan = Plan::new(connection.machine.alloc);
+    let mut plan = ResponsePlan::new(connection.machine.alloc);
     match handler.plan(&connection.machine.request, &mut plan) {
         Ok(()) => connection.machine.respond::<H>(plan),
         Err(_) => connection.machine.give_up::<H>(),
@@ -112,7 +112,7 @@ fn answer<H: Handler>(connection: &mut Connection, handler: &mut H)
 
 // Writes once; or reads once from what the handler has open, so that a short content goes with its head.
 fn send<H: Handler, W: Write>(
-    connection: &mut Connection,
+    connection: &mut ServerConnection,
     handler: &H,
     buffer: &mut [u8],
     writer: &mut W,
@@ -130,7 +130,12 @@ fn send<H: Handler, W: Write>(
     }
 }
 
-fn fill<H: Handler>(connection: &mut Connection, handler: &H, extent: Extent, buffer: &mut [u8])
+fn fill<H: Handler>(
+    connection: &mut ServerConnection,
+    handler: &H,
+    extent: OpenRange,
+    buffer: &mut [u8],
+)
     requires { IsNextRange connection.old.machine extent }
     ensures { Leads H.plans H.gives connection.old.machine handler.now connection.new.machine handler.now }
 {

@@ -5,7 +5,8 @@ use Rattle.http1.specs.Fields.{Header}
 use Rattle.http_header.specs.FieldValue.{FieldValue}
 use Rattle.headers.{specs.Date.fixdate, specs.LineMap.LineMap, specs.Lines.Line}
 use Rattle.server_connection.{specs.Pieces.AreSent, specs.declared.piece.Piece.Piece}
-use Rattle.server_connection.{specs.declared.piece.Piece.TheVariants.Range, specs.declared.plan.Plan.{Plan as Response}}
+use Rattle.server_connection.specs.declared.piece.Piece.TheVariants.{Range}
+use Rattle.server_connection.specs.declared.plan.ResponsePlan.{ResponsePlan as Response}
 use Rattle.decide_preconditions.{specs.Fields.{lines_sent, not_after}, specs.declared.part.Part.Part}
 use Rattle.decide_resource.specs.Fields.{lines_of_value}
 use Rattle.server_service.{specs.Answer.{cache_fields, clock, first_fields}, specs.File.{coding_value, gives_of}}

@@ -9,7 +9,7 @@ use Rattle.http1.{specs.Conn.keeps_alive, specs.Framing.method_kind, specs.Messa
 use Rattle.http1_typed.specs.Parts.{version_of}
 use Rattle.headers.specs.Date.{fixdate}
 use Rattle.server_service.specs.Answer.{date_fields}
-use Rattle.server_connection.{specs.declared.plan.Plan.Plan, specs.Encoding.{content_len, plan_fields}}
+use Rattle.server_connection.{specs.declared.plan.ResponsePlan.ResponsePlan, specs.Encoding.{content_len, plan_fields}}
 
 -- a request for the root of a host, without content
 abbrev pub request_text : List ℕ → List ℕ
@@ -61,6 +61,6 @@ pub record StaysOpen (head : RequestHead) : Type 0 where
   pub method : method_kind head.method ≡ Other
 
 -- the plan is that of a 200 with these fields, which state the length of its content
-pub record IsOk (now : Option ℕ) (tag media_type : List ℕ) (plan : Plan) : Type 0 where
+pub record IsOk (now : Option ℕ) (tag media_type : List ℕ) (plan : ResponsePlan) : Type 0 where
   pub status : plan.status ≡ 200
   pub fields : plan_fields plan ≡ ok_fields now tag (content_len plan) media_type

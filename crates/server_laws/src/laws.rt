@@ -18,7 +18,8 @@ ghost use Rattle.http_server.specs.{Encoding.answering, Exchange.ReadsCall, Hist
 ghost use Rattle.{http_server.specs.declared.state.Config.Config, http_uri.specs.Uri.uri_path};
 ghost use Rattle.{httparse.specs.Grammar.RequestHead, server_connection.specs.{Connection.Exchanged, Encoding.Frames}};
 ghost use Rattle.server_connection.specs.{Encoding.{content_len, head_text, plan_fields, plan_size}, Machine.Sends};
-ghost use Rattle.server_connection.specs.{Pieces.AreSent, declared.plan.Plan.{Plan, Plan as Response}};
+ghost use Rattle.server_connection.specs.Pieces.{AreSent};
+ghost use Rattle.server_connection.specs.declared.plan.ResponsePlan.{ResponsePlan, ResponsePlan as Response};
 ghost use Rattle.server_files.specs.{Tags.{content_digest, strong_tag}, declared.kept.Kept.Kept};
 ghost use Rattle.server_laws.specs.{Answered.{HasNoOptions, IsWhole, SendsContent, JoinTo, lines_in}, Literal.IsOk};
 ghost use Rattle.server_laws.specs.Literal.{StaysOpen, AsksForRoot, ok_fields, ok_text, request_text};
@@ -166,7 +167,7 @@ pub fn literal_requests_are_read()
 /// exactly these.
 pub fn get_of_root_gets_the_file()
     ensures { (now : Option ℕ) (left : ℕ) (settings : Settings) (site : Site) (store : Memory)
-        (request : Request (List ℕ)) (response : Plan) (source : Option Source)
+        (request : Request (List ℕ)) (response : ResponsePlan) (source : Option Source)
         → IsSiteOf settings site → HasNoOptions settings → string_bytes store.path ≡ codes "index.html"
         → AsksForRoot (codes "GET") request → IsAnswerAt now left site (HasOne store) request response source
         → (file : File) × HasOne store (codes "index.html") (Readable file)
@@ -176,7 +177,7 @@ pub fn get_of_root_gets_the_file()
 /// Theorem: the head of a 200 with these fields, literally as it is written. It answers a request of
 /// HTTP/1.1 that lets the connection stay open, if it is a response that `http1` sends.
 pub fn ok_is_written_out()
-    ensures { (limits : Limits) (head : RequestHead) (framing : Framing) (plan : Plan) (now : Option ℕ)
+    ensures { (limits : Limits) (head : RequestHead) (framing : Framing) (plan : ResponsePlan) (now : Option ℕ)
         (tag media_type : List ℕ) → plan.status ≡ 200 → content_len plan < 2 ^ 64
         → plan_fields plan ≡ ok_fields now tag (content_len plan) media_type → head.minor ≡ 1
         → keeps_alive head.minor (known_of head.fields) ≡ true → is_connect (method_kind head.method) ≡ false
@@ -189,7 +190,7 @@ pub fn ok_is_written_out()
 /// that head, to which it adds no field, and after it nothing. The fields state the content's length, and
 /// the request is one of HTTP/1.1 that lets the connection stay open.
 pub fn ok_is_framed_literally()
-    ensures { (limits : Limits) (head : RequestHead) (framing : Framing) (plan : Plan) (server : Server)
+    ensures { (limits : Limits) (head : RequestHead) (framing : Framing) (plan : ResponsePlan) (server : Server)
         (now : Option ℕ) (tag media_type before tail after rest : List ℕ) → IsOk now tag media_type plan
         → StaysOpen head → Frames false plan (answering limits head framing) before tail server after rest
         → (after ≡ before ++ ok_text now tag (content_len plan) media_type) × (rest ≡ tail) }
@@ -211,7 +212,7 @@ pub fn ok_is_put_out_literally()
 /// white space at their ends, and state the content's length once, or not at all. So a 500 never
 /// takes the place of such a response.
 pub fn ordinary_responses_are_sent()
-    ensures { (limits : Limits) (head : RequestHead) (framing : Framing) (plan : Plan) (stated : Bool)
+    ensures { (limits : Limits) (head : RequestHead) (framing : Framing) (plan : ResponsePlan) (stated : Bool)
         → content_len plan < 2 ^ 64 → head.minor ≤ 1 → is_field_value (reason_of plan.status) ≡ true
         → StatesLength (content_len plan) stated (plan_fields plan)
         → IsFinal (method_kind head.method) plan.status (content_len plan) stated
@@ -224,7 +225,7 @@ pub fn ordinary_responses_are_sent()
 /// ends. So a 500 never takes the place of an answer.
 pub fn answers_are_sendable()
     ensures { (limits : Limits) (head : RequestHead) (framing : Framing) (now : Option ℕ) (left : ℕ) (site : Site)
-        (look : List ℕ → Entry) (request : Request (List ℕ)) (response : Plan) (source : Option Source)
+        (look : List ℕ → Entry) (request : Request (List ℕ)) (response : ResponsePlan) (source : Option Source)
         → IsSite (string_bytes site.divider) site.resource → IsBareIfAny site.resource.cors → head.minor ≤ 1
         → head.method ≡ (head_of request).method
         → IsAnswerAt now left site (λ path entry. entry ≡ look path) request response source

@@ -7,7 +7,7 @@ use Rattle.http.{specs.declared.version.TheConstants.Version.HTTP_10, specs.decl
 use Rattle.http_uri.{specs.declared.uri.Uri.Uri, specs.Uri.{uri_path, uri_query}}
 use Rattle.headers.{specs.Date.fixdate, specs.LineMap.{LineMap, lines_at}, specs.Lines.Line}
 use Rattle.server_connection.specs.Encoding.{content_len}
-use Rattle.server_connection.specs.declared.plan.Plan.{Plan as Response}
+use Rattle.server_connection.specs.declared.plan.ResponsePlan.{ResponsePlan as Response}
 use Rattle.server_files.specs.Redirect.{query_text}
 
 -- visible ASCII and the space, but for the quote (34)

@@ -13,7 +13,7 @@ use headers::{Date, HeaderMap, HeaderName};
 use http::{Method, Request, StatusCode, Uri, Version};
 use http_header::{REFERER, USER_AGENT};
 use httpdate::HttpDate;
-use server_connection::Plan as Response;
+use server_connection::ResponsePlan as Response;
 use std::alloc::{AllocError, Global};
 
 fn is_quotable(byte: u8) -> bool

@@ -10,10 +10,10 @@ use crate::stamp::Stamp;
 use bytes::Bytes;
 use headers::{Date, ETag, HeaderValue, LastModified, Refused};
 use http::{Request, StatusCode};
-use server_connection::Plan as Response;
+use server_connection::ResponsePlan as Response;
 use server_log::{log_line, rejection_line};
 use server_service::{
-    Coding, Entry, File, Kept, Listing, Opened, Reader, Source, Store, folder_of, media_type_at,
+    Coding, Entry, File, FileStore, Kept, Listing, Opened, Reader, Source, folder_of, media_type_at,
 };
 use std::alloc::{AllocError, Global};
 use std::io::{ErrorKind, Read, Write};
@@ -220,7 +220,7 @@ impl Folder<'_> {
     }
 }
 
-impl Store for Folder<'_> {
+impl FileStore for Folder<'_> {
     ghost use Rattle.std.specs.Prelude.{◌≡◌, false, None, ⊤};
 
     ghost has = { λ _ _ _. ⊤ };

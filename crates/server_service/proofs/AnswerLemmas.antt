@@ -11,7 +11,7 @@ use Rattle.decide_preconditions.{specs.Contents.{divisible_len, limits_of}, spec
 use Rattle.decide_preconditions.{specs.Responses.IsAnswered, specs.declared.limits.RangeLimits.RangeLimits}
 use Rattle.decide_preconditions.{specs.declared.plan.Plan.Plan, specs.declared.plan.Plan.TheVariants.NotModified}
 use Rattle.decide_preconditions.specs.declared.plan.Plan.TheVariants.{Failed, Full, Single, Multiple, Unsatisfiable}
-use Rattle.decide_preconditions.specs.declared.resource.Resource.{Resource as Target}
+use Rattle.decide_preconditions.specs.declared.resource.TargetState.{TargetState as Target}
 use Rattle.decide_preconditions.specs.declared.response.Response.{Response}
 use Rattle.decide_resource.specs.Answers.{GivesIf, IsAnswer, at_place, content_of, is_admitted, is_sent, sent_for}
 use Rattle.decide_resource.specs.Answers.{target_of}
@@ -28,7 +28,7 @@ use Rattle.decide_resource.specs.declared.reason.Reason.TheVariants.{NotAcceptab
 use Rattle.decide_resource.specs.declared.representation.Representation.{Representation}
 use Rattle.decide_resource.specs.declared.resource.Resource.{Resource}
 use Rattle.decide_cors.specs.Policy.{Policy}
-use Rattle.server_connection.specs.declared.plan.Plan.{Plan as Exchanged}
+use Rattle.server_connection.specs.declared.plan.ResponsePlan.{ResponsePlan as Exchanged}
 use Rattle.server_service.specs.Answer.{Carries, FitsIn, FitsOf, cache_sent, explained_fields, pieces_for}
 use Rattle.server_service.{specs.File.{len_of, representation_of}, specs.Parts.{Fits, Occurs}}
 use Rattle.server_service.{specs.Response.{headers_sent, trimmed_lines}, specs.declared.settings.Site.Site}

@@ -7,7 +7,7 @@ use Rattle.http1.specs.Fields.{Header}
 use Rattle.headers.specs.LineMap.{Field, LineMap, fields_of as encoded_fields}
 use Rattle.headers.specs.Lines.{Line}
 use Rattle.server_connection.specs.declared.piece.Piece.{Piece}
-use Rattle.server_connection.specs.declared.plan.Plan.{Plan as Response}
+use Rattle.server_connection.specs.declared.plan.ResponsePlan.{ResponsePlan as Response}
 use Rattle.gateway_messages.specs.declared.protocol.Protocol.{Protocol}
 use Rattle.decide_preconditions.{specs.Contents.{divisible_len, limits_of}, specs.declared.part.Part.Part}
 use Rattle.decide_preconditions.specs.declared.plan.Plan.TheVariants.{Full, Multiple}

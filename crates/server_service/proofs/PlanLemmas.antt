@@ -6,7 +6,7 @@ use Rattle.decide_preconditions.{specs.Fields.status_of, specs.Plans.{IsPlan, Is
 use Rattle.decide_preconditions.{specs.declared.limits.RangeLimits.RangeLimits, specs.declared.part.Part.Part}
 use Rattle.decide_preconditions.{specs.declared.plan.Plan.Plan, specs.declared.plan.Plan.TheVariants.NotModified}
 use Rattle.decide_preconditions.specs.declared.plan.Plan.TheVariants.{Failed, Full, Single, Multiple, Unsatisfiable}
-use Rattle.decide_preconditions.specs.declared.resource.Resource.{Resource}
+use Rattle.decide_preconditions.specs.declared.resource.TargetState.{TargetState}
 
 -- what depends on a plan, from its parts if it sends some of them: `several` depends on two or more
 abbrev by_parts : {X : Type 0} → (Plan → X) → (List Part → X) → List Part → X
@@ -28,7 +28,7 @@ by_parts-several of_plan several [] more = absurd (omega (arith, more))
 by_parts-several of_plan several (part ∷ []) more = absurd (omega (arith, more))
 by_parts-several of_plan several (part ∷ other ∷ parts) more = refl
 
-module _ (present : ℕ) (method : List ℕ) (request : LineMap) (resource : Resource) (len : ℕ)
+module _ (present : ℕ) (method : List ℕ) (request : LineMap) (resource : TargetState) (len : ℕ)
     (limits : RangeLimits) where
   goes_by_status : {X : Type 0} (of_plan : Plan → X) (several : List Part → X)
       → ((parts : _) → of_plan (Multiple parts) ≡ several parts.items) → (plan : Plan)

@@ -8,7 +8,7 @@ use Rattle.http_uri.specs.Uri.{uri_path}
 use Rattle.headers.{specs.LineMap.{Field, LineMap, lines_at}, specs.Lines.Line}
 use Rattle.server_connection.{specs.Pieces.AreSent, specs.declared.piece.Piece.Piece}
 use Rattle.server_connection.specs.declared.piece.Piece.TheVariants.{Range}
-use Rattle.server_connection.specs.declared.plan.Plan.{Plan as Response}
+use Rattle.server_connection.specs.declared.plan.ResponsePlan.{ResponsePlan as Response}
 use Rattle.rfc_fields.specs.Scan.{Member}
 use Rattle.gateway_messages.{specs.Expectations.has_known_expectation, specs.Requests.has_host}
 use Rattle.gateway_messages.specs.declared.protocol.Protocol.{Protocol}

@@ -8,7 +8,7 @@ use Rattle.http1.specs.Fields.{Header}
 use Rattle.headers.specs.Date.{fixdate}
 use Rattle.headers.specs.LineMap.{Field, LineMap, fields_of as encoded_fields}
 use Rattle.server_connection.specs.Encoding.{content_len}
-use Rattle.server_connection.specs.declared.plan.Plan.{Plan as Response}
+use Rattle.server_connection.specs.declared.plan.ResponsePlan.{ResponsePlan as Response}
 use Rattle.server_connection.{specs.declared.piece.Piece.Piece, specs.declared.piece.Piece.TheVariants.Range}
 use Rattle.decide_preconditions.{specs.declared.plan.Plan.Plan, specs.declared.plan.Plan.TheVariants.NotModified}
 use Rattle.decide_preconditions.specs.declared.plan.Plan.TheVariants.{Failed, Full, Single, Multiple, Unsatisfiable}

@@ -6,8 +6,8 @@ use Rattle.http_header.specs.FieldValue.{FieldValue, plain_value}
 use Rattle.server_connection.specs.Pieces.{Gives}
 use Rattle.decide_preconditions.{specs.Limits.usual_limits, specs.declared.content.Content.Content}
 use Rattle.decide_preconditions.specs.declared.limits.RangeLimits.{RangeLimits}
-use Rattle.decide_preconditions.specs.declared.resource.Resource.{Resource}
-use Rattle.decide_preconditions.specs.declared.resource.Resource.TheVariants.{Current}
+use Rattle.decide_preconditions.specs.declared.resource.TargetState.{TargetState}
+use Rattle.decide_preconditions.specs.declared.resource.TargetState.TheVariants.{Current}
 use Rattle.decide_preconditions.specs.declared.resource.Validators.{Validators}
 use Rattle.decide_resource.specs.declared.representation.Representation.{Representation}
 use Rattle.server_files.{specs.Codings.{coding_name, is_encoded}, specs.MediaTypes.media_type_of}
@@ -60,7 +60,7 @@ validators_of present file = record {
   is_date_strong = is_settled present file.modified;
 }
 
-abbrev pub current_of : ℕ → File → Resource
+abbrev pub current_of : ℕ → File → TargetState
 current_of present file = Current (validators_of present file)
 
 -- Which ranges of a content are sent. A coding would be that of several parts and their boundaries together (section

@@ -2,7 +2,7 @@
 use Rattle.std.specs.Prelude.{ℕ, ◌+◌, ◌-◌, List, flat_map, Some, All, ⊤, take, drop, slice_range}
 use Rattle.memchr.specs.Find.{OccursAt}
 use Rattle.headers.specs.ContentBytes.{ContentBytes}
-use Rattle.server_connection.{specs.declared.piece.Extent.Extent, specs.declared.piece.Piece.Piece}
+use Rattle.server_connection.{specs.declared.piece.OpenRange.OpenRange, specs.declared.piece.Piece.Piece}
 use Rattle.server_connection.specs.declared.piece.Piece.TheVariants.{Literal, Range}
 use Rattle.decide_preconditions.{specs.Parts.IsPartOf, specs.declared.part.Part.Part, specs.declared.plan.Plan.Plan}
 use Rattle.decide_preconditions.specs.declared.plan.Plan.TheVariants.{NotModified, Failed, Full, Single, Multiple}
@@ -14,7 +14,7 @@ abbrev pub part_bytes : List ℕ → Part → List ℕ
 part_bytes content part = slice_range content part.first (part.last + 1)
 
 -- where one part stands
-abbrev pub part_extent : Part → Extent
+abbrev pub part_extent : Part → OpenRange
 part_extent part = record { start = part.first; len = part.last + 1 - part.first }
 
 -- what Content-Range says of one part of a content of this length

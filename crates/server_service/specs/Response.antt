@@ -8,7 +8,7 @@ use Rattle.httparse.specs.Grammar.{is_token}
 use Rattle.http1.{specs.Fields.Header, specs.Head.{is_field_value, starts_visible}}
 use Rattle.http_server.specs.Response.{fields}
 use Rattle.server_connection.{specs.declared.piece.Piece.Piece, specs.declared.piece.Piece.TheVariants.Literal}
-use Rattle.server_connection.specs.declared.plan.Plan.{Plan as Response}
+use Rattle.server_connection.specs.declared.plan.ResponsePlan.{ResponsePlan as Response}
 use Rattle.server_files.specs.Pages.{page}
 use Rattle.server_service.specs.declared.settings.Page.{Page}
 

@@ -7,7 +7,7 @@ ghost use Rattle.server_service.specs.Parts.{IsKnownToHold, Occurs};
 use crate::file::File;
 use crate::source::Source;
 use decide_preconditions::Plan;
-use decide_resource::{Answer, RequestHead, Resource, Sends, answer_request};
+use decide_resource::{Answer, Resource, ResourceRequest, Sends, answer_request};
 use http::Method;
 use memchr::memmem;
 use std::alloc::{AllocError, Global};
@@ -55,7 +55,7 @@ fn is_sendable(sends: &Sends, files: &[File], divider: &str) -> bool
 pub(crate) fn decide(
     alloc: Global,
     resource: &Resource,
-    request: &RequestHead<'_>,
+    request: &ResourceRequest<'_>,
     present: u64,
     files: &[File],
     divider: &str,
@@ -69,7 +69,7 @@ pub(crate) fn decide(
         return Ok(asked);
     }
     let head = Method::HEAD;
-    let whole = RequestHead {
+    let whole = ResourceRequest {
         protocol: request.protocol,
         method: &head,
         authority: request.authority,

@@ -6,7 +6,7 @@ ghost use Rattle.decide_resource.specs.Requests.{request_of};
 ghost use Rattle.server_service.specs.Asked.{HasAuthority, IsAsked, IsAuthority, IsProtocolOf};
 
 use bytes::Bytes;
-use decide_resource::{RequestContent, RequestHead};
+use decide_resource::{RequestContent, ResourceRequest};
 use gateway_messages::Protocol;
 use headers::HeaderValue;
 use http::{Request, Version};
@@ -53,10 +53,10 @@ pub(crate) fn authority_of(
 pub(crate) fn asked<'a>(
     request: &'a Request<Bytes>,
     authority: Option<&'a HeaderValue>,
-) -> RequestHead<'a>
+) -> ResourceRequest<'a>
     ensures { IsAsked request.now (option_map (λ value. value.now.bytes) authority.entry) (request_of result) }
 {
-    RequestHead {
+    ResourceRequest {
         protocol: protocol_of(request.version()),
         method: request.method(),
         authority,

@@ -7,7 +7,7 @@ use decide_preconditions::Plan;
 use decide_resource::Sends;
 use headers::HeaderValue;
 use http_header::CACHE_CONTROL;
-use server_connection::Plan as Response;
+use server_connection::ResponsePlan as Response;
 use std::alloc::AllocError;
 
 // Whether a cache may use the answer again.

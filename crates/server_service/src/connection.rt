@@ -4,7 +4,7 @@ ghost use Rattle.server_connection.specs.Connection.{Exchanged};
 ghost use Rattle.server_service.{specs.Answer.{IsAnswer, IsSameSite}, specs.File.gives_of};
 
 use crate::service::FileService;
-use crate::store::Store;
+use crate::store::FileStore;
 use http_server::Config;
 use server_connection::serve_exchanges;
 use std::hash::RandomState;
@@ -17,7 +17,7 @@ use std::io::{Read, Write};
 /// What is written is, request by request, a response that `IsAnswer` says, with the bytes of the file
 /// that was opened for it. A file is read while it is sent. If it ends before its length, or reading it
 /// fails, the connection ends there, with an error, and so it does when out of memory.
-pub fn serve_store<S: Store, R: Read, W: Write>(
+pub fn serve_store<S: FileStore, R: Read, W: Write>(
     keys: RandomState,
     config: Config,
     service: &mut FileService<S>,

@@ -13,7 +13,7 @@ ghost use Rattle.server_service.specs.Response.{lines_unless, trimmed_line, trim
 use headers::{Date, Encoded, HeaderName, HeaderValue, encoding};
 use headers_syntax::trim;
 use http_header::{CONNECTION, X_CONTENT_TYPE_OPTIONS};
-use server_connection::Plan as Response;
+use server_connection::ResponsePlan as Response;
 use std::alloc::{AllocError, Global};
 use std::mem::replace;
 

@@ -8,7 +8,7 @@ ghost use Rattle.server_service.{specs.Found.{listed_file, unnamed}, specs.Store
 use crate::file::{Entry, File};
 use crate::representation::contents_of;
 use crate::source::Source;
-use crate::store::Store;
+use crate::store::FileStore;
 use bytes::Bytes;
 use decide_resource::{Redirect, State};
 use headers::HeaderValue;
@@ -111,7 +111,7 @@ fn query_of(request: &Request<Bytes>) -> Option<&str>
 }
 
 // What an entry at a path of the store is to a request.
-fn found_by<S: Store>(
+fn found_by<S: FileStore>(
     alloc: Global,
     store: &S,
     negotiates: bool,
@@ -140,7 +140,7 @@ fn found_by<S: Store>(
 }
 
 /// What the path of a request leads to.
-pub(crate) fn look_up<S: Store>(
+pub(crate) fn look_up<S: FileStore>(
     alloc: Global,
     store: &S,
     negotiates: bool,

@@ -4,7 +4,7 @@ ghost use Rattle.http.{specs.Request.head_of, specs.declared.request.Request.Req
 ghost use Rattle.http_uri.specs.Uri.{uri_path};
 ghost use Rattle.headers.specs.LineMap.{lines_at};
 ghost use Rattle.server_connection.{specs.Pieces.AreSent, specs.declared.piece.Piece.Piece};
-ghost use Rattle.server_connection.specs.declared.plan.Plan.{Plan as Response};
+ghost use Rattle.server_connection.specs.declared.plan.ResponsePlan.{ResponsePlan as Response};
 ghost use Rattle.gateway_messages.{specs.Expectations.has_known_expectation, specs.Requests.has_host};
 ghost use Rattle.decide_preconditions.{specs.Fields.not_after, specs.declared.part.Part.Part};
 ghost use Rattle.decide_resource.specs.Applies.{is_misdirected};

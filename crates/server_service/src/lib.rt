@@ -26,7 +26,7 @@ pub use crate::memory::Memory;
 pub use crate::service::FileService;
 pub use crate::settings::{Divider, Page, Settings, Site};
 pub use crate::source::{Opened, Reader, Source};
-pub use crate::store::Store;
+pub use crate::store::FileStore;
 pub use server_files::{
     Coding, Kept, Listing, ends_in_slash, folder_of, index_location, is_plain, status_page,
     store_path,

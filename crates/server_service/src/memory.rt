@@ -2,11 +2,11 @@
 
 use crate::file::{Entry, File};
 use crate::source::Source;
-use crate::store::Store;
+use crate::store::FileStore;
 use bytes::Bytes;
 use headers::{HeaderValue, LastModified};
 use http::Request;
-use server_connection::Plan as Response;
+use server_connection::ResponsePlan as Response;
 use server_files::{Coding, Kept};
 use std::alloc::{AllocError, Global};
 
@@ -23,7 +23,7 @@ pub struct Memory {
     pub modified: Option<LastModified>,
 }
 
-impl Store for Memory {
+impl FileStore for Memory {
     ghost use Rattle.std.specs.Prelude.{◌≡◌, None};
     ghost use Rattle.server_service.specs.Memory.{HasOne};
 

@@ -10,7 +10,7 @@ use bytes::Bytes;
 use decide_preconditions::Part;
 use headers::{Header, HeaderName, HeaderValue, encoding};
 use http_header::CONTENT_TYPE;
-use server_connection::{Extent, Piece, Plan as Response};
+use server_connection::{OpenRange, Piece, ResponsePlan as Response};
 use std::alloc::{AllocError, Global};
 
 // Appends a header line.
@@ -103,13 +103,13 @@ fn push_text(text: Vec<u8>, response: &mut Response) -> Result<(), AllocError>
 }
 
 /// Where a part of a file stands.
-pub(crate) fn extent_of(file: &File, part: Part) -> Extent
+pub(crate) fn extent_of(file: &File, part: Part) -> OpenRange
     requires { IsPartOf (len_of file.now.source) part }
     ensures { result ≡ part_extent part }
 {
     // The length is below 2^64, so the sum is.
     let _len = file.source.len();
-    Extent {
+    OpenRange {
         start: part.first,
         len: part.last - part.first + 1,
     }

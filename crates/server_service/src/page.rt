@@ -7,7 +7,7 @@ use bytes::Bytes;
 use headers::HeaderValue;
 use http::StatusCode;
 use http_header::CONTENT_TYPE;
-use server_connection::{Piece, Plan as Response};
+use server_connection::{Piece, ResponsePlan as Response};
 use server_files::status_page;
 use std::alloc::{AllocError, Global};
 

@@ -7,7 +7,7 @@ ghost use Rattle.server_service.specs.Representations.{AreContents, AreOffers, H
 
 use crate::file::{Entry, File};
 use crate::source::Source;
-use crate::store::Store;
+use crate::store::FileStore;
 use decide_preconditions::{Content, RangeLimits, Validators};
 use decide_resource::Representation;
 use headers::{ETag, HeaderValue, LastModified};
@@ -34,7 +34,7 @@ fn beside(alloc: Global, path: &str, coding: Coding) -> Result<String, AllocErro
 }
 
 // The entry at a path that may not be plain.
-fn entry_at<S: Store>(alloc: Global, store: &S, path: &str) -> Result<Entry, AllocError>
+fn entry_at<S: FileStore>(alloc: Global, store: &S, path: &str) -> Result<Entry, AllocError>
     ensures { IfOk result (HasEntryAt (S.has store.now) path.now) }
 {
     if !is_plain(path) {
@@ -44,7 +44,7 @@ fn entry_at<S: Store>(alloc: Global, store: &S, path: &str) -> Result<Entry, All
 }
 
 // The precompressed copy of a file in a coding.
-fn find_beside<S: Store>(
+fn find_beside<S: FileStore>(
     alloc: Global,
     store: &S,
     path: &str,
@@ -97,7 +97,7 @@ fn offers_with(
 }
 
 // The representations of the file at a path.
-fn offers_of<S: Store>(
+fn offers_of<S: FileStore>(
     alloc: Global,
     store: &S,
     path: &str,
@@ -111,7 +111,7 @@ fn offers_of<S: Store>(
 }
 
 /// The contents of the file at a path: its own, and its precompressed copies if codings are negotiated.
-pub(crate) fn contents_of<S: Store>(
+pub(crate) fn contents_of<S: FileStore>(
     alloc: Global,
     store: &S,
     negotiates: bool,

@@ -18,20 +18,20 @@ use crate::page::explain;
 use crate::representation::representations_of;
 use crate::settings::{Page, Site};
 use crate::source::Source;
-use crate::store::Store;
+use crate::store::FileStore;
 use bytes::Bytes;
 use decide_preconditions::Plan;
 use decide_resource::{Answer, Reason, Resource, Sends, State};
 use headers::{Date, Encoded, LastModified};
 use http::{Request, StatusCode};
-use server_connection::{Extent, Handler, Piece, Plan as Response};
+use server_connection::{Handler, OpenRange, Piece, ResponsePlan as Response};
 use std::alloc::{AllocError, Global};
 use std::io;
 use std::mem::replace;
 
 /// Answers requests from a store, as `decide_resource` decides.
 #[derive(Drop)]
-pub struct FileService<S: Store> {
+pub struct FileService<S: FileStore> {
     /// For responses.
     pub alloc: Global,
     /// Where files come from.
@@ -60,7 +60,7 @@ fn put_pieces(
     match plan {
         Plan::Full => {
             let len = file.source.len();
-            response.push(Piece::Range(Extent { start: 0, len }))
+            response.push(Piece::Range(OpenRange { start: 0, len }))
         }
         Plan::Single(part) => response.push(Piece::Range(extent_of(file, *part))),
         Plan::Multiple(parts) => push_parts(alloc, boundary, parts.as_slice(), file, response),
@@ -213,7 +213,7 @@ fn describe(
     Ok(())
 }
 
-impl<S: Store> Handler for FileService<S> {
+impl<S: FileStore> Handler for FileService<S> {
     ghost use Rattle.std.specs.Prelude.{◌≡◌, ◌-◌};
     ghost use Rattle.server_service.{specs.Answer.{IsAnswer, IsSameSite}, specs.File.gives_of};
 

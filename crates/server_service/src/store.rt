@@ -6,11 +6,11 @@ ghost use Rattle.server_service.{specs.Stores.ListsOwn, specs.declared.file.Entr
 use crate::file::Entry;
 use bytes::Bytes;
 use http::{Request, StatusCode};
-use server_connection::Plan as Response;
+use server_connection::ResponsePlan as Response;
 use std::alloc::{AllocError, Global};
 
 /// Files by paths: names with a slash between them.
-pub trait Store {
+pub trait FileStore {
     // What the store may have at a path.
     ghost has: { Self → List ℕ → Entry → Type 0 };
 

@@ -7,13 +7,13 @@ use rfc_fields::{
     weight,
 };
 use std::alloc::AllocError;
-use test_rows::{Answer, Arguments, Calls, Failure};
+use test_rows::{Arguments, Calls, CaseAnswer, CaseFailure};
 
 /// The calls of the grammars.
-pub struct Fields;
+pub struct FieldCases;
 
 // All words that are left, as the lines of a field, whichever it is.
-fn read_field(arguments: &mut Arguments<'_>) -> Result<HeaderMap, Failure> {
+fn read_field(arguments: &mut Arguments<'_>) -> Result<HeaderMap, CaseFailure> {
     let mut map = HeaderMap::new(arguments.alloc());
     for line in arguments.lines()? {
         map.append(CACHE_CONTROL, line)?;
@@ -21,7 +21,7 @@ fn read_field(arguments: &mut Arguments<'_>) -> Result<HeaderMap, Failure> {
     Ok(map)
 }
 
-fn add_value(value: &Value<'_>, answer: &mut Answer) -> Result<(), AllocError> {
+fn add_value(value: &Value<'_>, answer: &mut CaseAnswer) -> Result<(), AllocError> {
     answer.word(match value {
         Value::Token(_) => "token",
         Value::Quoted(_) => "quoted",
@@ -32,8 +32,8 @@ fn add_value(value: &Value<'_>, answer: &mut Answer) -> Result<(), AllocError> {
 
 fn add_directive(
     directive: Result<Option<Directive<'_>>, Malformed>,
-    answer: &mut Answer,
-) -> Result<(), Failure> {
+    answer: &mut CaseAnswer,
+) -> Result<(), CaseFailure> {
     match directive {
         Ok(Some(directive)) => {
             answer.bytes(directive.name)?;
@@ -47,14 +47,17 @@ fn add_directive(
     Ok(())
 }
 
-fn add_member(member: Result<&[u8], Malformed>, answer: &mut Answer) -> Result<(), Failure> {
+fn add_member(
+    member: Result<&[u8], Malformed>,
+    answer: &mut CaseAnswer,
+) -> Result<(), CaseFailure> {
     match member {
         Ok(text) => Ok(answer.bytes(text)?),
         Err(Malformed) => Ok(answer.word("(malformed)")?),
     }
 }
 
-fn add_members(members: Members<'_>, answer: &mut Answer) -> Result<(), Failure> {
+fn add_members(members: Members<'_>, answer: &mut CaseAnswer) -> Result<(), CaseFailure> {
     for member in members {
         add_member(member, answer)?;
     }
@@ -62,7 +65,7 @@ fn add_members(members: Members<'_>, answer: &mut Answer) -> Result<(), Failure>
 }
 
 // An answer that is empty so far is none.
-fn add_none(answer: &mut Answer) -> Result<(), Failure> {
+fn add_none(answer: &mut CaseAnswer) -> Result<(), CaseFailure> {
     if answer.as_str().is_empty() {
         answer.none()?;
     }
@@ -73,8 +76,8 @@ fn add_none(answer: &mut Answer) -> Result<(), Failure> {
 fn make_field_call(
     name: &str,
     arguments: &mut Arguments<'_>,
-    answer: &mut Answer,
-) -> Result<(), Failure> {
+    answer: &mut CaseAnswer,
+) -> Result<(), CaseFailure> {
     let word = match name {
         "field" | "tokens" => Vec::new(arguments.alloc()),
         _ => arguments.bytes()?,
@@ -101,7 +104,7 @@ fn make_field_call(
 }
 
 // ELEMENT: its value and its parameters.
-fn add_parts(element: &[u8], answer: &mut Answer) -> Result<(), Failure> {
+fn add_parts(element: &[u8], answer: &mut CaseAnswer) -> Result<(), CaseFailure> {
     match Parameterized::read(element) {
         Ok(parts) => {
             answer.bytes(parts.value)?;
@@ -112,7 +115,7 @@ fn add_parts(element: &[u8], answer: &mut Answer) -> Result<(), Failure> {
 }
 
 // VALUE VALUE: whether both mean the same octets.
-fn add_equal(one: &[u8], other: &[u8], answer: &mut Answer) -> Result<(), Failure> {
+fn add_equal(one: &[u8], other: &[u8], answer: &mut CaseAnswer) -> Result<(), CaseFailure> {
     match (read_value(one), read_value(other)) {
         (Ok(one), Ok(other)) => Ok(answer.word(one.same_octets(&other))?),
         _ => Ok(answer.word("(malformed)")?),
@@ -124,8 +127,8 @@ fn make_text_call(
     name: &str,
     text: &[u8],
     arguments: &mut Arguments<'_>,
-    answer: &mut Answer,
-) -> Result<(), Failure> {
+    answer: &mut CaseAnswer,
+) -> Result<(), CaseFailure> {
     match name {
         // the members of a field line, and of one of entity tags
         "members" => add_members(Members::new(text), answer),
@@ -140,12 +143,16 @@ fn make_text_call(
         "weight" => Ok(answer.option(weight(text))?),
         // what follows the comment that it begins with
         "comment" => add_member(skip_comment(text), answer),
-        _ => Err(Failure::NoCall),
+        _ => Err(CaseFailure::NoCall),
     }
 }
 
-impl Calls for Fields {
-    fn make(name: &str, arguments: &mut Arguments<'_>, answer: &mut Answer) -> Result<(), Failure> {
+impl Calls for FieldCases {
+    fn make(
+        name: &str,
+        arguments: &mut Arguments<'_>,
+        answer: &mut CaseAnswer,
+    ) -> Result<(), CaseFailure> {
         match name {
             "field" | "find" | "clear" | "tokens" | "contains" => {
                 make_field_call(name, arguments, answer)

@@ -7,31 +7,31 @@ use gateway_messages::{FieldLine, Framing, Gateway, MessageHead, Pseudonym, forw
 use headers::{Encoded, HeaderMap, HeaderName, HeaderValue};
 use http_header::CONNECTION;
 use std::alloc::AllocError;
-use test_rows::{Answer, Arguments, Calls, Failure};
+use test_rows::{Arguments, Calls, CaseAnswer, CaseFailure};
 
 /// The calls of a gateway.
 pub struct Gateways;
 
 // What the next word stands for.
-fn choose<T: Copy>(arguments: &mut Arguments<'_>, choices: &[(&str, T)]) -> Result<T, Failure> {
+fn choose<T: Copy>(arguments: &mut Arguments<'_>, choices: &[(&str, T)]) -> Result<T, CaseFailure> {
     let word = arguments.word()?;
     for (name, choice) in choices {
         if *name == word {
             return Ok(*choice);
         }
     }
-    Err(Failure::NoCall)
+    Err(CaseFailure::NoCall)
 }
 
 // The next word, as a field value, or `None` if it is `(none)`.
-fn read_value(arguments: &mut Arguments<'_>) -> Result<Option<HeaderValue>, Failure> {
+fn read_value(arguments: &mut Arguments<'_>) -> Result<Option<HeaderValue>, CaseFailure> {
     match arguments.option()? {
         Some(text) => Ok(Some(HeaderValue::from_str(arguments.alloc(), text)?)),
         None => Ok(None),
     }
 }
 
-fn add_encoded(encoded: &[Encoded], answer: &mut Answer) -> Result<(), AllocError> {
+fn add_encoded(encoded: &[Encoded], answer: &mut CaseAnswer) -> Result<(), AllocError> {
     for field in encoded {
         answer.word(format_args!("({})", field.name.as_str()))?;
         for line in &field.lines {
@@ -42,7 +42,7 @@ fn add_encoded(encoded: &[Encoded], answer: &mut Answer) -> Result<(), AllocErro
 }
 
 // NAME consumed|relayed|underscores|signed: a gateway that protects X-Client, and if it is signed, Signature.
-fn read_gateway(arguments: &mut Arguments<'_>) -> Result<Gateway, Failure> {
+fn read_gateway(arguments: &mut Arguments<'_>) -> Result<Gateway, CaseFailure> {
     let alloc = arguments.alloc();
     let mut gateway = Gateway::new(alloc, Pseudonym::new(alloc, arguments.word()?)?);
     let (consumes_credentials, passes_underscores, is_signed) = choose(
@@ -65,7 +65,7 @@ fn read_gateway(arguments: &mut Arguments<'_>) -> Result<Gateway, Failure> {
     Ok(gateway)
 }
 
-fn add_fields(fields: &[FieldLine], answer: &mut Answer) -> Result<(), AllocError> {
+fn add_fields(fields: &[FieldLine], answer: &mut CaseAnswer) -> Result<(), AllocError> {
     for field in fields {
         answer.word(format_args!("({})", field.name.as_str()))?;
         answer.bytes(field.value.as_bytes())?;
@@ -74,12 +74,15 @@ fn add_fields(fields: &[FieldLine], answer: &mut Answer) -> Result<(), AllocErro
 }
 
 // `trailers GATEWAY FRAMING CONNECTION TRAILERS`: the trailer fields that are forwarded.
-fn call_trailers(arguments: &mut Arguments<'_>, answer: &mut Answer) -> Result<(), Failure> {
+fn call_trailers(
+    arguments: &mut Arguments<'_>,
+    answer: &mut CaseAnswer,
+) -> Result<(), CaseFailure> {
     let gateway = read_gateway(arguments)?;
     let framing = match arguments.word()? {
         "unstated" => Framing::Unstated,
         "chunked" => Framing::Chunked,
-        word => Framing::Length(word.parse().map_err(|_| Failure::NoCall)?),
+        word => Framing::Length(word.parse().map_err(|_| CaseFailure::NoCall)?),
     };
     let mut fields = HeaderMap::new(arguments.alloc());
     if let Some(connection) = read_value(arguments)? {
@@ -95,7 +98,10 @@ fn call_trailers(arguments: &mut Arguments<'_>, answer: &mut Answer) -> Result<(
 }
 
 // `connection close|no trailers|no UPGRADE`: the fields of the connection.
-fn call_connection(arguments: &mut Arguments<'_>, answer: &mut Answer) -> Result<(), Failure> {
+fn call_connection(
+    arguments: &mut Arguments<'_>,
+    answer: &mut CaseAnswer,
+) -> Result<(), CaseFailure> {
     let closes = choose(arguments, &[("close", true), ("no", false)])?;
     let accepts_trailers = choose(arguments, &[("trailers", true), ("no", false)])?;
     let upgrade = read_value(arguments)?;
@@ -109,8 +115,8 @@ fn call_connection(arguments: &mut Arguments<'_>, answer: &mut Answer) -> Result
 }
 
 // The next two words, as a node with an address and a hidden port.
-fn read_node(arguments: &mut Arguments<'_>) -> Result<Node, Failure> {
-    let address = arguments.word()?.parse().map_err(|_| Failure::NoCall)?;
+fn read_node(arguments: &mut Arguments<'_>) -> Result<Node, CaseFailure> {
+    let address = arguments.word()?.parse().map_err(|_| CaseFailure::NoCall)?;
     let port = Obfuscated::new(arguments.alloc(), arguments.word()?)?;
     Ok(Node {
         name: NodeName::Address(address),
@@ -120,12 +126,15 @@ fn read_node(arguments: &mut Arguments<'_>) -> Result<Node, Failure> {
 
 // `forwarding no forwarded ADDRESS PORT unknown (none) (none) no no`: the fields that tell who made a request, whose
 // node has a hidden port. Nothing else is known.
-fn call_forwarding(arguments: &mut Arguments<'_>, answer: &mut Answer) -> Result<(), Failure> {
+fn call_forwarding(
+    arguments: &mut Arguments<'_>,
+    answer: &mut CaseAnswer,
+) -> Result<(), CaseFailure> {
     choose(arguments, &[("no", ())])?;
     choose(arguments, &[("forwarded", ())])?;
     let client = read_node(arguments)?;
     if arguments.rest() != "unknown (none) (none) no no" {
-        return Err(Failure::NoCall);
+        return Err(CaseFailure::NoCall);
     }
     let forwarding = Forwarding {
         received: Received::Dropped,
@@ -145,12 +154,16 @@ fn call_forwarding(arguments: &mut Arguments<'_>, answer: &mut Answer) -> Result
 }
 
 impl Calls for Gateways {
-    fn make(name: &str, arguments: &mut Arguments<'_>, answer: &mut Answer) -> Result<(), Failure> {
+    fn make(
+        name: &str,
+        arguments: &mut Arguments<'_>,
+        answer: &mut CaseAnswer,
+    ) -> Result<(), CaseFailure> {
         match name {
             "trailers" => call_trailers(arguments, answer),
             "connection" => call_connection(arguments, answer),
             "forwarding" => call_forwarding(arguments, answer),
-            _ => Err(Failure::NoCall),
+            _ => Err(CaseFailure::NoCall),
         }
     }
 }

@@ -1,10 +1,10 @@
 //! Calls of the opening handshake. Fields are written as those of a map, with the blanks that a section loses.
 use crate::store::{method, status};
 use decide_cors::UnsentOrigin;
-use decide_handshake::{Answer as Response, Checked, Origins, accept, check};
+use decide_handshake::{Checked, HandshakeAnswer as Response, Origins, accept, check};
 use headers::{HeaderMap, HeaderValue, Refused, set_all};
 use http::Version;
-use test_rows::{Answer, Arguments, Calls, Failure};
+use test_rows::{Arguments, Calls, CaseAnswer, CaseFailure};
 
 /// The calls of the opening handshake.
 pub struct Handshake;
@@ -14,12 +14,12 @@ pub struct Handshake;
 fn show_answer(
     own: &[HeaderValue],
     arguments: &mut Arguments<'_>,
-    answer: &mut Answer,
-) -> Result<(), Failure> {
+    answer: &mut CaseAnswer,
+) -> Result<(), CaseFailure> {
     let alloc = arguments.alloc();
     let method = method(arguments)?;
     if arguments.word()? != "HTTP/1.1" {
-        return Err(Failure::NoCall);
+        return Err(CaseFailure::NoCall);
     }
     let request = arguments.map()?;
     let response = accept(
@@ -35,12 +35,12 @@ fn show_answer(
         answer.word(format_args!("{fault:?}"))?;
     }
     let mut map = HeaderMap::new(alloc);
-    set_all(&mut map, response.fields(alloc)?).map_err(|_| Failure::Memory)?;
+    set_all(&mut map, response.fields(alloc)?).map_err(|_| CaseFailure::Memory)?;
     answer.map(&map)
 }
 
 // `check SENT (/) STATUS RESPONSE`: what a client that sent these fields finds in a response.
-fn show_check(arguments: &mut Arguments<'_>, answer: &mut Answer) -> Result<(), Failure> {
+fn show_check(arguments: &mut Arguments<'_>, answer: &mut CaseAnswer) -> Result<(), CaseFailure> {
     let sent = arguments.map()?;
     let status = status(arguments)?;
     match check(&sent, status, &arguments.map()?) {
@@ -51,7 +51,7 @@ fn show_check(arguments: &mut Arguments<'_>, answer: &mut Answer) -> Result<(), 
 }
 
 // `Origins.listed (origin) ORIGIN ..`: `listed`, or the place of the first that no browser sends.
-fn show_origins(arguments: &mut Arguments<'_>, answer: &mut Answer) -> Result<(), Failure> {
+fn show_origins(arguments: &mut Arguments<'_>, answer: &mut CaseAnswer) -> Result<(), CaseFailure> {
     let alloc = arguments.alloc();
     let mut origins = Vec::new(alloc);
     for origin in arguments.map()?.get_all("origin") {
@@ -62,13 +62,17 @@ fn show_origins(arguments: &mut Arguments<'_>, answer: &mut Answer) -> Result<()
         Err(Refused::Invalid(UnsentOrigin { place })) => {
             answer.word(format_args!("UnsentOrigin {place}"))?;
         }
-        Err(Refused::Memory(_)) => return Err(Failure::Memory),
+        Err(Refused::Memory(_)) => return Err(CaseFailure::Memory),
     }
     Ok(())
 }
 
 impl Calls for Handshake {
-    fn make(name: &str, arguments: &mut Arguments<'_>, answer: &mut Answer) -> Result<(), Failure> {
+    fn make(
+        name: &str,
+        arguments: &mut Arguments<'_>,
+        answer: &mut CaseAnswer,
+    ) -> Result<(), CaseFailure> {
         match name {
             "accept" => show_answer(&[], arguments, answer),
             "accept_with" => {
@@ -77,7 +81,7 @@ impl Calls for Handshake {
             }
             "check" => show_check(arguments, answer),
             "Origins.listed" => show_origins(arguments, answer),
-            _ => Err(Failure::NoCall),
+            _ => Err(CaseFailure::NoCall),
         }
     }
 }

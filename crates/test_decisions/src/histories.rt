@@ -1,6 +1,6 @@
 //! Histories: calls of one cache, in order, with the answers that are wanted.
 use crate::cors::Cors;
-use crate::fields::Fields;
+use crate::fields::FieldCases;
 use crate::gateway::Gateways;
 use crate::handshake::Handshake;
 use crate::limits::WithinLimits;
@@ -15,7 +15,7 @@ use std::io::{self, BufWriter, Read, Write};
 use std::process::ExitCode;
 use std::random::RandomSource;
 use std::rt::{Env, Files};
-use test_rows::{Answer, Arguments, Failure, Tally, replay_rows};
+use test_rows::{Arguments, CaseAnswer, CaseFailure, Tally, replay_rows};
 
 // A call, the answer that is wanted, and the number of its line.
 #[derive(Clone, Copy)]
@@ -72,31 +72,35 @@ fn read_rows<'a>(
 // The single calls.
 type Decisions = (
     (Policies, (WithinLimits, Routing)),
-    ((Cors, Handshake), (Gateways, Fields)),
+    ((Cors, Handshake), (Gateways, FieldCases)),
 );
 
 // What a call is answered.
-fn answer_of(alloc: Global, caches: &mut Caches, call: &str) -> Result<Answer, Failure> {
+fn answer_of(alloc: Global, caches: &mut Caches, call: &str) -> Result<CaseAnswer, CaseFailure> {
     let (name, arguments) = call.split_once(' ').unwrap_or((call, ""));
     let mut arguments = Arguments::new(alloc, arguments);
-    let mut answer = Answer::new(alloc);
+    let mut answer = CaseAnswer::new(alloc);
     make(caches, name, &mut arguments, &mut answer)?;
     if arguments.is_empty() {
         Ok(answer)
     } else {
-        Err(Failure::NoCall)
+        Err(CaseFailure::NoCall)
     }
 }
 
 // What the calls of a history are answered.
-fn play(alloc: Global, keys: RandomState, history: &History<'_>) -> Result<Vec<Answer>, Failure> {
+fn play(
+    alloc: Global,
+    keys: RandomState,
+    history: &History<'_>,
+) -> Result<Vec<CaseAnswer>, CaseFailure> {
     let mut caches = new_caches(alloc, keys, history.limits)?;
     let mut answers = Vec::new(alloc);
     for row in history.rows.iter() {
         match answer_of(alloc, &mut caches, row.call) {
-            Err(Failure::NoCall | Failure::Refused) => {
-                let mut answer = Answer::new(alloc);
-                answer.word(Failure::NoCall.as_str())?;
+            Err(CaseFailure::NoCall | CaseFailure::Refused) => {
+                let mut answer = CaseAnswer::new(alloc);
+                answer.word(CaseFailure::NoCall.as_str())?;
                 answers.push(answer)?;
             }
             made => answers.push(made?)?,
@@ -109,7 +113,7 @@ fn play(alloc: Global, keys: RandomState, history: &History<'_>) -> Result<Vec<A
 fn judge<W: Write>(
     file: &str,
     row: &Row<'_>,
-    answer: &Answer,
+    answer: &CaseAnswer,
     tally: &mut Tally,
     writer: &mut W,
 ) -> Result<()> {
@@ -140,7 +144,7 @@ fn replay_history<W: Write>(
 ) -> Result<()> {
     let History { number, limits, .. } = history;
     let mut made = play(alloc, keys, history);
-    if matches!(made, Err(Failure::Memory)) {
+    if matches!(made, Err(CaseFailure::Memory)) {
         writeln!(
             writer,
             "{file}:{number}: cache {limits}: refused, made again"

@@ -4,18 +4,18 @@ use decide_preconditions::{
 };
 use headers::LastModified;
 use http::Method;
-use test_rows::{Answer, Arguments, Calls, Failure};
+use test_rows::{Arguments, Calls, CaseAnswer, CaseFailure};
 
 /// The time of calls: the start of 2026.
 const PRESENT: u64 = 1_767_225_600;
 
-fn read_validators(arguments: &mut Arguments<'_>) -> Result<Validators, Failure> {
+fn read_validators(arguments: &mut Arguments<'_>) -> Result<Validators, CaseFailure> {
     let etag = arguments.optional_tag()?;
     let last_modified = arguments.optional_date()?.map(LastModified::from_unix_secs);
     let is_date_strong = match arguments.word()? {
         "strong" => true,
         "weak" => false,
-        _ => return Err(Failure::NoCall),
+        _ => return Err(CaseFailure::NoCall),
     };
     Ok(Validators {
         etag,
@@ -24,7 +24,7 @@ fn read_validators(arguments: &mut Arguments<'_>) -> Result<Validators, Failure>
     })
 }
 
-fn read_limits(arguments: &mut Arguments<'_>) -> Result<RangeLimits, Failure> {
+fn read_limits(arguments: &mut Arguments<'_>) -> Result<RangeLimits, CaseFailure> {
     Ok(RangeLimits {
         gap: arguments.number()?,
         head: arguments.number()?,
@@ -32,7 +32,7 @@ fn read_limits(arguments: &mut Arguments<'_>) -> Result<RangeLimits, Failure> {
     })
 }
 
-fn show_selection(selection: &Selection, answer: &mut Answer) -> Result<(), Failure> {
+fn show_selection(selection: &Selection, answer: &mut CaseAnswer) -> Result<(), CaseFailure> {
     match selection {
         Selection::Whole => answer.word("whole")?,
         Selection::Unsatisfiable => answer.word("unsatisfiable")?,
@@ -49,9 +49,13 @@ fn show_selection(selection: &Selection, answer: &mut Answer) -> Result<(), Fail
 pub struct WithinLimits;
 
 impl Calls for WithinLimits {
-    fn make(name: &str, arguments: &mut Arguments<'_>, answer: &mut Answer) -> Result<(), Failure> {
+    fn make(
+        name: &str,
+        arguments: &mut Arguments<'_>,
+        answer: &mut CaseAnswer,
+    ) -> Result<(), CaseFailure> {
         if name != "select_within" {
-            return Err(Failure::NoCall);
+            return Err(CaseFailure::NoCall);
         }
         let alloc = arguments.alloc();
         let limits = read_limits(arguments)?;

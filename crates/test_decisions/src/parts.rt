@@ -1,16 +1,16 @@
 //! The calls of a store of parts.
 use crate::store::{
-    Asked, add_fields, add_stored, method, read_came, read_limits, read_options, status,
+    StoreRequest, add_fields, add_stored, method, read_came, read_limits, read_options, status,
 };
 use cache_rules::{Reception, StoredResponse};
 use cache_store::parts::{PartAnswer, PartLookup, PartStore, Recorded};
 use cache_store::{LookupTimes, Options, Store};
 use std::alloc::Global;
 use std::hash::RandomState;
-use test_rows::{Answer, Arguments, Failure};
+use test_rows::{Arguments, CaseAnswer, CaseFailure};
 
 /// The settings of a cache: a store without a part.
-pub fn new_parts(alloc: Global, keys: RandomState, limits: &str) -> Result<PartStore, Failure> {
+pub fn new_parts(alloc: Global, keys: RandomState, limits: &str) -> Result<PartStore, CaseFailure> {
     let mut arguments = Arguments::new(alloc, limits);
     let (kind, limits) = read_limits(&mut arguments)?;
     let options = if arguments.is_empty() {
@@ -29,8 +29,8 @@ fn add_whole(
     store: &mut Store,
     target: &str,
     whole: StoredResponse,
-    answer: &mut Answer,
-) -> Result<(), Failure> {
+    answer: &mut CaseAnswer,
+) -> Result<(), CaseFailure> {
     answer.word("whole")?;
     add_stored(&whole, answer)?;
     let stored = store.store(answer.alloc(), target, whole, Reception::Complete)?;
@@ -47,8 +47,8 @@ fn call_record(
     target: &str,
     reception: Reception,
     arguments: &mut Arguments<'_>,
-    answer: &mut Answer,
-) -> Result<(), Failure> {
+    answer: &mut CaseAnswer,
+) -> Result<(), CaseFailure> {
     let came = read_came(arguments)?;
     match parts.record(answer.alloc(), target, came, reception)? {
         Recorded::Unstored => Ok(answer.word("unstored")?),
@@ -66,8 +66,8 @@ fn add_part_answer(
     parts: &PartStore,
     target: &str,
     found: &PartAnswer,
-    answer: &mut Answer,
-) -> Result<(), Failure> {
+    answer: &mut CaseAnswer,
+) -> Result<(), CaseFailure> {
     answer.word("serve")?;
     match parts.bytes(answer.alloc(), target, found.number, &found.part) {
         Some(bytes) => answer.bytes(bytes)?,
@@ -81,13 +81,13 @@ fn call_look_up_part(
     parts: &mut PartStore,
     target: &str,
     arguments: &mut Arguments<'_>,
-    answer: &mut Answer,
-) -> Result<(), Failure> {
+    answer: &mut CaseAnswer,
+) -> Result<(), CaseFailure> {
     let times = LookupTimes {
         now: arguments.number()?,
         longest_guess: arguments.number()?,
     };
-    let asked = Asked::read(arguments)?;
+    let asked = StoreRequest::read(arguments)?;
     match parts.lookup(answer.alloc(), target, &asked.head(), times)? {
         PartLookup::Serve(found) => add_part_answer(parts, target, &found, answer),
         PartLookup::Complete(fields) => {
@@ -103,7 +103,7 @@ fn call_look_up_part(
 const NUMBERS: u64 = 32;
 
 // The part of a target with the least number, or `(none)`.
-fn call_part(parts: &PartStore, target: &str, answer: &mut Answer) -> Result<(), Failure> {
+fn call_part(parts: &PartStore, target: &str, answer: &mut CaseAnswer) -> Result<(), CaseFailure> {
     for number in 1..NUMBERS {
         if let Some(part) = parts.response(target, number) {
             return add_stored(part, answer);
@@ -117,8 +117,8 @@ fn call_invalidate_parts(
     parts: &mut PartStore,
     target: &str,
     arguments: &mut Arguments<'_>,
-    answer: &mut Answer,
-) -> Result<(), Failure> {
+    answer: &mut CaseAnswer,
+) -> Result<(), CaseFailure> {
     let (method, status) = (method(arguments)?, status(arguments)?);
     parts.invalidate(answer.alloc(), target, &method, status);
     call_part(parts, target, answer)
@@ -131,8 +131,8 @@ pub fn make_part_call(
     name: &str,
     target: &str,
     arguments: &mut Arguments<'_>,
-    answer: &mut Answer,
-) -> Result<(), Failure> {
+    answer: &mut CaseAnswer,
+) -> Result<(), CaseFailure> {
     match name {
         "record" => call_record(parts, store, target, Reception::Complete, arguments, answer),
         "record_incomplete" => call_record(
@@ -150,6 +150,6 @@ pub fn make_part_call(
             parts.remove(answer.alloc(), target);
             call_part(parts, target, answer)
         }
-        _ => Err(Failure::NoCall),
+        _ => Err(CaseFailure::NoCall),
     }
 }

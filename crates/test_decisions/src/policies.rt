@@ -4,13 +4,13 @@ use cache_policy::{Freshness, RequestHead, StoredHeads, date_field, decide_by, f
 use headers::{HeaderMap, set_all};
 use http::Method;
 use http_header::AGE;
-use rfc_values::{Timestamp, Value, read_date, read_entry};
-use test_rows::{Answer, Arguments, Calls, Failure};
+use rfc_values::{ItemValue, Timestamp, read_date, read_entry};
+use test_rows::{Arguments, Calls, CaseAnswer, CaseFailure};
 
 // Date is the time at which a 304 came, and Age is removed.
-fn age_anew(stored: &mut HeaderMap, second: u64, answer: &Answer) -> Result<(), Failure> {
+fn age_anew(stored: &mut HeaderMap, second: u64, answer: &CaseAnswer) -> Result<(), CaseFailure> {
     let date = date_field(answer.alloc(), second)?;
-    set_all(stored, vec![in answer.alloc(); date]?).map_err(|_| Failure::Memory)?;
+    set_all(stored, vec![in answer.alloc(); date]?).map_err(|_| CaseFailure::Memory)?;
     stored.remove(AGE);
     Ok(())
 }
@@ -19,8 +19,8 @@ fn age_anew(stored: &mut HeaderMap, second: u64, answer: &Answer) -> Result<(), 
 fn call_freshening(
     second: Option<u64>,
     arguments: &mut Arguments<'_>,
-    answer: &mut Answer,
-) -> Result<(), Failure> {
+    answer: &mut CaseAnswer,
+) -> Result<(), CaseFailure> {
     let (mut stored, update) = (arguments.map()?, arguments.map()?);
     let Some(fields) = freshening_fields(arguments.alloc(), &stored, &update)? else {
         return Ok(answer.word("not_updated")?);
@@ -28,12 +28,15 @@ fn call_freshening(
     if let Some(second) = second {
         age_anew(&mut stored, second, answer)?;
     }
-    set_all(&mut stored, fields).map_err(|_| Failure::Memory)?;
+    set_all(&mut stored, fields).map_err(|_| CaseFailure::Memory)?;
     answer.map(&stored)
 }
 
 // KIND LIFETIME AGE REQUEST RESPONSE: what is done with the GET, by a response to the same.
-fn call_decide_by(arguments: &mut Arguments<'_>, answer: &mut Answer) -> Result<(), Failure> {
+fn call_decide_by(
+    arguments: &mut Arguments<'_>,
+    answer: &mut CaseAnswer,
+) -> Result<(), CaseFailure> {
     let kind = kind(arguments)?;
     let freshness = Freshness {
         lifetime: arguments.number()?,
@@ -68,7 +71,10 @@ fn is_dictionary(line: &[u8]) -> bool {
 }
 
 // LINE: the members of a dictionary, each with its key and its value.
-fn call_dictionary(arguments: &mut Arguments<'_>, answer: &mut Answer) -> Result<(), Failure> {
+fn call_dictionary(
+    arguments: &mut Arguments<'_>,
+    answer: &mut CaseAnswer,
+) -> Result<(), CaseFailure> {
     let line = arguments.bytes()?;
     if !is_dictionary(&line) {
         return Ok(answer.word("malformed")?);
@@ -83,13 +89,13 @@ fn call_dictionary(arguments: &mut Arguments<'_>, answer: &mut Answer) -> Result
         };
         answer.bytes(entry.member.key)?;
         match entry.member.value {
-            Value::Integer(digits) => answer.bytes(digits)?,
-            Value::Boolean(is) => answer.word(is)?,
-            Value::String(inside) => {
+            ItemValue::Integer(digits) => answer.bytes(digits)?,
+            ItemValue::Boolean(is) => answer.word(is)?,
+            ItemValue::String(inside) => {
                 answer.word("(string)")?;
                 answer.bytes(inside)?;
             }
-            Value::Other => answer.word("(other)")?,
+            ItemValue::Other => answer.word("(other)")?,
         }
         rest = entry.next;
     }
@@ -97,7 +103,7 @@ fn call_dictionary(arguments: &mut Arguments<'_>, answer: &mut Answer) -> Result
 }
 
 // The seconds since 1970 of a time that is none before.
-fn show_time(time: Option<Timestamp>, answer: &mut Answer) -> Result<(), Failure> {
+fn show_time(time: Option<Timestamp>, answer: &mut CaseAnswer) -> Result<(), CaseFailure> {
     let seconds = time.and_then(|time| time.unix_seconds());
     Ok(answer.option(seconds)?)
 }
@@ -106,7 +112,11 @@ fn show_time(time: Option<Timestamp>, answer: &mut Answer) -> Result<(), Failure
 pub struct Policies;
 
 impl Calls for Policies {
-    fn make(name: &str, arguments: &mut Arguments<'_>, answer: &mut Answer) -> Result<(), Failure> {
+    fn make(
+        name: &str,
+        arguments: &mut Arguments<'_>,
+        answer: &mut CaseAnswer,
+    ) -> Result<(), CaseFailure> {
         match name {
             "freshening_steps" => call_freshening(None, arguments, answer),
             "freshening_at" => {
@@ -122,7 +132,7 @@ impl Calls for Policies {
                 )
             }
             "read_date" => show_time(read_date(&arguments.bytes()?, arguments.number()?), answer),
-            _ => Err(Failure::NoCall),
+            _ => Err(CaseFailure::NoCall),
         }
     }
 }

@@ -7,14 +7,14 @@
 use decide_cors::{Allowed, CorsPolicy, CorsRules};
 use decide_preconditions::{Boundary, Content, RangeLimits, Validators};
 use decide_resource::{MethodRule, Negotiation, Representation, Resource, State};
-use decide_routes::{Routes, Server, nowhere, server_wide};
+use decide_routes::{Routes, ServerWide, nowhere, server_wide};
 use headers::{ETag, HeaderMap, HeaderValue, Origin, decode_values};
 use http::Method;
 use matchit::Router;
 use std::alloc::Global;
-use test_rows::Failure;
+use test_rows::CaseFailure;
 
-fn value(alloc: Global, text: Option<&str>) -> Result<Option<HeaderValue>, Failure> {
+fn value(alloc: Global, text: Option<&str>) -> Result<Option<HeaderValue>, CaseFailure> {
     match text {
         Some(text) => Ok(Some(HeaderValue::from_str(alloc, text)?)),
         None => Ok(None),
@@ -27,7 +27,7 @@ fn representation(
     coding: Option<&str>,
     language: Option<&str>,
     tag: &str,
-) -> Result<Representation, Failure> {
+) -> Result<Representation, CaseFailure> {
     Ok(Representation {
         coding: value(alloc, coding)?,
         language: value(alloc, language)?,
@@ -56,7 +56,7 @@ fn rule(alloc: Global, method: Method) -> MethodRule {
 }
 
 // The methods of the server, beside GET and HEAD.
-fn implemented(alloc: Global) -> Result<Vec<Method>, Failure> {
+fn implemented(alloc: Global) -> Result<Vec<Method>, CaseFailure> {
     Ok(vec![in alloc; Method::POST, Method::PUT, Method::DELETE, Method::PATCH]?)
 }
 
@@ -65,7 +65,7 @@ fn open_resource(
     alloc: Global,
     representations: Vec<Representation>,
     is_strict: bool,
-) -> Result<Resource, Failure> {
+) -> Result<Resource, CaseFailure> {
     let boundary = Boundary::new(alloc, "THIS_STRING_SEPARATES")?;
     let mut rules = Vec::new(alloc);
     rules.push(rule(alloc, Method::GET))?;
@@ -89,24 +89,24 @@ fn open_resource(
     })
 }
 
-fn policy(alloc: Global) -> Result<CorsPolicy, Failure> {
+fn policy(alloc: Global) -> Result<CorsPolicy, CaseFailure> {
     let mut origins = Vec::new(alloc);
     let line = HeaderValue::from_static("https://app.example");
     let origin: Origin = decode_values(alloc, &[line])?;
     origins.push(origin)?;
     match CorsPolicy::new(alloc, CorsRules::new(alloc, Allowed::Listed(origins))) {
         Ok(policy) => Ok(policy),
-        Err(_) => Err(Failure::Memory),
+        Err(_) => Err(CaseFailure::Memory),
     }
 }
 
-fn own_hosts(alloc: Global) -> Result<Vec<HeaderValue>, Failure> {
+fn own_hosts(alloc: Global) -> Result<Vec<HeaderValue>, CaseFailure> {
     let mut hosts = Vec::new(alloc);
     hosts.push(HeaderValue::from_static("a.example"))?;
     Ok(hosts)
 }
 
-fn note(alloc: Global) -> Result<Resource, Failure> {
+fn note(alloc: Global) -> Result<Resource, CaseFailure> {
     let mut notes = Vec::new(alloc);
     notes.push(representation(alloc, "application/json", None, None, "\"n1\"")?)?;
     let mut note = open_resource(alloc, notes, true)?;
@@ -120,7 +120,7 @@ fn note(alloc: Global) -> Result<Resource, Failure> {
     Ok(note)
 }
 
-fn page(alloc: Global) -> Result<Resource, Failure> {
+fn page(alloc: Global) -> Result<Resource, CaseFailure> {
     let html = "text/html";
     let mut pages = Vec::new(alloc);
     pages.push(representation(alloc, html, None, Some("en"), "\"en\"")?)?;
@@ -129,15 +129,15 @@ fn page(alloc: Global) -> Result<Resource, Failure> {
     open_resource(alloc, pages, false)
 }
 
-fn report(alloc: Global) -> Result<Resource, Failure> {
+fn report(alloc: Global) -> Result<Resource, CaseFailure> {
     let mut reports = Vec::new(alloc);
     reports.push(representation(alloc, "application/pdf", None, None, "\"r1\"")?)?;
     open_resource(alloc, reports, true)
 }
 
 // What all resources have in common.
-fn server(alloc: Global) -> Result<Server, Failure> {
-    Ok(Server {
+fn server(alloc: Global) -> Result<ServerWide, CaseFailure> {
+    Ok(ServerWide {
         hosts: Some(own_hosts(alloc)?),
         implemented: implemented(alloc)?,
         boundary: Boundary::new(alloc, "THIS_STRING_SEPARATES")?,
@@ -146,7 +146,7 @@ fn server(alloc: Global) -> Result<Server, Failure> {
 }
 
 /// The routes.
-pub fn routes(alloc: Global) -> Result<Routes<&'static str>, Failure> {
+pub fn routes(alloc: Global) -> Result<Routes<&'static str>, CaseFailure> {
     let mut router = Router::new(alloc);
     for (route, name) in [
         ("/note", "note"),
@@ -155,7 +155,7 @@ pub fn routes(alloc: Global) -> Result<Routes<&'static str>, Failure> {
         ("/drafts/{name}", "draft"),
     ] {
         if router.insert(route, name).is_err() {
-            return Err(Failure::Memory);
+            return Err(CaseFailure::Memory);
         }
     }
     Ok(Routes {
@@ -165,7 +165,7 @@ pub fn routes(alloc: Global) -> Result<Routes<&'static str>, Failure> {
     })
 }
 
-fn draft(alloc: Global) -> Result<Resource, Failure> {
+fn draft(alloc: Global) -> Result<Resource, CaseFailure> {
     let mut draft = open_resource(alloc, Vec::new(alloc), true)?;
     let mut put = rule(alloc, Method::PUT);
     put.creates = true;
@@ -175,7 +175,7 @@ fn draft(alloc: Global) -> Result<Resource, Failure> {
 }
 
 /// The resource of this name.
-pub fn resource_named(alloc: Global, name: &str) -> Result<Resource, Failure> {
+pub fn resource_named(alloc: Global, name: &str) -> Result<Resource, CaseFailure> {
     match name {
         "note" => note(alloc),
         "page" => page(alloc),

@@ -2,12 +2,12 @@
 use crate::resources::{resource_named, routes};
 use crate::store::method;
 use decide_preconditions::Plan;
-use decide_resource::{Answer as Made, Denied, Reason, RequestContent, RequestHead, Sends};
-use decide_routes::Asked;
+use decide_resource::{Answer as Made, Denied, Reason, RequestContent, ResourceRequest, Sends};
+use decide_routes::RoutedRequest;
 use gateway_messages::Protocol;
 use headers::{HeaderMap, HeaderValue, set_all};
 use http::Method;
-use test_rows::{Answer, Arguments, Calls, Failure};
+use test_rows::{Arguments, Calls, CaseAnswer, CaseFailure};
 
 /// The time of rows: the start of 2026.
 const PRESENT: u64 = 1_767_225_600;
@@ -16,7 +16,7 @@ const PRESENT: u64 = 1_767_225_600;
 pub struct Routing;
 
 // Why, the status, what is sent, and the fields of a response that had these.
-fn add_outcome(made: Made, mut map: HeaderMap, answer: &mut Answer) -> Result<(), Failure> {
+fn add_outcome(made: Made, mut map: HeaderMap, answer: &mut CaseAnswer) -> Result<(), CaseFailure> {
     let reason = made.reason;
     answer.word(format_args!("{reason:?}"))?;
     answer.option(made.status.map(|status| status.as_u16()))?;
@@ -24,9 +24,9 @@ fn add_outcome(made: Made, mut map: HeaderMap, answer: &mut Answer) -> Result<()
         Sends::Nothing => answer.word("nothing")?,
         Sends::Planned(Some(place), Plan::Full) => answer.word(format_args!("{place} whole"))?,
         Sends::Planned(Some(place), Plan::Single(_)) => answer.word(format_args!("{place} part"))?,
-        _ => return Err(Failure::NoCall),
+        _ => return Err(CaseFailure::NoCall),
     }
-    set_all(&mut map, made.fields).map_err(|_| Failure::Memory)?;
+    set_all(&mut map, made.fields).map_err(|_| CaseFailure::Memory)?;
     answer.map(&map)
 }
 
@@ -35,9 +35,9 @@ fn plain_head<'a>(
     method: &'a Method,
     fields: &'a HeaderMap,
     denied: Option<&'a Denied>,
-) -> RequestHead<'a> {
+) -> ResourceRequest<'a> {
     let authority = None;
-    RequestHead {
+    ResourceRequest {
         protocol: Protocol::Http11,
         method,
         authority,
@@ -52,9 +52,9 @@ fn asked_by<'a>(
     method: &'a Method,
     fields: &'a HeaderMap,
     denied: Option<&'a Denied>,
-) -> Asked<'a> {
+) -> RoutedRequest<'a> {
     let request = plain_head(method, fields, denied);
-    Asked {
+    RoutedRequest {
         path,
         request,
         present: PRESENT,
@@ -63,31 +63,34 @@ fn asked_by<'a>(
 
 // `route PATH METHOD FIELDS`: the reason, the status or `(none)`, what is sent, and the fields, for a request of
 // HTTP/1.1 without content by its path, among the routes of `resources.rt`.
-fn call_route(arguments: &mut Arguments<'_>, answer: &mut Answer) -> Result<(), Failure> {
+fn call_route(arguments: &mut Arguments<'_>, answer: &mut CaseAnswer) -> Result<(), CaseFailure> {
     let set = HeaderMap::new(arguments.alloc());
     answer_route(arguments, answer, None, set)
 }
 
 // `route_over SET (/) PATH METHOD FIELDS`: the same for a response that had the fields SET.
-fn call_route_over(arguments: &mut Arguments<'_>, answer: &mut Answer) -> Result<(), Failure> {
+fn call_route_over(
+    arguments: &mut Arguments<'_>,
+    answer: &mut CaseAnswer,
+) -> Result<(), CaseFailure> {
     let set = arguments.map()?;
     answer_route(arguments, answer, None, set)
 }
 
 // Why the server denies a request, by its status.
-fn denied_by(status: &str) -> Result<Denied, Failure> {
+fn denied_by(status: &str) -> Result<Denied, CaseFailure> {
     Ok(match status {
         "401" => Denied::Unauthenticated(HeaderValue::from_static("Basic realm=\"a\"")),
         "403" => Denied::Forbidden,
         "429" => Denied::TooManyRequests(Some(120)),
         "503" => Denied::Unavailable(None),
-        _ => return Err(Failure::NoCall),
+        _ => return Err(CaseFailure::NoCall),
     })
 }
 
 // `denied STATUS PATH METHOD FIELDS`: the same for a request that the server denies: by 401 with the challenge `Basic
 // realm="a"`, by 403, by 429 for 120 seconds, or by 503.
-fn call_denied(arguments: &mut Arguments<'_>, answer: &mut Answer) -> Result<(), Failure> {
+fn call_denied(arguments: &mut Arguments<'_>, answer: &mut CaseAnswer) -> Result<(), CaseFailure> {
     let denied = denied_by(arguments.word()?)?;
     let set = HeaderMap::new(arguments.alloc());
     answer_route(arguments, answer, Some(denied), set)
@@ -95,10 +98,10 @@ fn call_denied(arguments: &mut Arguments<'_>, answer: &mut Answer) -> Result<(),
 
 fn answer_route(
     arguments: &mut Arguments<'_>,
-    answer: &mut Answer,
+    answer: &mut CaseAnswer,
     denied: Option<Denied>,
     set: HeaderMap,
-) -> Result<(), Failure> {
+) -> Result<(), CaseFailure> {
     let alloc = arguments.alloc();
     let path = arguments.word()?;
     let method = method(arguments)?;
@@ -112,12 +115,12 @@ macro_rules! reason_named {
     ($word:expr, $($reason:ident)+) => {
         match $word {
             $(stringify!($reason) => Ok(Reason::$reason),)+
-            _ => Err(Failure::NoCall),
+            _ => Err(CaseFailure::NoCall),
         }
     };
 }
 
-fn read_reason(arguments: &mut Arguments<'_>) -> Result<Reason, Failure> {
+fn read_reason(arguments: &mut Arguments<'_>) -> Result<Reason, CaseFailure> {
     reason_named!(arguments.word()?,
         InvalidHost Misdirected Preflight Denied UnknownMethod MethodNotAllowed Options UnmetExpectation
         PartialContent Moved Gone NotFound LengthRequired ContentTooLarge UnsupportedMediaType
@@ -125,14 +128,18 @@ fn read_reason(arguments: &mut Arguments<'_>) -> Result<Reason, Failure> {
 }
 
 impl Calls for Routing {
-    fn make(name: &str, arguments: &mut Arguments<'_>, answer: &mut Answer) -> Result<(), Failure> {
+    fn make(
+        name: &str,
+        arguments: &mut Arguments<'_>,
+        answer: &mut CaseAnswer,
+    ) -> Result<(), CaseFailure> {
         match name {
             "route" => call_route(arguments, answer),
             "route_over" => call_route_over(arguments, answer),
             "denied" => call_denied(arguments, answer),
             // `stage REASON`: its stage.
             "stage" => Ok(answer.word(read_reason(arguments)?.stage())?),
-            _ => Err(Failure::NoCall),
+            _ => Err(CaseFailure::NoCall),
         }
     }
 }

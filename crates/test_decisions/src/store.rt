@@ -9,7 +9,7 @@ use headers::{Encoded, HeaderMap};
 use http::{Method, StatusCode};
 use std::alloc::{AllocError, Global};
 use std::hash::RandomState;
-use test_rows::{Answer, Arguments, Failure};
+use test_rows::{Arguments, CaseAnswer, CaseFailure};
 
 /// The stores of a cache: of complete responses, and of parts.
 #[derive(Drop)]
@@ -22,14 +22,14 @@ pub struct Caches {
 
 /// KIND VARIANTS RESPONSES BYTES, and maybe `immutable` or `plain` with the names of targeted fields: a
 /// cache without a response, whose stores have these limits each.
-pub fn new_caches(alloc: Global, keys: RandomState, limits: &str) -> Result<Caches, Failure> {
+pub fn new_caches(alloc: Global, keys: RandomState, limits: &str) -> Result<Caches, CaseFailure> {
     Ok(Caches {
         responses: new_store(alloc, keys, limits)?,
         parts: new_parts(alloc, keys, limits)?,
     })
 }
 
-fn new_store(alloc: Global, keys: RandomState, limits: &str) -> Result<Store, Failure> {
+fn new_store(alloc: Global, keys: RandomState, limits: &str) -> Result<Store, CaseFailure> {
     let mut arguments = Arguments::new(alloc, limits);
     let (kind, limits) = read_limits(&mut arguments)?;
     if arguments.is_empty() {
@@ -40,16 +40,16 @@ fn new_store(alloc: Global, keys: RandomState, limits: &str) -> Result<Store, Fa
 }
 
 /// The next word, as a kind of cache.
-pub fn kind(arguments: &mut Arguments<'_>) -> Result<Kind, Failure> {
+pub fn kind(arguments: &mut Arguments<'_>) -> Result<Kind, CaseFailure> {
     match arguments.word()? {
         "shared" => Ok(Kind::Shared),
         "private" => Ok(Kind::Private),
-        _ => Err(Failure::NoCall),
+        _ => Err(CaseFailure::NoCall),
     }
 }
 
 /// The next four words, as whom a cache serves, and its limits.
-pub fn read_limits(arguments: &mut Arguments<'_>) -> Result<(Kind, Limits), Failure> {
+pub fn read_limits(arguments: &mut Arguments<'_>) -> Result<(Kind, Limits), CaseFailure> {
     let kind = kind(arguments)?;
     let limits = Limits {
         variants: size(arguments)?,
@@ -60,34 +60,34 @@ pub fn read_limits(arguments: &mut Arguments<'_>) -> Result<(Kind, Limits), Fail
 }
 
 /// The next words, as options.
-pub fn read_options(alloc: Global, arguments: &mut Arguments<'_>) -> Result<Options, Failure> {
+pub fn read_options(alloc: Global, arguments: &mut Arguments<'_>) -> Result<Options, CaseFailure> {
     let immutable = match arguments.word()? {
         "immutable" => true,
         "plain" => false,
-        _ => return Err(Failure::NoCall),
+        _ => return Err(CaseFailure::NoCall),
     };
     let targets = arguments.names()?.collect(alloc)?;
     Ok(Options { immutable, targets })
 }
 
 /// The next word, as a number of bytes or of responses.
-pub fn size(arguments: &mut Arguments<'_>) -> Result<usize, Failure> {
-    usize::try_from(arguments.number()?).map_err(|_| Failure::NoCall)
+pub fn size(arguments: &mut Arguments<'_>) -> Result<usize, CaseFailure> {
+    usize::try_from(arguments.number()?).map_err(|_| CaseFailure::NoCall)
 }
 
 /// The next word, as a status.
-pub fn status(arguments: &mut Arguments<'_>) -> Result<StatusCode, Failure> {
-    let code = u16::try_from(arguments.number()?).map_err(|_| Failure::NoCall)?;
-    StatusCode::from_u16(code).map_err(|_| Failure::NoCall)
+pub fn status(arguments: &mut Arguments<'_>) -> Result<StatusCode, CaseFailure> {
+    let code = u16::try_from(arguments.number()?).map_err(|_| CaseFailure::NoCall)?;
+    StatusCode::from_u16(code).map_err(|_| CaseFailure::NoCall)
 }
 
 /// The next word, as a method.
-pub fn method(arguments: &mut Arguments<'_>) -> Result<Method, Failure> {
+pub fn method(arguments: &mut Arguments<'_>) -> Result<Method, CaseFailure> {
     Ok(Method::from_bytes(arguments.alloc(), &arguments.bytes()?)?)
 }
 
 // The next two words, as the times of a request and of its response.
-fn exchange(arguments: &mut Arguments<'_>) -> Result<Exchange, Failure> {
+fn exchange(arguments: &mut Arguments<'_>) -> Result<Exchange, CaseFailure> {
     Ok(Exchange {
         requested: arguments.number()?,
         received: arguments.number()?,
@@ -96,19 +96,19 @@ fn exchange(arguments: &mut Arguments<'_>) -> Result<Exchange, Failure> {
 
 /// METHOD REQUEST: a request.
 #[derive(Drop)]
-pub struct Asked {
+pub struct StoreRequest {
     /// The method.
     pub method: Method,
     /// The fields.
     pub fields: HeaderMap,
 }
 
-impl Asked {
+impl StoreRequest {
     /// The next words, as a request.
-    pub fn read(arguments: &mut Arguments<'_>) -> Result<Asked, Failure> {
+    pub fn read(arguments: &mut Arguments<'_>) -> Result<StoreRequest, CaseFailure> {
         let method = method(arguments)?;
         let fields = arguments.map()?;
-        Ok(Asked { method, fields })
+        Ok(StoreRequest { method, fields })
     }
 
     /// The request as a cache sees it.
@@ -124,14 +124,14 @@ impl Asked {
 #[derive(Drop)]
 struct Update {
     exchange: Exchange,
-    asked: Asked,
+    asked: StoreRequest,
     fields: HeaderMap,
 }
 
 impl Update {
-    fn read(arguments: &mut Arguments<'_>) -> Result<Update, Failure> {
+    fn read(arguments: &mut Arguments<'_>) -> Result<Update, CaseFailure> {
         let exchange = exchange(arguments)?;
-        let asked = Asked::read(arguments)?;
+        let asked = StoreRequest::read(arguments)?;
         let fields = arguments.map()?;
         Ok(Update {
             exchange,
@@ -146,7 +146,7 @@ fn add_content(
     store: &Store,
     target: &str,
     number: u64,
-    answer: &mut Answer,
+    answer: &mut CaseAnswer,
 ) -> Result<(), AllocError> {
     match store.response(target, number) {
         Some(response) => answer.bytes(response.content.as_slice()),
@@ -155,7 +155,7 @@ fn add_content(
 }
 
 /// Fields, also those without a field line.
-pub fn add_fields(fields: &[Encoded], answer: &mut Answer) -> Result<(), Failure> {
+pub fn add_fields(fields: &[Encoded], answer: &mut CaseAnswer) -> Result<(), CaseFailure> {
     for field in fields {
         answer.word(format_args!("({})", field.name.as_str()))?;
         for line in field.lines.iter() {
@@ -169,8 +169,8 @@ fn add_lookup(
     store: &Store,
     target: &str,
     found: &Lookup,
-    answer: &mut Answer,
-) -> Result<(), Failure> {
+    answer: &mut CaseAnswer,
+) -> Result<(), CaseFailure> {
     let (word, number, fields) = match found {
         Lookup::Serve(number, age) => ("serve", *number, std::slice::from_ref(age)),
         Lookup::ServeAndRevalidate(number, age) => {
@@ -191,11 +191,11 @@ fn add_lookup(
 fn look_up(
     store: &mut Store,
     target: &str,
-    asked: &Asked,
+    asked: &StoreRequest,
     now: u64,
     guess: Option<u64>,
-    answer: &mut Answer,
-) -> Result<(), Failure> {
+    answer: &mut CaseAnswer,
+) -> Result<(), CaseFailure> {
     let (alloc, request) = (answer.alloc(), asked.head());
     let found = match guess {
         Some(longest_guess) => {
@@ -214,25 +214,25 @@ fn call_lookup(
     target: &str,
     guesses: bool,
     arguments: &mut Arguments<'_>,
-    answer: &mut Answer,
-) -> Result<(), Failure> {
+    answer: &mut CaseAnswer,
+) -> Result<(), CaseFailure> {
     let now = arguments.number()?;
     let guess = if guesses {
         Some(arguments.number()?)
     } else {
         None
     };
-    let asked = Asked::read(arguments)?;
+    let asked = StoreRequest::read(arguments)?;
     look_up(store, target, &asked, now, guess, answer)
 }
 
 /// REQUESTED RECEIVED METHOD REQUEST STATUS CONTENT RESPONSE: a response, and its request.
-pub fn read_came(arguments: &mut Arguments<'_>) -> Result<StoredResponse, Failure> {
+pub fn read_came(arguments: &mut Arguments<'_>) -> Result<StoredResponse, CaseFailure> {
     let Exchange {
         requested,
         received,
     } = exchange(arguments)?;
-    let Asked { method, fields } = Asked::read(arguments)?;
+    let StoreRequest { method, fields } = StoreRequest::read(arguments)?;
     let status = status(arguments)?;
     let content = Bytes::from_vec(arguments.bytes()?)?;
     let response = arguments.map()?;
@@ -254,8 +254,8 @@ fn call_store(
     target: &str,
     reception: Reception,
     arguments: &mut Arguments<'_>,
-    answer: &mut Answer,
-) -> Result<(), Failure> {
+    answer: &mut CaseAnswer,
+) -> Result<(), CaseFailure> {
     let came = read_came(arguments)?;
     let stored = store.store(arguments.alloc(), target, came, reception)?;
     Ok(answer.word(if stored.is_some() {
@@ -270,8 +270,8 @@ fn call_freshen(
     store: &mut Store,
     target: &str,
     update: &Update,
-    answer: &mut Answer,
-) -> Result<(), Failure> {
+    answer: &mut CaseAnswer,
+) -> Result<(), CaseFailure> {
     let request = update.asked.head();
     match store.freshen(
         answer.alloc(),
@@ -298,8 +298,8 @@ fn call_freshen_by_head(
     store: &mut Store,
     target: &str,
     update: &Update,
-    answer: &mut Answer,
-) -> Result<(), Failure> {
+    answer: &mut CaseAnswer,
+) -> Result<(), CaseFailure> {
     let request = update.asked.head();
     store.freshen_by_head(
         answer.alloc(),
@@ -312,11 +312,11 @@ fn call_freshen_by_head(
 }
 
 // The next word, as whether ranges are answered.
-fn ranges(arguments: &mut Arguments<'_>) -> Result<bool, Failure> {
+fn ranges(arguments: &mut Arguments<'_>) -> Result<bool, CaseFailure> {
     match arguments.word()? {
         "ranges" => Ok(true),
         "no_ranges" => Ok(false),
-        _ => Err(Failure::NoCall),
+        _ => Err(CaseFailure::NoCall),
     }
 }
 
@@ -326,11 +326,11 @@ fn call_answer(
     store: &Store,
     target: &str,
     arguments: &mut Arguments<'_>,
-    answer: &mut Answer,
-) -> Result<(), Failure> {
+    answer: &mut CaseAnswer,
+) -> Result<(), CaseFailure> {
     let (place, now) = (size(arguments)?, arguments.number()?);
     let ranges = ranges(arguments)?;
-    let asked = Asked::read(arguments)?;
+    let asked = StoreRequest::read(arguments)?;
     let Some(number) = number_at(store.responses(target), place) else {
         return Ok(answer.none()?);
     };
@@ -346,7 +346,7 @@ fn number_at(responses: &[StoredResponse], place: usize) -> Option<u64> {
 }
 
 // How a stored response answers conditions and ranges.
-fn add_stored_answer(found: StoredAnswer, answer: &mut Answer) -> Result<(), AllocError> {
+fn add_stored_answer(found: StoredAnswer, answer: &mut CaseAnswer) -> Result<(), AllocError> {
     match found {
         StoredAnswer::Whole => answer.word("whole"),
         StoredAnswer::Part(part) => answer.word(format_args!("part {}-{}", part.first, part.last)),
@@ -361,8 +361,8 @@ fn call_invalidate(
     store: &mut Store,
     target: &str,
     arguments: &mut Arguments<'_>,
-    answer: &mut Answer,
-) -> Result<(), Failure> {
+    answer: &mut CaseAnswer,
+) -> Result<(), CaseFailure> {
     let (method, status) = (method(arguments)?, status(arguments)?);
     store.invalidate(arguments.alloc(), target, &method, status);
     Ok(answer.word(store.responses(target).len())?)
@@ -372,11 +372,11 @@ fn call_invalidate(
 fn call_named_targets(
     target: &str,
     arguments: &mut Arguments<'_>,
-    answer: &mut Answer,
-) -> Result<(), Failure> {
+    answer: &mut CaseAnswer,
+) -> Result<(), CaseFailure> {
     let response = arguments.map()?;
     let Ok(urls) = named_targets(answer.alloc(), target, &response) else {
-        return Err(Failure::Memory);
+        return Err(CaseFailure::Memory);
     };
     answer.word(urls.len())?;
     for url in &urls {
@@ -386,7 +386,7 @@ fn call_named_targets(
 }
 
 /// A stored response: method, status, content, times and fields.
-pub fn add_stored(response: &StoredResponse, answer: &mut Answer) -> Result<(), Failure> {
+pub fn add_stored(response: &StoredResponse, answer: &mut CaseAnswer) -> Result<(), CaseFailure> {
     answer.word(response.method.as_str())?;
     answer.word(response.status.as_u16())?;
     answer.bytes(response.content.as_slice())?;
@@ -396,7 +396,7 @@ pub fn add_stored(response: &StoredResponse, answer: &mut Answer) -> Result<(), 
 }
 
 // How many responses are stored under the target, and each of them.
-fn call_responses(store: &Store, target: &str, answer: &mut Answer) -> Result<(), Failure> {
+fn call_responses(store: &Store, target: &str, answer: &mut CaseAnswer) -> Result<(), CaseFailure> {
     let responses = store.responses(target);
     answer.word(responses.len())?;
     for response in responses {
@@ -411,8 +411,8 @@ pub fn make(
     caches: &mut Caches,
     name: &str,
     arguments: &mut Arguments<'_>,
-    answer: &mut Answer,
-) -> Result<(), Failure> {
+    answer: &mut CaseAnswer,
+) -> Result<(), CaseFailure> {
     let target = arguments.text()?;
     let target = target.as_str();
     let store = &mut caches.responses;

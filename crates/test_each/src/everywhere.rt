@@ -5,7 +5,7 @@ use headers::{
     Encoded, Header, HeaderMap, HeaderMapExt, HeaderName, HeaderValue, canonical, encoding,
 };
 use std::alloc::{AllocError, Global};
-use test_rows::{Answer, Arguments, Failure};
+use test_rows::{Arguments, CaseAnswer, CaseFailure};
 
 /// Whether two lines have the same bytes, and are marked alike.
 pub fn is_same(line: &HeaderValue, other: &HeaderValue) -> bool {
@@ -26,7 +26,7 @@ fn are_same(lines: &[HeaderValue], others: &[HeaderValue]) -> bool {
 }
 
 // Adds the name of a call that doesn't write the wanted lines.
-fn add_unless(is_wanted: bool, name: &str, answer: &mut Answer) -> Result<(), AllocError> {
+fn add_unless(is_wanted: bool, name: &str, answer: &mut CaseAnswer) -> Result<(), AllocError> {
     if is_wanted {
         return Ok(());
     }
@@ -35,19 +35,19 @@ fn add_unless(is_wanted: bool, name: &str, answer: &mut Answer) -> Result<(), Al
 
 // The lines that a header writes, with the value before them. `None` if the call is refused and the
 // list isn't as it was.
-fn encoded<H: Header>(alloc: Global, header: &H) -> Result<Option<Vec<HeaderValue>>, Failure> {
+fn encoded<H: Header>(alloc: Global, header: &H) -> Result<Option<Vec<HeaderValue>>, CaseFailure> {
     let mut lines = value_before(alloc)?;
     if header.encode(alloc, &mut lines).is_ok() {
         return Ok(Some(lines));
     }
     match lines_behind(&lines) {
-        Some([]) => Err(Failure::Memory),
+        Some([]) => Err(CaseFailure::Memory),
         _ => Ok(None),
     }
 }
 
 // A map with the line `kept` under another name, and `z=9` under this one.
-fn map_with(alloc: Global, name: HeaderName) -> Result<HeaderMap, Failure> {
+fn map_with(alloc: Global, name: HeaderName) -> Result<HeaderMap, CaseFailure> {
     let mut map = HeaderMap::new(alloc);
     map.append("accept", HeaderValue::from_static("kept"))?;
     map.append(name, HeaderValue::from_static("z=9"))?;
@@ -97,7 +97,7 @@ fn inserted<H: Header>(
     alloc: Global,
     header: H,
     lines: &[HeaderValue],
-) -> Result<Option<HeaderMap>, Failure> {
+) -> Result<Option<HeaderMap>, CaseFailure> {
     let name = H::name();
     let mut map = map_with(alloc, H::name())?;
     if map.typed_insert(alloc, header).is_ok() {
@@ -105,7 +105,7 @@ fn inserted<H: Header>(
     }
     let is_left = holds_text(&map, &name, "z=9") || holds_beginning(&map, &name, lines);
     if is_left && keeps_other(&map) {
-        return Err(Failure::Memory);
+        return Err(CaseFailure::Memory);
     }
     Ok(None)
 }
@@ -115,7 +115,7 @@ fn gives<H: Header>(
     alloc: Global,
     header: Option<H>,
     lines: &[HeaderValue],
-) -> Result<bool, Failure> {
+) -> Result<bool, CaseFailure> {
     match header {
         Some(header) => Ok(are_same(&written(alloc, &header)?, lines)),
         None => Ok(false),
@@ -131,14 +131,14 @@ fn is_encoding<H: Header>(encoded: &Encoded, lines: &[HeaderValue]) -> bool {
 fn reads<H: Header>(
     map: &HeaderMap,
     lines: &[HeaderValue],
-    answer: &mut Answer,
-) -> Result<(), Failure> {
+    answer: &mut CaseAnswer,
+) -> Result<(), CaseFailure> {
     let alloc = answer.alloc();
     let tried = map.typed_try_get::<H>(alloc)?;
     add_unless(gives(alloc, tried, lines)?, "(typed_try_get)", answer)?;
     let got = map.typed_get::<H>(alloc);
     if got.is_none() {
-        return Err(Failure::Memory);
+        return Err(CaseFailure::Memory);
     }
     add_unless(gives(alloc, got, lines)?, "(typed_get)", answer)?;
     let is_wanted = match canonical::<H>(alloc, map)? {
@@ -152,8 +152,8 @@ fn reads<H: Header>(
 fn add_calls<H: Header>(
     header: H,
     lines: &[HeaderValue],
-    answer: &mut Answer,
-) -> Result<(), Failure> {
+    answer: &mut CaseAnswer,
+) -> Result<(), CaseFailure> {
     let alloc = answer.alloc();
     let is_wanted = is_encoding::<H>(&encoding(alloc, &header)?, lines);
     add_unless(is_wanted, "(encoding)", answer)?;
@@ -169,8 +169,8 @@ fn add_calls<H: Header>(
 /// writes others. `(left)` if a call that was refused memory left what it must not.
 pub fn everywhere<H: Header + Getters<P>, P>(
     arguments: &mut Arguments<'_>,
-    answer: &mut Answer,
-) -> Result<(), Failure> {
+    answer: &mut CaseAnswer,
+) -> Result<(), CaseFailure> {
     let alloc = arguments.alloc();
     let header: H = arguments.header_of_rest()?;
     let copy = copy_of(alloc, &header)?;

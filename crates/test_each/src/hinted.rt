@@ -4,7 +4,7 @@ use crate::writing::written;
 use headers::{Error, Header, HeaderName, HeaderValue, Refused, decode_values};
 use http::Method;
 use std::alloc::Global;
-use test_rows::{Answer, Arguments, Failure};
+use test_rows::{Arguments, CaseAnswer, CaseFailure};
 
 /// What an iterator says of how much is left.
 #[derive(Clone, Copy, Drop)]
@@ -48,7 +48,7 @@ impl<T: Drop> Iterator for Hinted<T> {
 }
 
 // The next word, as a hint; the right one for a call `from_iter`, which has no such word.
-fn hint_of(call: &str, arguments: &mut Arguments<'_>) -> Result<Hint, Failure> {
+fn hint_of(call: &str, arguments: &mut Arguments<'_>) -> Result<Hint, CaseFailure> {
     if call.ends_with("from_iter") {
         return Ok(Hint::Right);
     }
@@ -56,11 +56,11 @@ fn hint_of(call: &str, arguments: &mut Arguments<'_>) -> Result<Hint, Failure> {
 }
 
 // The next word, as a hint.
-fn read_hint(arguments: &mut Arguments<'_>) -> Result<Hint, Failure> {
+fn read_hint(arguments: &mut Arguments<'_>) -> Result<Hint, CaseFailure> {
     match arguments.word()? {
         "unknown" => Ok(Hint::Unknown),
         "too-much" => Ok(Hint::TooMuch),
-        _ => Err(Failure::NoCall),
+        _ => Err(CaseFailure::NoCall),
     }
 }
 
@@ -68,7 +68,7 @@ fn read_hint(arguments: &mut Arguments<'_>) -> Result<Hint, Failure> {
 pub fn hinted_names(
     call: &str,
     arguments: &mut Arguments<'_>,
-) -> Result<Hinted<HeaderName>, Failure> {
+) -> Result<Hinted<HeaderName>, CaseFailure> {
     let hint = hint_of(call, arguments)?;
     let elements = arguments.names()?;
     Ok(Hinted { elements, hint })
@@ -78,14 +78,17 @@ pub fn hinted_names(
 pub fn hinted_methods(
     call: &str,
     arguments: &mut Arguments<'_>,
-) -> Result<Hinted<Method>, Failure> {
+) -> Result<Hinted<Method>, CaseFailure> {
     let hint = hint_of(call, arguments)?;
     let elements = arguments.methods()?;
     Ok(Hinted { elements, hint })
 }
 
 /// Adds the least and the greatest number of elements that such an iterator hints at.
-pub fn size_hint(arguments: &mut Arguments<'_>, answer: &mut Answer) -> Result<(), Failure> {
+pub fn size_hint(
+    arguments: &mut Arguments<'_>,
+    answer: &mut CaseAnswer,
+) -> Result<(), CaseFailure> {
     let (least, greatest) = hinted_names("size_hint", arguments)?.size_hint();
     answer.word(least)?;
     Ok(answer.option(greatest)?)
@@ -96,7 +99,7 @@ fn decoded<H: Header>(
     alloc: Global,
     lines: &[HeaderValue],
     hint: Hint,
-) -> Result<Result<H, Refused<Error>>, Failure> {
+) -> Result<Result<H, Refused<Error>>, CaseFailure> {
     let lines: Vec<&HeaderValue> = lines.iter().collect(alloc)?;
     let elements = lines.into_iter();
     Ok(H::decode(alloc, &mut Hinted { elements, hint }))
@@ -105,8 +108,8 @@ fn decoded<H: Header>(
 /// Adds the header of the lines after the first word, from an iterator with the hint of that word.
 pub fn decode_hinted<H: Header + Getters<P>, P>(
     arguments: &mut Arguments<'_>,
-    answer: &mut Answer,
-) -> Result<(), Failure> {
+    answer: &mut CaseAnswer,
+) -> Result<(), CaseFailure> {
     let hint = read_hint(arguments)?;
     let lines = arguments.lines()?;
     let header: H = decoded(arguments.alloc(), &lines, hint)??;
@@ -117,19 +120,19 @@ pub fn decode_hinted<H: Header + Getters<P>, P>(
 fn rewritten<H: Header>(
     alloc: Global,
     answer: Result<H, Refused<Error>>,
-) -> Result<Option<Vec<HeaderValue>>, Failure> {
+) -> Result<Option<Vec<HeaderValue>>, CaseFailure> {
     match answer {
         Ok(header) => Ok(Some(written(alloc, &header)?)),
         Err(Refused::Invalid(_)) => Ok(None),
-        Err(Refused::Memory(_)) => Err(Failure::Memory),
+        Err(Refused::Memory(_)) => Err(CaseFailure::Memory),
     }
 }
 
 // The words are a text, how often it stands in each line, and how many lines there are.
-fn repeated(arguments: &mut Arguments<'_>) -> Result<Vec<HeaderValue>, Failure> {
+fn repeated(arguments: &mut Arguments<'_>) -> Result<Vec<HeaderValue>, CaseFailure> {
     let alloc = arguments.alloc();
     let text = arguments.bytes()?;
-    let length = usize::try_from(arguments.number()?).map_err(|_| Failure::NoCall)?;
+    let length = usize::try_from(arguments.number()?).map_err(|_| CaseFailure::NoCall)?;
     let line = text.repeat(alloc, length)?;
     let mut lines = Vec::new(alloc);
     for _ in 0..arguments.number()? {
@@ -143,8 +146,8 @@ fn repeated(arguments: &mut Arguments<'_>) -> Result<Vec<HeaderValue>, Failure> 
 /// the iterator hints, or if the encoding of the header doesn't decode to it.
 pub fn harmless<H: Header>(
     arguments: &mut Arguments<'_>,
-    answer: &mut Answer,
-) -> Result<(), Failure> {
+    answer: &mut CaseAnswer,
+) -> Result<(), CaseFailure> {
     let alloc = arguments.alloc();
     let lines = repeated(arguments)?;
     let wanted = rewritten::<H>(alloc, decode_values(alloc, &lines))?;
@@ -166,8 +169,8 @@ pub fn harmless<H: Header>(
 /// Adds the lengths of the lines that encode the header that such lines decode to.
 pub fn lengths<H: Header>(
     arguments: &mut Arguments<'_>,
-    answer: &mut Answer,
-) -> Result<(), Failure> {
+    answer: &mut CaseAnswer,
+) -> Result<(), CaseFailure> {
     let alloc = arguments.alloc();
     let header: H = decode_values(alloc, &repeated(arguments)?)?;
     for line in written(alloc, &header)?.iter() {

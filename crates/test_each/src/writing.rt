@@ -2,7 +2,7 @@
 use crate::replay::{Getters, copy_of};
 use headers::{Header, HeaderValue, decode_values};
 use std::alloc::{AllocError, Global};
-use test_rows::{Answer, Arguments, Failure};
+use test_rows::{Arguments, CaseAnswer, CaseFailure};
 
 /// The lines that a header writes.
 pub fn written<H: Header>(alloc: Global, header: &H) -> Result<Vec<HeaderValue>, AllocError> {
@@ -41,7 +41,7 @@ pub fn lines_behind(lines: &[HeaderValue]) -> Option<&[HeaderValue]> {
 }
 
 // Adds lines, and whether all of them are marked sensitive, or some and not others.
-fn add_lines(lines: &[HeaderValue], answer: &mut Answer) -> Result<(), AllocError> {
+fn add_lines(lines: &[HeaderValue], answer: &mut CaseAnswer) -> Result<(), AllocError> {
     if lines.is_empty() {
         return answer.none();
     }
@@ -58,7 +58,7 @@ fn add_lines(lines: &[HeaderValue], answer: &mut Answer) -> Result<(), AllocErro
 }
 
 /// Adds the lines that a header writes after a value, and whether they are marked sensitive.
-pub fn add_written<H: Header>(header: &H, answer: &mut Answer) -> Result<(), AllocError> {
+pub fn add_written<H: Header>(header: &H, answer: &mut CaseAnswer) -> Result<(), AllocError> {
     let mut lines = value_before(answer.alloc())?;
     header.encode(answer.alloc(), &mut lines)?;
     match lines_behind(&lines) {
@@ -72,9 +72,9 @@ pub fn add_written<H: Header>(header: &H, answer: &mut Answer) -> Result<(), All
 
 /// Adds the words of a header, and, if those of its copy are others, these after them.
 pub fn add_with_copy(
-    of_header: &Answer,
-    of_copy: &Answer,
-    answer: &mut Answer,
+    of_header: &CaseAnswer,
+    of_copy: &CaseAnswer,
+    answer: &mut CaseAnswer,
 ) -> Result<(), AllocError> {
     answer.word(of_header.as_str())?;
     if of_copy.as_str() != of_header.as_str() {
@@ -87,17 +87,17 @@ pub fn add_with_copy(
 /// Adds the lines that encode the header that marked lines decode to, and those of its copy.
 pub fn secret<H: Header + Getters<P>, P>(
     arguments: &mut Arguments<'_>,
-    answer: &mut Answer,
-) -> Result<(), Failure> {
+    answer: &mut CaseAnswer,
+) -> Result<(), CaseFailure> {
     let alloc = arguments.alloc();
     let mut lines = arguments.lines()?;
     for line in lines.iter_mut() {
         line.set_sensitive(true);
     }
     let header: H = decode_values(alloc, &lines)?;
-    let mut of_header = Answer::new(alloc);
+    let mut of_header = CaseAnswer::new(alloc);
     add_written(&header, &mut of_header)?;
-    let mut of_copy = Answer::new(alloc);
+    let mut of_copy = CaseAnswer::new(alloc);
     add_written(&copy_of(alloc, &header)?, &mut of_copy)?;
     Ok(add_with_copy(&of_header, &of_copy, answer)?)
 }

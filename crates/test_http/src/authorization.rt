@@ -3,7 +3,7 @@ use crate::Http;
 use crate::own::Pin;
 use headers::authorization::{Authorization, Basic, Bearer, Credentials, ProxyAuthorization};
 use test_each::{Getters, add_written, show_back, show_made};
-use test_rows::{Answer, Arguments, Failure};
+use test_rows::{Arguments, CaseAnswer, CaseFailure};
 
 /// `Authorization` of Basic.
 pub type AuthorizationBasic = Authorization<Basic>;
@@ -15,7 +15,7 @@ pub type ProxyAuthorizationBasic = ProxyAuthorization<Basic>;
 pub type ProxyAuthorizationBearer = ProxyAuthorization<Bearer>;
 
 impl Getters<Http> for Authorization<Basic> {
-    fn getters(&self, answer: &mut Answer) -> Result<Authorization<Basic>, Failure> {
+    fn getters(&self, answer: &mut CaseAnswer) -> Result<Authorization<Basic>, CaseFailure> {
         answer.bytes(self.username().as_bytes())?;
         answer.bytes(self.password().as_bytes())?;
         Ok(self.clone(answer.alloc())?)
@@ -23,14 +23,14 @@ impl Getters<Http> for Authorization<Basic> {
 }
 
 impl Getters<Http> for Authorization<Bearer> {
-    fn getters(&self, answer: &mut Answer) -> Result<Authorization<Bearer>, Failure> {
+    fn getters(&self, answer: &mut CaseAnswer) -> Result<Authorization<Bearer>, CaseFailure> {
         answer.bytes(self.token().as_bytes())?;
         Ok(self.clone(answer.alloc())?)
     }
 }
 
 impl Getters<Http> for ProxyAuthorization<Basic> {
-    fn getters(&self, answer: &mut Answer) -> Result<ProxyAuthorization<Basic>, Failure> {
+    fn getters(&self, answer: &mut CaseAnswer) -> Result<ProxyAuthorization<Basic>, CaseFailure> {
         answer.bytes(self.0.username().as_bytes())?;
         answer.bytes(self.0.password().as_bytes())?;
         Ok(self.clone(answer.alloc())?)
@@ -38,14 +38,14 @@ impl Getters<Http> for ProxyAuthorization<Basic> {
 }
 
 impl Getters<Http> for ProxyAuthorization<Bearer> {
-    fn getters(&self, answer: &mut Answer) -> Result<ProxyAuthorization<Bearer>, Failure> {
+    fn getters(&self, answer: &mut CaseAnswer) -> Result<ProxyAuthorization<Bearer>, CaseFailure> {
         answer.bytes(self.0.token().as_bytes())?;
         Ok(self.clone(answer.alloc())?)
     }
 }
 
 // The credentials of Basic with the next two words as user and password.
-fn read_basic(arguments: &mut Arguments<'_>) -> Result<Authorization<Basic>, Failure> {
+fn read_basic(arguments: &mut Arguments<'_>) -> Result<Authorization<Basic>, CaseFailure> {
     let user = arguments.text()?;
     let password = arguments.text()?;
     Ok(Authorization::basic(arguments.alloc(), user.as_str(), password.as_str())?)
@@ -56,8 +56,8 @@ fn read_basic(arguments: &mut Arguments<'_>) -> Result<Authorization<Basic>, Fai
 pub fn call_authorization(
     name: &str,
     arguments: &mut Arguments<'_>,
-    answer: &mut Answer,
-) -> Result<(), Failure> {
+    answer: &mut CaseAnswer,
+) -> Result<(), CaseFailure> {
     let alloc = arguments.alloc();
     match name {
         "Authorization.basic" => show_back(&read_basic(arguments)?, answer),
@@ -77,6 +77,6 @@ pub fn call_authorization(
             let header: ProxyAuthorization<Pin> = arguments.header_of_rest()?;
             Ok(add_written(&header, answer)?)
         }
-        _ => Err(Failure::NoCall),
+        _ => Err(CaseFailure::NoCall),
     }
 }

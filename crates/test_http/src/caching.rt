@@ -3,10 +3,10 @@ use crate::Http;
 use headers::{CacheControl, equal_by_encoding};
 use std::time::Duration;
 use test_each::{Getters, say, show_back_result};
-use test_rows::{Answer, Arguments, Failure};
+use test_rows::{Arguments, CaseAnswer, CaseFailure};
 
 impl Getters<Http> for CacheControl {
-    fn getters(&self, answer: &mut Answer) -> Result<CacheControl, Failure> {
+    fn getters(&self, answer: &mut CaseAnswer) -> Result<CacheControl, CaseFailure> {
         for flag in [
             self.no_cache(),
             self.no_store(),
@@ -53,12 +53,12 @@ fn with_setter(value: CacheControl, setter: &str, seconds: u64) -> Option<CacheC
 }
 
 // The value with the setters of the words, in their order.
-fn with_setters(arguments: &mut Arguments<'_>) -> Result<CacheControl, Failure> {
+fn with_setters(arguments: &mut Arguments<'_>) -> Result<CacheControl, CaseFailure> {
     let mut value = CacheControl::new();
     for word in arguments.rest().split_whitespace() {
         let (setter, number) = word.split_once('=').unwrap_or((word, "0"));
-        let seconds = number.parse().map_err(|_| Failure::NoCall)?;
-        value = with_setter(value, setter, seconds).ok_or(Failure::NoCall)?;
+        let seconds = number.parse().map_err(|_| CaseFailure::NoCall)?;
+        value = with_setter(value, setter, seconds).ok_or(CaseFailure::NoCall)?;
     }
     Ok(value)
 }
@@ -67,8 +67,8 @@ fn with_setters(arguments: &mut Arguments<'_>) -> Result<CacheControl, Failure> 
 pub fn call_caching(
     name: &str,
     arguments: &mut Arguments<'_>,
-    answer: &mut Answer,
-) -> Result<(), Failure> {
+    answer: &mut CaseAnswer,
+) -> Result<(), CaseFailure> {
     match name {
         "CacheControl.with" => show_back_result(with_setters(arguments), answer),
         "CacheControl.equal_by_encoding" => {
@@ -76,6 +76,6 @@ pub fn call_caching(
             let second: CacheControl = arguments.header()?;
             say(equal_by_encoding(&first, &second), answer)
         }
-        _ => Err(Failure::NoCall),
+        _ => Err(CaseFailure::NoCall),
     }
 }

@@ -2,10 +2,10 @@
 use crate::Http;
 use headers::{ContentType, Mime};
 use test_each::{Getters, say, show_made, show_result, writes};
-use test_rows::{Answer, Arguments, Failure};
+use test_rows::{Arguments, CaseAnswer, CaseFailure};
 
 impl Getters<Http> for ContentType {
-    fn getters(&self, answer: &mut Answer) -> Result<ContentType, Failure> {
+    fn getters(&self, answer: &mut CaseAnswer) -> Result<ContentType, CaseFailure> {
         let alloc = answer.alloc();
         let mime = Mime::from(self.clone(alloc)?);
         answer.bytes(mime.as_str().as_bytes())?;
@@ -16,7 +16,7 @@ impl Getters<Http> for ContentType {
 }
 
 // The media type of the next word.
-fn read_mime(arguments: &mut Arguments<'_>) -> Result<Mime, Failure> {
+fn read_mime(arguments: &mut Arguments<'_>) -> Result<Mime, CaseFailure> {
     Ok(Mime::parse(arguments.alloc(), &arguments.text()?)?)
 }
 
@@ -40,23 +40,23 @@ fn named_type(name: &str) -> Option<ContentType> {
 pub fn call_content(
     word: &str,
     arguments: &mut Arguments<'_>,
-    answer: &mut Answer,
-) -> Result<(), Failure> {
+    answer: &mut CaseAnswer,
+) -> Result<(), CaseFailure> {
     let alloc = arguments.alloc();
     match word {
         "from_str" => show_result(ContentType::from_str(alloc, &arguments.text()?), answer),
         "from_mime" => show_made(ContentType::from(read_mime(arguments)?), answer),
-        _ => show_result(named_type(word).ok_or(Failure::NoCall), answer),
+        _ => show_result(named_type(word).ok_or(CaseFailure::NoCall), answer),
     }
 }
 
-fn show_mime(mime: &Mime, answer: &mut Answer) -> Result<(), Failure> {
+fn show_mime(mime: &Mime, answer: &mut CaseAnswer) -> Result<(), CaseFailure> {
     answer.bytes(mime.as_str().as_bytes())?;
     Ok(answer.word(mime.to_string(answer.alloc())?.as_str() == mime.as_str())?)
 }
 
 // Adds how a media type is printed: plainly, at a width of 12 to the right, and cut to 4 characters.
-fn format_mime(arguments: &mut Arguments<'_>, answer: &mut Answer) -> Result<(), Failure> {
+fn format_mime(arguments: &mut Arguments<'_>, answer: &mut CaseAnswer) -> Result<(), CaseFailure> {
     let alloc = arguments.alloc();
     let mime = read_mime(arguments)?;
     answer.bytes(format!(in alloc; "{mime}")?.as_bytes())?;
@@ -81,7 +81,7 @@ fn named(name: &str) -> Option<Mime> {
 }
 
 // Whether a media type equals a constant, as its copy does.
-fn equals(mime: &Mime, other: &Mime, answer: &mut Answer) -> Result<(), Failure> {
+fn equals(mime: &Mime, other: &Mime, answer: &mut CaseAnswer) -> Result<(), CaseFailure> {
     let is_equal = mime == other;
     if (mime.clone(answer.alloc())? == *other) != is_equal {
         answer.word("(copy)")?;
@@ -93,15 +93,15 @@ fn equals(mime: &Mime, other: &Mime, answer: &mut Answer) -> Result<(), Failure>
 pub fn call_mime(
     word: &str,
     arguments: &mut Arguments<'_>,
-    answer: &mut Answer,
-) -> Result<(), Failure> {
+    answer: &mut CaseAnswer,
+) -> Result<(), CaseFailure> {
     match word {
         "equals" => {
-            let other = named(arguments.word()?).ok_or(Failure::NoCall)?;
+            let other = named(arguments.word()?).ok_or(CaseFailure::NoCall)?;
             equals(&read_mime(arguments)?, &other, answer)
         }
         "formats" => format_mime(arguments, answer),
         "parse" => show_mime(&read_mime(arguments)?, answer),
-        _ => show_mime(&named(word).ok_or(Failure::NoCall)?, answer),
+        _ => show_mime(&named(word).ok_or(CaseFailure::NoCall)?, answer),
     }
 }

@@ -7,17 +7,20 @@ use headers::{
 use http::Method;
 use http::method::MethodError;
 use test_each::{Getters, show_made, show_result};
-use test_rows::{Answer, Arguments, Failure};
+use test_rows::{Arguments, CaseAnswer, CaseFailure};
 
 impl Getters<Http> for AccessControlAllowCredentials {
-    fn getters(&self, answer: &mut Answer) -> Result<AccessControlAllowCredentials, Failure> {
+    fn getters(
+        &self,
+        answer: &mut CaseAnswer,
+    ) -> Result<AccessControlAllowCredentials, CaseFailure> {
         answer.word(*self == AccessControlAllowCredentials)?;
         Ok(self.clone()?)
     }
 }
 
 impl Getters<Http> for AccessControlAllowOrigin {
-    fn getters(&self, answer: &mut Answer) -> Result<AccessControlAllowOrigin, Failure> {
+    fn getters(&self, answer: &mut CaseAnswer) -> Result<AccessControlAllowOrigin, CaseFailure> {
         match self.origin() {
             Some(origin) => show_origin(origin, self, answer)?,
             None => answer.none()?,
@@ -27,7 +30,7 @@ impl Getters<Http> for AccessControlAllowOrigin {
 }
 
 impl Getters<Http> for AccessControlRequestMethod {
-    fn getters(&self, answer: &mut Answer) -> Result<AccessControlRequestMethod, Failure> {
+    fn getters(&self, answer: &mut CaseAnswer) -> Result<AccessControlRequestMethod, CaseFailure> {
         let method = Method::from(self.clone(answer.alloc())?);
         answer.bytes(method.as_str().as_bytes())?;
         Ok(self.clone(answer.alloc())?)
@@ -35,11 +38,11 @@ impl Getters<Http> for AccessControlRequestMethod {
 }
 
 // The header of a method.
-fn of_method(arguments: &mut Arguments<'_>) -> Result<AccessControlRequestMethod, Failure> {
+fn of_method(arguments: &mut Arguments<'_>) -> Result<AccessControlRequestMethod, CaseFailure> {
     match Method::from_bytes(arguments.alloc(), &arguments.bytes()?) {
         Ok(method) => Ok(AccessControlRequestMethod::from(method)),
-        Err(MethodError::Invalid) => Err(Failure::Refused),
-        Err(MethodError::OutOfMemory) => Err(Failure::Memory),
+        Err(MethodError::Invalid) => Err(CaseFailure::Refused),
+        Err(MethodError::OutOfMemory) => Err(CaseFailure::Memory),
     }
 }
 
@@ -47,8 +50,8 @@ fn of_method(arguments: &mut Arguments<'_>) -> Result<AccessControlRequestMethod
 pub fn call_cors(
     name: &str,
     arguments: &mut Arguments<'_>,
-    answer: &mut Answer,
-) -> Result<(), Failure> {
+    answer: &mut CaseAnswer,
+) -> Result<(), CaseFailure> {
     let alloc = arguments.alloc();
     match name {
         "AccessControlAllowCredentials.unit" => show_made(AccessControlAllowCredentials, answer),
@@ -59,6 +62,6 @@ pub fn call_cors(
             show_result(AccessControlAllowOrigin::try_from_str(alloc, &text), answer)
         }
         "AccessControlRequestMethod.from_method" => show_result(of_method(arguments), answer),
-        _ => Err(Failure::NoCall),
+        _ => Err(CaseFailure::NoCall),
     }
 }

@@ -3,14 +3,14 @@ use crate::Http;
 use headers::{Cookie, Header, Host, Origin, SetCookie};
 use http_uri::{Authority, UriError};
 use test_each::{Getters, show_made, show_result, show_text, writes};
-use test_rows::{Answer, Arguments, Failure};
+use test_rows::{Arguments, CaseAnswer, CaseFailure};
 
 /// Adds what the getters of an origin give, and whether its text is what the header writes.
 pub fn show_origin<H: Header>(
     origin: &Origin,
     header: &H,
-    answer: &mut Answer,
-) -> Result<(), Failure> {
+    answer: &mut CaseAnswer,
+) -> Result<(), CaseFailure> {
     answer.word(origin.is_null())?;
     answer.bytes(origin.scheme().as_bytes())?;
     answer.bytes(origin.hostname().as_bytes())?;
@@ -20,7 +20,7 @@ pub fn show_origin<H: Header>(
 }
 
 impl Getters<Http> for Host {
-    fn getters(&self, answer: &mut Answer) -> Result<Host, Failure> {
+    fn getters(&self, answer: &mut CaseAnswer) -> Result<Host, CaseFailure> {
         answer.bytes(self.hostname().as_bytes())?;
         answer.option(self.port())?;
         show_text(self, answer)?;
@@ -29,14 +29,14 @@ impl Getters<Http> for Host {
 }
 
 impl Getters<Http> for Origin {
-    fn getters(&self, answer: &mut Answer) -> Result<Origin, Failure> {
+    fn getters(&self, answer: &mut CaseAnswer) -> Result<Origin, CaseFailure> {
         show_origin(self, self, answer)?;
         Ok(self.clone(answer.alloc())?)
     }
 }
 
 impl Getters<Http> for Cookie {
-    fn getters(&self, answer: &mut Answer) -> Result<Cookie, Failure> {
+    fn getters(&self, answer: &mut CaseAnswer) -> Result<Cookie, CaseFailure> {
         answer.word(self.len())?;
         for (key, text) in self.iter() {
             answer.bytes(key.as_bytes())?;
@@ -47,22 +47,22 @@ impl Getters<Http> for Cookie {
 }
 
 impl Getters<Http> for SetCookie {
-    fn getters(&self, answer: &mut Answer) -> Result<SetCookie, Failure> {
+    fn getters(&self, answer: &mut CaseAnswer) -> Result<SetCookie, CaseFailure> {
         Ok(self.clone(answer.alloc())?)
     }
 }
 
 // The host of an authority.
-fn of_authority(arguments: &mut Arguments<'_>) -> Result<Host, Failure> {
+fn of_authority(arguments: &mut Arguments<'_>) -> Result<Host, CaseFailure> {
     match Authority::from_bytes(arguments.alloc(), &arguments.bytes()?) {
         Ok(authority) => Ok(Host::from(authority)),
-        Err(UriError::OutOfMemory) => Err(Failure::Memory),
-        Err(_) => Err(Failure::Refused),
+        Err(UriError::OutOfMemory) => Err(CaseFailure::Memory),
+        Err(_) => Err(CaseFailure::Refused),
     }
 }
 
 // The origin of a scheme, a host and a port.
-fn from_parts(arguments: &mut Arguments<'_>) -> Result<Origin, Failure> {
+fn from_parts(arguments: &mut Arguments<'_>) -> Result<Origin, CaseFailure> {
     let scheme = arguments.text()?;
     let host = arguments.text()?;
     let port = arguments.port()?;
@@ -73,8 +73,8 @@ fn from_parts(arguments: &mut Arguments<'_>) -> Result<Origin, Failure> {
 pub fn call_host(
     name: &str,
     arguments: &mut Arguments<'_>,
-    answer: &mut Answer,
-) -> Result<(), Failure> {
+    answer: &mut CaseAnswer,
+) -> Result<(), CaseFailure> {
     match name {
         "Cookie.get" => {
             let key = arguments.text()?;
@@ -87,6 +87,6 @@ pub fn call_host(
         "Host.from_authority" => show_result(of_authority(arguments), answer),
         "Origin.NULL" => show_made(Origin::NULL, answer),
         "Origin.try_from_parts" => show_result(from_parts(arguments), answer),
-        _ => Err(Failure::NoCall),
+        _ => Err(CaseFailure::NoCall),
     }
 }

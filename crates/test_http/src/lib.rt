@@ -32,7 +32,7 @@ use crate::texts::{call_date, call_text};
 use headers::*;
 use headers_user::MaxForwards;
 use test_each::{call, cmp, debug_secret, eq, hash, padded};
-use test_rows::{Answer, Arguments, Calls, Failure};
+use test_rows::{Arguments, Calls, CaseAnswer, CaseFailure};
 
 /// The calls on the headers, and on media types.
 pub struct Http;
@@ -42,7 +42,7 @@ macro_rules! of_kind {
     ($kind:ident $call:ident $given:tt $($header:ident)+) => {
         match $kind {
             $(stringify!($header) => $call::<$header, Http>$given,)+
-            _ => Err(Failure::NoCall),
+            _ => Err(CaseFailure::NoCall),
         }
     };
 }
@@ -52,8 +52,8 @@ fn call_header(
     kind: &str,
     word: &str,
     arguments: &mut Arguments<'_>,
-    answer: &mut Answer,
-) -> Result<(), Failure> {
+    answer: &mut CaseAnswer,
+) -> Result<(), CaseFailure> {
     of_kind!(kind call (word, arguments, answer)
         AcceptRanges AccessControlAllowCredentials AccessControlAllowHeaders
         AccessControlAllowMethods AccessControlAllowOrigin AccessControlExposeHeaders
@@ -68,7 +68,11 @@ fn call_header(
 }
 
 // Equality.
-fn call_eq(kind: &str, arguments: &mut Arguments<'_>, answer: &mut Answer) -> Result<(), Failure> {
+fn call_eq(
+    kind: &str,
+    arguments: &mut Arguments<'_>,
+    answer: &mut CaseAnswer,
+) -> Result<(), CaseFailure> {
     of_kind!(kind eq (arguments, answer)
         AcceptRanges AccessControlAllowCredentials AccessControlAllowHeaders
         AccessControlAllowMethods AccessControlAllowOrigin AccessControlMaxAge
@@ -85,8 +89,8 @@ fn call_some(
     kind: &str,
     word: &str,
     arguments: &mut Arguments<'_>,
-    answer: &mut Answer,
-) -> Result<(), Failure> {
+    answer: &mut CaseAnswer,
+) -> Result<(), CaseFailure> {
     match word {
         "cmp" => match kind {
             "Age" => cmp::<Age>(arguments, answer),
@@ -99,19 +103,19 @@ fn call_some(
             "LastModified" => cmp::<LastModified>(arguments, answer),
             "Server" => cmp::<Server>(arguments, answer),
             "UserAgent" => cmp::<UserAgent>(arguments, answer),
-            _ => Err(Failure::NoCall),
+            _ => Err(CaseFailure::NoCall),
         },
         "debug_secret" => match kind {
             "Server" => debug_secret::<Server>(arguments, answer),
             "Vary" => debug_secret::<Vary>(arguments, answer),
-            _ => Err(Failure::NoCall),
+            _ => Err(CaseFailure::NoCall),
         },
         "padded" => match kind {
             "ContentType" => padded::<ContentType>(arguments, answer),
             "Host" => padded::<Host>(arguments, answer),
             "Origin" => padded::<Origin>(arguments, answer),
             "Server" => padded::<Server>(arguments, answer),
-            _ => Err(Failure::NoCall),
+            _ => Err(CaseFailure::NoCall),
         },
         "hash" => match kind {
             "AccessControlAllowOrigin" => hash::<AccessControlAllowOrigin>(arguments, answer),
@@ -123,9 +127,9 @@ fn call_some(
             "SecWebsocketAccept" => hash::<SecWebsocketAccept>(arguments, answer),
             "SecWebsocketKey" => hash::<SecWebsocketKey>(arguments, answer),
             "Server" => hash::<Server>(arguments, answer),
-            _ => Err(Failure::NoCall),
+            _ => Err(CaseFailure::NoCall),
         },
-        _ => Err(Failure::NoCall),
+        _ => Err(CaseFailure::NoCall),
     }
 }
 
@@ -135,8 +139,8 @@ fn call_subject(
     name: &str,
     word: &str,
     arguments: &mut Arguments<'_>,
-    answer: &mut Answer,
-) -> Result<(), Failure> {
+    answer: &mut CaseAnswer,
+) -> Result<(), CaseFailure> {
     match kind {
         "Mime" => call_mime(word, arguments, answer),
         "ContentType" => call_content(word, arguments, answer),
@@ -159,17 +163,17 @@ fn call_subject(
 fn call_other(
     name: &str,
     arguments: &mut Arguments<'_>,
-    answer: &mut Answer,
-) -> Result<(), Failure> {
+    answer: &mut CaseAnswer,
+) -> Result<(), CaseFailure> {
     if name.contains("Authorization") {
         return call_authorization(name, arguments, answer);
     }
     match call_text(name, arguments, answer) {
-        Err(Failure::NoCall) => {}
+        Err(CaseFailure::NoCall) => {}
         made => return made,
     }
     match call_cors(name, arguments, answer) {
-        Err(Failure::NoCall) => call_security(name, arguments, answer),
+        Err(CaseFailure::NoCall) => call_security(name, arguments, answer),
         made => made,
     }
 }
@@ -180,8 +184,8 @@ fn call_by_word(
     name: &str,
     word: &str,
     arguments: &mut Arguments<'_>,
-    answer: &mut Answer,
-) -> Result<(), Failure> {
+    answer: &mut CaseAnswer,
+) -> Result<(), CaseFailure> {
     match word {
         "eq" => call_eq(kind, arguments, answer),
         "cmp" | "debug_secret" | "hash" | "padded" => call_some(kind, word, arguments, answer),
@@ -193,13 +197,17 @@ fn call_by_word(
 
 impl Calls for Http {
     // A name is a type, a dot and a word.
-    fn make(name: &str, arguments: &mut Arguments<'_>, answer: &mut Answer) -> Result<(), Failure> {
+    fn make(
+        name: &str,
+        arguments: &mut Arguments<'_>,
+        answer: &mut CaseAnswer,
+    ) -> Result<(), CaseFailure> {
         let Some((kind, word)) = name.split_once('.') else {
-            return Err(Failure::NoCall);
+            return Err(CaseFailure::NoCall);
         };
         let left = *arguments;
         match call_header(kind, word, arguments, answer) {
-            Err(Failure::NoCall) => {
+            Err(CaseFailure::NoCall) => {
                 *arguments = left;
                 call_by_word(kind, name, word, arguments, answer)
             }

@@ -9,11 +9,11 @@ use headers_names::{ListField, ListHeader, ListItem};
 use test_each::{
     Getters, debug_secret, hinted_methods, hinted_names, say, show_made, show_names, show_result,
 };
-use test_rows::{Answer, Arguments, Failure};
+use test_rows::{Arguments, CaseAnswer, CaseFailure};
 
 // Lists of field names or of methods.
 impl<N: ListField> Getters<Http> for ListHeader<N> {
-    fn getters(&self, answer: &mut Answer) -> Result<ListHeader<N>, Failure> {
+    fn getters(&self, answer: &mut CaseAnswer) -> Result<ListHeader<N>, CaseFailure> {
         let mut lines = Vec::new(answer.alloc());
         for item in self.iter(answer.alloc()) {
             lines.push(item?.into_line(answer.alloc())?)?;
@@ -24,14 +24,14 @@ impl<N: ListField> Getters<Http> for ListHeader<N> {
 }
 
 impl Getters<Http> for AccessControlAllowHeaders {
-    fn getters(&self, answer: &mut Answer) -> Result<AccessControlAllowHeaders, Failure> {
+    fn getters(&self, answer: &mut CaseAnswer) -> Result<AccessControlAllowHeaders, CaseFailure> {
         show_names(self.iter(answer.alloc()), answer)?;
         Ok(self.clone(answer.alloc())?)
     }
 }
 
 impl Getters<Http> for Vary {
-    fn getters(&self, answer: &mut Answer) -> Result<Vary, Failure> {
+    fn getters(&self, answer: &mut CaseAnswer) -> Result<Vary, CaseFailure> {
         answer.word(self.is_any())?;
         let names: Vec<&str> = self.iter_strs().collect(answer.alloc())?;
         answer.list(names.as_slice())?;
@@ -40,32 +40,32 @@ impl Getters<Http> for Vary {
 }
 
 impl Getters<Http> for Connection {
-    fn getters(&self, answer: &mut Answer) -> Result<Connection, Failure> {
+    fn getters(&self, answer: &mut CaseAnswer) -> Result<Connection, CaseFailure> {
         Ok(self.clone(answer.alloc())?)
     }
 }
 
 impl Getters<Http> for ContentEncoding {
-    fn getters(&self, answer: &mut Answer) -> Result<ContentEncoding, Failure> {
+    fn getters(&self, answer: &mut CaseAnswer) -> Result<ContentEncoding, CaseFailure> {
         Ok(self.clone(answer.alloc())?)
     }
 }
 
 impl Getters<Http> for Te {
-    fn getters(&self, answer: &mut Answer) -> Result<Te, Failure> {
+    fn getters(&self, answer: &mut CaseAnswer) -> Result<Te, CaseFailure> {
         Ok(self.clone(answer.alloc())?)
     }
 }
 
 impl Getters<Http> for TransferEncoding {
-    fn getters(&self, answer: &mut Answer) -> Result<TransferEncoding, Failure> {
+    fn getters(&self, answer: &mut CaseAnswer) -> Result<TransferEncoding, CaseFailure> {
         answer.word(self.is_chunked())?;
         Ok(self.clone(answer.alloc())?)
     }
 }
 
 impl Getters<Http> for Upgrade {
-    fn getters(&self, answer: &mut Answer) -> Result<Upgrade, Failure> {
+    fn getters(&self, answer: &mut CaseAnswer) -> Result<Upgrade, CaseFailure> {
         Ok(self.clone(answer.alloc())?)
     }
 }
@@ -75,8 +75,8 @@ pub fn call_from_iter(
     kind: &str,
     word: &str,
     arguments: &mut Arguments<'_>,
-    answer: &mut Answer,
-) -> Result<(), Failure> {
+    answer: &mut CaseAnswer,
+) -> Result<(), CaseFailure> {
     let alloc = arguments.alloc();
     if kind == "Allow" {
         return show_result(
@@ -101,7 +101,7 @@ pub fn call_from_iter(
         }
         "Connection" => show_result(Connection::from_iter(alloc, names), answer),
         "Vary" => show_result(Vary::from_iter(alloc, names), answer),
-        _ => Err(Failure::NoCall),
+        _ => Err(CaseFailure::NoCall),
     }
 }
 
@@ -109,8 +109,8 @@ pub fn call_from_iter(
 fn contains_name(
     name: HeaderName,
     header: &Connection,
-    answer: &mut Answer,
-) -> Result<(), Failure> {
+    answer: &mut CaseAnswer,
+) -> Result<(), CaseFailure> {
     let is_in = header.contains(&name);
     answer.word(is_in)?;
     if header.contains(name) != is_in {
@@ -123,8 +123,8 @@ fn contains_name(
 pub fn call_list(
     name: &str,
     arguments: &mut Arguments<'_>,
-    answer: &mut Answer,
-) -> Result<(), Failure> {
+    answer: &mut CaseAnswer,
+) -> Result<(), CaseFailure> {
     let alloc = arguments.alloc();
     match name {
         "Connection.close" => show_made(Connection::close(), answer),
@@ -152,7 +152,7 @@ pub fn call_list(
         "Upgrade.websocket" => show_made(Upgrade::websocket(), answer),
         "Vary.any" => show_made(Vary::any(), answer),
         "Vary.from_name" => show_result(Vary::from_name(alloc, arguments.name()?), answer),
-        _ => Err(Failure::NoCall),
+        _ => Err(CaseFailure::NoCall),
     }
 }
 
@@ -171,8 +171,8 @@ macro_rules! nexts {
 pub fn call_nexts(
     kind: &str,
     arguments: &mut Arguments<'_>,
-    answer: &mut Answer,
-) -> Result<(), Failure> {
+    answer: &mut CaseAnswer,
+) -> Result<(), CaseFailure> {
     let alloc = arguments.alloc();
     match kind {
         "Vary" => nexts!(Vary.iter_strs(), arguments, answer),
@@ -185,6 +185,6 @@ pub fn call_nexts(
         "AccessControlExposeHeaders" => {
             nexts!(AccessControlExposeHeaders.iter(alloc), arguments, answer)
         }
-        _ => Err(Failure::NoCall),
+        _ => Err(CaseFailure::NoCall),
     }
 }

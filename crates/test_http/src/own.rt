@@ -7,7 +7,7 @@ use headers_user::MaxForwards;
 use http_header::{AGE, HeaderName, SET_COOKIE};
 use std::alloc::{AllocError, Global};
 use test_each::{Getters, show_made};
-use test_rows::{Answer, Arguments, Failure};
+use test_rows::{Arguments, CaseAnswer, CaseFailure};
 
 /// A number, which is read without memory.
 #[derive(Drop)]
@@ -62,7 +62,7 @@ impl FormHeader for FirstCookie {
 }
 
 impl Getters<Http> for OwnAge {
-    fn getters(&self, _answer: &mut Answer) -> Result<OwnAge, Failure> {
+    fn getters(&self, _answer: &mut CaseAnswer) -> Result<OwnAge, CaseFailure> {
         Ok(OwnAge {
             seconds: self.seconds.clone()?,
         })
@@ -70,7 +70,7 @@ impl Getters<Http> for OwnAge {
 }
 
 impl Getters<Http> for FirstCookie {
-    fn getters(&self, _answer: &mut Answer) -> Result<FirstCookie, Failure> {
+    fn getters(&self, _answer: &mut CaseAnswer) -> Result<FirstCookie, CaseFailure> {
         Ok(FirstCookie {
             line: self.line.clone()?,
         })
@@ -78,7 +78,7 @@ impl Getters<Http> for FirstCookie {
 }
 
 impl Getters<Http> for MaxForwards {
-    fn getters(&self, answer: &mut Answer) -> Result<MaxForwards, Failure> {
+    fn getters(&self, answer: &mut CaseAnswer) -> Result<MaxForwards, CaseFailure> {
         answer.option(self.hops())?;
         Ok(*self)
     }
@@ -138,11 +138,11 @@ impl Credentials for Pin {
 pub fn call_own(
     name: &str,
     arguments: &mut Arguments<'_>,
-    answer: &mut Answer,
-) -> Result<(), Failure> {
+    answer: &mut CaseAnswer,
+) -> Result<(), CaseFailure> {
     match name {
         "MaxForwards.new" => show_made(MaxForwards::new(arguments.number()?), answer),
         "MaxForwards.none" => show_made(MaxForwards::none(), answer),
-        _ => Err(Failure::NoCall),
+        _ => Err(CaseFailure::NoCall),
     }
 }

@@ -2,16 +2,16 @@
 use crate::Http;
 use headers::{ContentRange, Range};
 use test_each::{Getters, show_back, show_back_result, show_result};
-use test_rows::{Answer, Arguments, Failure};
+use test_rows::{Arguments, CaseAnswer, CaseFailure};
 
 impl Getters<Http> for Range {
-    fn getters(&self, answer: &mut Answer) -> Result<Range, Failure> {
+    fn getters(&self, answer: &mut CaseAnswer) -> Result<Range, CaseFailure> {
         Ok(self.clone(answer.alloc())?)
     }
 }
 
 impl Getters<Http> for ContentRange {
-    fn getters(&self, answer: &mut Answer) -> Result<ContentRange, Failure> {
+    fn getters(&self, answer: &mut CaseAnswer) -> Result<ContentRange, CaseFailure> {
         match self.bytes_range() {
             Some((first, last)) => {
                 answer.word(first)?;
@@ -25,7 +25,10 @@ impl Getters<Http> for ContentRange {
 }
 
 // The ranges that a length satisfies.
-fn satisfiable_ranges(arguments: &mut Arguments<'_>, answer: &mut Answer) -> Result<(), Failure> {
+fn satisfiable_ranges(
+    arguments: &mut Arguments<'_>,
+    answer: &mut CaseAnswer,
+) -> Result<(), CaseFailure> {
     let length = arguments.number()?;
     let header: Range = arguments.header()?;
     let mut ranges = Vec::new(arguments.alloc());
@@ -47,8 +50,8 @@ fn satisfiable_ranges(arguments: &mut Arguments<'_>, answer: &mut Answer) -> Res
 pub fn call_range(
     name: &str,
     arguments: &mut Arguments<'_>,
-    answer: &mut Answer,
-) -> Result<(), Failure> {
+    answer: &mut CaseAnswer,
+) -> Result<(), CaseFailure> {
     let alloc = arguments.alloc();
     match name {
         "Range.bytes" => {
@@ -59,12 +62,12 @@ pub fn call_range(
         "ContentRange.bytes" => {
             let range = (arguments.bound()?, arguments.bound()?);
             let header = ContentRange::bytes(range, arguments.optional_number()?);
-            show_back_result(header.map_err(|_| Failure::Refused), answer)
+            show_back_result(header.map_err(|_| CaseFailure::Refused), answer)
         }
         "ContentRange.unsatisfied_bytes" => {
             let length = arguments.number()?;
             show_back(&ContentRange::unsatisfied_bytes(length), answer)
         }
-        _ => Err(Failure::NoCall),
+        _ => Err(CaseFailure::NoCall),
     }
 }

@@ -5,7 +5,7 @@ use headers::{
     StrictTransportSecurity,
 };
 use test_each::{Getters, show, show_made, show_result};
-use test_rows::{Answer, Arguments, Failure};
+use test_rows::{Arguments, CaseAnswer, CaseFailure};
 
 // The constants, by name.
 const POLICIES: [(&str, ReferrerPolicy); 8] = [
@@ -29,7 +29,7 @@ const POLICIES: [(&str, ReferrerPolicy); 8] = [
 ];
 
 impl Getters<Http> for ReferrerPolicy {
-    fn getters(&self, answer: &mut Answer) -> Result<ReferrerPolicy, Failure> {
+    fn getters(&self, answer: &mut CaseAnswer) -> Result<ReferrerPolicy, CaseFailure> {
         for (name, policy) in POLICIES.iter() {
             if policy == self {
                 answer.word(*name)?;
@@ -40,7 +40,7 @@ impl Getters<Http> for ReferrerPolicy {
 }
 
 impl Getters<Http> for StrictTransportSecurity {
-    fn getters(&self, answer: &mut Answer) -> Result<StrictTransportSecurity, Failure> {
+    fn getters(&self, answer: &mut CaseAnswer) -> Result<StrictTransportSecurity, CaseFailure> {
         answer.word(self.max_age().as_secs())?;
         answer.word(self.include_subdomains())?;
         Ok(self.clone()?)
@@ -48,35 +48,35 @@ impl Getters<Http> for StrictTransportSecurity {
 }
 
 impl Getters<Http> for SecWebsocketKey {
-    fn getters(&self, answer: &mut Answer) -> Result<SecWebsocketKey, Failure> {
+    fn getters(&self, answer: &mut CaseAnswer) -> Result<SecWebsocketKey, CaseFailure> {
         Ok(self.clone(answer.alloc())?)
     }
 }
 
 impl Getters<Http> for SecWebsocketAccept {
-    fn getters(&self, answer: &mut Answer) -> Result<SecWebsocketAccept, Failure> {
+    fn getters(&self, answer: &mut CaseAnswer) -> Result<SecWebsocketAccept, CaseFailure> {
         Ok(self.clone(answer.alloc())?)
     }
 }
 
 impl Getters<Http> for SecWebsocketVersion {
-    fn getters(&self, answer: &mut Answer) -> Result<SecWebsocketVersion, Failure> {
+    fn getters(&self, answer: &mut CaseAnswer) -> Result<SecWebsocketVersion, CaseFailure> {
         answer.word(*self == SecWebsocketVersion::V13)?;
         Ok(self.clone()?)
     }
 }
 
 // The policy of the constant with this name.
-fn show_policy(wanted: &str, answer: &mut Answer) -> Result<(), Failure> {
+fn show_policy(wanted: &str, answer: &mut CaseAnswer) -> Result<(), CaseFailure> {
     for (name, policy) in POLICIES.iter() {
         if *name == wanted {
             return show(policy, answer);
         }
     }
-    Err(Failure::NoCall)
+    Err(CaseFailure::NoCall)
 }
 
-fn show_policies(answer: &mut Answer) -> Result<(), Failure> {
+fn show_policies(answer: &mut CaseAnswer) -> Result<(), CaseFailure> {
     for policy in ReferrerPolicy::all().iter() {
         policy.getters(answer)?;
     }
@@ -84,9 +84,9 @@ fn show_policies(answer: &mut Answer) -> Result<(), Failure> {
 }
 
 // The key of 16 bytes.
-fn read_key(arguments: &mut Arguments<'_>) -> Result<SecWebsocketKey, Failure> {
+fn read_key(arguments: &mut Arguments<'_>) -> Result<SecWebsocketKey, CaseFailure> {
     let bytes = <[u8; 16]>::try_from(arguments.bytes()?.as_slice());
-    let bytes = bytes.map_err(|_| Failure::NoCall)?;
+    let bytes = bytes.map_err(|_| CaseFailure::NoCall)?;
     Ok(SecWebsocketKey::from_bytes16(arguments.alloc(), bytes)?)
 }
 
@@ -94,8 +94,8 @@ fn read_key(arguments: &mut Arguments<'_>) -> Result<SecWebsocketKey, Failure> {
 pub fn call_security(
     name: &str,
     arguments: &mut Arguments<'_>,
-    answer: &mut Answer,
-) -> Result<(), Failure> {
+    answer: &mut CaseAnswer,
+) -> Result<(), CaseFailure> {
     match name {
         "ReferrerPolicy.all" => show_policies(answer),
         "ReferrerPolicy.const" => show_policy(arguments.word()?, answer),
@@ -116,6 +116,6 @@ pub fn call_security(
             let age = arguments.duration()?;
             show_made(StrictTransportSecurity::excluding_subdomains(age), answer)
         }
-        _ => Err(Failure::NoCall),
+        _ => Err(CaseFailure::NoCall),
     }
 }

@@ -8,45 +8,45 @@ use headers::{
 use headers_core::{DateHeader, NamedField, ValueHeader};
 use std::time::Duration;
 use test_each::{Getters, say, show_back_result, show_made, show_text};
-use test_rows::{Answer, Arguments, Failure};
+use test_rows::{Arguments, CaseAnswer, CaseFailure};
 
 // `Location` and `ContentLocation`.
 impl<N: NamedField> Getters<Http> for ValueHeader<N> {
-    fn getters(&self, answer: &mut Answer) -> Result<ValueHeader<N>, Failure> {
+    fn getters(&self, answer: &mut CaseAnswer) -> Result<ValueHeader<N>, CaseFailure> {
         Ok(self.clone(answer.alloc())?)
     }
 }
 
 // `Date`, `Expires` and `LastModified`.
 impl<N: NamedField + Copy> Getters<Http> for DateHeader<N> {
-    fn getters(&self, answer: &mut Answer) -> Result<DateHeader<N>, Failure> {
+    fn getters(&self, answer: &mut CaseAnswer) -> Result<DateHeader<N>, CaseFailure> {
         answer.word(self.unix_secs())?;
         Ok(self.clone()?)
     }
 }
 
 impl Getters<Http> for IfModifiedSince {
-    fn getters(&self, answer: &mut Answer) -> Result<IfModifiedSince, Failure> {
+    fn getters(&self, answer: &mut CaseAnswer) -> Result<IfModifiedSince, CaseFailure> {
         answer.word(self.unix_secs())?;
         Ok(self.clone()?)
     }
 }
 
 impl Getters<Http> for IfUnmodifiedSince {
-    fn getters(&self, answer: &mut Answer) -> Result<IfUnmodifiedSince, Failure> {
+    fn getters(&self, answer: &mut CaseAnswer) -> Result<IfUnmodifiedSince, CaseFailure> {
         answer.word(self.unix_secs())?;
         Ok(self.clone()?)
     }
 }
 
 impl Getters<Http> for RetryAfter {
-    fn getters(&self, _answer: &mut Answer) -> Result<RetryAfter, Failure> {
+    fn getters(&self, _answer: &mut CaseAnswer) -> Result<RetryAfter, CaseFailure> {
         Ok(self.clone()?)
     }
 }
 
 impl Getters<Http> for Age {
-    fn getters(&self, answer: &mut Answer) -> Result<Age, Failure> {
+    fn getters(&self, answer: &mut CaseAnswer) -> Result<Age, CaseFailure> {
         answer.word(self.as_secs())?;
         answer.word(Duration::from(*self).as_secs())?;
         Ok(self.clone()?)
@@ -54,21 +54,21 @@ impl Getters<Http> for Age {
 }
 
 impl Getters<Http> for AccessControlMaxAge {
-    fn getters(&self, answer: &mut Answer) -> Result<AccessControlMaxAge, Failure> {
+    fn getters(&self, answer: &mut CaseAnswer) -> Result<AccessControlMaxAge, CaseFailure> {
         answer.word(Duration::from(self.clone()?).as_secs())?;
         Ok(self.clone()?)
     }
 }
 
 impl Getters<Http> for ContentLength {
-    fn getters(&self, answer: &mut Answer) -> Result<ContentLength, Failure> {
+    fn getters(&self, answer: &mut CaseAnswer) -> Result<ContentLength, CaseFailure> {
         answer.word(self.0)?;
         Ok(self.clone()?)
     }
 }
 
 impl Getters<Http> for AcceptRanges {
-    fn getters(&self, answer: &mut Answer) -> Result<AcceptRanges, Failure> {
+    fn getters(&self, answer: &mut CaseAnswer) -> Result<AcceptRanges, CaseFailure> {
         answer.word(self.is_bytes())?;
         answer.word(self.is_none())?;
         Ok(self.clone(answer.alloc())?)
@@ -76,7 +76,7 @@ impl Getters<Http> for AcceptRanges {
 }
 
 impl Getters<Http> for ContentDisposition {
-    fn getters(&self, answer: &mut Answer) -> Result<ContentDisposition, Failure> {
+    fn getters(&self, answer: &mut CaseAnswer) -> Result<ContentDisposition, CaseFailure> {
         answer.word(self.is_inline())?;
         answer.word(self.is_attachment())?;
         answer.word(self.is_form_data())?;
@@ -85,28 +85,28 @@ impl Getters<Http> for ContentDisposition {
 }
 
 impl Getters<Http> for Expect {
-    fn getters(&self, answer: &mut Answer) -> Result<Expect, Failure> {
+    fn getters(&self, answer: &mut CaseAnswer) -> Result<Expect, CaseFailure> {
         answer.word(*self == Expect::CONTINUE)?;
         Ok(self.clone()?)
     }
 }
 
 impl Getters<Http> for Pragma {
-    fn getters(&self, answer: &mut Answer) -> Result<Pragma, Failure> {
+    fn getters(&self, answer: &mut CaseAnswer) -> Result<Pragma, CaseFailure> {
         answer.word(self.is_no_cache())?;
         Ok(self.clone(answer.alloc())?)
     }
 }
 
 impl Getters<Http> for Referer {
-    fn getters(&self, answer: &mut Answer) -> Result<Referer, Failure> {
+    fn getters(&self, answer: &mut CaseAnswer) -> Result<Referer, CaseFailure> {
         show_text(self, answer)?;
         Ok(self.clone(answer.alloc())?)
     }
 }
 
 impl Getters<Http> for Server {
-    fn getters(&self, answer: &mut Answer) -> Result<Server, Failure> {
+    fn getters(&self, answer: &mut CaseAnswer) -> Result<Server, CaseFailure> {
         answer.bytes(self.as_str().as_bytes())?;
         show_text(self, answer)?;
         Ok(self.clone(answer.alloc())?)
@@ -114,7 +114,7 @@ impl Getters<Http> for Server {
 }
 
 impl Getters<Http> for UserAgent {
-    fn getters(&self, answer: &mut Answer) -> Result<UserAgent, Failure> {
+    fn getters(&self, answer: &mut CaseAnswer) -> Result<UserAgent, CaseFailure> {
         answer.bytes(self.as_str().as_bytes())?;
         show_text(self, answer)?;
         Ok(self.clone(answer.alloc())?)
@@ -125,8 +125,8 @@ impl Getters<Http> for UserAgent {
 pub fn call_date(
     name: &str,
     arguments: &mut Arguments<'_>,
-    answer: &mut Answer,
-) -> Result<(), Failure> {
+    answer: &mut CaseAnswer,
+) -> Result<(), CaseFailure> {
     let seconds = arguments.date()?;
     match name {
         "Date.from_unix_secs" => show_made(Date::from_unix_secs(seconds), answer),
@@ -146,7 +146,7 @@ pub fn call_date(
             let header = IfUnmodifiedSince::from_unix_secs(seconds);
             say(header.precondition_passes(arguments.number()?), answer)
         }
-        _ => Err(Failure::NoCall),
+        _ => Err(CaseFailure::NoCall),
     }
 }
 
@@ -154,8 +154,8 @@ pub fn call_date(
 pub fn call_text(
     name: &str,
     arguments: &mut Arguments<'_>,
-    answer: &mut Answer,
-) -> Result<(), Failure> {
+    answer: &mut CaseAnswer,
+) -> Result<(), CaseFailure> {
     let alloc = arguments.alloc();
     match name {
         "AcceptRanges.bytes" => show_made(AcceptRanges::bytes(), answer),
@@ -185,6 +185,6 @@ pub fn call_text(
         "UserAgent.from_str" => {
             show_back_result(UserAgent::from_str(alloc, &arguments.text()?), answer)
         }
-        _ => Err(Failure::NoCall),
+        _ => Err(CaseFailure::NoCall),
     }
 }

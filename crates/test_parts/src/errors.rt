@@ -5,15 +5,15 @@ use headers::{
     InvalidServer, InvalidUserAgent,
 };
 use std::fmt::{Debug, Display};
-use test_rows::{Answer, Arguments, Failure};
+use test_rows::{Arguments, CaseAnswer, CaseFailure};
 
-fn text_of<E: Display>(error: &E, answer: &mut Answer) -> Result<(), Failure> {
+fn text_of<E: Display>(error: &E, answer: &mut CaseAnswer) -> Result<(), CaseFailure> {
     let text = error.to_string(answer.alloc())?;
     Ok(answer.bytes(text.as_bytes())?)
 }
 
 // Whatever width and precision are asked for, and by its name.
-fn texts_of<E: Debug + Display>(error: &E, answer: &mut Answer) -> Result<(), Failure> {
+fn texts_of<E: Debug + Display>(error: &E, answer: &mut CaseAnswer) -> Result<(), CaseFailure> {
     text_of(error, answer)?;
     let padded = format!(in answer.alloc(); "{error:>40.3}")?;
     answer.bytes(padded.as_bytes())?;
@@ -22,7 +22,7 @@ fn texts_of<E: Debug + Display>(error: &E, answer: &mut Answer) -> Result<(), Fa
 }
 
 /// Adds the text of an error by its name.
-pub fn display(arguments: &mut Arguments<'_>, answer: &mut Answer) -> Result<(), Failure> {
+pub fn display(arguments: &mut Arguments<'_>, answer: &mut CaseAnswer) -> Result<(), CaseFailure> {
     match arguments.word()? {
         "Error" => text_of(&Error::invalid(), answer),
         "InvalidETag" => text_of(&InvalidETag, answer),
@@ -33,12 +33,12 @@ pub fn display(arguments: &mut Arguments<'_>, answer: &mut Answer) -> Result<(),
         "InvalidReferer" => text_of(&InvalidReferer, answer),
         "InvalidServer" => text_of(&InvalidServer, answer),
         "InvalidUserAgent" => text_of(&InvalidUserAgent, answer),
-        _ => Err(Failure::NoCall),
+        _ => Err(CaseFailure::NoCall),
     }
 }
 
 /// Adds the text of an error by its name: as it is, under `{:>40.3}`, and under `{:?}`.
-pub fn formats(arguments: &mut Arguments<'_>, answer: &mut Answer) -> Result<(), Failure> {
+pub fn formats(arguments: &mut Arguments<'_>, answer: &mut CaseAnswer) -> Result<(), CaseFailure> {
     match arguments.word()? {
         "InvalidETag" => texts_of(&InvalidETag, answer),
         "InvalidRange" => texts_of(&InvalidRange, answer),
@@ -48,6 +48,6 @@ pub fn formats(arguments: &mut Arguments<'_>, answer: &mut Answer) -> Result<(),
         "InvalidReferer" => texts_of(&InvalidReferer, answer),
         "InvalidServer" => texts_of(&InvalidServer, answer),
         "InvalidUserAgent" => texts_of(&InvalidUserAgent, answer),
-        _ => Err(Failure::NoCall),
+        _ => Err(CaseFailure::NoCall),
     }
 }

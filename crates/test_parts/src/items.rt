@@ -6,10 +6,10 @@ ghost use Rattle.headers_items.{specs.Places.{comma, is_counting_place}, specs.C
 use headers::HeaderValue;
 use headers_items::{Comma, FlatCsv, Scan, Separator};
 use std::convert::AsSlice;
-use test_rows::{Answer, Arguments, Failure};
+use test_rows::{Arguments, CaseAnswer, CaseFailure};
 
 /// Adds byte strings, or `(none)` if there are none.
-pub fn show_each<T: AsSlice<u8>>(items: &[T], answer: &mut Answer) -> Result<(), Failure> {
+pub fn show_each<T: AsSlice<u8>>(items: &[T], answer: &mut CaseAnswer) -> Result<(), CaseFailure> {
     if items.is_empty() {
         return Ok(answer.none()?);
     }
@@ -19,21 +19,21 @@ pub fn show_each<T: AsSlice<u8>>(items: &[T], answer: &mut Answer) -> Result<(),
     Ok(())
 }
 
-fn show_items<S: Separator>(list: &FlatCsv<S>, answer: &mut Answer) -> Result<(), Failure> {
+fn show_items<S: Separator>(list: &FlatCsv<S>, answer: &mut CaseAnswer) -> Result<(), CaseFailure> {
     let items: Vec<&str> = list.iter().collect(answer.alloc())?;
     show_each(items.as_slice(), answer)
 }
 
 // The list that lines are merged to.
-fn merged<S: Separator>(arguments: &mut Arguments<'_>) -> Result<FlatCsv<S>, Failure> {
+fn merged<S: Separator>(arguments: &mut Arguments<'_>) -> Result<FlatCsv<S>, CaseFailure> {
     let lines = arguments.lines()?;
     Ok(FlatCsv::from_lines(arguments.alloc(), &mut lines.iter())?)
 }
 
 fn show_owned<S: Separator>(
     arguments: &mut Arguments<'_>,
-    answer: &mut Answer,
-) -> Result<(), Failure> {
+    answer: &mut CaseAnswer,
+) -> Result<(), CaseFailure> {
     let lines = arguments.lines()?;
     let list: FlatCsv<S> = FlatCsv::from_items(arguments.alloc(), lines.into_iter())?;
     show_items(&list, answer)
@@ -41,8 +41,8 @@ fn show_owned<S: Separator>(
 
 fn show_copy<S: Separator>(
     arguments: &mut Arguments<'_>,
-    answer: &mut Answer,
-) -> Result<(), Failure> {
+    answer: &mut CaseAnswer,
+) -> Result<(), CaseFailure> {
     let list: FlatCsv<S> = merged(arguments)?;
     let copy = list.clone(arguments.alloc())?;
     if copy != list {
@@ -53,11 +53,11 @@ fn show_copy<S: Separator>(
 
 fn are_equal<S: Separator>(
     arguments: &mut Arguments<'_>,
-    answer: &mut Answer,
-) -> Result<(), Failure> {
+    answer: &mut CaseAnswer,
+) -> Result<(), CaseFailure> {
     let lines = arguments.lines()?;
     let [one, other] = lines.as_slice() else {
-        return Err(Failure::NoCall);
+        return Err(CaseFailure::NoCall);
     };
     let one: FlatCsv<S> = FlatCsv::from_value(one.clone()?);
     Ok(answer.word(one == FlatCsv::from_value(other.clone()?))?)
@@ -71,8 +71,8 @@ fn are_equal<S: Separator>(
 pub fn call_list<S: Separator>(
     call: &str,
     arguments: &mut Arguments<'_>,
-    answer: &mut Answer,
-) -> Result<(), Failure> {
+    answer: &mut CaseAnswer,
+) -> Result<(), CaseFailure> {
     match call {
         "items" => show_items(&merged::<S>(arguments)?, answer),
         "from_items" => show_owned::<S>(arguments, answer),
@@ -83,12 +83,12 @@ pub fn call_list<S: Separator>(
         }
         "copy" => show_copy::<S>(arguments, answer),
         "eq" => are_equal::<S>(arguments, answer),
-        _ => Err(Failure::NoCall),
+        _ => Err(CaseFailure::NoCall),
     }
 }
 
 // A text has at most as many marks as bytes.
-fn show_marks(text: &[u8], answer: &mut Answer) -> Result<(), Failure> {
+fn show_marks(text: &[u8], answer: &mut CaseAnswer) -> Result<(), CaseFailure> {
     let mut scan = Scan::new(text, b',');
     let mut is_found = false;
     for _ in text {
@@ -135,22 +135,22 @@ fn are_cuts(text: &[u8], start: usize, places: &[usize]) -> bool
         && are_cuts(text, *place + 1, others)
 }
 
-fn places(arguments: &mut Arguments<'_>) -> Result<Vec<usize>, Failure> {
+fn places(arguments: &mut Arguments<'_>) -> Result<Vec<usize>, CaseFailure> {
     let mut places = Vec::new(arguments.alloc());
     for word in arguments.rest().split_whitespace() {
-        places.push(word.parse().map_err(|_| Failure::NoCall)?)?;
+        places.push(word.parse().map_err(|_| CaseFailure::NoCall)?)?;
     }
     Ok(places)
 }
 
 // The pieces of a cut, after the line that they are merged to.
-fn show_pieces(arguments: &mut Arguments<'_>, answer: &mut Answer) -> Result<(), Failure> {
+fn show_pieces(arguments: &mut Arguments<'_>, answer: &mut CaseAnswer) -> Result<(), CaseFailure> {
     let alloc = arguments.alloc();
     let line = HeaderValue::from_vec(arguments.bytes()?)?;
     let places = places(arguments)?;
     let list: FlatCsv<Comma> = FlatCsv::from_value(line);
     if list.as_text().is_none() || !are_cuts(list.as_bytes(), 0, places.as_slice()) {
-        return Err(Failure::NoCall);
+        return Err(CaseFailure::NoCall);
     }
     let pieces = list.cut_at(alloc, places.as_slice())?;
     let merged: FlatCsv<Comma> = FlatCsv::from_lines(alloc, &mut pieces.iter())?;
@@ -163,8 +163,8 @@ fn show_pieces(arguments: &mut Arguments<'_>, answer: &mut Answer) -> Result<(),
 pub fn call_comma(
     call: &str,
     arguments: &mut Arguments<'_>,
-    answer: &mut Answer,
-) -> Result<(), Failure> {
+    answer: &mut CaseAnswer,
+) -> Result<(), CaseFailure> {
     match call {
         "marks" => show_marks(&arguments.bytes()?, answer),
         "cut_at" => show_pieces(arguments, answer),

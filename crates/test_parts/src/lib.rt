@@ -18,7 +18,7 @@ use crate::texts::{call_tag, call_tag_range, call_text};
 use crate::user::{call_user, insert_none};
 use headers_items::SemiColon;
 use test_each::size_hint;
-use test_rows::{Answer, Arguments, Calls, Failure};
+use test_rows::{Arguments, Calls, CaseAnswer, CaseFailure};
 
 /// The calls on what stands below the headers and above them.
 pub struct Parts;
@@ -27,8 +27,8 @@ fn call_part(
     name: &str,
     word: &str,
     arguments: &mut Arguments<'_>,
-    answer: &mut Answer,
-) -> Result<(), Failure> {
+    answer: &mut CaseAnswer,
+) -> Result<(), CaseFailure> {
     match name {
         "canon" => call_canon(word, arguments, answer),
         "Comma" => call_comma(word, arguments, answer),
@@ -38,13 +38,17 @@ fn call_part(
         "map" => call_map(word, arguments, answer),
         "text" => call_text(word, arguments, answer),
         "user" => call_user(word, arguments, answer),
-        _ => Err(Failure::NoCall),
+        _ => Err(CaseFailure::NoCall),
     }
 }
 
 impl Calls for Parts {
     // A name is a word of its own, or a part, a dot and a word.
-    fn make(name: &str, arguments: &mut Arguments<'_>, answer: &mut Answer) -> Result<(), Failure> {
+    fn make(
+        name: &str,
+        arguments: &mut Arguments<'_>,
+        answer: &mut CaseAnswer,
+    ) -> Result<(), CaseFailure> {
         match name {
             "display" => return display(arguments, answer),
             "formats" => return formats(arguments, answer),
@@ -54,7 +58,7 @@ impl Calls for Parts {
         }
         match name.split_once('.') {
             Some((name, word)) => call_part(name, word, arguments, answer),
-            None => Err(Failure::NoCall),
+            None => Err(CaseFailure::NoCall),
         }
     }
 }

@@ -6,7 +6,7 @@ use headers::{
 };
 use std::alloc::Global;
 use test_each::{holds, holds_beginning, is_same};
-use test_rows::{Answer, Arguments, Failure, append_lines};
+use test_rows::{Arguments, CaseAnswer, CaseFailure, append_lines};
 
 fn is_numbered(name: &str) -> bool {
     name.starts_with("x-")
@@ -52,7 +52,12 @@ fn is_left(map: &HeaderMap, before: &HeaderMap, step: &Step) -> bool {
 }
 
 // The same of the step after so many that are done.
-fn is_left_by(alloc: Global, map: &HeaderMap, text: &str, done: usize) -> Result<bool, Failure> {
+fn is_left_by(
+    alloc: Global,
+    map: &HeaderMap,
+    text: &str,
+    done: usize,
+) -> Result<bool, CaseFailure> {
     let (mut before, steps) = Arguments::new(alloc, text).map_and_steps()?;
     let mut first = Vec::new(alloc);
     let mut left = steps.into_iter();
@@ -71,7 +76,7 @@ fn is_left_by(alloc: Global, map: &HeaderMap, text: &str, done: usize) -> Result
 }
 
 // How the steps end, and the map that they leave.
-fn show_applied(arguments: &mut Arguments<'_>, answer: &mut Answer) -> Result<(), Failure> {
+fn show_applied(arguments: &mut Arguments<'_>, answer: &mut CaseAnswer) -> Result<(), CaseFailure> {
     let alloc = arguments.alloc();
     let text = arguments.rest();
     let (mut map, steps) = Arguments::new(alloc, text).map_and_steps()?;
@@ -79,7 +84,7 @@ fn show_applied(arguments: &mut Arguments<'_>, answer: &mut Answer) -> Result<()
         if cause == InsertError::Full {
             answer.word(format_args!("(full) {done}"))?;
         } else if is_left_by(alloc, &map, text, done)? {
-            return Err(Failure::Memory);
+            return Err(CaseFailure::Memory);
         } else {
             answer.word("(left)")?;
         }
@@ -88,16 +93,16 @@ fn show_applied(arguments: &mut Arguments<'_>, answer: &mut Answer) -> Result<()
 }
 
 // The map once the fields of all `put` are set together.
-fn show_set(arguments: &mut Arguments<'_>, answer: &mut Answer) -> Result<(), Failure> {
+fn show_set(arguments: &mut Arguments<'_>, answer: &mut CaseAnswer) -> Result<(), CaseFailure> {
     let (mut map, steps) = arguments.map_and_steps()?;
     let mut fields = Vec::new(arguments.alloc());
     for step in steps {
         let Step::Put(field) = step else {
-            return Err(Failure::NoCall);
+            return Err(CaseFailure::NoCall);
         };
         fields.push(field)?;
     }
-    set_all(&mut map, fields).map_err(|_| Failure::Memory)?;
+    set_all(&mut map, fields).map_err(|_| CaseFailure::Memory)?;
     answer.map(&map)
 }
 
@@ -106,26 +111,29 @@ fn insert<H: Header>(
     alloc: Global,
     map: &mut HeaderMap,
     lines: &[HeaderValue],
-) -> Result<(), Failure> {
+) -> Result<(), CaseFailure> {
     let header: H = decode_values(alloc, lines)?;
     Ok(map.typed_insert(alloc, header)?)
 }
 
-fn insert_named(alloc: Global, map: &mut HeaderMap, encoded: &Encoded) -> Result<(), Failure> {
+fn insert_named(alloc: Global, map: &mut HeaderMap, encoded: &Encoded) -> Result<(), CaseFailure> {
     match encoded.name.as_str() {
         "age" => insert::<Age>(alloc, map, &encoded.lines),
         "location" => insert::<Location>(alloc, map, &encoded.lines),
         "set-cookie" => insert::<SetCookie>(alloc, map, &encoded.lines),
-        _ => Err(Failure::NoCall),
+        _ => Err(CaseFailure::NoCall),
     }
 }
 
 // The map once the header of the lines of each `put` is inserted.
-fn show_inserted(arguments: &mut Arguments<'_>, answer: &mut Answer) -> Result<(), Failure> {
+fn show_inserted(
+    arguments: &mut Arguments<'_>,
+    answer: &mut CaseAnswer,
+) -> Result<(), CaseFailure> {
     let (mut map, steps) = arguments.map_and_steps()?;
     for step in steps {
         let Step::Put(encoded) = step else {
-            return Err(Failure::NoCall);
+            return Err(CaseFailure::NoCall);
         };
         insert_named(arguments.alloc(), &mut map, &encoded)?;
     }
@@ -135,8 +143,8 @@ fn show_inserted(arguments: &mut Arguments<'_>, answer: &mut Answer) -> Result<(
 // The lines of `canonical`, of a map that has these lines under the header's name.
 fn show_canonical<H: Header>(
     arguments: &mut Arguments<'_>,
-    answer: &mut Answer,
-) -> Result<(), Failure> {
+    answer: &mut CaseAnswer,
+) -> Result<(), CaseFailure> {
     let alloc = arguments.alloc();
     let mut map = HeaderMap::new(alloc);
     append_lines(&mut map, &H::name(), arguments.lines()?)?;
@@ -147,17 +155,20 @@ fn show_canonical<H: Header>(
     }
 }
 
-fn show_canonical_of(arguments: &mut Arguments<'_>, answer: &mut Answer) -> Result<(), Failure> {
+fn show_canonical_of(
+    arguments: &mut Arguments<'_>,
+    answer: &mut CaseAnswer,
+) -> Result<(), CaseFailure> {
     match arguments.word()? {
         "Age" => show_canonical::<Age>(arguments, answer),
         "Location" => show_canonical::<Location>(arguments, answer),
         "SetCookie" => show_canonical::<SetCookie>(arguments, answer),
-        _ => Err(Failure::NoCall),
+        _ => Err(CaseFailure::NoCall),
     }
 }
 
 // A name `x-7`, whose line is `7`.
-fn numbered(alloc: Global, number: usize) -> Result<(HeaderName, HeaderValue), Failure> {
+fn numbered(alloc: Global, number: usize) -> Result<(HeaderName, HeaderValue), CaseFailure> {
     let name = format!(in alloc; "x-{number}")?;
     let line = format!(in alloc; "{number}")?;
     let name = Arguments::new(alloc, name.as_str()).name()?;
@@ -166,18 +177,18 @@ fn numbered(alloc: Global, number: usize) -> Result<(HeaderName, HeaderValue), F
 }
 
 // Adds numbered names until the map is full. How many they are.
-fn fill(alloc: Global, map: &mut HeaderMap) -> Result<usize, Failure> {
+fn fill(alloc: Global, map: &mut HeaderMap) -> Result<usize, CaseFailure> {
     for number in 0..100_000usize {
         let (name, line) = numbered(alloc, number)?;
         if map.append(name, line).is_err() {
             return Ok(number);
         }
     }
-    Err(Failure::NoCall)
+    Err(CaseFailure::NoCall)
 }
 
 // Whether the map has so many numbered names, each with its line and no other.
-fn is_filled(alloc: Global, map: &HeaderMap, count: usize) -> Result<bool, Failure> {
+fn is_filled(alloc: Global, map: &HeaderMap, count: usize) -> Result<bool, CaseFailure> {
     let mut names: usize = 0;
     for name in map.keys() {
         names = names.saturating_add(is_numbered(name.as_str()).into());
@@ -191,7 +202,7 @@ fn is_filled(alloc: Global, map: &HeaderMap, count: usize) -> Result<bool, Failu
 }
 
 // What is left of a map that was filled with so many numbered names.
-fn show_full(map: &HeaderMap, count: usize, answer: &mut Answer) -> Result<(), Failure> {
+fn show_full(map: &HeaderMap, count: usize, answer: &mut CaseAnswer) -> Result<(), CaseFailure> {
     answer.word(count)?;
     if !is_filled(answer.alloc(), map, count)? {
         answer.word("(changed)")?;
@@ -205,7 +216,7 @@ fn show_full(map: &HeaderMap, count: usize, answer: &mut Answer) -> Result<(), F
     answer.fields(map, others.as_slice())
 }
 
-fn apply_full(arguments: &mut Arguments<'_>, answer: &mut Answer) -> Result<(), Failure> {
+fn apply_full(arguments: &mut Arguments<'_>, answer: &mut CaseAnswer) -> Result<(), CaseFailure> {
     let alloc = arguments.alloc();
     let (mut map, steps) = arguments.map_and_steps()?;
     let count = fill(alloc, &mut map)?;
@@ -214,12 +225,12 @@ fn apply_full(arguments: &mut Arguments<'_>, answer: &mut Answer) -> Result<(), 
         Err(ApplyError { done, cause }) if cause == InsertError::Full => {
             answer.word(format_args!("(full) {done}"))?;
         }
-        Err(_) => return Err(Failure::Memory),
+        Err(_) => return Err(CaseFailure::Memory),
     }
     show_full(&map, count, answer)
 }
 
-fn insert_full(arguments: &mut Arguments<'_>, answer: &mut Answer) -> Result<(), Failure> {
+fn insert_full(arguments: &mut Arguments<'_>, answer: &mut CaseAnswer) -> Result<(), CaseFailure> {
     let alloc = arguments.alloc();
     let age = Age::from_secs(arguments.number()?);
     let mut map = arguments.map()?;
@@ -227,21 +238,21 @@ fn insert_full(arguments: &mut Arguments<'_>, answer: &mut Answer) -> Result<(),
     match map.typed_insert(alloc, age) {
         Ok(()) => {}
         Err(InsertError::Full) => answer.word("(full)")?,
-        Err(InsertError::Memory) => return Err(Failure::Memory),
+        Err(InsertError::Memory) => return Err(CaseFailure::Memory),
     }
     show_full(&map, count, answer)
 }
 
 // The texts of the errors of a step and of an insert.
-fn show_errors(arguments: &mut Arguments<'_>, answer: &mut Answer) -> Result<(), Failure> {
+fn show_errors(arguments: &mut Arguments<'_>, answer: &mut CaseAnswer) -> Result<(), CaseFailure> {
     let alloc = arguments.alloc();
     let cause = match arguments.word()? {
         "memory" => InsertError::Memory,
         "full" => InsertError::Full,
-        _ => return Err(Failure::NoCall),
+        _ => return Err(CaseFailure::NoCall),
     };
     let Ok(done) = usize::try_from(arguments.number()?) else {
-        return Err(Failure::NoCall);
+        return Err(CaseFailure::NoCall);
     };
     answer.bytes(format!(in alloc; "{cause}")?.as_bytes())?;
     let error = ApplyError { done, cause };
@@ -262,8 +273,8 @@ fn show_errors(arguments: &mut Arguments<'_>, answer: &mut Answer) -> Result<(),
 pub fn call_map(
     call: &str,
     arguments: &mut Arguments<'_>,
-    answer: &mut Answer,
-) -> Result<(), Failure> {
+    answer: &mut CaseAnswer,
+) -> Result<(), CaseFailure> {
     match call {
         "apply" => show_applied(arguments, answer),
         "apply_full" => apply_full(arguments, answer),
@@ -272,6 +283,6 @@ pub fn call_map(
         "insert_full" => insert_full(arguments, answer),
         "canonical" => show_canonical_of(arguments, answer),
         "errors" => show_errors(arguments, answer),
-        _ => Err(Failure::NoCall),
+        _ => Err(CaseFailure::NoCall),
     }
 }

@@ -10,7 +10,7 @@ const INPUT_LIMIT: usize = 8_388_608;
 /// Gives a text, up to `each` bytes a call, and then as many bytes of nonsense. Then it fails, if it
 /// is to, else it gives nothing. A later read fails and is counted, also one past the limit.
 #[derive(Drop)]
-pub struct Source<'a> {
+pub struct TextSource<'a> {
     text: &'a [u8],
     each: usize,
     nonsense: usize,
@@ -22,10 +22,10 @@ pub struct Source<'a> {
     pub late_reads: u64,
 }
 
-impl<'a> Source<'a> {
+impl<'a> TextSource<'a> {
     /// A reader that gives the text, and doesn't fail.
-    pub fn new(text: &'a [u8]) -> Source<'a> {
-        Source::with_failure(text, usize::MAX, 0, None)
+    pub fn new(text: &'a [u8]) -> TextSource<'a> {
+        TextSource::with_failure(text, usize::MAX, 0, None)
     }
 
     /// A reader that gives the text and the nonsense, and then fails.
@@ -34,8 +34,8 @@ impl<'a> Source<'a> {
         each: usize,
         nonsense: usize,
         failure: Option<ErrorKind>,
-    ) -> Source<'a> {
-        Source {
+    ) -> TextSource<'a> {
+        TextSource {
             text,
             each,
             nonsense,
@@ -66,7 +66,7 @@ impl<'a> Source<'a> {
     }
 }
 
-impl Read for Source<'_> {
+impl Read for TextSource<'_> {
     fn read(&mut self, buf: &mut [u8]) -> io::Result<usize> {
         if self.is_over {
             self.late_reads = self.late_reads.saturating_add(1);

@@ -4,20 +4,20 @@ use headers_core::EntityTagRange;
 use headers_syntax::{EntityTag, EntityTagRef, HeaderValueString, trim};
 use std::alloc::AllocError;
 use std::cmp::Ordering;
-use test_rows::{Answer, Arguments, Failure};
+use test_rows::{Arguments, CaseAnswer, CaseFailure};
 
-fn tag(arguments: &mut Arguments<'_>) -> Result<EntityTag, Failure> {
+fn tag(arguments: &mut Arguments<'_>) -> Result<EntityTag, CaseFailure> {
     let line = HeaderValue::from_vec(arguments.bytes()?)?;
-    EntityTag::from_owned(line).ok_or(Failure::Refused)
+    EntityTag::from_owned(line).ok_or(CaseFailure::Refused)
 }
 
-fn show_parts(bytes: &[u8], answer: &mut Answer) -> Result<(), Failure> {
-    let tag = EntityTagRef::parse(bytes).ok_or(Failure::Refused)?;
+fn show_parts(bytes: &[u8], answer: &mut CaseAnswer) -> Result<(), CaseFailure> {
+    let tag = EntityTagRef::parse(bytes).ok_or(CaseFailure::Refused)?;
     answer.word(tag.is_weak())?;
     Ok(answer.bytes(tag.tag())?)
 }
 
-fn compare(arguments: &mut Arguments<'_>, answer: &mut Answer) -> Result<(), Failure> {
+fn compare(arguments: &mut Arguments<'_>, answer: &mut CaseAnswer) -> Result<(), CaseFailure> {
     let one = tag(arguments)?;
     let other = tag(arguments)?;
     answer.word(one.view().strong_eq(&other.view()))?;
@@ -25,10 +25,10 @@ fn compare(arguments: &mut Arguments<'_>, answer: &mut Answer) -> Result<(), Fai
 }
 
 // Whether a tag that is copied off its line is weak, and its encoding.
-fn show_copy(arguments: &mut Arguments<'_>, answer: &mut Answer) -> Result<(), Failure> {
+fn show_copy(arguments: &mut Arguments<'_>, answer: &mut CaseAnswer) -> Result<(), CaseFailure> {
     let alloc = arguments.alloc();
     let line = HeaderValue::from_vec(arguments.bytes()?)?;
-    let tag = EntityTag::from_val(alloc, &line)?.ok_or(Failure::Refused)?;
+    let tag = EntityTag::from_val(alloc, &line)?.ok_or(CaseFailure::Refused)?;
     if tag.clone(alloc)? != tag {
         answer.word("(copy)")?;
     }
@@ -42,13 +42,13 @@ fn show_copy(arguments: &mut Arguments<'_>, answer: &mut Answer) -> Result<(), F
 pub fn call_tag(
     call: &str,
     arguments: &mut Arguments<'_>,
-    answer: &mut Answer,
-) -> Result<(), Failure> {
+    answer: &mut CaseAnswer,
+) -> Result<(), CaseFailure> {
     match call {
         "parts" => show_parts(&arguments.bytes()?, answer),
         "compare" => compare(arguments, answer),
         "copy" => show_copy(arguments, answer),
-        _ => Err(Failure::NoCall),
+        _ => Err(CaseFailure::NoCall),
     }
 }
 
@@ -57,10 +57,10 @@ pub fn call_tag(
 pub fn call_tag_range(
     call: &str,
     arguments: &mut Arguments<'_>,
-    answer: &mut Answer,
-) -> Result<(), Failure> {
+    answer: &mut CaseAnswer,
+) -> Result<(), CaseFailure> {
     if call != "matches" {
-        return Err(Failure::NoCall);
+        return Err(CaseFailure::NoCall);
     }
     let tag = tag(arguments)?;
     let lines = arguments.lines()?;
@@ -69,16 +69,16 @@ pub fn call_tag_range(
     Ok(answer.word(range.matches_weak(&tag))?)
 }
 
-fn text(arguments: &mut Arguments<'_>) -> Result<HeaderValueString, Failure> {
+fn text(arguments: &mut Arguments<'_>) -> Result<HeaderValueString, CaseFailure> {
     let text = arguments.text()?;
     Ok(HeaderValueString::from_str(arguments.alloc(), text.as_str())?)
 }
 
 // How a refusal is printed: of invalid input, or if an allocation fails.
-fn refusal(arguments: &mut Arguments<'_>, answer: &mut Answer) -> Result<(), Failure> {
+fn refusal(arguments: &mut Arguments<'_>, answer: &mut CaseAnswer) -> Result<(), CaseFailure> {
     let refused: Refused<Error> = match arguments.word() {
         Ok("memory") => Refused::Memory(AllocError),
-        Ok(_) => return Err(Failure::NoCall),
+        Ok(_) => return Err(CaseFailure::NoCall),
         Err(_) => Refused::from(Error::invalid()),
     };
     Ok(answer.bytes(refused.to_string(answer.alloc())?.as_bytes())?)
@@ -89,8 +89,8 @@ fn refusal(arguments: &mut Arguments<'_>, answer: &mut Answer) -> Result<(), Fai
 pub fn call_text(
     call: &str,
     arguments: &mut Arguments<'_>,
-    answer: &mut Answer,
-) -> Result<(), Failure> {
+    answer: &mut CaseAnswer,
+) -> Result<(), CaseFailure> {
     match call {
         "refusal" => refusal(arguments, answer),
         "trim" => Ok(answer.bytes(trim(&arguments.bytes()?))?),
@@ -102,6 +102,6 @@ pub fn call_text(
             };
             Ok(answer.word(order)?)
         }
-        _ => Err(Failure::NoCall),
+        _ => Err(CaseFailure::NoCall),
     }
 }

@@ -3,10 +3,13 @@ use crate::map::same_lines;
 use headers::authorization::Authorization;
 use headers::{HeaderMapExt, InsertError, encoding};
 use headers_user::{ForwardError, Forwarded, MaxForwards, forward, key_of};
-use test_rows::{Answer, Arguments, Failure};
+use test_rows::{Arguments, CaseAnswer, CaseFailure};
 
 /// Adds the map that a typed insert of no limit leaves.
-pub fn insert_none(arguments: &mut Arguments<'_>, answer: &mut Answer) -> Result<(), Failure> {
+pub fn insert_none(
+    arguments: &mut Arguments<'_>,
+    answer: &mut CaseAnswer,
+) -> Result<(), CaseFailure> {
     let alloc = arguments.alloc();
     let text = arguments.rest();
     let mut map = Arguments::new(alloc, text).map()?;
@@ -14,7 +17,7 @@ pub fn insert_none(arguments: &mut Arguments<'_>, answer: &mut Answer) -> Result
     match map.typed_insert(alloc, MaxForwards::none()) {
         Ok(()) => {}
         Err(InsertError::Memory) if same_lines(&map, &before) => {
-            return Err(Failure::Memory);
+            return Err(CaseFailure::Memory);
         }
         Err(_) => answer.word("(left)")?,
     }
@@ -22,7 +25,10 @@ pub fn insert_none(arguments: &mut Arguments<'_>, answer: &mut Answer) -> Result
 }
 
 // What becomes of a request with these fields, and its fields then.
-fn show_forwarded(arguments: &mut Arguments<'_>, answer: &mut Answer) -> Result<(), Failure> {
+fn show_forwarded(
+    arguments: &mut Arguments<'_>,
+    answer: &mut CaseAnswer,
+) -> Result<(), CaseFailure> {
     let alloc = arguments.alloc();
     let text = arguments.rest();
     let mut map = Arguments::new(alloc, text).map()?;
@@ -33,7 +39,7 @@ fn show_forwarded(arguments: &mut Arguments<'_>, answer: &mut Answer) -> Result<
         Ok(Forwarded::Unlimited) => answer.word("unlimited")?,
         Err(ForwardError::BadHops) => answer.word(ForwardError::BadHops)?,
         Err(ForwardError::Memory) if same_lines(&map, &before) => {
-            return Err(Failure::Memory);
+            return Err(CaseFailure::Memory);
         }
         Err(ForwardError::Memory) => answer.word("(left)")?,
     }
@@ -41,7 +47,7 @@ fn show_forwarded(arguments: &mut Arguments<'_>, answer: &mut Answer) -> Result<
 }
 
 // The key in these fields, and the lines that encode it.
-fn show_key(arguments: &mut Arguments<'_>, answer: &mut Answer) -> Result<(), Failure> {
+fn show_key(arguments: &mut Arguments<'_>, answer: &mut CaseAnswer) -> Result<(), CaseFailure> {
     let alloc = arguments.alloc();
     let map = arguments.map()?;
     let Some(key) = key_of(alloc, &map)? else {
@@ -56,7 +62,7 @@ fn show_key(arguments: &mut Arguments<'_>, answer: &mut Answer) -> Result<(), Fa
 }
 
 // How an error is printed: plainly, at a width and a precision, and for a programmer.
-fn show_error(error: ForwardError, answer: &mut Answer) -> Result<(), Failure> {
+fn show_error(error: ForwardError, answer: &mut CaseAnswer) -> Result<(), CaseFailure> {
     let alloc = answer.alloc();
     answer.bytes(format!(in alloc; "{error}")?.as_bytes())?;
     answer.bytes(format!(in alloc; "{error:>40.3}")?.as_bytes())?;
@@ -68,16 +74,16 @@ fn show_error(error: ForwardError, answer: &mut Answer) -> Result<(), Failure> {
 pub fn call_user(
     call: &str,
     arguments: &mut Arguments<'_>,
-    answer: &mut Answer,
-) -> Result<(), Failure> {
+    answer: &mut CaseAnswer,
+) -> Result<(), CaseFailure> {
     match call {
         "forward" => show_forwarded(arguments, answer),
         "key_of" => show_key(arguments, answer),
         "formats" => match arguments.word()? {
             "BadHops" => show_error(ForwardError::BadHops, answer),
             "Memory" => show_error(ForwardError::Memory, answer),
-            _ => Err(Failure::NoCall),
+            _ => Err(CaseFailure::NoCall),
         },
-        _ => Err(Failure::NoCall),
+        _ => Err(CaseFailure::NoCall),
     }
 }

@@ -7,15 +7,15 @@ use std::ops::Bound;
 
 /// The answer of a call: words with one space between them.
 #[derive(Drop)]
-pub struct Answer {
+pub struct CaseAnswer {
     alloc: Global,
     text: String,
 }
 
-impl Answer {
+impl CaseAnswer {
     /// Makes an answer without a word.
-    pub fn new(alloc: Global) -> Answer {
-        Answer {
+    pub fn new(alloc: Global) -> CaseAnswer {
+        CaseAnswer {
             alloc,
             text: String::new(alloc),
         }

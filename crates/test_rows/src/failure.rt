@@ -6,7 +6,7 @@ use std::alloc::{AllocError, AllocFailed};
 
 /// Why a call has no answer.
 #[derive(Clone, Copy, Debug, PartialEq, Eq)]
-pub enum Failure {
+pub enum CaseFailure {
     /// The call rejects its input.
     Refused,
     /// There is no such call, or it has other arguments.
@@ -15,73 +15,73 @@ pub enum Failure {
     Memory,
 }
 
-impl Failure {
+impl CaseFailure {
     /// Returns the word that stands for the failure in an answer.
     pub fn as_str(self) -> &'static str {
         match self {
-            Failure::Refused => "(refused)",
-            Failure::NoCall => "(unknown)",
-            Failure::Memory => "(memory)",
+            CaseFailure::Refused => "(refused)",
+            CaseFailure::NoCall => "(unknown)",
+            CaseFailure::Memory => "(memory)",
         }
     }
 }
 
-impl<E: Drop> From<Refused<E>> for Failure {
-    fn from(refused: Refused<E>) -> Failure {
+impl<E: Drop> From<Refused<E>> for CaseFailure {
+    fn from(refused: Refused<E>) -> CaseFailure {
         match refused {
-            Refused::Invalid(_) => Failure::Refused,
-            Refused::Memory(_) => Failure::Memory,
+            Refused::Invalid(_) => CaseFailure::Refused,
+            Refused::Memory(_) => CaseFailure::Memory,
         }
     }
 }
 
-impl From<AllocError> for Failure {
-    fn from(_error: AllocError) -> Failure {
-        Failure::Memory
+impl From<AllocError> for CaseFailure {
+    fn from(_error: AllocError) -> CaseFailure {
+        CaseFailure::Memory
     }
 }
 
-impl<T: Drop> From<AllocFailed<T>> for Failure {
-    fn from(_failed: AllocFailed<T>) -> Failure {
-        Failure::Memory
+impl<T: Drop> From<AllocFailed<T>> for CaseFailure {
+    fn from(_failed: AllocFailed<T>) -> CaseFailure {
+        CaseFailure::Memory
     }
 }
 
-impl From<HeaderMapError> for Failure {
-    fn from(_error: HeaderMapError) -> Failure {
-        Failure::Memory
+impl From<HeaderMapError> for CaseFailure {
+    fn from(_error: HeaderMapError) -> CaseFailure {
+        CaseFailure::Memory
     }
 }
 
-impl From<InsertError> for Failure {
-    fn from(_error: InsertError) -> Failure {
-        Failure::Memory
+impl From<InsertError> for CaseFailure {
+    fn from(_error: InsertError) -> CaseFailure {
+        CaseFailure::Memory
     }
 }
 
-impl From<HeaderValueError> for Failure {
-    fn from(error: HeaderValueError) -> Failure {
+impl From<HeaderValueError> for CaseFailure {
+    fn from(error: HeaderValueError) -> CaseFailure {
         match error {
-            HeaderValueError::Invalid => Failure::NoCall,
-            HeaderValueError::OutOfMemory => Failure::Memory,
+            HeaderValueError::Invalid => CaseFailure::NoCall,
+            HeaderValueError::OutOfMemory => CaseFailure::Memory,
         }
     }
 }
 
-impl From<HeaderNameError> for Failure {
-    fn from(error: HeaderNameError) -> Failure {
+impl From<HeaderNameError> for CaseFailure {
+    fn from(error: HeaderNameError) -> CaseFailure {
         match error {
-            HeaderNameError::Invalid => Failure::NoCall,
-            HeaderNameError::OutOfMemory => Failure::Memory,
+            HeaderNameError::Invalid => CaseFailure::NoCall,
+            HeaderNameError::OutOfMemory => CaseFailure::Memory,
         }
     }
 }
 
-impl From<MethodError> for Failure {
-    fn from(error: MethodError) -> Failure {
+impl From<MethodError> for CaseFailure {
+    fn from(error: MethodError) -> CaseFailure {
         match error {
-            MethodError::Invalid => Failure::NoCall,
-            MethodError::OutOfMemory => Failure::Memory,
+            MethodError::Invalid => CaseFailure::NoCall,
+            MethodError::OutOfMemory => CaseFailure::Memory,
         }
     }
 }

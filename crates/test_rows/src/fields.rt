@@ -4,9 +4,9 @@
 //! puts these lines, and `(remove:age)` is a step that removes the name. `(sensitive)` marks the
 //! line before it. A map ends at the word `(/)`, or with the test case. A map is answered as its
 //! fields, in the order of their names.
-use crate::answer::Answer;
+use crate::answer::CaseAnswer;
 use crate::arguments::Arguments;
-use crate::failure::Failure;
+use crate::failure::CaseFailure;
 use headers::{Encoded, HeaderMap, HeaderName, HeaderValue, Step};
 use std::alloc::Global;
 
@@ -26,12 +26,12 @@ struct Part {
     lines: Vec<HeaderValue>,
 }
 
-fn begun_part(alloc: Global, word: &str) -> Result<Part, Failure> {
+fn begun_part(alloc: Global, word: &str) -> Result<Part, CaseFailure> {
     let (kind, name) = match word.split_once(':') {
         None => (Kind::Field, word),
         Some(("put", name)) => (Kind::Put, name),
         Some(("remove", name)) => (Kind::Remove, name),
-        Some(_) => return Err(Failure::NoCall),
+        Some(_) => return Err(CaseFailure::NoCall),
     };
     Ok(Part {
         kind,
@@ -48,24 +48,24 @@ fn in_parentheses(word: &str) -> Option<&str> {
     word.strip_prefix('(')?.strip_suffix(')')
 }
 
-fn mark_sensitive(parts: &mut Vec<Part>) -> Result<(), Failure> {
-    let part = parts.last_mut().ok_or(Failure::NoCall)?;
+fn mark_sensitive(parts: &mut Vec<Part>) -> Result<(), CaseFailure> {
+    let part = parts.last_mut().ok_or(CaseFailure::NoCall)?;
     part.lines
         .last_mut()
-        .ok_or(Failure::NoCall)?
+        .ok_or(CaseFailure::NoCall)?
         .set_sensitive(true);
     Ok(())
 }
 
-fn add_lines(parts: &mut Vec<Part>, lines: Vec<HeaderValue>) -> Result<(), Failure> {
-    let part = parts.last_mut().ok_or(Failure::NoCall)?;
+fn add_lines(parts: &mut Vec<Part>, lines: Vec<HeaderValue>) -> Result<(), CaseFailure> {
+    let part = parts.last_mut().ok_or(CaseFailure::NoCall)?;
     for line in lines {
         part.lines.push(line)?;
     }
     Ok(())
 }
 
-fn read_parts(alloc: Global, text: &str) -> Result<Vec<Part>, Failure> {
+fn read_parts(alloc: Global, text: &str) -> Result<Vec<Part>, CaseFailure> {
     let mut parts = Vec::new(alloc);
     for word in text.split_whitespace() {
         match in_parentheses(word) {
@@ -82,7 +82,7 @@ pub fn append_lines(
     map: &mut HeaderMap,
     name: &HeaderName,
     lines: Vec<HeaderValue>,
-) -> Result<(), Failure> {
+) -> Result<(), CaseFailure> {
     for line in lines {
         map.append(name, line)?;
     }
@@ -102,7 +102,7 @@ impl<'a> Arguments<'a> {
     }
 
     /// Takes the words up to `(/)` as the fields of a map, and the steps among them.
-    pub fn map_and_steps(&mut self) -> Result<(HeaderMap, Vec<Step>), Failure> {
+    pub fn map_and_steps(&mut self) -> Result<(HeaderMap, Vec<Step>), CaseFailure> {
         let alloc = self.alloc();
         let mut map = HeaderMap::new(alloc);
         let mut steps = Vec::new(alloc);
@@ -118,19 +118,19 @@ impl<'a> Arguments<'a> {
     }
 
     /// Takes the words up to `(/)` as the fields of a map. `NoCall` if a step is among them.
-    pub fn map(&mut self) -> Result<HeaderMap, Failure> {
+    pub fn map(&mut self) -> Result<HeaderMap, CaseFailure> {
         let (map, steps) = self.map_and_steps()?;
         if steps.is_empty() {
             Ok(map)
         } else {
-            Err(Failure::NoCall)
+            Err(CaseFailure::NoCall)
         }
     }
 }
 
-impl Answer {
+impl CaseAnswer {
     /// Appends a field line to the answer, and whether it is sensitive.
-    pub fn line(&mut self, line: &HeaderValue) -> Result<(), Failure> {
+    pub fn line(&mut self, line: &HeaderValue) -> Result<(), CaseFailure> {
         self.bytes(line.as_bytes())?;
         if line.is_sensitive() {
             self.word("(sensitive)")?;
@@ -139,7 +139,7 @@ impl Answer {
     }
 
     /// Appends the fields of a map that have one of these names.
-    pub fn fields(&mut self, map: &HeaderMap, names: &[&str]) -> Result<(), Failure> {
+    pub fn fields(&mut self, map: &HeaderMap, names: &[&str]) -> Result<(), CaseFailure> {
         for name in names {
             self.word(format_args!("({name})"))?;
             for line in map.get_all(*name) {
@@ -150,7 +150,7 @@ impl Answer {
     }
 
     /// Appends the fields of a map in the order of their names, or `(none)`.
-    pub fn map(&mut self, map: &HeaderMap) -> Result<(), Failure> {
+    pub fn map(&mut self, map: &HeaderMap) -> Result<(), CaseFailure> {
         let mut names: Vec<&str> = map.keys().map(|name| name.as_str()).collect(self.alloc())?;
         names.sort_unstable();
         if names.is_empty() {

@@ -12,10 +12,10 @@ mod replay;
 mod tally;
 mod word;
 
-pub use crate::answer::Answer;
+pub use crate::answer::CaseAnswer;
 pub use crate::arguments::Arguments;
 pub use crate::calls::Calls;
-pub use crate::failure::Failure;
+pub use crate::failure::CaseFailure;
 pub use crate::fields::append_lines;
 pub use crate::files::replay_files;
 pub use crate::replay::replay_rows;

@@ -4,7 +4,7 @@ ghost use Rattle.std.specs.Str.Lines.{lines};
 ghost use Rattle.test_rows.specs.Row.{is_row_line};
 
 use crate::calls::{Calls, answer_of};
-use crate::failure::Failure;
+use crate::failure::CaseFailure;
 use crate::repeated::expand;
 use crate::tally::Tally;
 use anyhow::Result;
@@ -64,7 +64,7 @@ fn replay_row<C: Calls, W: Write>(
 {
     let Row { call, wanted, kind } = read_row(line);
     let mut made = answer_of::<C>(alloc, call);
-    if matches!(made, Err(Failure::Memory)) {
+    if matches!(made, Err(CaseFailure::Memory)) {
         writeln!(writer, "{file}:{number}: {call}: refused, made again")?;
         made = answer_of::<C>(alloc, call);
     }

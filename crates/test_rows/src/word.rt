@@ -1,6 +1,6 @@
 //! Bytes as words. Printable ASCII is itself, any other byte is `%` and two hexadecimal digits. A
 //! word in parentheses never means bytes, except `()`.
-use crate::failure::Failure;
+use crate::failure::CaseFailure;
 use percent_encoding::{CONTROLS, PercentEncode, percent_decode_str, percent_encode};
 use std::alloc::Global;
 use std::fmt;
@@ -30,13 +30,13 @@ impl fmt::Display for Word<'_> {
 }
 
 /// Returns the bytes that a word means. `NoCall` if it means none.
-pub fn read_bytes(alloc: Global, word: &str) -> Result<Vec<u8>, Failure> {
+pub fn read_bytes(alloc: Global, word: &str) -> Result<Vec<u8>, CaseFailure> {
     let mut bytes = Vec::new(alloc);
     if word == "()" {
         return Ok(bytes);
     }
     if word.starts_with('(') {
-        return Err(Failure::NoCall);
+        return Err(CaseFailure::NoCall);
     }
     percent_decode_str(word).append_to(&mut bytes)?;
     Ok(bytes)

@@ -6,7 +6,7 @@ use Rattle.{cache_policy.specs.Requests.Request, cache_rules.specs.Conditions.{A
 use Rattle.cache_rules.specs.{declared.stored.StoredResponse.StoredResponse, Stored.fields_of_stored}
 use Rattle.decide_preconditions.specs.{Plans.IsPlanned, declared.plan.Plan.{Plan, TheVariants.{Failed, NotModified}}}
 use Rattle.decide_preconditions.specs.declared.plan.Plan.TheVariants.{Full, Multiple, Single, Unsatisfiable}
-use Rattle.decide_preconditions.specs.declared.resource.{Resource.TheVariants.Current, Validators.Validators}
+use Rattle.decide_preconditions.specs.declared.resource.{TargetState.TheVariants.Current, Validators.Validators}
 use Rattle.cache_store.specs.Parts.{Combining.Holds, Extents.{bytes_between, range_line, size, strong_tag}}
 use Rattle.cache_store.specs.declared.parts.extent.Extent.{Extent}
 

@@ -9,7 +9,7 @@ use crate::parts::combining::held_extent;
 use crate::parts::extent::{Extent, strong_tag};
 use cache_policy::RequestHead;
 use cache_rules::{StoredResponse, is_for_cache, one_part, validators_of};
-use decide_preconditions::{Plan, RangeFacts, Resource, plan_answer};
+use decide_preconditions::{Plan, RangeFacts, TargetState, plan_answer};
 use headers::{ContentLength, Encoded, encoding};
 use std::alloc::{AllocError, Global};
 
@@ -67,7 +67,7 @@ pub fn answer_part(
         return Ok(None);
     };
     let current = validators_of(alloc, stored)?;
-    let resource = Resource::Current(current);
+    let resource = TargetState::Current(current);
     let limits = one_part();
     let facts = RangeFacts {
         present: now,

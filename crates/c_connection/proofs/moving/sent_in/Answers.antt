@@ -1,18 +1,18 @@
 use Rattle.std.proofs.Common.{◌≡◌, ℕ, ◌<◌, List, [], length, refl, inl, inr, ap, subst, arith}
 use Rattle.std.proofs.lemmas.Bool.Decides.{nat_tests}
-use Rattle.server_connection.specs.declared.{machine.Machine.Machine, piece.Extent.Extent}
+use Rattle.server_connection.specs.declared.{machine.Machine.Machine, piece.OpenRange.OpenRange}
 use Rattle.server_connection.specs.Machine.{HasNoRange, IsNextRange, OffersCount}
 use Rattle.c_connection.proofs.moving.sent_in.Goals.{in-Some, in_default, in_default-via-in-Some+else-is_empty}
 use Rattle.c_connection.proofs.moving.sent_in.Goals.{in_default-via-in_default}
 use Rattle.c_connection.proofs.moving.sent_in.Goals as goal
 
 -- more than the range has, where no other bytes wait
-more_than_range : (m : Machine) (count : ℕ) (extent : Extent) → IsNextRange m extent → length m.output.items ≡ 0
+more_than_range : (m : Machine) (count : ℕ) (extent : OpenRange) → IsNextRange m extent → length m.output.items ≡ 0
     → extent.len < count → OffersCount m count → ⊥
 more_than_range m count extent next empty more (inl le) = omega (arith, empty, more, le)
 more_than_range m count extent next empty more (inr (_, other, also, le)) =
     let same : extent ≡ other = cc (next.3, also.3) in
-    omega (arith, ap (λ (e : Extent). e.len) same, more, le)
+    omega (arith, ap (λ (e : OpenRange). e.len) same, more, le)
 
 -- more than the bytes that wait, where no range is next once they went
 more_than_output : (m : Machine) (count : ℕ) → (m.output.items ≡ [] → HasNoRange m)

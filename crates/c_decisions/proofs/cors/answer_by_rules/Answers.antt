@@ -1,12 +1,13 @@
 use Rattle.std.proofs.Common.{List, ℕ, Result, Ok, Err, inr}
 use Rattle.decide_cors.specs.Policy.{Policy}
 use Rattle.c_parts.specs.declared.status.Failure.{Failure}
-use Rattle.c_decisions.{specs.Cors.{Shares, SharesBy}, specs.Rules.IsPolicyFor, specs.declared.cors.Shared.Shared}
+use Rattle.c_decisions.{specs.Cors.{Shares, SharesBy}, specs.Rules.IsPolicyFor}
+use Rattle.c_decisions.specs.declared.cors.PolicyAnswer.{PolicyAnswer}
 use Rattle.c_decisions.{specs.declared.request.RequestTexts.RequestTexts, specs.declared.rules.Rules.Rules}
 use Rattle.c_decisions.proofs.cors.answer_by_rules.Goals as goal
 
 Shares-from_policy : (given : Rules) (policy : Policy) (request : RequestTexts) (response : List ℕ)
-    (result : Result Shared Failure) → IsPolicyFor given policy → SharesBy policy request response result
+    (result : Result PolicyAnswer Failure) → IsPolicyFor given policy → SharesBy policy request response result
     → Shares given request response result
 Shares-from_policy given policy request response (Ok shared) is by = (policy, is, by)
 Shares-from_policy given policy request response (Err failure) is by = inr by

@@ -1,5 +1,5 @@
 use Rattle.std.proofs.Common.{Ok, subst}
-use Rattle.decide_preconditions.specs.declared.resource.Resource.{Resource}
+use Rattle.decide_preconditions.specs.declared.resource.TargetState.{TargetState}
 use Rattle.c_decisions.specs.Targets.{IsResourceOf}
 use Rattle.c_decisions.proofs.selection.select_ranges.Goals as goal
 
@@ -11,7 +11,7 @@ returns c =
       current = c.in-Current.current;
       is_resource =
           subst
-          (λ (resource : Resource). IsResourceOf c.args.target.now (Ok resource))
+          (λ (resource : TargetState). IsResourceOf c.args.target.now (Ok resource))
           c.in-Current.is c.in_ok-current.ensures;
       request = c.in_ok-fields.fields;
       holds = c.in_ok-fields.ensures;

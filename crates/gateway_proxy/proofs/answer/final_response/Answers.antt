@@ -1,6 +1,6 @@
 use Rattle.std.{proofs.Common.{◌≡◌, refl, subst, sym}, proofs.lemmas.Result.err_from_is_err_and}
 use Rattle.http1.{specs.declared.client.Client.Client, specs.declared.server.Server.Server}
-use Rattle.gateway_relay.{specs.declared.failure.Failure.TheVariants.Writer, proofs.HeadLemmas.fails_as}
+use Rattle.gateway_relay.{specs.declared.failure.RelayFailure.TheVariants.Writer, proofs.HeadLemmas.fails_as}
 use Rattle.gateway_proxy.{specs.Cuts.{CutsInterim, CutsResponse, in_interim}, specs.Exchanges.{Interims, IsFound, next}}
 use Rattle.gateway_proxy.{specs.Exchanges.none, specs.declared.answer.Found.Found, proofs.AnswerLemmas.as_client}
 use Rattle.gateway_proxy.proofs.answer.final_response.Goals as goal

@@ -2,7 +2,8 @@ use Rattle.std.{proofs.Common.{◌≡◌, ◌∙◌, inr, nat_lt, subst, sym, tr
 use Rattle.http1.{specs.Head.response_text, specs.Server.informational_refusal, specs.declared.client.Client.Client}
 use Rattle.gateway_messages.specs.FieldLines.{fields_of}
 use Rattle.gateway_relay.{specs.Failures.FailsToWrite, specs.Heads.ReadsResponseHead}
-use Rattle.gateway_relay.{specs.declared.failure.Failure.Failure, specs.declared.failure.Failure.TheVariants.Writer}
+use Rattle.gateway_relay.specs.declared.failure.RelayFailure.{RelayFailure}
+use Rattle.gateway_relay.specs.declared.failure.RelayFailure.TheVariants.{Writer}
 use Rattle.gateway_relay.proofs.HeadLemmas.{fails_as}
 use Rattle.gateway_proxy.{specs.Cuts.CutsInterim, specs.Faults.IsUnusable, specs.declared.fault.Fault.Fault}
 use Rattle.gateway_proxy.proofs.AnswerLemmas.{forwarded_as, interim_keeps, interim_unsent}
@@ -46,7 +47,7 @@ returns-in_err-unsent-in-Err-forward_interim-clause-cut g c reading writing conn
     let failed = c.in_err-unsent-in-Err-forward_interim.ensures.err in
     let r = c.from_residual in
     let y = err_from_is_err_and r.result r.ensures.1 in
-    fails_as r.result y.1 y.2 (λ (failure : Failure). (failure ≡ Writer) × CutsInterim c.args.proxy.now
+    fails_as r.result y.1 y.2 (λ (failure : RelayFailure). (failure ≡ Writer) × CutsInterim c.args.proxy.now
     c.args.request.now c.args.client.now c.args.server.now c.args.input.now.items c.read_response.new.input.items
     (g.R.Read.remaining c.args.reader.now) (g.R.Read.remaining c.read_response.new.reader)
     (g.W.Write.contents c.args.writer.now) (g.W.Write.contents c.forward_interim.new.writer)) (
@@ -61,7 +62,7 @@ returns-in_err-unsent-in-Err-forward_interim-clause-cut g c reading writing conn
         sent = sent;
         forwards = forwards;
         is_interim = interim;
-        part = subst (λ (failure : Failure). FailsToWrite (informational_refusal c.args.server.now response.status
+        part = subst (λ (failure : RelayFailure). FailsToWrite (informational_refusal c.args.server.now response.status
             response.reason (fields_of sent.fields.items))
             (response_text 1 response.status response.reason (fields_of sent.fields.items))
             (g.W.Write.contents c.args.writer.now) (g.W.Write.contents c.forward_interim.new.writer) failure) failed.1

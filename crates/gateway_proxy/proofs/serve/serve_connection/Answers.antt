@@ -1,7 +1,7 @@
 use Rattle.std.proofs.Common.{[], List, ℕ, arith, inl, inr, refl, subst, sym}
 use Rattle.std.proofs.lemmas.Result.{err_from_is_err_and}
 use Rattle.gateway_relay.proofs.HeadLemmas.{fails_as}
-use Rattle.gateway_relay.specs.declared.failure.Failure.{Failure}
+use Rattle.gateway_relay.specs.declared.failure.RelayFailure.{RelayFailure}
 use Rattle.gateway_proxy.{specs.Cuts.IsCutAfter, specs.Exchanges.{Exchanges, IsTurn, next, none, wires}}
 use Rattle.gateway_proxy.proofs.serve.serve_connection.Goals as goal
 
@@ -29,7 +29,7 @@ returns-in_err-turn-clause-cut g c =
     let new = c.exchange.new in
     let error = c.from_residual in
     let y = err_from_is_err_and error.result error.ensures.1 in
-    fails_as error.result y.1 y.2 (λ (failure : Failure). (unasked : List ℕ) × IsCutAfter c.args.proxy.now
+    fails_as error.result y.1 y.2 (λ (failure : RelayFailure). (unasked : List ℕ) × IsCutAfter c.args.proxy.now
     (wires q (r c.args.reader.now) (w c.args.writer.now) [] (s c.args.from_origin.now) (t c.args.to_origin.now))
     (wires new.requests.items (r new.reader) (w new.writer) unasked (s new.from_origin) (t new.to_origin)) failure) (
       new.responses.items,

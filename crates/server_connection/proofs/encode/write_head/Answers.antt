@@ -3,11 +3,12 @@ use Rattle.http1.{specs.declared.error.WriteError.WriteError, specs.declared.ser
 use Rattle.http1.{specs.Output.GivesOrRefuses, specs.Server.response_refusal}
 use Rattle.http1_typed.specs.Parts.{reason_of}
 use Rattle.http_server.{specs.Response.fields, proofs.AnswerLemmas.not_refused}
-use Rattle.server_connection.{specs.declared.plan.Plan.Plan, specs.Encoding.{WritesHead, content_len, head_text}}
+use Rattle.server_connection.specs.declared.plan.ResponsePlan.{ResponsePlan}
+use Rattle.server_connection.specs.Encoding.{WritesHead, content_len, head_text}
 use Rattle.server_connection.specs.Encoding.{after_head, plan_fields, plan_size}
 use Rattle.server_connection.proofs.encode.write_head.Goals as goal
 
-module _ (plan : Plan) (old new : Server) (before after : List ℕ) (spare len : ℕ) (late : plan.status ≢ 101)
+module _ (plan : ResponsePlan) (old new : Server) (before after : List ℕ) (spare len : ℕ) (late : plan.status ≢ 101)
     (short : content_len plan < 2 ^ 64) where
   written : (result : Result (Unit {0}) WriteError)
       → GivesOrRefuses (response_refusal old plan.status (reason_of plan.status) (plan_size plan) (plan_fields plan))

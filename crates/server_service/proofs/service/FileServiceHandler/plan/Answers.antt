@@ -61,7 +61,7 @@ returns g c =
     c.in_ok-carry.ensures))) in
     let Answered : Option ℕ → Type 0 =
     λ time.
-    IsAnswerAt time left site (g.S.Store.has c.args.self.now.store) c.args.request.now c.carry.new.response
+    IsAnswerAt time left site (g.S.FileStore.has c.args.self.now.store) c.args.request.now c.carry.new.response
     c.source_sent.result in (
       (
         told,

@@ -29,7 +29,7 @@ pub use Rattle.decide_preconditions.specs.{Preconditions.{StateIsKept, Answers, 
 pub use Rattle.decide_preconditions.specs.{Tags.{are_tags, is_star}, declared.content.Content.Content}
 pub use Rattle.decide_preconditions.specs.declared.{limits.RangeLimits.RangeLimits, part.Part.Part, plan.Plan.Plan}
 pub use Rattle.decide_preconditions.specs.declared.plan.Plan.TheVariants.{NotModified, Failed, Single, Full}
-pub use Rattle.decide_preconditions.specs.declared.resource.Resource.{Resource as Target, TheVariants.Current}
+pub use Rattle.decide_preconditions.specs.declared.resource.TargetState.{TargetState as Target, TheVariants.Current}
 pub use Rattle.decide_preconditions.specs.declared.resource.Validators.{Validators}
 pub use Rattle.decide_preconditions.specs.declared.response.Response.{Response as Planning}
 pub use Rattle.decide_resource.{proofs.AnswerLemmas.one_place, specs.Answers.{Gives as AnswerGives, GivesIf}}
@@ -92,7 +92,8 @@ pub use Rattle.server_connection.{proofs.PieceLemmas.Advances-length, specs.Conn
 pub use Rattle.server_connection.specs.Encoding.{content_len, plan_fields, plan_size, size_for, head_text, Frames}
 pub use Rattle.server_connection.specs.{Encoding.after_head, Literal.{IsLiteral, SendsCall, SendsCalls}}
 pub use Rattle.server_connection.specs.{Machine.Sends as IsSending, Pieces.{Gives, total_len, AreSent}, Plan.Plans}
-pub use Rattle.server_connection.specs.declared.{piece.Piece.{Piece, TheVariants.Range}, plan.Plan.Plan as Response}
+pub use Rattle.server_connection.specs.declared.piece.Piece.{Piece, TheVariants.Range}
+pub use Rattle.server_connection.specs.declared.plan.ResponsePlan.{ResponsePlan as Response}
 pub use Rattle.server_files.{proofs.DigestLemmas.{digest_is_boundary, tag_is_tag}, specs.Codings.coding_suffix}
 pub use Rattle.server_files.specs.{Path.{Names, IsStorePath}, Tags.{content_digest, strong_tag}}
 pub use Rattle.server_files.specs.declared.coding.Coding.{Coding, TheVariants.{Identity, Brotli, Gzip}}

@@ -1,6 +1,6 @@
 use Rattle.std.proofs.Common.{[]}
 use Rattle.server_connection.proofs.TurnLemmas.{moves_in}
-use Rattle.server_connection.proofs.connection.Connection.finish_input.Goals as goal
+use Rattle.server_connection.proofs.connection.ServerConnection.finish_input.Goals as goal
 
 pub returns-clause-moves : goal.returns-clause-moves
 returns-clause-moves g c = λ now. moves_in now [] c.requires c.finish_input.ensures.takes

@@ -1,7 +1,7 @@
 use Rattle.std.proofs.Common.{subst}
 use Rattle.server_connection.{specs.Connection.IsSaid, specs.Machine.with_calls, proofs.TurnLemmas.leads_then}
 use Rattle.server_connection.proofs.TurnLemmas.{moves_steps, reached, step_none}
-use Rattle.server_connection.proofs.connection.Connection.next.Goals as goal
+use Rattle.server_connection.proofs.connection.ServerConnection.next.Goals as goal
 
 pub loop-spans-init : goal.loop-spans-init
 loop-spans-init g c = λ now. step_none c.args.self.now.machine now

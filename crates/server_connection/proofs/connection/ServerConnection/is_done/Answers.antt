@@ -1,6 +1,6 @@
 use Rattle.std.proofs.Common.{sym, ◌∙◌, subst}
 use Rattle.server_connection.{specs.Connection.IsClosing, proofs.TurnLemmas.{cut_short, done_or_cut, empty, exchanged}}
-use Rattle.server_connection.proofs.connection.Connection.is_done.Goals as goal
+use Rattle.server_connection.proofs.connection.ServerConnection.is_done.Goals as goal
 
 pub returns-in-Closing-clause-exchanged : goal.returns-in-Closing-clause-exchanged
 returns-in-Closing-clause-exchanged g c = λ config first now received sent x.

@@ -4,7 +4,7 @@ use Rattle.http1.specs.declared.conn.Event.TheVariants as Found
 use Rattle.gateway_connection.proofs.FieldLemmas.{fails_as}
 use Rattle.gateway_connection.proofs.FindLemmas.{breaks, head_fault, head_found, interim_of, tells}
 use Rattle.gateway_connection.proofs.FindLemmas.{still, takes_piece, takes_response, trailers_fault}
-use Rattle.gateway_connection.proofs.origin.Origin.find.Goals as goal
+use Rattle.gateway_connection.proofs.origin.OriginConnection.find.Goals as goal
 
 pub returns-in_err-response-in-Head-clause-err : goal.returns-in_err-response-in-Head-clause-err
 returns-in_err-response-in-Head-clause-err c =

@@ -1,7 +1,7 @@
 use Rattle.std.proofs.Common.{refl}
 use Rattle.server_connection.{specs.Connection.IsReached.begun, specs.Machine.new_past, proofs.TurnLemmas.laid_first}
 use Rattle.server_connection.proofs.TurnLemmas.{runs_by}
-use Rattle.server_connection.proofs.connection.Connection.new.Goals as goal
+use Rattle.server_connection.proofs.connection.ServerConnection.new.Goals as goal
 
 pub returns-clause-begins : goal.returns-clause-begins
 returns-clause-begins g c = λ first.

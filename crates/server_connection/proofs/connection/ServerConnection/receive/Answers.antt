@@ -1,6 +1,6 @@
 use Rattle.std.{proofs.Common.[], proofs.lemmas.Result.{on_err_weaker, on_ok_weaker}}
 use Rattle.server_connection.proofs.TurnLemmas.{moves_in, moves_none}
-use Rattle.server_connection.proofs.connection.Connection.receive.Goals as goal
+use Rattle.server_connection.proofs.connection.ServerConnection.receive.Goals as goal
 
 pub returns-then-self-clause-err : goal.returns-then-self-clause-err
 returns-then-self-clause-err g c = λ now. moves_none c.args.self.now.machine now

@@ -1,5 +1,5 @@
 use Rattle.gateway_connection.proofs.HistoryLemmas.{exchanged}
-use Rattle.gateway_connection.proofs.origin.Origin.output.Goals as goal
+use Rattle.gateway_connection.proofs.origin.OriginConnection.output.Goals as goal
 
 pub returns-clause-theorem : goal.returns-clause-theorem
 returns-clause-theorem c = λ limits past reached. exchanged reached

@@ -1,5 +1,5 @@
 use Rattle.server_connection.specs.Machine.{Leads, work}
-use Rattle.server_connection.proofs.connection.Connection.next.Given as goal
+use Rattle.server_connection.proofs.connection.ServerConnection.next.Given as goal
 
 abbrev pub invariant-loop-spans : goal.invariant-loop-spans
 invariant-loop-spans g l =

@@ -1,4 +1,4 @@
-use Rattle.server_program.proofs.folder.FolderStore.find.Goals as goal
+use Rattle.server_program.proofs.folder.FolderFileStore.find.Goals as goal
 
 pub or_listing-requires : goal.or_listing-requires
 or_listing-requires c = c.in_ok-entry.ensures c.args.path.now

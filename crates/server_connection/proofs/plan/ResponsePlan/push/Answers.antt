@@ -1,6 +1,6 @@
 use Rattle.std.proofs.Common.{◌+◌, sym, ap, ◌∙◌}
 use Rattle.server_connection.{specs.Pieces.total_len, proofs.PieceLemmas.total_len-push}
-use Rattle.server_connection.proofs.plan.Plan.push.Goals as goal
+use Rattle.server_connection.proofs.plan.ResponsePlan.push.Goals as goal
 
 pub invariant_of-self-2 : goal.invariant_of-self-2
 invariant_of-self-2 c = record {
