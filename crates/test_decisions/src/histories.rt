@@ -40,11 +40,12 @@ fn is_aside(line: &str) -> bool {
 
 // The lines at the beginning that are of the history whose first line is before them.
 fn calls_in<'s, 'a>(lines: &'s [&'a str]) -> &'s [&'a str] {
-    let others = lines.iter().position(|line| !line.starts_with("  "));
-    match others {
-        Some(count) => &lines[..count],
-        None => lines,
+    for (count, line) in lines.iter().enumerate() {
+        if !line.starts_with("  ") {
+            return &lines[..count];
+        }
     }
+    lines
 }
 
 // The calls of lines whose first one has this number.
@@ -80,7 +81,9 @@ fn answer_of(alloc: Global, caches: &mut Caches, call: &str) -> Result<CaseAnswe
     let (name, arguments) = call.split_once(' ').unwrap_or((call, ""));
     let mut arguments = Arguments::new(alloc, arguments);
     let mut answer = CaseAnswer::new(alloc);
-    make(caches, name, &mut arguments, &mut answer)?;
+    let made = make(caches, name, &mut arguments, &mut answer);
+    answer.checked()?;
+    made?;
     if arguments.is_empty() {
         Ok(answer)
     } else {
@@ -100,7 +103,8 @@ fn play(
         match answer_of(alloc, &mut caches, row.call) {
             Err(CaseFailure::NoCall | CaseFailure::Refused) => {
                 let mut answer = CaseAnswer::new(alloc);
-                answer.word(CaseFailure::NoCall.as_str())?;
+                answer.word(CaseFailure::NoCall.as_str());
+                answer.checked()?;
                 answers.push(answer)?;
             }
             made => answers.push(made?)?,
@@ -196,8 +200,12 @@ fn replay_text<W: Write>(
 
 // Whether the first call of a text is in a history.
 fn has_histories(text: &str) -> bool {
-    let first = text.lines().find(|line| !is_aside(line));
-    first.is_some_and(|line| line.starts_with("cache "))
+    for line in text.lines() {
+        if !is_aside(line) {
+            return line.starts_with("cache ");
+        }
+    }
+    false
 }
 
 // Makes the calls of a file, whose name is given.

@@ -18,16 +18,20 @@ pub struct Routing;
 // Why, the status, what is sent, and the fields of a response that had these.
 fn add_outcome(made: Made, mut map: HeaderMap, answer: &mut CaseAnswer) -> Result<(), CaseFailure> {
     let reason = made.reason;
-    answer.word(format_args!("{reason:?}"))?;
-    answer.option(made.status.map(|status| status.as_u16()))?;
+    answer.word(format_args!("{reason:?}"));
+    match made.status {
+        Some(status) => answer.word(status.as_u16()),
+        None => answer.none(),
+    }
     match made.sends {
-        Sends::Nothing => answer.word("nothing")?,
-        Sends::Planned(Some(place), Plan::Full) => answer.word(format_args!("{place} whole"))?,
-        Sends::Planned(Some(place), Plan::Single(_)) => answer.word(format_args!("{place} part"))?,
+        Sends::Nothing => answer.word("nothing"),
+        Sends::Planned(Some(place), Plan::Full) => answer.word(format_args!("{place} whole")),
+        Sends::Planned(Some(place), Plan::Single(_)) => answer.word(format_args!("{place} part")),
         _ => return Err(CaseFailure::NoCall),
     }
-    set_all(&mut map, made.fields).map_err(|_| CaseFailure::Memory)?;
-    answer.map(&map)
+    set_all(&mut map, made.fields)?;
+    answer.map(&map);
+    Ok(())
 }
 
 // A request of HTTP/1.1 without content, which the server may deny.
@@ -138,7 +142,10 @@ impl Calls for Routing {
             "route_over" => call_route_over(arguments, answer),
             "denied" => call_denied(arguments, answer),
             // `stage REASON`: its stage.
-            "stage" => Ok(answer.word(read_reason(arguments)?.stage())?),
+            "stage" => {
+                answer.word(read_reason(arguments)?.stage());
+                Ok(())
+            }
             _ => Err(CaseFailure::NoCall),
         }
     }

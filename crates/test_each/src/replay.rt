@@ -15,12 +15,15 @@ use test_rows::{Arguments, CaseAnswer, CaseFailure, append_lines};
 /// the header and from this trait.
 pub trait Getters<P>: Drop {
     /// Adds what its getters give, and returns its copy.
-    fn getters(&self, answer: &mut CaseAnswer) -> Result<Self, CaseFailure>;
+    fn getters(&self, answer: &mut CaseAnswer) -> Result<Self, AllocError>;
 }
 
 /// A copy of a header.
-pub fn copy_of<H: Getters<P>, P>(alloc: Global, header: &H) -> Result<H, CaseFailure> {
-    header.getters(&mut CaseAnswer::new(alloc))
+pub fn copy_of<H: Getters<P>, P>(alloc: Global, header: &H) -> Result<H, AllocError> {
+    let mut answer = CaseAnswer::new(alloc);
+    let copy = header.getters(&mut answer)?;
+    answer.checked()?;
+    Ok(copy)
 }
 
 // Whether the answer says of the field with this name whether it is marked sensitive, also if it isn't.
@@ -33,16 +36,19 @@ fn answers_mark(name: &HeaderName) -> bool {
 fn shown<H: Header + Getters<P>, P>(
     alloc: Global,
     header: &H,
-) -> Result<(CaseAnswer, H), CaseFailure> {
+) -> Result<(CaseAnswer, H), AllocError> {
     let mut answer = CaseAnswer::new(alloc);
     let lines = written(alloc, header)?;
-    answer.list(lines.as_slice())?;
+    answer.list(lines.as_slice());
     let copy = header.getters(&mut answer)?;
-    let is_marked = lines.iter().any(|line| line.is_sensitive());
+    let mut is_marked = false;
+    for line in lines.iter() {
+        is_marked |= line.is_sensitive();
+    }
     if answers_mark(&H::name()) {
-        answer.word(is_marked)?;
+        answer.word(is_marked);
     } else if is_marked {
-        answer.word("(sensitive)")?;
+        answer.word("(sensitive)");
     }
     Ok((answer, copy))
 }
@@ -55,7 +61,8 @@ pub fn show<H: Header + Getters<P>, P>(
 ) -> Result<(), CaseFailure> {
     let (of_header, copy) = shown(answer.alloc(), header)?;
     let (of_copy, _again) = shown(answer.alloc(), &copy)?;
-    Ok(add_with_copy(&of_header, &of_copy, answer)?)
+    add_with_copy(&of_header, &of_copy, answer);
+    Ok(())
 }
 
 /// The same of a header that was just made.
@@ -89,18 +96,30 @@ pub fn show_back_result<H: Header + Getters<P> + PartialEq, P, E: Into<CaseFailu
     }
 }
 
+// Whether the text of a header is the line that it writes.
+fn is_printed<H: Header + Display>(alloc: Global, header: &H) -> Result<bool, AllocError> {
+    let text = header.to_string(alloc)?;
+    writes(alloc, header, text.as_str())
+}
+
 /// Adds whether the text of a header is the line that it writes.
-pub fn show_text<H: Header + Display>(
-    header: &H,
+pub fn show_text<H: Header + Display>(header: &H, answer: &mut CaseAnswer) {
+    answer.tried(is_printed(answer.alloc(), header));
+}
+
+/// Adds the lines that encode the header that lines decode to.
+pub fn show_written<H: Header>(
+    arguments: &mut Arguments<'_>,
     answer: &mut CaseAnswer,
 ) -> Result<(), CaseFailure> {
-    let text = header.to_string(answer.alloc())?;
-    say(writes(answer.alloc(), header, text.as_str())?, answer)
+    let header: H = arguments.header_of_rest()?;
+    Ok(add_written(&header, answer)?)
 }
 
 /// Adds a word.
 pub fn say(word: impl Display + Drop, answer: &mut CaseAnswer) -> Result<(), CaseFailure> {
-    Ok(answer.word(word)?)
+    answer.word(word);
+    Ok(())
 }
 
 /// The lines that a header writes, what its getters give, and whether the lines read an equal header.
@@ -115,14 +134,15 @@ pub fn show_back<H: Header + Getters<P> + PartialEq, P>(
         Err(Refused::Invalid(_)) => false,
         Err(Refused::Memory(_)) => return Err(CaseFailure::Memory),
     };
-    Ok(answer.word(is_equal)?)
+    answer.word(is_equal);
+    Ok(())
 }
 
 /// Adds the names of a walk.
 pub fn show_names<I: Iterator<Item = Result<HeaderName, AllocError>> + Drop>(
     walk: I,
     answer: &mut CaseAnswer,
-) -> Result<(), CaseFailure>
+) -> Result<(), AllocError>
     requires can { I.can_next walk }
     requires ends { IsFinite (I.remaining walk) }
 {
@@ -130,7 +150,8 @@ pub fn show_names<I: Iterator<Item = Result<HeaderName, AllocError>> + Drop>(
     for name in walk {
         names.push(name?)?;
     }
-    Ok(answer.list(names.as_slice())?)
+    answer.list(names.as_slice());
+    Ok(())
 }
 
 /// Whether the headers of two lines are equal; and `(copy)` if the copy of the first answers otherwise.
@@ -141,9 +162,9 @@ pub fn eq<H: Header + Getters<P> + PartialEq, P>(
     let first: H = arguments.header()?;
     let second: H = arguments.header()?;
     let is_equal = first == second;
-    answer.word(is_equal)?;
+    answer.word(is_equal);
     if (copy_of(arguments.alloc(), &first)? == second) != is_equal {
-        answer.word("(copy)")?;
+        answer.word("(copy)");
     }
     Ok(())
 }
@@ -161,7 +182,8 @@ pub fn cmp<H: Header + PartialOrd>(
         Some(Ordering::Greater) => "greater",
         None => "(none)",
     };
-    Ok(answer.word(order)?)
+    answer.word(order);
+    Ok(())
 }
 
 // The hash of a value.
@@ -178,7 +200,8 @@ pub fn hash<H: Header + Eq + Hash>(
 ) -> Result<(), CaseFailure> {
     let first: H = arguments.header()?;
     let second: H = arguments.header()?;
-    Ok(answer.word(hash_of(&first) == hash_of(&second))?)
+    answer.word(hash_of(&first) == hash_of(&second));
+    Ok(())
 }
 
 /// The text of the header of a line, as it is printed to the right of 20 columns.
@@ -187,8 +210,8 @@ pub fn padded<H: Header + Display>(
     answer: &mut CaseAnswer,
 ) -> Result<(), CaseFailure> {
     let header: H = arguments.header()?;
-    let text = format!(in arguments.alloc(); "{header:>20}")?;
-    Ok(answer.bytes(text.as_bytes())?)
+    answer.text(format_args!("{header:>20}"));
+    Ok(())
 }
 
 /// How `{:?}` prints the header of lines that are marked sensitive.
@@ -201,8 +224,8 @@ pub fn debug_secret<H: Header + Debug>(
         line.set_sensitive(true);
     }
     let header: H = decode_values(arguments.alloc(), &lines)?;
-    let text = format!(in arguments.alloc(); "{header:?}")?;
-    Ok(answer.bytes(text.as_bytes())?)
+    answer.text(format_args!("{header:?}"));
+    Ok(())
 }
 
 // A map that has the lines under the header's name, and other names before and after it.
@@ -229,11 +252,15 @@ fn typed_try_get<H: Header + Getters<P>, P>(
         return Err(CaseFailure::Memory);
     }
     if is_given != has_header {
-        return Ok(answer.word("(typed_get)")?);
+        answer.word("(typed_get)");
+        return Ok(());
     }
     match tried? {
         Some(header) => show(&header, answer),
-        None => Ok(answer.none()?),
+        None => {
+            answer.none();
+            Ok(())
+        }
     }
 }
 
@@ -248,7 +275,10 @@ fn typed_get<H: Header + Getters<P>, P>(
         return show(&header, answer);
     }
     match map.typed_try_get::<H>(alloc) {
-        Ok(None) | Err(Refused::Invalid(_)) => Ok(answer.none()?),
+        Ok(None) | Err(Refused::Invalid(_)) => {
+            answer.none();
+            Ok(())
+        }
         Ok(Some(_)) | Err(Refused::Memory(_)) => Err(CaseFailure::Memory),
     }
 }
@@ -260,7 +290,7 @@ fn typed_insert<H: Header>(
     answer: &mut CaseAnswer,
 ) -> Result<(), CaseFailure> {
     let alloc = arguments.alloc();
-    let count = usize::try_from(arguments.number()?).map_err(|_| CaseFailure::NoCall)?;
+    let count = usize::try_from(arguments.number()?)?;
     let mut first = arguments.lines()?;
     if count > first.len() {
         return Err(CaseFailure::NoCall);
@@ -271,7 +301,8 @@ fn typed_insert<H: Header>(
     append_lines(&mut map, &H::name(), others)?;
     map.typed_insert(alloc, header)?;
     let kept: Vec<&HeaderValue> = map.get_all(H::name()).iter().collect(alloc)?;
-    Ok(answer.list(kept.as_slice())?)
+    answer.list(kept.as_slice());
+    Ok(())
 }
 
 /// Adds the answer of a call of a header. No hint of an iterator is read, so that of a wrong one is
@@ -282,9 +313,12 @@ pub fn call<H: Header + Getters<P>, P>(
     answer: &mut CaseAnswer,
 ) -> Result<(), CaseFailure> {
     match call {
-        "name" => Ok(answer.bytes(H::name().as_bytes())?),
+        "name" => {
+            answer.bytes(H::name().as_bytes());
+            Ok(())
+        }
         "decode" | "decode_one_hint" => show(&arguments.header_of_rest::<H>()?, answer),
-        "writes" => Ok(add_written(&arguments.header_of_rest::<H>()?, answer)?),
+        "writes" => show_written::<H>(arguments, answer),
         "secret" => secret::<H, P>(arguments, answer),
         "everywhere" => everywhere::<H, P>(arguments, answer),
         "harmless" => harmless::<H>(arguments, answer),

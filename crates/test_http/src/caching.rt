@@ -1,12 +1,13 @@
 //! Calls of `Cache-Control`.
 use crate::Http;
 use headers::{CacheControl, equal_by_encoding};
+use std::alloc::AllocError;
 use std::time::Duration;
 use test_each::{Getters, say, show_back_result};
 use test_rows::{Arguments, CaseAnswer, CaseFailure};
 
 impl Getters<Http> for CacheControl {
-    fn getters(&self, answer: &mut CaseAnswer) -> Result<CacheControl, CaseFailure> {
+    fn getters(&self, answer: &mut CaseAnswer) -> Result<CacheControl, AllocError> {
         for flag in [
             self.no_cache(),
             self.no_store(),
@@ -18,7 +19,7 @@ impl Getters<Http> for CacheControl {
             self.must_revalidate(),
             self.must_understand(),
         ] {
-            answer.word(flag)?;
+            answer.word(flag);
         }
         for number in [
             self.max_age(),
@@ -26,9 +27,12 @@ impl Getters<Http> for CacheControl {
             self.min_fresh(),
             self.s_max_age(),
         ] {
-            answer.option(number.map(|number| number.as_secs()))?;
+            match number {
+                Some(number) => answer.word(number.as_secs()),
+                None => answer.none(),
+            }
         }
-        Ok(self.clone()?)
+        self.clone()
     }
 }
 
@@ -57,7 +61,7 @@ fn with_setters(arguments: &mut Arguments<'_>) -> Result<CacheControl, CaseFailu
     let mut value = CacheControl::new();
     for word in arguments.rest().split_whitespace() {
         let (setter, number) = word.split_once('=').unwrap_or((word, "0"));
-        let seconds = number.parse().map_err(|_| CaseFailure::NoCall)?;
+        let seconds = number.parse()?;
         value = with_setter(value, setter, seconds).ok_or(CaseFailure::NoCall)?;
     }
     Ok(value)

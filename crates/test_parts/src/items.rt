@@ -9,19 +9,19 @@ use std::convert::AsSlice;
 use test_rows::{Arguments, CaseAnswer, CaseFailure};
 
 /// Adds byte strings, or `(none)` if there are none.
-pub fn show_each<T: AsSlice<u8>>(items: &[T], answer: &mut CaseAnswer) -> Result<(), CaseFailure> {
+pub fn show_each<T: AsSlice<u8>>(items: &[T], answer: &mut CaseAnswer) {
     if items.is_empty() {
-        return Ok(answer.none()?);
+        answer.none();
     }
     for item in items {
-        answer.bytes(item.as_slice())?;
+        answer.bytes(item.as_slice());
     }
-    Ok(())
 }
 
 fn show_items<S: Separator>(list: &FlatCsv<S>, answer: &mut CaseAnswer) -> Result<(), CaseFailure> {
     let items: Vec<&str> = list.iter().collect(answer.alloc())?;
-    show_each(items.as_slice(), answer)
+    show_each(items.as_slice(), answer);
+    Ok(())
 }
 
 // The list that lines are merged to.
@@ -46,9 +46,10 @@ fn show_copy<S: Separator>(
     let list: FlatCsv<S> = merged(arguments)?;
     let copy = list.clone(arguments.alloc())?;
     if copy != list {
-        answer.word("(copy)")?;
+        answer.word("(copy)");
     }
-    Ok(answer.bytes(copy.to_value(arguments.alloc())?.as_bytes())?)
+    answer.bytes(copy.to_value(arguments.alloc())?.as_bytes());
+    Ok(())
 }
 
 fn are_equal<S: Separator>(
@@ -60,7 +61,8 @@ fn are_equal<S: Separator>(
         return Err(CaseFailure::NoCall);
     };
     let one: FlatCsv<S> = FlatCsv::from_value(one.clone()?);
-    Ok(answer.word(one == FlatCsv::from_value(other.clone()?))?)
+    answer.word(one == FlatCsv::from_value(other.clone()?));
+    Ok(())
 }
 
 /// Adds the answer of a call of the lists with a separator.
@@ -79,7 +81,8 @@ pub fn call_list<S: Separator>(
         "from_names" => {
             let names = arguments.names()?;
             let list: FlatCsv<S> = FlatCsv::from_names(arguments.alloc(), names)?;
-            Ok(answer.bytes(list.as_bytes())?)
+            answer.bytes(list.as_bytes());
+            Ok(())
         }
         "copy" => show_copy::<S>(arguments, answer),
         "eq" => are_equal::<S>(arguments, answer),
@@ -88,23 +91,22 @@ pub fn call_list<S: Separator>(
 }
 
 // A text has at most as many marks as bytes.
-fn show_marks(text: &[u8], answer: &mut CaseAnswer) -> Result<(), CaseFailure> {
+fn show_marks(text: &[u8], answer: &mut CaseAnswer) {
     let mut scan = Scan::new(text, b',');
     let mut is_found = false;
     for _ in text {
         if let Some(mark) = scan.next_mark() {
             is_found = true;
             let kind = if mark.quote { "quote" } else { "comma" };
-            answer.word(format_args!("{kind}:{}", mark.place))?;
+            answer.word(format_args!("{kind}:{}", mark.place));
         }
     }
     if !is_found {
-        answer.none()?;
+        answer.none();
     }
     if scan.next_mark().is_some() {
-        answer.word("(more)")?;
+        answer.word("(more)");
     }
-    Ok(())
 }
 
 fn quotes_in(text: &[u8]) -> usize
@@ -138,7 +140,7 @@ fn are_cuts(text: &[u8], start: usize, places: &[usize]) -> bool
 fn places(arguments: &mut Arguments<'_>) -> Result<Vec<usize>, CaseFailure> {
     let mut places = Vec::new(arguments.alloc());
     for word in arguments.rest().split_whitespace() {
-        places.push(word.parse().map_err(|_| CaseFailure::NoCall)?)?;
+        places.push(word.parse()?)?;
     }
     Ok(places)
 }
@@ -154,8 +156,9 @@ fn show_pieces(arguments: &mut Arguments<'_>, answer: &mut CaseAnswer) -> Result
     }
     let pieces = list.cut_at(alloc, places.as_slice())?;
     let merged: FlatCsv<Comma> = FlatCsv::from_lines(alloc, &mut pieces.iter())?;
-    answer.bytes(merged.as_bytes())?;
-    show_each(pieces.as_slice(), answer)
+    answer.bytes(merged.as_bytes());
+    show_each(pieces.as_slice(), answer);
+    Ok(())
 }
 
 /// Adds the answer of a call of the lists with commas: `marks TEXT` and `cut_at TEXT PLACE..`, or a
@@ -166,7 +169,10 @@ pub fn call_comma(
     answer: &mut CaseAnswer,
 ) -> Result<(), CaseFailure> {
     match call {
-        "marks" => show_marks(&arguments.bytes()?, answer),
+        "marks" => {
+            show_marks(&arguments.bytes()?, answer);
+            Ok(())
+        }
         "cut_at" => show_pieces(arguments, answer),
         _ => call_list::<Comma>(call, arguments, answer),
     }

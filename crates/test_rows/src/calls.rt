@@ -37,7 +37,9 @@ pub fn answer_of<C: Calls>(alloc: Global, call: &str) -> Result<CaseAnswer, Case
     let (name, arguments) = call.split_once(' ').unwrap_or((call, ""));
     let mut arguments = Arguments::new(alloc, arguments);
     let mut answer = CaseAnswer::new(alloc);
-    C::make(name, &mut arguments, &mut answer)?;
+    let made = C::make(name, &mut arguments, &mut answer);
+    answer.checked()?;
+    made?;
     if arguments.is_empty() {
         Ok(answer)
     } else {
