@@ -6,6 +6,7 @@ from typing import (
     TYPE_CHECKING,
     Any,
     Callable,
+    Dict,
     Iterable,
     Iterator,
     List,
@@ -53,6 +54,7 @@ Parsed = TypeVar("Parsed")
 
 #: Names and values of fields.
 Fields = List[Tuple[str, str]]
+_Named = Dict[str, Tuple[str, ...]]
 
 
 def _parts() -> Any:
@@ -93,7 +95,7 @@ def canonical_section(section: "HeadersLike") -> str:
     return _library.to_str(_library.canonical_text(Headers(section).section))
 
 
-_section = _library.calls.section
+_section, _pair, _parse = _library.calls.section, _library.calls.pair, _library.calls.pairs
 # A line of a section as it is made of a name and a value.
 _FIELD = re.compile(rb"[^:\r\n]+: [\t -~\x80-\xff]*\n")
 
@@ -109,13 +111,9 @@ def _field_of(name: Text, value: Text) -> bytes:
     return field
 
 
-def _parse(section: bytes) -> Iterator[Tuple[str, str]]:
-    for line in section.split(b"\n"):
-        line = line[:-1] if line.endswith(b"\r") else line
-        if not line:
-            return
-        name, _, value = line.partition(b":")
-        yield _library.to_str(name).lower(), _library.to_str(value.strip(b" \t"))
+def _pair_of(name: Text, value: Text) -> Tuple[str, str]:
+    """The name, in lower case, and the value of a field."""
+    return _pair(name, value) or _parse(_field_of(name, value))[0]
 
 
 def _pairs_of(fields: Any) -> Iterable[Tuple[Text, Text]]:
@@ -154,75 +152,118 @@ class Headers(MutableMapping[str, str]):
     [('vary', '*'), ('age', '7')]
     """
 
-    #: The header section as bytes: a line for each field.
-    section: bytes
+    # The section as it came, until a field changes; what it is parsed to; the lines of each name; and whether each
+    # pair is known to be a field.
+    _text: Optional[bytes]
+    _pairs: Optional[Fields] = None
+    _by_name: Optional[_Named] = None
+    _is_checked = True
 
     def __init__(self, fields: "HeadersLike" = ()) -> None:
-        self._pairs: Optional[Tuple[bytes, List[Tuple[str, str]]]] = None
-        if isinstance(fields, Headers):
-            self.section = fields.section
-        elif isinstance(fields, (str, bytes, bytearray, memoryview)):
-            self.section = _library.to_bytes(fields, "the header section")
-        else:
-            self.section = b"".join([_field_of(name, value) for name, value in _pairs_of(fields)])
+        text = _section(fields)
+        if text is None:
+            if isinstance(fields, Headers):
+                text, self._is_checked = fields.section, fields._is_checked
+            elif isinstance(fields, (str, bytes, bytearray, memoryview)):
+                text, self._is_checked = _library.to_bytes(fields, "the header section"), False
+            else:
+                text = b"".join([_field_of(name, value) for name, value in _pairs_of(fields)])
+        self._text = text
+
+    @property
+    def section(self) -> bytes:
+        """The header section as bytes: a line for each field."""
+        text = self._text
+        if text is None:
+            text = self._text = b"".join([_field_of(*it) for it in self._parsed()])
+        return text
 
     def __repr__(self) -> str:
         shown = [(name, "..." if name in SECRETS else value) for name, value in self._parsed()]
         return f"{type(self).__name__}({shown!r})"
 
     def __eq__(self, other: object) -> bool:
-        return isinstance(other, Headers) and self.pairs() == other.pairs()
+        return isinstance(other, Headers) and self._parsed() == other._parsed()
 
     def __reduce__(self) -> Tuple[object, ...]:
         return type(self), (self.section,)
 
     def __iter__(self) -> Iterator[str]:
         """The names, in lower case, each once."""
-        return iter(dict.fromkeys(name for name, _ in self._parsed()))
+        return iter(list(self._named()))
 
     def __len__(self) -> int:
-        return len({name for name, _ in self._parsed()})
+        return len(self._named())
 
     def __contains__(self, name: object) -> bool:
-        return isinstance(name, str) and bool(self.lines(name))
+        return isinstance(name, str) and name.lower() in self._named()
 
     def __getitem__(self, name: str) -> str:
-        lines = self.lines(name)
-        if not lines:
+        lines = (self._by_name or self._named()).get(name.lower())
+        if lines is None:
             raise KeyError(name)
-        return ", ".join(lines)
+        return lines[0] if len(lines) == 1 else ", ".join(lines)
 
     def __setitem__(self, name: str, value: str) -> None:
         """Puts a single field line where the first of that name is, or at the end."""
-        field, line = name.lower(), _field_of(name, value)
-        others, place = [], None
-        for other, given in self._parsed():
-            if other != field:
-                others.append(_field_of(other, given))
-            elif place is None:
-                place = len(others)
-        others.insert(len(others) if place is None else place, line)
-        self._change(b"".join(others))
+        field = _pair_of(name, value)
+        pairs, named = self._changing(field[0])
+        lines = named.get(field[0])
+        if lines is None:
+            pairs.append(field)
+        else:
+            for place, (other, _) in enumerate(pairs):
+                if other == field[0]:
+                    break
+            pairs[place] = field
+            if len(lines) > 1:
+                pairs[place + 1 :] = [it for it in pairs[place + 1 :] if it[0] != field[0]]
+        named[field[0]] = field[1:]
+        self._text = None
 
     def __delitem__(self, name: str) -> None:
         if name not in self:
             raise KeyError(name)
         field = name.lower()
-        self._change(b"".join(_field_of(other, value) for other, value in self._parsed() if other != field))
+        pairs, named = self._changing(field)
+        pairs[:] = [it for it in pairs if it[0] != field]
+        del named[field]
+        self._text = None
 
     def add(self, name: str, value: str) -> None:
         """Appends a field line."""
-        line = _field_of(name, value)
-        self._change(b"".join(_field_of(*it) for it in self._parsed()) + line)
+        field = _pair_of(name, value)
+        pairs, named = self._changing()
+        pairs.append(field)
+        named[field[0]] = (*named.get(field[0], ()), field[1])
+        self._text = None
 
-    def _change(self, section: bytes) -> None:
-        self.section = section
+    def _changing(self, replaced: str = "") -> Tuple[Fields, _Named]:
+        """The names and values, of which others than that of a name stay."""
+        pairs, named = self._parsed(), self._named()
+        if not self._is_checked:
+            for it in pairs:
+                if it[0] != replaced:
+                    _field_of(*it)
+            self._is_checked = True
+        return pairs, named
 
-    def _parsed(self) -> List[Tuple[str, str]]:
-        section, found = self.section, self._pairs
-        if found is None or found[0] is not section:
-            found = self._pairs = section, list(_parse(section))
-        return found[1]
+    def _parsed(self) -> Fields:
+        pairs = self._pairs
+        if pairs is None:
+            assert self._text is not None, "there is a text, or what it is parsed to"
+            pairs = self._pairs = _parse(self._text)
+        return pairs
+
+    def _named(self) -> _Named:
+        """The lines of each name."""
+        found = self._by_name
+        if found is None:
+            found = {}
+            for name, value in self._parsed():
+                found[name] = (*found[name], value) if name in found else (value,)
+            self._by_name = found
+        return found
 
     def pairs(self) -> Fields:
         """The names, in lower case, and values of the field lines, in order."""
@@ -234,8 +275,7 @@ class Headers(MutableMapping[str, str]):
 
     def lines(self, name: str) -> Sequence[str]:
         """The field lines of a name, without the white space at their ends."""
-        field = name.lower()
-        return tuple(value for other, value in self._parsed() if other == field)
+        return (self._by_name or self._named()).get(name.lower(), ())
 
     def canonical(self, name: str) -> Optional[List[str]]:
         """The canonical field lines of a name, or `None` if it has none: see `canonical_field`."""
@@ -442,7 +482,7 @@ class Section(Headers):
         if status:
             _library.check(status, lambda: _library.wrong_section("the header section", self.section))
 
-    def _change(self, section: bytes) -> None:
+    def _changing(self, replaced: str = "") -> Tuple[Fields, _Named]:
         raise TypeError("a Section doesn't change, as it is parsed once: change Headers(section)")
 
     def canonical(self, name: str) -> Optional[List[str]]:

@@ -5,9 +5,10 @@ Texts are `str` with a character for each byte (ISO 8859-1), as in WSGI and `htt
 
 import re
 from base64 import b64encode
-from dataclasses import dataclass, field, fields
+from dataclasses import dataclass, field
 from datetime import datetime, timedelta, timezone
 from enum import Enum
+from itertools import compress
 from typing import Any, Iterator, List, Optional, Tuple, Type, TypeVar
 
 from . import _library
@@ -15,7 +16,15 @@ from ._library import Text, Time
 from .errors import HeaderError, InvalidField
 
 # (a name of this module is found in half the time)
-_read_etag = _library.calls.etag
+_read_cache_control = _library.calls.cache_control_as
+_read_content_range = _library.calls.content_range_as
+_read_cookie = _library.calls.cookie_as
+_read_credentials = _library.calls.credentials_as
+_read_etag = _library.calls.etag_as
+_read_media_type = _library.calls.media_type_as
+_read_ranges = _library.calls.ranges_as
+
+_NO_MEMORY = int(_library.Status.NO_MEMORY)
 
 __all__ = [
     "ByteRange",
@@ -148,21 +157,19 @@ class ETag:
     weak: bool = False
 
     def __post_init__(self) -> None:
-        _library.check_types(self, opaque=str, weak=bool)
-        lines = (str(self),)
-        if '"' in self.opaque:
-            raise _library.rejected("etag", _library.to_lines("etag", lines))
-        status, _ = _library.calls.weak_eq(lines, lines)
-        if status:
-            raise _library.failed(status, "etag", lines)
+        if not isinstance(self.opaque, str) or not isinstance(self.weak, bool):
+            _library.check_types(self, opaque=str, weak=bool)
+        found = _read_etag(ETag, str(self), ())
+        if isinstance(found, int):
+            raise _library.failed(found, "etag", (str(self),))
 
     @classmethod
     def parse(cls, line: Text, *more: Text) -> "ETag":
         """The entity tag that the only field line of `ETag` is."""
-        found = _read_etag(cls, (line, *more) if more else line)
-        if isinstance(found, ETag):
-            return found
-        raise _library.failed(found, "etag", (line, *more))
+        found = _read_etag(cls, line, more)
+        if isinstance(found, int):
+            raise _library.failed(found, "etag", (line, *more))
+        return found
 
     def __str__(self) -> str:
         return f'W/"{self.opaque}"' if self.weak else f'"{self.opaque}"'
@@ -207,7 +214,7 @@ class MediaType:
     @classmethod
     def parse(cls, line: Text, *more: Text) -> "MediaType":
         """The media type that the first field line of `Content-Type` is."""
-        found = _library.calls.media_type_as(cls, (line, *more))
+        found = _read_media_type(cls, line, more)
         if isinstance(found, int):
             raise _library.failed(found, "content-type", (line, *more))
         return found
@@ -248,6 +255,19 @@ _FLAGS = (
     "private",
     "immutable",
     "proxy_revalidate",
+)
+# In the order of a canonical field line.
+_SHOWN_FLAGS = (
+    "no-cache",
+    "no-store",
+    "no-transform",
+    "only-if-cached",
+    "must-revalidate",
+    "public",
+    "private",
+    "immutable",
+    "must-understand",
+    "proxy-revalidate",
 )
 
 
@@ -302,7 +322,16 @@ class CacheControl:
     @classmethod
     def parse(cls, line: Text, *more: Text) -> "CacheControl":
         """The directives of all field lines."""
-        lines = (line, *more)
+        plain = _read_cache_control(cls, line, more)
+        if plain is None:
+            return cls._parse_all((line, *more))
+        if isinstance(plain, int):
+            raise _library.failed(plain, "cache-control", (line, *more))
+        return plain
+
+    @classmethod
+    def _parse_all(cls, lines: Tuple[Text, ...]) -> "CacheControl":
+        """The directives, of which some are those of several calls."""
         status, found = _library.calls.cache_control(lines)
         if status:
             raise _library.failed(status, "cache-control", lines)
@@ -315,14 +344,36 @@ class CacheControl:
         return _made(cls, **members, **dict(zip(_STALE, stale)), **dict(zip(_NAMES, names)))
 
     def __str__(self) -> str:
-        known = {it.name: getattr(self, it.name) for it in fields(self)}
-        names = [f'{name[:-7].replace("_", "-")}="{", ".join(known.pop(name))}"' for name in _NAMES if known[name]]
-        stale = [f'{name.replace("_", "-")}={known.pop(name)}' for name in _STALE if known[name] is not None]
-        words = [name.replace("_", "-") for name, value in known.items() if value is True]
-        words += [f'{name.replace("_", "-")}={known[name]}' for name in _SECONDS if known[name] is not None]
-        # (the typed header has none of the others)
-        line = _only("cache-control", (", ".join(words),))
-        return ", ".join(([line] if line else []) + stale + names)
+        flags = (
+            self.no_cache,
+            self.no_store,
+            self.no_transform,
+            self.only_if_cached,
+            self.must_revalidate,
+            self.public,
+            self.private,
+            self.immutable,
+            self.must_understand,
+            self.proxy_revalidate,
+        )
+        shown = list(compress(_SHOWN_FLAGS, flags))
+        if self.max_age is not None:
+            shown.append(f"max-age={self.max_age}")
+        if self.max_stale is not None:
+            shown.append(f"max-stale={self.max_stale}")
+        if self.min_fresh is not None:
+            shown.append(f"min-fresh={self.min_fresh}")
+        if self.s_maxage is not None:
+            shown.append(f"s-maxage={self.s_maxage}")
+        if self.stale_while_revalidate is not None:
+            shown.append(f"stale-while-revalidate={self.stale_while_revalidate}")
+        if self.stale_if_error is not None:
+            shown.append(f"stale-if-error={self.stale_if_error}")
+        if self.no_cache_fields:
+            shown.append(f'no-cache="{", ".join(self.no_cache_fields)}"')
+        if self.private_fields:
+            shown.append(f'private="{", ".join(self.private_fields)}"')
+        return ", ".join(shown)
 
 
 def _arguments(lines: Tuple[Text, ...], name: bytes) -> Tuple[str, ...]:
@@ -370,12 +421,12 @@ class Range:
 
     def __post_init__(self) -> None:
         _library.check_types(self, text=str)
-        self._positions((self.text,), 0)
+        _ranges(self.text, (), 0)
 
     @classmethod
     def parse(cls, line: Text, *more: Text) -> "Range":
         """The ranges of the first field line."""
-        cls._positions((line, *more), 0)
+        _ranges(line, more, 0)
         return _made(cls, text=line if isinstance(line, str) else _library.to_str(bytes(line)))
 
     @classmethod
@@ -395,17 +446,14 @@ class Range:
 
     def satisfiable(self, length: int) -> List[ByteRange]:
         """The ranges that a representation of so many bytes can satisfy, in order (RFC 9110, section 14.1.2)."""
-        found = _library.calls.ranges_as(ByteRange, (self.text,), _library.to_number(length, "length"))
-        if isinstance(found, int):
-            raise _library.failed(found, "range", (self.text,))
-        return found
+        return _ranges(self.text, (), _library.to_number(length, "length"))
 
-    @staticmethod
-    def _positions(lines: Tuple[Text, ...], length: int) -> List[Tuple[int, int]]:
-        status, found = _library.calls.ranges(lines, length)
-        if status:
-            raise _library.failed(status, "range", lines)
-        return found
+
+def _ranges(line: Text, more: Tuple[Text, ...], length: int) -> List[ByteRange]:
+    found = _read_ranges(ByteRange, line, more, length)
+    if isinstance(found, int):
+        raise _library.failed(found, "range", (line, *more))
+    return found
 
 
 @dataclass(frozen=True)
@@ -433,7 +481,7 @@ class ContentRange:
     @classmethod
     def parse(cls, line: Text, *more: Text) -> "ContentRange":
         """The range of the first field line."""
-        found = _library.calls.content_range_as(cls, ByteRange, (line, *more))
+        found = _read_content_range((cls, ByteRange), line, more)
         if isinstance(found, int):
             raise _library.failed(found, "content-range", (line, *more))
         return found
@@ -557,7 +605,9 @@ class Credentials:
     token: Optional[str] = field(default=None, repr=False)
 
     def __post_init__(self) -> None:
-        _library.check_types(self, **dict.fromkeys(("user", "password", "token"), (str, type(None))))
+        for given in (self.user, self.password, self.token):
+            if given is not None and not isinstance(given, str):
+                _library.check_types(self, **dict.fromkeys(("user", "password", "token"), (str, type(None))))
         if (self.user is None) != (self.password is None) or (self.user is None) == (self.token is None):
             raise HeaderError("credentials: expected either a user name and a password, or a token")
         if Credentials.parse(str(self)) != self:
@@ -566,18 +616,12 @@ class Credentials:
     @classmethod
     def parse(cls, line: Text, *more: Text) -> "Credentials":
         """The credentials of the first field line of `Authorization` or of `Proxy-Authorization`."""
-        lines = (line, *more)
-        status, length, found = _library.calls.basic(lines)
-        if not status:
-            user, password = found[:length].decode("utf-8"), found[length:].decode("utf-8")
-            return _made(cls, user=user, password=password, token=None)
-        if status != _library.Status.NO_MEMORY:
-            status, found = _library.calls.bearer(lines)
-        if not status:
-            return _made(cls, user=None, password=None, token=_library.to_str(found))
-        if status == _library.Status.NO_MEMORY:
+        found = _read_credentials(cls, line, more)
+        if not isinstance(found, int):
+            return found
+        if found == _NO_MEMORY:
             raise MemoryError
-        _library.to_lines("authorization", lines)
+        _library.to_lines("authorization", (line, *more))
         # (the message doesn't show the lines, which may hold a secret)
         reason = "expected credentials of Basic or Bearer (RFC 7617, section 2; RFC 6750, section 2.1)"
         raise InvalidField("authorization", reason)
@@ -614,11 +658,10 @@ class Cookie:
     @classmethod
     def parse(cls, line: Text, *more: Text) -> "Cookie":
         """The cookies of all field lines. What has no `=` is skipped."""
-        status, found = _library.calls.cookies((line, *more))
-        if status:
-            raise _library.failed(status, "cookie", (line, *more))
-        pairs = (it.partition("=") for it in _library.to_str(found).split("\n")[:-1])
-        return _made(cls, pairs=tuple((name, value) for name, _, value in pairs))
+        found = _read_cookie(cls, line, more)
+        if isinstance(found, int):
+            raise _library.failed(found, "cookie", (line, *more))
+        return found
 
     def get(self, name: str) -> Optional[str]:
         """The value of the first cookie with this name."""
