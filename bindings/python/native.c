@@ -597,48 +597,98 @@ static PyObject *make(const struct call *call, PyObject *arguments) {
     return found;
 }
 
-/*
- * Calls over field lines whose values are made here. They take a type, the first line, a tuple of the others, and what
- * else the call takes, and give a value of that type, or the status if it isn't DONE.
- */
+/* Calls over field lines whose values are made here: a value of a type, or the status if it isn't DONE. */
 
 typedef PyObject *value_maker(PyObject *type, union slot *at);
 
-static PyObject *make_value(const struct call *call, PyObject *arguments, value_maker *value) {
+/* What a value is made of: its type, a field line, a tuple of those behind it, and what else the call takes. */
+struct given {
+    PyObject *type, *line, *more, *other;
+};
+
+static PyObject *make_value(const struct call *call, const struct given *given, value_maker *value, uint8_t *status) {
     union slot at[MOST_SLOTS];
     PyObject *found = NULL;
-    Py_ssize_t next = 3;
-    uint8_t status = TYPED_HEADERS_DONE;
     size_t cleared;
+    *status = TYPED_HEADERS_DONE;
     bool is_read = clear_slots(call, at, &cleared);
     for (size_t place = 0; is_read && place < call->count; place++) {
         const struct parameter *it = &call->parameters[place];
-        const bool is_lines = it->role == LINES;
-        if (is_lines || is_taken(it->role)) {
-            PyObject *given = PyTuple_GetItem(arguments, is_lines ? 2 : next++);
-            is_read = given && (is_lines ? read_line_and_more(PyTuple_GetItem(arguments, 1), given, &at[place].lines)
-                                         : read_slot(given, it, &at[place], &status));
-            status = is_read && is_lines && at[place].lines.is_rejected ? TYPED_HEADERS_REFUSED : status;
+        if (it->role == LINES) {
+            is_read = read_line_and_more(given->line, given->more, &at[place].lines);
+            *status = is_read && at[place].lines.is_rejected ? TYPED_HEADERS_REFUSED : *status;
+        } else if (is_taken(it->role)) {
+            is_read = given->other && read_slot(given->other, it, &at[place], status);
         }
     }
-    if (is_read && (status != TYPED_HEADERS_DONE || pass(call, at, &status))) {
-        found = status == TYPED_HEADERS_DONE ? value(PyTuple_GetItem(arguments, 0), at) : PyLong_FromLong(status);
+    if (is_read && (*status != TYPED_HEADERS_DONE || pass(call, at, status)) && *status == TYPED_HEADERS_DONE) {
+        found = value(given->type, at);
     }
     free_slots(call, at, cleared);
     return found;
 }
 
+/* Makes a value of a type, a line, a tuple of others, and what else the call takes. */
+static PyObject *value_or_status(const struct call *call, PyObject *arguments, value_maker *value) {
+    struct given given;
+    uint8_t status;
+    given.type = PyTuple_GetItem(arguments, 0), given.line = PyTuple_GetItem(arguments, 1);
+    given.more = PyTuple_GetItem(arguments, 2);
+    given.other = PyTuple_Size(arguments) > 3 ? PyTuple_GetItem(arguments, 3) : NULL;
+    if (!given.type || !given.line || !given.more) {
+        return NULL;
+    }
+    PyObject *found = make_value(call, &given, value, &status);
+    return found || PyErr_Occurred() ? found : PyLong_FromLong(status);
+}
+
+/* Reads the arguments of `parse`: a type, and at least one line. */
+static bool read_parsed(PyObject *arguments, struct given *given) {
+    const Py_ssize_t count = PyTuple_Size(arguments);
+    if (count < 2) {
+        PyErr_SetString(PyExc_TypeError, "parse() missing 1 required positional argument: 'line'");
+        return false;
+    }
+    given->type = PyTuple_GetItem(arguments, 0), given->line = PyTuple_GetItem(arguments, 1), given->other = NULL;
+    given->more = PyTuple_GetSlice(arguments, 2, count);
+    return given->more != NULL;
+}
+
+/* What is found, or else what the type says of the status and the lines. */
+static PyObject *found_or_else(PyObject *found, PyObject *arguments, const struct given *given, uint8_t status) {
+    Py_DECREF(given->more);
+    if (found || PyErr_Occurred()) {
+        return found;
+    }
+    PyObject *lines = PyTuple_GetSlice(arguments, 1, PyTuple_Size(arguments));
+    found = lines ? PyObject_CallMethod(given->type, "_otherwise", "iO", (int)status, lines) : NULL;
+    Py_XDECREF(lines);
+    return found;
+}
+
+/* The class method `parse` of a type. */
+static PyObject *parse(const struct call *call, PyObject *arguments, value_maker *value) {
+    struct given given;
+    uint8_t status;
+    if (!read_parsed(arguments, &given)) {
+        return NULL;
+    }
+    PyObject *found = make_value(call, &given, value, &status);
+    return found_or_else(found, arguments, &given, status);
+}
+
 /* Values whose type is a frozen dataclass. The names are those of its members. */
 
-enum member_name { OPAQUE, WEAK, FIRST, LAST, RANGE, LENGTH, TYPE, SUBTYPE, PARAMETERS, PAIRS, USER, PASSWORD, TOKEN,
+enum member_name { OPAQUE, WEAK, TAGS, FIRST, LAST, RANGE, LENGTH, TYPE, SUBTYPE, PARAMETERS, PAIRS, USER, PASSWORD, TOKEN,
                    MAX_AGE, MAX_STALE, MIN_FRESH, S_MAXAGE, NO_CACHE, NO_STORE, NO_TRANSFORM, ONLY_IF_CACHED,
                    MUST_REVALIDATE, MUST_UNDERSTAND, PUBLIC, PRIVATE, IMMUTABLE, PROXY_REVALIDATE, MEMBERS };
 
 static const char *const MEMBER_TEXTS[MEMBERS] = {
-    "opaque",     "weak",           "first",           "last",            "range",   "length",  "type",
-    "subtype",    "parameters",     "pairs",           "user",            "password", "token",  "max_age",
-    "max_stale",  "min_fresh",      "s_maxage",        "no_cache",        "no_store", "no_transform",
-    "only_if_cached", "must_revalidate", "must_understand", "public", "private", "immutable", "proxy_revalidate"};
+    "opaque",   "weak",     "tags",         "first",          "last",            "range",           "length",
+    "type",     "subtype",  "parameters",   "pairs",          "user",            "password",        "token",
+    "max_age",  "max_stale", "min_fresh",   "s_maxage",       "no_cache",        "no_store",        "no_transform",
+    "only_if_cached",       "must_revalidate", "must_understand", "public",      "private",         "immutable",
+    "proxy_revalidate"};
 static PyObject *member_names[MEMBERS];
 
 static bool make_member_names(void) {
@@ -692,6 +742,11 @@ static PyObject *tuple_of(PyObject *list) {
     return tuple;
 }
 
+/* What a call wrote into a room of bytes. */
+static struct text written_in(const union slot *slot) {
+    return (struct text){slot->room.at, (Py_ssize_t)slot->room.written};
+}
+
 /* The parts of a line that has the form of an entity tag. */
 struct tag_parts {
     int is_weak;
@@ -729,22 +784,52 @@ static PyObject *etag_value(PyObject *type, const struct tag_parts *parts) {
     return value;
 }
 
-static PyObject *etag_as(PyObject *module, PyObject *arguments) {
+static PyObject *parse_etag(PyObject *module, PyObject *arguments) {
     struct lines lines;
     struct tag_parts parts;
-    PyObject *type, *line, *more, *found = NULL;
+    struct given given;
+    PyObject *found = NULL;
     uint8_t status = TYPED_HEADERS_REFUSED;
     (void)module;
-    clear_lines(&lines);
-    type = PyTuple_GetItem(arguments, 0), line = PyTuple_GetItem(arguments, 1), more = PyTuple_GetItem(arguments, 2);
-    if (type && line && more && read_line_and_more(line, more, &lines)) {
-        if (!lines.is_rejected && PyTuple_Size(more) == 0 && split_tag(lines.text, &parts)) {
+    if (!read_parsed(arguments, &given)) {
+        return NULL;
+    }
+    if (read_line_and_more(given.line, given.more, &lines)) {
+        if (!lines.is_rejected && PyTuple_Size(given.more) == 0 && split_tag(lines.text, &parts)) {
             status = tag_status(lines.text, &parts);
         }
-        found = status == TYPED_HEADERS_DONE ? etag_value(type, &parts) : PyLong_FromLong(status);
+        found = status == TYPED_HEADERS_DONE ? etag_value(given.type, &parts) : NULL;
     }
     free_lines(&lines);
-    return found;
+    return found_or_else(found, arguments, &given, status);
+}
+
+/* The entity tags of the members of a list. No value if there is no member, or one is no tag. */
+static PyObject *etags_value(PyObject *type, union slot *at) {
+    const struct text text = written_in(&at[1]);
+    const uint8_t *next = text.bytes, *end = next + text.length;
+    PyObject *kind = next < end ? PyObject_GetAttrString(type, "_TAG") : NULL, *list = kind ? PyList_New(0) : NULL;
+    while (list && next < end) {
+        const uint8_t *behind = memchr(next, '\n', (size_t)(end - next));
+        const struct text line = {next, behind - next};
+        struct tag_parts parts;
+        const bool is_tag = split_tag(line, &parts) && tag_status(line, &parts) == TYPED_HEADERS_DONE;
+        append(&list, is_tag ? etag_value(kind, &parts) : NULL);
+        next = behind + 1;
+    }
+    PyObject *value = list ? new_value(type) : NULL;
+    if (value) {
+        set_member(&value, TAGS, tuple_of(list));
+    } else {
+        Py_XDECREF(list);
+    }
+    Py_XDECREF(kind);
+    return value;
+}
+
+static PyObject *parse_etags(PyObject *module, PyObject *arguments) {
+    (void)module;
+    return parse(&members_call, arguments, etags_value);
 }
 
 /* Where a parameter's value ends: at a semicolon that isn't between quotes. */
@@ -773,11 +858,6 @@ static PyObject *parameters_of(const char *at, const char *end) {
     return tuple_of(list);
 }
 
-/* What a call wrote into a room of bytes. */
-static struct text written_in(const union slot *slot) {
-    return (struct text){slot->room.at, (Py_ssize_t)slot->room.written};
-}
-
 static PyObject *media_type_value(PyObject *type, union slot *at) {
     const struct text text = written_in(&at[1]);
     const char *begin = (const char *)text.bytes, *end = begin + text.length;
@@ -789,9 +869,9 @@ static PyObject *media_type_value(PyObject *type, union slot *at) {
     return value;
 }
 
-static PyObject *media_type_as(PyObject *module, PyObject *arguments) {
+static PyObject *parse_media_type(PyObject *module, PyObject *arguments) {
     (void)module;
-    return make_value(&media_type_call, arguments, media_type_value);
+    return parse(&media_type_call, arguments, media_type_value);
 }
 
 static PyObject *range_value(PyObject *type, const struct typed_headers_bytes_range *range) {
@@ -813,7 +893,7 @@ static PyObject *content_range_value(PyObject *types, union slot *at) {
 
 static PyObject *content_range_as(PyObject *module, PyObject *arguments) {
     (void)module;
-    return make_value(&content_range_call, arguments, content_range_value);
+    return value_or_status(&content_range_call, arguments, content_range_value);
 }
 
 static PyObject *ranges_value(PyObject *type, union slot *at) {
@@ -827,7 +907,7 @@ static PyObject *ranges_value(PyObject *type, union slot *at) {
 
 static PyObject *ranges_as(PyObject *module, PyObject *arguments) {
     (void)module;
-    return make_value(&ranges_call, arguments, ranges_value);
+    return value_or_status(&ranges_call, arguments, ranges_value);
 }
 
 /* Members that aren't set have the class' defaults. */
@@ -879,18 +959,17 @@ static bool spells(struct text text, const char *name, bool with_argument) {
     return false;
 }
 
-/* None if the lines spell what other calls say of them. */
+/* No value if the lines spell what other calls say of them. */
 static PyObject *plain_cache_control_value(PyObject *type, union slot *at) {
     const struct text lines = at[0].lines.text;
-    if (spells(lines, "stale-", false) || spells(lines, "no-cache", true) || spells(lines, "private", true)) {
-        Py_RETURN_NONE;
-    }
-    return cache_control_value(type, at);
+    const bool is_plain = !spells(lines, "stale-", false) && !spells(lines, "no-cache", true) &&
+                          !spells(lines, "private", true);
+    return is_plain ? cache_control_value(type, at) : NULL;
 }
 
-static PyObject *cache_control_as(PyObject *module, PyObject *arguments) {
+static PyObject *parse_cache_control(PyObject *module, PyObject *arguments) {
     (void)module;
-    return make_value(&cache_control_call, arguments, plain_cache_control_value);
+    return parse(&cache_control_call, arguments, plain_cache_control_value);
 }
 
 static PyObject *basic_value(PyObject *type, union slot *at) {
@@ -911,24 +990,21 @@ static PyObject *bearer_value(PyObject *type, union slot *at) {
 }
 
 /* Credentials of Basic or Bearer. A line has one scheme at most, so which is tried first is about speed alone. */
-static PyObject *credentials_as(PyObject *module, PyObject *arguments) {
-    PyObject *line = PyTuple_GetItem(arguments, 1);
+static PyObject *parse_credentials(PyObject *module, PyObject *arguments) {
+    struct given given;
+    PyObject *found = NULL;
+    uint8_t status = TYPED_HEADERS_REFUSED;
     (void)module;
-    if (!line) {
+    if (!read_parsed(arguments, &given)) {
         return NULL;
     }
-    const bool is_bearer = PyUnicode_Check(line) && PyUnicode_GetLength(line) > 1 &&
-                           (PyUnicode_ReadChar(line, 1) | 32) == 'e';
-    PyObject *found = NULL;
-    for (int scheme = 0; scheme < 2; scheme++) {
-        Py_XDECREF(found);
-        found = (scheme == 1) == is_bearer ? make_value(&basic_call, arguments, basic_value)
-                                           : make_value(&bearer_call, arguments, bearer_value);
-        if (!found || !PyLong_CheckExact(found) || PyLong_AsLong(found) != TYPED_HEADERS_REFUSED) {
-            break;
-        }
+    const bool is_bearer = PyUnicode_Check(given.line) && PyUnicode_GetLength(given.line) > 1 &&
+                           (PyUnicode_ReadChar(given.line, 1) | 32) == 'e';
+    for (int scheme = 0; scheme < 2 && !found && !PyErr_Occurred() && status == TYPED_HEADERS_REFUSED; scheme++) {
+        found = (scheme == 1) == is_bearer ? make_value(&basic_call, &given, basic_value, &status)
+                                           : make_value(&bearer_call, &given, bearer_value, &status);
     }
-    return found;
+    return found_or_else(found, arguments, &given, status);
 }
 
 /* The names and values of lines that each have `=` behind the name. */
@@ -946,9 +1022,9 @@ static PyObject *cookie_value(PyObject *type, union slot *at) {
     return value;
 }
 
-static PyObject *cookie_as(PyObject *module, PyObject *arguments) {
+static PyObject *parse_cookie(PyObject *module, PyObject *arguments) {
     (void)module;
-    return make_value(&cookies_call, arguments, cookie_value);
+    return parse(&cookies_call, arguments, cookie_value);
 }
 
 /* A part of a field: its letter, its name or its text, and its value or None. */
@@ -991,7 +1067,7 @@ static PyObject *groups_value(PyObject *type, union slot *at) {
 
 static PyObject *groups(PyObject *module, PyObject *arguments) {
     (void)module;
-    return make_value(&field_parts_call, arguments, groups_value);
+    return value_or_status(&field_parts_call, arguments, groups_value);
 }
 
 /* The parameters up to an empty line, whose end is the next line. NULL also if a part is none. */
@@ -1044,7 +1120,7 @@ static PyObject *elements_value(PyObject *types, union slot *at) {
 
 static PyObject *elements_as(PyObject *module, PyObject *arguments) {
     (void)module;
-    return make_value(&field_parts_call, arguments, elements_value);
+    return value_or_status(&field_parts_call, arguments, elements_value);
 }
 
 /* A header section. */
@@ -1216,10 +1292,13 @@ static PyObject *pair(PyObject *module, PyObject *arguments) {
 
 #define METHOD(name) {#name, call_##name, METH_VARARGS, NULL}
 #define OWN(name) {#name, name, METH_VARARGS, NULL}
+#define PARSE(name)                                                                                                    \
+    {"parse_" #name, parse_##name, METH_VARARGS,                                                                       \
+     "parse_" #name "($module, type, line, /, *more)\n--\n\nThe value of field lines."}
 static PyMethodDef methods[] = {
-    CALLS, OWN(cache_control_as), OWN(content_range_as), OWN(cookie_as), OWN(credentials_as), OWN(elements_as), OWN(etag_as), OWN(groups),
-    OWN(media_type_as), OWN(pair), OWN(pairs), OWN(ranges_as), OWN(section), OWN(use_keys), OWN(version),
-    {NULL, NULL, 0, NULL},
+    CALLS, OWN(content_range_as), OWN(elements_as), OWN(groups), OWN(pair), OWN(pairs),
+    PARSE(cache_control), PARSE(cookie), PARSE(credentials), PARSE(etag), PARSE(etags), PARSE(media_type), OWN(ranges_as),
+    OWN(section), OWN(use_keys), OWN(version), {NULL, NULL, 0, NULL},
 };
 
 static struct PyModuleDef definition = {

@@ -30,7 +30,9 @@ from .values import (
     Cookie,
     Credentials,
     ETag,
+    ETags,
     Host,
+    IfRange,
     MediaType,
     Origin,
     Range,
@@ -111,11 +113,6 @@ def _field_of(name: Text, value: Text) -> bytes:
     return field
 
 
-def _pair_of(name: Text, value: Text) -> Tuple[str, str]:
-    """The name, in lower case, and the value of a field."""
-    return _pair(name, value) or _parse(_field_of(name, value))[0]
-
-
 def _pairs_of(fields: Any) -> Iterable[Tuple[Text, Text]]:
     """Pairs of what a framework has: a name may come several times."""
     # (`items` of httpx and Starlette has each name once)
@@ -124,6 +121,45 @@ def _pairs_of(fields: Any) -> Iterable[Tuple[Text, Text]]:
         pairs: Iterable[Tuple[Text, Text]] = fields
         return pairs
     return [(name, value) for name, given in items() for value in _values(given)]
+
+
+class _State:
+    """The fields of a message at a time: a text, what it is parsed to once that is asked for, or both."""
+
+    __slots__ = ("by_name", "is_checked", "pairs", "text")
+
+    def __init__(
+        self,
+        text: Optional[bytes],
+        pairs: Optional[Fields] = None,
+        by_name: Optional[_Named] = None,
+        is_checked: bool = True,
+    ) -> None:
+        self.text, self.pairs, self.by_name = text, pairs, by_name
+        #: Whether each pair is known to be a field.
+        self.is_checked = is_checked
+
+    def section(self) -> bytes:
+        text = self.text
+        if text is None:
+            text = self.text = b"".join([_field_of(*it) for it in self.pairs or ()])
+        return text
+
+    def parsed(self) -> Fields:
+        pairs = self.pairs
+        if pairs is None:
+            pairs = self.pairs = _parse(self.text or b"")
+        return pairs
+
+    def named(self) -> _Named:
+        """The lines of each name."""
+        found = self.by_name
+        if found is None:
+            found = {}
+            for name, value in self.parsed():
+                found[name] = (*found[name], value) if name in found else (value,)
+            self.by_name = found
+        return found
 
 
 class Headers(MutableMapping[str, str]):
@@ -152,130 +188,102 @@ class Headers(MutableMapping[str, str]):
     [('vary', '*'), ('age', '7')]
     """
 
-    # The section as it came, until a field changes; what it is parsed to; the lines of each name; and whether each
-    # pair is known to be a field.
-    _text: Optional[bytes]
-    _pairs: Optional[Fields] = None
-    _by_name: Optional[_Named] = None
-    _is_checked = True
+    _state: _State
 
     def __init__(self, fields: "HeadersLike" = ()) -> None:
-        text = _section(fields)
+        text, is_checked = _section(fields), True
         if text is None:
             if isinstance(fields, Headers):
-                text, self._is_checked = fields.section, fields._is_checked
+                text, is_checked = fields.section, fields._state.is_checked
             elif isinstance(fields, (str, bytes, bytearray, memoryview)):
-                text, self._is_checked = _library.to_bytes(fields, "the header section"), False
+                text, is_checked = _library.to_bytes(fields, "the header section"), False
             else:
                 text = b"".join([_field_of(name, value) for name, value in _pairs_of(fields)])
-        self._text = text
+        self._state = _State(text, is_checked=is_checked)
 
     @property
     def section(self) -> bytes:
         """The header section as bytes: a line for each field."""
-        text = self._text
-        if text is None:
-            text = self._text = b"".join([_field_of(*it) for it in self._parsed()])
-        return text
+        return self._state.section()
 
     def __repr__(self) -> str:
-        shown = [(name, "..." if name in SECRETS else value) for name, value in self._parsed()]
+        shown = [(name, "..." if name in SECRETS else value) for name, value in self._state.parsed()]
         return f"{type(self).__name__}({shown!r})"
 
     def __eq__(self, other: object) -> bool:
-        return isinstance(other, Headers) and self._parsed() == other._parsed()
+        return isinstance(other, Headers) and self._state.parsed() == other._state.parsed()
 
     def __reduce__(self) -> Tuple[object, ...]:
         return type(self), (self.section,)
 
     def __iter__(self) -> Iterator[str]:
         """The names, in lower case, each once."""
-        return iter(list(self._named()))
+        return iter(self._state.named())
 
     def __len__(self) -> int:
-        return len(self._named())
+        return len(self._state.named())
 
     def __contains__(self, name: object) -> bool:
-        return isinstance(name, str) and name.lower() in self._named()
+        return isinstance(name, str) and name.lower() in self._state.named()
 
     def __getitem__(self, name: str) -> str:
-        lines = (self._by_name or self._named()).get(name.lower())
+        state = self._state
+        lines = (state.by_name or state.named()).get(name.lower())
         if lines is None:
             raise KeyError(name)
         return lines[0] if len(lines) == 1 else ", ".join(lines)
 
     def __setitem__(self, name: str, value: str) -> None:
         """Puts a single field line where the first of that name is, or at the end."""
-        field = _pair_of(name, value)
+        field = _pair(name, value) or _parse(_field_of(name, value))[0]
         pairs, named = self._changing(field[0])
         lines = named.get(field[0])
         if lines is None:
             pairs.append(field)
         else:
-            for place, (other, _) in enumerate(pairs):
-                if other == field[0]:
-                    break
+            place = pairs.index((field[0], lines[0]))
             pairs[place] = field
             if len(lines) > 1:
                 pairs[place + 1 :] = [it for it in pairs[place + 1 :] if it[0] != field[0]]
         named[field[0]] = field[1:]
-        self._text = None
+        self._state = _State(None, pairs, named)
 
     def __delitem__(self, name: str) -> None:
-        if name not in self:
-            raise KeyError(name)
         field = name.lower()
+        if field not in self._state.named():
+            raise KeyError(name)
         pairs, named = self._changing(field)
-        pairs[:] = [it for it in pairs if it[0] != field]
-        del named[field]
-        self._text = None
+        named.pop(field, None)
+        self._state = _State(None, [it for it in pairs if it[0] != field], named)
 
     def add(self, name: str, value: str) -> None:
         """Appends a field line."""
-        field = _pair_of(name, value)
-        pairs, named = self._changing()
-        pairs.append(field)
-        named[field[0]] = (*named.get(field[0], ()), field[1])
-        self._text = None
+        field = _pair(name, value) or _parse(_field_of(name, value))[0]
+        pairs, _ = self._changing()
+        self._state = _State(None, [*pairs, field])
 
     def _changing(self, replaced: str = "") -> Tuple[Fields, _Named]:
-        """The names and values, of which others than that of a name stay."""
-        pairs, named = self._parsed(), self._named()
-        if not self._is_checked:
+        """Copies of what the fields are parsed to, of which others than those of a name stay."""
+        state = self._state
+        pairs = state.parsed()
+        if not state.is_checked:
             for it in pairs:
                 if it[0] != replaced:
                     _field_of(*it)
-            self._is_checked = True
-        return pairs, named
-
-    def _parsed(self) -> Fields:
-        pairs = self._pairs
-        if pairs is None:
-            assert self._text is not None, "there is a text, or what it is parsed to"
-            pairs = self._pairs = _parse(self._text)
-        return pairs
-
-    def _named(self) -> _Named:
-        """The lines of each name."""
-        found = self._by_name
-        if found is None:
-            found = {}
-            for name, value in self._parsed():
-                found[name] = (*found[name], value) if name in found else (value,)
-            self._by_name = found
-        return found
+        return pairs[:], state.named().copy()
 
     def pairs(self) -> Fields:
         """The names, in lower case, and values of the field lines, in order."""
-        return list(self._parsed())
+        return list(self._state.parsed())
 
     def raw(self) -> List[Tuple[bytes, bytes]]:
         """`pairs` as bytes, as ASGI has them."""
-        return [(name.encode("latin-1"), value.encode("latin-1")) for name, value in self._parsed()]
+        return [(name.encode("latin-1"), value.encode("latin-1")) for name, value in self._state.parsed()]
 
     def lines(self, name: str) -> Sequence[str]:
         """The field lines of a name, without the white space at their ends."""
-        return (self._by_name or self._named()).get(name.lower(), ())
+        state = self._state
+        return (state.by_name or state.named()).get(name.lower(), ())
 
     def canonical(self, name: str) -> Optional[List[str]]:
         """The canonical field lines of a name, or `None` if it has none: see `canonical_field`."""
@@ -457,6 +465,170 @@ class Headers(MutableMapping[str, str]):
         """The names of `Vary`, or `*`."""
         lines = self.lines("vary")
         return members(*lines) if lines else None
+
+    @property
+    def accept_ranges(self) -> Optional[List[str]]:
+        """The range units of `Accept-Ranges`."""
+        return self._list("accept-ranges")
+
+    @property
+    def access_control_allow_credentials(self) -> Optional[bool]:
+        """`True` if there is `Access-Control-Allow-Credentials`."""
+        return None if self._text("access-control-allow-credentials") is None else True
+
+    @property
+    def access_control_allow_headers(self) -> Optional[List[str]]:
+        """The names of `Access-Control-Allow-Headers`."""
+        return self._list("access-control-allow-headers")
+
+    @property
+    def access_control_allow_methods(self) -> Optional[List[str]]:
+        """The methods of `Access-Control-Allow-Methods`."""
+        return self._list("access-control-allow-methods")
+
+    @property
+    def access_control_allow_origin(self) -> Optional[str]:
+        """`*`, `null` or the origin of `Access-Control-Allow-Origin`."""
+        return self._text("access-control-allow-origin")
+
+    @property
+    def access_control_expose_headers(self) -> Optional[List[str]]:
+        """The names of `Access-Control-Expose-Headers`."""
+        return self._list("access-control-expose-headers")
+
+    @property
+    def access_control_max_age(self) -> Optional[int]:
+        """The seconds of `Access-Control-Max-Age`."""
+        return self._number("access-control-max-age")
+
+    @property
+    def access_control_request_headers(self) -> Optional[List[str]]:
+        """The names of `Access-Control-Request-Headers`."""
+        return self._list("access-control-request-headers")
+
+    @property
+    def access_control_request_method(self) -> Optional[str]:
+        """The method of `Access-Control-Request-Method`."""
+        return self._text("access-control-request-method")
+
+    @property
+    def content_encoding(self) -> Optional[List[str]]:
+        """The codings of `Content-Encoding`, in the order in which they were applied."""
+        return self._list("content-encoding")
+
+    @property
+    def content_location(self) -> Optional[str]:
+        """The reference of `Content-Location`."""
+        return self._text("content-location")
+
+    @property
+    def expect(self) -> Optional[str]:
+        """`100-continue`."""
+        return self._text("expect")
+
+    @property
+    def if_match(self) -> Optional[ETags]:
+        """The entity tags of `If-Match`."""
+        return self._tags("if-match")
+
+    @property
+    def if_modified_since(self) -> Optional[datetime]:
+        """The time of `If-Modified-Since`."""
+        return self._time("if-modified-since")
+
+    @property
+    def if_none_match(self) -> Optional[ETags]:
+        """The entity tags of `If-None-Match`."""
+        return self._tags("if-none-match")
+
+    @property
+    def if_range(self) -> Optional[IfRange]:
+        """The entity tag or the time of `If-Range`."""
+        return self._part("if-range", IfRange.parse)
+
+    @property
+    def if_unmodified_since(self) -> Optional[datetime]:
+        """The time of `If-Unmodified-Since`."""
+        return self._time("if-unmodified-since")
+
+    @property
+    def location(self) -> Optional[str]:
+        """The reference of `Location`."""
+        return self._text("location")
+
+    @property
+    def pragma(self) -> Optional[str]:
+        """The text of `Pragma`."""
+        return self._text("pragma")
+
+    @property
+    def referer(self) -> Optional[str]:
+        """The reference of `Referer`."""
+        return self._text("referer")
+
+    @property
+    def sec_websocket_accept(self) -> Optional[str]:
+        """The text of `Sec-WebSocket-Accept`."""
+        return self._text("sec-websocket-accept")
+
+    @property
+    def sec_websocket_key(self) -> Optional[str]:
+        """The text of `Sec-WebSocket-Key`."""
+        return self._text("sec-websocket-key")
+
+    @property
+    def sec_websocket_version(self) -> Optional[int]:
+        """The 13 of `Sec-WebSocket-Version`."""
+        return self._number("sec-websocket-version")
+
+    @property
+    def server(self) -> Optional[str]:
+        """The text of `Server`."""
+        return self._text("server")
+
+    @property
+    def te(self) -> Optional[List[str]]:
+        """The transfer codings of `TE`, with their parameters."""
+        return self._list("te")
+
+    @property
+    def transfer_encoding(self) -> Optional[List[str]]:
+        """The codings of `Transfer-Encoding`, in the order in which they were applied."""
+        return self._list("transfer-encoding")
+
+    @property
+    def upgrade(self) -> Optional[str]:
+        """The protocols of `Upgrade`."""
+        return self._text("upgrade")
+
+    @property
+    def user_agent(self) -> Optional[str]:
+        """The text of `User-Agent`."""
+        return self._text("user-agent")
+
+    def _text(self, name: str) -> Optional[str]:
+        """The canonical field lines of a name, joined by commas."""
+        lines = self.canonical(name)
+        return None if lines is None else ", ".join(lines)
+
+    def _list(self, name: str) -> Optional[List[str]]:
+        lines = self.canonical(name)
+        return None if lines is None else members(*lines) if lines else []
+
+    def _number(self, name: str) -> Optional[int]:
+        text = self._text(name)
+        return None if text is None else int(text)
+
+    def _time(self, name: str) -> Optional[datetime]:
+        text = self._text(name)
+        return None if text is None else date(text)
+
+    def _tags(self, name: str) -> Optional[ETags]:
+        lines = self.lines(name)
+        try:
+            return ETags.parse(*lines) if lines else None
+        except InvalidField:
+            raise _library.rejected(name, _library.to_lines(name, lines)) from None
 
 
 class Section(Headers):

@@ -41,6 +41,7 @@ __all__ = [
 Parameters = Tuple[Tuple[str, Optional[str]], ...]
 
 _ELEMENTS, _CHALLENGES, _LINKS, _SET_COOKIES, _VALUES = range(5)
+_is_token = _library.TOKEN.fullmatch
 _read_elements, _read_groups = _library.calls.elements_as, _library.calls.groups
 
 #: A part: a letter that says what it is, its name or its text, and its value, if it has one.
@@ -72,7 +73,7 @@ def _parameters(parts: Sequence[_Part]) -> Optional[Parameters]:
 
 def _shown(text: str) -> str:
     """A text as a token, or else as a quoted-string (RFC 9110, sections 5.6.2 and 5.6.4)."""
-    if _library.TOKEN.fullmatch(text):
+    if _is_token(text):
         return text
     return '"' + text.replace("\\", "\\\\").replace('"', '\\"') + '"'
 
@@ -294,12 +295,20 @@ class ContentDisposition:
     def parse(cls, line: Text, *more: Text) -> "ContentDisposition":
         """The disposition of the only field line."""
         found = _elements((Element, "value"), "content-disposition", line, more, _VALUES)
-        if len(found) != 1 or not _library.TOKEN.fullmatch(found[0].value):
+        if len(found) != 1 or not _is_token(found[0].value):
             _reject("content-disposition", (line, *more), _FORMS[_VALUES])
-        parameters = found[0].parameters
-        others = tuple([it for it in parameters if it[0].lower() not in _FILENAMES])
-        filename = _text_of(parameters, "filename") if len(others) < len(parameters) else None
-        return _made(cls, type=found[0].value.lower(), filename=filename, parameters=others)
+        names: Dict[str, Optional[str]] = {}
+        others = []
+        for it in found[0].parameters:
+            name = it[0].lower()
+            if name in _FILENAMES:
+                names.setdefault(name, it[1])
+            else:
+                others.append(it)
+        filename = _extended(names.get("filename*"))
+        if filename is None:
+            filename = names.get("filename")
+        return _made(cls, type=found[0].value.lower(), filename=filename, parameters=tuple(others))
 
     @property
     def is_attachment(self) -> bool:

@@ -8,22 +8,15 @@ from base64 import b64encode
 from dataclasses import dataclass, field
 from datetime import datetime, timedelta, timezone
 from enum import Enum
-from itertools import compress
-from typing import Any, Iterator, List, Optional, Tuple, Type, TypeVar
+from typing import TYPE_CHECKING, Any, Iterator, List, Optional, Tuple, Type, TypeVar
 
 from . import _library
 from ._library import Text, Time
 from .errors import HeaderError, InvalidField
 
 # (a name of this module is found in half the time)
-_read_cache_control = _library.calls.cache_control_as
 _read_content_range = _library.calls.content_range_as
-_read_cookie = _library.calls.cookie_as
-_read_credentials = _library.calls.credentials_as
-_read_etag = _library.calls.etag_as
-_read_media_type = _library.calls.media_type_as
 _read_ranges = _library.calls.ranges_as
-
 _NO_MEMORY = int(_library.Status.NO_MEMORY)
 
 __all__ = [
@@ -33,7 +26,9 @@ __all__ = [
     "Cookie",
     "Credentials",
     "ETag",
+    "ETags",
     "Host",
+    "IfRange",
     "MediaType",
     "Origin",
     "Range",
@@ -159,17 +154,21 @@ class ETag:
     def __post_init__(self) -> None:
         if not isinstance(self.opaque, str) or not isinstance(self.weak, bool):
             _library.check_types(self, opaque=str, weak=bool)
-        found = _read_etag(ETag, str(self), ())
-        if isinstance(found, int):
-            raise _library.failed(found, "etag", (str(self),))
+        ETag.parse(str(self))
+
+    if TYPE_CHECKING:
+
+        @classmethod
+        def parse(cls, line: Text, *more: Text) -> "ETag":
+            """The entity tag that the only field line of `ETag` is."""
+            raise NotImplementedError
+
+    else:
+        parse = classmethod(_library.calls.parse_etag)
 
     @classmethod
-    def parse(cls, line: Text, *more: Text) -> "ETag":
-        """The entity tag that the only field line of `ETag` is."""
-        found = _read_etag(cls, line, more)
-        if isinstance(found, int):
-            raise _library.failed(found, "etag", (line, *more))
-        return found
+    def _otherwise(cls, status: int, lines: Tuple[Text, ...]) -> "ETag":
+        raise _library.failed(status, "etag", lines)
 
     def __str__(self) -> str:
         return f'W/"{self.opaque}"' if self.weak else f'"{self.opaque}"'
@@ -181,6 +180,105 @@ class ETag:
     def matches_weakly(self, other: "ETag") -> bool:
         """Whether both tags are equal but for `W/` (RFC 9110, section 8.8.3.2)."""
         return _library.calls.weak_eq((str(self),), (str(other),))[1] == 1
+
+
+@dataclass(frozen=True)
+class ETags:
+    """The entity tags of `If-Match` or `If-None-Match`, or `*` for any (RFC 9110, sections 13.1.1 and 13.1.2).
+
+    >>> tags = ETags.parse('"a", W/"b"')
+    >>> tags.matches_weakly(ETag("b")), tags.matches_strongly(ETag("b")), len(tags)
+    (True, False, 2)
+    >>> ETags.parse("*").is_any, str(ETags((ETag("a"), ETag("b", weak=True))))
+    (True, '"a", W/"b"')
+    """
+
+    tags: Tuple[ETag, ...] = ()
+    #: Whether this is `*`, which has no tags.
+    is_any: bool = False
+
+    _TAG = ETag
+
+    def __post_init__(self) -> None:
+        object.__setattr__(self, "tags", tuple(self.tags))
+        _library.check_types(self, is_any=bool)
+        if not all(isinstance(it, ETag) for it in self.tags):
+            raise TypeError("tags: expected entity tags of ETag")
+        if self.is_any and self.tags:
+            raise HeaderError("tags: expected either any or these")
+        if ETags.parse(str(self)) != self:
+            raise HeaderError(f"tags: {str(self)!r} has other tags, as a list has ASCII alone")
+
+    if TYPE_CHECKING:
+
+        @classmethod
+        def parse(cls, line: Text, *more: Text) -> "ETags":
+            """The tags of all field lines."""
+            raise NotImplementedError
+
+    else:
+        parse = classmethod(_library.calls.parse_etags)
+
+    @classmethod
+    def _otherwise(cls, status: int, lines: Tuple[Text, ...]) -> "ETags":
+        """What lines without tags are: empty, or `*`. (A list past ASCII has no members.)"""
+        text = b"".join(_library.to_lines("if-none-match", lines)).strip(b", \t")
+        if status or text not in (b"", b"*"):
+            raise _library.failed(status, "if-none-match", lines)
+        return _made(cls, tags=(), is_any=text == b"*")
+
+    def __str__(self) -> str:
+        return "*" if self.is_any else ", ".join(map(str, self.tags))
+
+    def __iter__(self) -> Iterator[ETag]:
+        return iter(self.tags)
+
+    def __len__(self) -> int:
+        return len(self.tags)
+
+    def matches_strongly(self, tag: ETag) -> bool:
+        """Whether this is `*`, or a tag matches as `ETag.matches_strongly` says. `If-Match` is compared so."""
+        return self.is_any or any(it.matches_strongly(tag) for it in self.tags)
+
+    def matches_weakly(self, tag: ETag) -> bool:
+        """Whether this is `*`, or a tag matches as `ETag.matches_weakly` says. `If-None-Match` is compared so."""
+        return self.is_any or any(it.matches_weakly(tag) for it in self.tags)
+
+
+@dataclass(frozen=True)
+class IfRange:
+    """On what a request for a range depends: an entity tag, or a date (RFC 9110, section 13.1.5).
+
+    >>> IfRange.parse('"a"').etag
+    ETag(opaque='a', weak=False)
+    >>> str(IfRange(date=datetime(1994, 11, 6, 8, 49, 37, tzinfo=timezone.utc)))
+    'Sun, 06 Nov 1994 08:49:37 GMT'
+    """
+
+    etag: Optional[ETag] = None
+    date: Optional[datetime] = None
+
+    def __post_init__(self) -> None:
+        _library.check_types(self, etag=(ETag, type(None)), date=(datetime, type(None)))
+        if (self.etag is None) == (self.date is None):
+            raise HeaderError("if-range: expected either an entity tag or a date")
+        if self.date is not None:
+            object.__setattr__(self, "date", _library.to_datetime(_library.to_seconds(self.date, "date")))
+        _check("if-range", str(self))
+
+    @classmethod
+    def parse(cls, line: Text, *more: Text) -> "IfRange":
+        """The tag or the date of the field line."""
+        text = _only("if-range", (line, *more))
+        try:
+            return _made(cls, etag=ETag.parse(text), date=None)
+        except InvalidField:
+            return _made(cls, etag=None, date=date(text))
+
+    def __str__(self) -> str:
+        if self.date is not None:
+            return format_date(self.date)
+        return str(self.etag)
 
 
 @dataclass(frozen=True)
@@ -211,13 +309,19 @@ class MediaType:
         for name in ("type", "subtype", "parameters"):
             object.__setattr__(self, name, getattr(read, name))
 
+    if TYPE_CHECKING:
+
+        @classmethod
+        def parse(cls, line: Text, *more: Text) -> "MediaType":
+            """The media type that the first field line of `Content-Type` is."""
+            raise NotImplementedError
+
+    else:
+        parse = classmethod(_library.calls.parse_media_type)
+
     @classmethod
-    def parse(cls, line: Text, *more: Text) -> "MediaType":
-        """The media type that the first field line of `Content-Type` is."""
-        found = _read_media_type(cls, line, more)
-        if isinstance(found, int):
-            raise _library.failed(found, "content-type", (line, *more))
-        return found
+    def _otherwise(cls, status: int, lines: Tuple[Text, ...]) -> "MediaType":
+        raise _library.failed(status, "content-type", lines)
 
     def __str__(self) -> str:
         return self.essence + "".join(f"; {name}={value}" for name, value in self.parameters)
@@ -255,19 +359,6 @@ _FLAGS = (
     "private",
     "immutable",
     "proxy_revalidate",
-)
-# In the order of a canonical field line.
-_SHOWN_FLAGS = (
-    "no-cache",
-    "no-store",
-    "no-transform",
-    "only-if-cached",
-    "must-revalidate",
-    "public",
-    "private",
-    "immutable",
-    "must-understand",
-    "proxy-revalidate",
 )
 
 
@@ -319,19 +410,19 @@ class CacheControl:
                 if not _library.TOKEN.fullmatch(field_name):
                     raise HeaderError(f"{name}: {field_name!r} is no field name (RFC 9110, section 5.1)")
 
-    @classmethod
-    def parse(cls, line: Text, *more: Text) -> "CacheControl":
-        """The directives of all field lines."""
-        plain = _read_cache_control(cls, line, more)
-        if plain is None:
-            return cls._parse_all((line, *more))
-        if isinstance(plain, int):
-            raise _library.failed(plain, "cache-control", (line, *more))
-        return plain
+    if TYPE_CHECKING:
+
+        @classmethod
+        def parse(cls, line: Text, *more: Text) -> "CacheControl":
+            """The directives of all field lines."""
+            raise NotImplementedError
+
+    else:
+        parse = classmethod(_library.calls.parse_cache_control)
 
     @classmethod
-    def _parse_all(cls, lines: Tuple[Text, ...]) -> "CacheControl":
-        """The directives, of which some are those of several calls."""
+    def _otherwise(cls, status: int, lines: Tuple[Text, ...]) -> "CacheControl":
+        """What the lines encode, of which some directives are those of other calls."""
         status, found = _library.calls.cache_control(lines)
         if status:
             raise _library.failed(status, "cache-control", lines)
@@ -344,19 +435,28 @@ class CacheControl:
         return _made(cls, **members, **dict(zip(_STALE, stale)), **dict(zip(_NAMES, names)))
 
     def __str__(self) -> str:
-        flags = (
-            self.no_cache,
-            self.no_store,
-            self.no_transform,
-            self.only_if_cached,
-            self.must_revalidate,
-            self.public,
-            self.private,
-            self.immutable,
-            self.must_understand,
-            self.proxy_revalidate,
-        )
-        shown = list(compress(_SHOWN_FLAGS, flags))
+        # (in the order of a canonical field line)
+        shown = []
+        if self.no_cache:
+            shown.append("no-cache")
+        if self.no_store:
+            shown.append("no-store")
+        if self.no_transform:
+            shown.append("no-transform")
+        if self.only_if_cached:
+            shown.append("only-if-cached")
+        if self.must_revalidate:
+            shown.append("must-revalidate")
+        if self.public:
+            shown.append("public")
+        if self.private:
+            shown.append("private")
+        if self.immutable:
+            shown.append("immutable")
+        if self.must_understand:
+            shown.append("must-understand")
+        if self.proxy_revalidate:
+            shown.append("proxy-revalidate")
         if self.max_age is not None:
             shown.append(f"max-age={self.max_age}")
         if self.max_stale is not None:
@@ -613,15 +713,21 @@ class Credentials:
         if Credentials.parse(str(self)) != self:
             raise HeaderError("credentials: a user name has no colon, and a token is printable ASCII")
 
+    if TYPE_CHECKING:
+
+        @classmethod
+        def parse(cls, line: Text, *more: Text) -> "Credentials":
+            """The credentials of the first field line of `Authorization` or of `Proxy-Authorization`."""
+            raise NotImplementedError
+
+    else:
+        parse = classmethod(_library.calls.parse_credentials)
+
     @classmethod
-    def parse(cls, line: Text, *more: Text) -> "Credentials":
-        """The credentials of the first field line of `Authorization` or of `Proxy-Authorization`."""
-        found = _read_credentials(cls, line, more)
-        if not isinstance(found, int):
-            return found
-        if found == _NO_MEMORY:
+    def _otherwise(cls, status: int, lines: Tuple[Text, ...]) -> "Credentials":
+        if status == _NO_MEMORY:
             raise MemoryError
-        _library.to_lines("authorization", (line, *more))
+        _library.to_lines("authorization", lines)
         # (the message doesn't show the lines, which may hold a secret)
         reason = "expected credentials of Basic or Bearer (RFC 7617, section 2; RFC 6750, section 2.1)"
         raise InvalidField("authorization", reason)
@@ -655,13 +761,19 @@ class Cookie:
         if Cookie.parse(str(self)).pairs != self.pairs:
             raise _library.rejected("cookie", _library.to_lines("cookie", [str(self)]))
 
+    if TYPE_CHECKING:
+
+        @classmethod
+        def parse(cls, line: Text, *more: Text) -> "Cookie":
+            """The cookies of all field lines. What has no `=` is skipped."""
+            raise NotImplementedError
+
+    else:
+        parse = classmethod(_library.calls.parse_cookie)
+
     @classmethod
-    def parse(cls, line: Text, *more: Text) -> "Cookie":
-        """The cookies of all field lines. What has no `=` is skipped."""
-        found = _read_cookie(cls, line, more)
-        if isinstance(found, int):
-            raise _library.failed(found, "cookie", (line, *more))
-        return found
+    def _otherwise(cls, status: int, lines: Tuple[Text, ...]) -> "Cookie":
+        raise _library.failed(status, "cookie", lines)
 
     def get(self, name: str) -> Optional[str]:
         """The value of the first cookie with this name."""
