@@ -989,20 +989,17 @@ static PyObject *bearer_value(PyObject *type, union slot *at) {
     return value;
 }
 
-/* Credentials of Basic or Bearer. A line has one scheme at most, so which is tried first is about speed alone. */
+/* Credentials of Bearer, or else of Basic. */
 static PyObject *parse_credentials(PyObject *module, PyObject *arguments) {
     struct given given;
-    PyObject *found = NULL;
-    uint8_t status = TYPED_HEADERS_REFUSED;
+    uint8_t status;
     (void)module;
     if (!read_parsed(arguments, &given)) {
         return NULL;
     }
-    const bool is_bearer = PyUnicode_Check(given.line) && PyUnicode_GetLength(given.line) > 1 &&
-                           (PyUnicode_ReadChar(given.line, 1) | 32) == 'e';
-    for (int scheme = 0; scheme < 2 && !found && !PyErr_Occurred() && status == TYPED_HEADERS_REFUSED; scheme++) {
-        found = (scheme == 1) == is_bearer ? make_value(&basic_call, &given, basic_value, &status)
-                                           : make_value(&bearer_call, &given, bearer_value, &status);
+    PyObject *found = make_value(&bearer_call, &given, bearer_value, &status);
+    if (!found && status == TYPED_HEADERS_REFUSED && !PyErr_Occurred()) {
+        found = make_value(&basic_call, &given, basic_value, &status);
     }
     return found_or_else(found, arguments, &given, status);
 }

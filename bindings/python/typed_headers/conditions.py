@@ -146,10 +146,11 @@ def evaluate(
     <Precondition.FAILED: 412>
     """
     verb, facts = _to_bytes(method, "method"), _facts(target, now)
-    if isinstance(request, Section):
-        status, answer = _library.calls.section_evaluate(request._handle, verb, facts)
-    else:
+    # (what is asked first takes no time)
+    if type(request) is dict or not isinstance(request, Section):
         status, answer = _evaluate((verb, section_of(request)), facts)
+    else:
+        status, answer = _library.calls.section_evaluate(request._handle, verb, facts)
     if status:
         _library.check(status, lambda: _refused(method, request, target))
     return _PRECONDITIONS[answer]

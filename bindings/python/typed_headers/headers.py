@@ -2,6 +2,7 @@
 
 import re
 from datetime import datetime
+from functools import lru_cache
 from typing import (
     TYPE_CHECKING,
     Any,
@@ -81,8 +82,14 @@ def canonical_field(name: Text, *lines: Text) -> List[str]:
     given = _library.to_lines(field, lines)
     if field in FIELDS:
         return [_library.to_str(line) for line in _library.canonical_lines(field, given)]
-    _library.canonical_text(_field_of(field, b""))
+    _check_name(field)
     return [_library.to_str(line.strip(b" \t")) for line in given]
+
+
+@lru_cache(maxsize=256)
+def _check_name(field: str) -> None:
+    """Raises an error if this is no field name."""
+    _library.canonical_text(_field_of(field, b""))
 
 
 def canonical_section(section: "HeadersLike") -> str:
@@ -193,10 +200,10 @@ class Headers(MutableMapping[str, str]):
     def __init__(self, fields: "HeadersLike" = ()) -> None:
         text, is_checked = _section(fields), True
         if text is None:
-            if isinstance(fields, Headers):
-                text, is_checked = fields.section, fields._state.is_checked
-            elif isinstance(fields, (str, bytes, bytearray, memoryview)):
+            if isinstance(fields, (str, bytes, bytearray, memoryview)):
                 text, is_checked = _library.to_bytes(fields, "the header section"), False
+            elif isinstance(fields, Headers):
+                text, is_checked = fields.section, fields._state.is_checked
             else:
                 text = b"".join([_field_of(name, value) for name, value in _pairs_of(fields)])
         self._state = _State(text, is_checked=is_checked)
@@ -672,6 +679,8 @@ class Section(Headers):
 
 def section_of(fields: "HeadersLike") -> bytes:
     """The header section as bytes, as `Headers` has it."""
+    if type(fields) is Headers:
+        return fields.section
     return _section(fields) or Headers(fields).section
 
 

@@ -79,7 +79,7 @@ def choose_by(dimension: int, lines: Tuple[Text, ...], offers: Sequence[str]) ->
 
 
 def _choose(dimension: int, request: HeadersLike, offers: Sequence[str]) -> Optional[str]:
-    if not isinstance(request, Section) or dimension == LOOK_UP:
+    if type(request) is dict or not isinstance(request, Section) or dimension == LOOK_UP:
         return choose_by(dimension, tuple(_lines(dimension, request)), offers)
     offered = tuple(offers)
     status, place = _CHOICES_OF_SECTION[dimension](request._handle, _joined(offered))

@@ -262,9 +262,6 @@ def _text_of(parameters: Parameters, name: str) -> Optional[str]:
     return _first(parameters, name) if extended is None else extended
 
 
-_FILENAMES = ("filename", "filename*")
-
-
 @dataclass(frozen=True)
 class ContentDisposition:
     """How content is to be presented, and under which name it is to be stored (RFC 6266).
@@ -301,14 +298,17 @@ class ContentDisposition:
         others = []
         for it in found[0].parameters:
             name = it[0].lower()
-            if name in _FILENAMES:
+            if name == "filename" or name == "filename*":
                 names.setdefault(name, it[1])
             else:
                 others.append(it)
-        filename = _extended(names.get("filename*"))
+        filename = _extended(names["filename*"]) if "filename*" in names else None
         if filename is None:
             filename = names.get("filename")
-        return _made(cls, type=found[0].value.lower(), filename=filename, parameters=tuple(others))
+        value = object.__new__(cls)
+        members = value.__dict__
+        members["type"], members["filename"], members["parameters"] = found[0].value.lower(), filename, tuple(others)
+        return value
 
     @property
     def is_attachment(self) -> bool:
