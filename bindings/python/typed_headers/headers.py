@@ -78,10 +78,13 @@ def canonical_field(name: Text, *lines: Text) -> List[str]:
     >>> canonical_field("If-None-Match", '"a"', 'W/"b"')
     ['"a", W/"b"']
     """
-    field = _library.to_str(_library.to_bytes(name, "name")).lower()
-    given = _library.to_lines(field, lines)
+    field = (name if isinstance(name, str) else _library.to_str(_library.to_bytes(name, "name"))).lower()
     if field in FIELDS:
-        return [_library.to_str(line) for line in _library.canonical_lines(field, given)]
+        status, found = _library.calls.field(field.encode("ascii"), lines)
+        if status:
+            raise _library.failed(status, field, lines)
+        return _library.to_str(found).split("\n")[:-1]
+    given = _library.to_lines(field, lines)
     _check_name(field)
     return [_library.to_str(line.strip(b" \t")) for line in given]
 

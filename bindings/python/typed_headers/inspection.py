@@ -249,11 +249,12 @@ def inspect(text: Text, *, received: Optional[Time] = None, length: Optional[int
     request = Headers(asked.section) if asked else Headers()
 
     def one(name: str) -> Optional[str]:
-        lines = known(lambda: headers.canonical(name))
+        lines = known(lambda: headers.canonical(name)) if headers.lines(name) else None
         return ", ".join(lines) if lines else None
 
     ranges = tuple((name, line) for name in ("accept-ranges", "range", "content-range") for line in [one(name)] if line)
-    target = Target(known(lambda: headers.etag), known(lambda: headers.last_modified)) if answered else Target()
+    modified = known(lambda: headers.last_modified)
+    target = Target(known(lambda: headers.etag), modified) if answered else Target()
     precondition = known(lambda: evaluate(method, request, target, at)) if asked and answered else None
     selection = None
     if asked and length is not None and precondition in (None, Precondition.PERFORM):
@@ -293,7 +294,7 @@ def inspect(text: Text, *, received: Optional[Time] = None, length: Optional[int
         validators=ValidatorReport(
             None if tag is None else str(tag),
             None if tag is None else str(tag).startswith("W/"),
-            known(lambda: headers.last_modified),
+            modified,
             known(lambda: validators(headers, at)) or (),
         ),
         ranges=ranges,
