@@ -7,7 +7,7 @@
 #include <Python.h>
 #include <typed_headers.h>
 
-enum { SHORT_TEXT = 1024, SHORT_LINE = 64, FEW_RANGES = 16 };
+enum { SHORT_TEXT = 1024, SHORT_LINE = 256, FEW_RANGES = 16 };
 
 /* Bytes that no sender of field names can guess. */
 static struct typed_headers_keys keys;
@@ -53,8 +53,6 @@ struct lines {
     bool is_rejected;
     uint8_t line[SHORT_LINE];
 };
-
-#define NO_LINES {{NULL, 0}, NULL, NULL, false, {0}}
 
 /* The bytes of a text, or NULL if it has none. */
 static PyObject *bytes_of(PyObject *text) {
@@ -104,14 +102,14 @@ static bool read_short(PyObject *text, struct lines *lines) {
     if (length < 1 || length > SHORT_LINE || !PyUnicode_AsUCS4(text, characters, SHORT_LINE, 0)) {
         return false;
     }
+    bool is_line = true;
     for (Py_ssize_t place = 0; place < length; place++) {
-        if (characters[place] > 255 || characters[place] == '\n' || characters[place] == '\r') {
-            return false;
-        }
-        lines->line[place] = (uint8_t)characters[place];
+        const Py_UCS4 character = characters[place];
+        is_line &= (character < 256) & (character != '\n') & (character != '\r');
+        lines->line[place] = (uint8_t)character;
     }
     lines->text = (struct text){lines->line, length};
-    return true;
+    return is_line;
 }
 
 static void clear_lines(struct lines *lines) {
@@ -151,18 +149,17 @@ static bool read_lines(PyObject *given, struct lines *lines) {
     return !PyErr_Occurred();
 }
 
-/* Reads a tuple of lines, or a line alone. */
-static bool read_line_or_lines(PyObject *given, struct lines *lines) {
-    if (PyTuple_Check(given)) {
-        return read_lines(given, lines);
-    }
+/* Reads a line, and a tuple of those behind it. */
+static bool read_line_and_more(PyObject *line, PyObject *more, struct lines *lines) {
+    const Py_ssize_t count = PyTuple_Size(more);
     clear_lines(lines);
-    if (read_short(given, lines)) {
-        return true;
+    if (count < 0 || (count == 0 && read_short(line, lines))) {
+        return count == 0;
     }
-    PyObject *alone = PyTuple_Pack(1, given);
-    const bool is_read = alone && read_lines(alone, lines);
-    Py_XDECREF(alone);
+    PyObject *first = PyTuple_Pack(1, line), *all = first ? PySequence_Concat(first, more) : NULL;
+    const bool is_read = all && read_lines(all, lines);
+    Py_XDECREF(first);
+    Py_XDECREF(all);
     return is_read;
 }
 
@@ -558,16 +555,30 @@ static bool pass(const struct call *call, union slot *at, uint8_t *status) {
     return true;
 }
 
+/* Prepares the slots of a call, and counts those that have to be freed. */
+static bool clear_slots(const struct call *call, union slot *at, size_t *cleared) {
+    bool is_clear = true;
+    for (*cleared = 0; is_clear && *cleared < call->count; ++*cleared) {
+        is_clear = clear_slot(&call->parameters[*cleared], &at[*cleared]);
+    }
+    return is_clear;
+}
+
+static void free_slots(const struct call *call, union slot *at, size_t cleared) {
+    for (size_t place = 0; place < cleared; place++) {
+        free_slot(&call->parameters[place], &at[place]);
+    }
+}
+
 static PyObject *make(const struct call *call, PyObject *arguments) {
     union slot at[MOST_SLOTS];
     PyObject *found = NULL;
     Py_ssize_t next = 0, wanted = 0;
     uint8_t status = TYPED_HEADERS_DONE;
-    bool is_read = true;
-    size_t cleared = 0;
-    for (; is_read && cleared < call->count; cleared++) {
-        is_read = clear_slot(&call->parameters[cleared], &at[cleared]);
-        wanted += is_taken(call->parameters[cleared].role);
+    size_t cleared;
+    bool is_read = clear_slots(call, at, &cleared);
+    for (size_t place = 0; place < call->count; place++) {
+        wanted += is_taken(call->parameters[place].role);
     }
     if (is_read && PyTuple_Size(arguments) != wanted) {
         PyErr_Format(PyExc_TypeError, "%s takes %zd arguments", call->name, wanted);
@@ -582,21 +593,102 @@ static PyObject *make(const struct call *call, PyObject *arguments) {
     if (is_read && (status != TYPED_HEADERS_DONE || pass(call, at, &status))) {
         found = result(call, at, status);
     }
-    for (size_t place = 0; place < cleared; place++) {
-        free_slot(&call->parameters[place], &at[place]);
-    }
+    free_slots(call, at, cleared);
     return found;
 }
 
-/*
- * Values whose type is a frozen dataclass: an instance of the given class, or the status. The names are the members that
- * the class declares.
- */
+/* Calls over field lines whose values are made here: a value of a type, or the status if it isn't DONE. */
 
-enum member_name { OPAQUE, WEAK, FIRST, LAST, RANGE, LENGTH, TYPE, SUBTYPE, PARAMETERS, MEMBERS };
+typedef PyObject *value_maker(PyObject *type, union slot *at);
 
-static const char *const MEMBER_TEXTS[MEMBERS] = {"opaque", "weak", "first",   "last",      "range",
-                                                  "length", "type", "subtype", "parameters"};
+/* What a value is made of: its type, a field line, a tuple of those behind it, and what else the call takes. */
+struct given {
+    PyObject *type, *line, *more, *other;
+};
+
+static PyObject *make_value(const struct call *call, const struct given *given, value_maker *value, uint8_t *status) {
+    union slot at[MOST_SLOTS];
+    PyObject *found = NULL;
+    size_t cleared;
+    *status = TYPED_HEADERS_DONE;
+    bool is_read = clear_slots(call, at, &cleared);
+    for (size_t place = 0; is_read && place < call->count; place++) {
+        const struct parameter *it = &call->parameters[place];
+        if (it->role == LINES) {
+            is_read = read_line_and_more(given->line, given->more, &at[place].lines);
+            *status = is_read && at[place].lines.is_rejected ? TYPED_HEADERS_REFUSED : *status;
+        } else if (is_taken(it->role)) {
+            is_read = given->other && read_slot(given->other, it, &at[place], status);
+        }
+    }
+    if (is_read && (*status != TYPED_HEADERS_DONE || pass(call, at, status)) && *status == TYPED_HEADERS_DONE) {
+        found = value(given->type, at);
+    }
+    free_slots(call, at, cleared);
+    return found;
+}
+
+/* Makes a value of a type, a line, a tuple of others, and what else the call takes. */
+static PyObject *value_or_status(const struct call *call, PyObject *arguments, value_maker *value) {
+    struct given given;
+    uint8_t status;
+    given.type = PyTuple_GetItem(arguments, 0), given.line = PyTuple_GetItem(arguments, 1);
+    given.more = PyTuple_GetItem(arguments, 2);
+    given.other = PyTuple_Size(arguments) > 3 ? PyTuple_GetItem(arguments, 3) : NULL;
+    if (!given.type || !given.line || !given.more) {
+        return NULL;
+    }
+    PyObject *found = make_value(call, &given, value, &status);
+    return found || PyErr_Occurred() ? found : PyLong_FromLong(status);
+}
+
+/* Reads the arguments of `parse`: a type, and at least one line. */
+static bool read_parsed(PyObject *arguments, struct given *given) {
+    const Py_ssize_t count = PyTuple_Size(arguments);
+    if (count < 2) {
+        PyErr_SetString(PyExc_TypeError, "parse() missing 1 required positional argument: 'line'");
+        return false;
+    }
+    given->type = PyTuple_GetItem(arguments, 0), given->line = PyTuple_GetItem(arguments, 1), given->other = NULL;
+    given->more = PyTuple_GetSlice(arguments, 2, count);
+    return given->more != NULL;
+}
+
+/* What is found, or else what the type says of the status and the lines. */
+static PyObject *found_or_else(PyObject *found, PyObject *arguments, const struct given *given, uint8_t status) {
+    Py_DECREF(given->more);
+    if (found || PyErr_Occurred()) {
+        return found;
+    }
+    PyObject *lines = PyTuple_GetSlice(arguments, 1, PyTuple_Size(arguments));
+    found = lines ? PyObject_CallMethod(given->type, "_otherwise", "iO", (int)status, lines) : NULL;
+    Py_XDECREF(lines);
+    return found;
+}
+
+/* The class method `parse` of a type. */
+static PyObject *parse(const struct call *call, PyObject *arguments, value_maker *value) {
+    struct given given;
+    uint8_t status;
+    if (!read_parsed(arguments, &given)) {
+        return NULL;
+    }
+    PyObject *found = make_value(call, &given, value, &status);
+    return found_or_else(found, arguments, &given, status);
+}
+
+/* Values whose type is a frozen dataclass. The names are those of its members. */
+
+enum member_name { OPAQUE, WEAK, TAGS, FIRST, LAST, RANGE, LENGTH, TYPE, SUBTYPE, PARAMETERS, PAIRS, USER, PASSWORD, TOKEN,
+                   MAX_AGE, MAX_STALE, MIN_FRESH, S_MAXAGE, NO_CACHE, NO_STORE, NO_TRANSFORM, ONLY_IF_CACHED,
+                   MUST_REVALIDATE, MUST_UNDERSTAND, PUBLIC, PRIVATE, IMMUTABLE, PROXY_REVALIDATE, MEMBERS };
+
+static const char *const MEMBER_TEXTS[MEMBERS] = {
+    "opaque",   "weak",     "tags",         "first",          "last",            "range",           "length",
+    "type",     "subtype",  "parameters",   "pairs",          "user",            "password",        "token",
+    "max_age",  "max_stale", "min_fresh",   "s_maxage",       "no_cache",        "no_store",        "no_transform",
+    "only_if_cached",       "must_revalidate", "must_understand", "public",      "private",         "immutable",
+    "proxy_revalidate"};
 static PyObject *member_names[MEMBERS];
 
 static bool make_member_names(void) {
@@ -609,13 +701,51 @@ static bool make_member_names(void) {
     return true;
 }
 
-static bool set_member(PyObject *value, enum member_name name, PyObject *member) {
-    bool is_set = member && PyObject_GenericSetAttr(value, member_names[name], member) == 0;
+/* Sets a member of a value, which is freed if that fails. */
+static bool set_member(PyObject **value, enum member_name name, PyObject *member) {
+    if (*value && (!member || PyObject_GenericSetAttr(*value, member_names[name], member))) {
+        Py_CLEAR(*value);
+    }
     Py_XDECREF(member);
-    return is_set;
+    return *value != NULL;
 }
 
 static PyObject *new_value(PyObject *type) { return PyType_GenericNew((PyTypeObject *)type, NULL, NULL); }
+
+static PyObject *none(void) {
+    Py_INCREF(Py_None);
+    return Py_None;
+}
+
+static PyObject *latin_1(const char *bytes, Py_ssize_t length) { return PyUnicode_DecodeLatin1(bytes, length, NULL); }
+
+/* A pair, of which a part that couldn't be made is NULL. */
+static PyObject *pair_of(PyObject *one, PyObject *other) {
+    PyObject *pair = one && other ? PyTuple_Pack(2, one, other) : NULL;
+    Py_XDECREF(one);
+    Py_XDECREF(other);
+    return pair;
+}
+
+/* Appends to a list, which is freed if that fails. */
+static bool append(PyObject **list, PyObject *item) {
+    if (*list && (!item || PyList_Append(*list, item))) {
+        Py_CLEAR(*list);
+    }
+    Py_XDECREF(item);
+    return *list != NULL;
+}
+
+static PyObject *tuple_of(PyObject *list) {
+    PyObject *tuple = list ? PyList_AsTuple(list) : NULL;
+    Py_XDECREF(list);
+    return tuple;
+}
+
+/* What a call wrote into a room of bytes. */
+static struct text written_in(const union slot *slot) {
+    return (struct text){slot->room.at, (Py_ssize_t)slot->room.written};
+}
 
 /* The parts of a line that has the form of an entity tag. */
 struct tag_parts {
@@ -647,30 +777,59 @@ static uint8_t tag_status(struct text line, const struct tag_parts *parts) {
 
 static PyObject *etag_value(PyObject *type, const struct tag_parts *parts) {
     PyObject *value = new_value(type);
-    const char *opaque = (const char *)parts->opaque.bytes;
-    if (value && (!set_member(value, OPAQUE, PyUnicode_DecodeLatin1(opaque, parts->opaque.length, NULL)) ||
-                  !set_member(value, WEAK, PyBool_FromLong(parts->is_weak)))) {
-        Py_CLEAR(value);
+    set_member(&value, OPAQUE, latin_1((const char *)parts->opaque.bytes, parts->opaque.length));
+    if (parts->is_weak) {
+        set_member(&value, WEAK, PyBool_FromLong(1));
     }
     return value;
 }
 
-static PyObject *etag(PyObject *module, PyObject *arguments) {
-    struct lines lines = NO_LINES;
+static PyObject *parse_etag(PyObject *module, PyObject *arguments) {
+    struct lines lines;
     struct tag_parts parts;
-    PyObject *type, *given, *found = NULL;
+    struct given given;
+    PyObject *found = NULL;
     uint8_t status = TYPED_HEADERS_REFUSED;
     (void)module;
-    type = PyTuple_GetItem(arguments, 0), given = PyTuple_GetItem(arguments, 1);
-    if (type && given && read_line_or_lines(given, &lines)) {
-        const bool is_one = !PyTuple_Check(given) || PyTuple_Size(given) == 1;
-        if (!lines.is_rejected && is_one && split_tag(lines.text, &parts)) {
+    if (!read_parsed(arguments, &given)) {
+        return NULL;
+    }
+    if (read_line_and_more(given.line, given.more, &lines)) {
+        if (!lines.is_rejected && PyTuple_Size(given.more) == 0 && split_tag(lines.text, &parts)) {
             status = tag_status(lines.text, &parts);
         }
-        found = status == TYPED_HEADERS_DONE ? etag_value(type, &parts) : PyLong_FromLong(status);
+        found = status == TYPED_HEADERS_DONE ? etag_value(given.type, &parts) : NULL;
     }
     free_lines(&lines);
-    return found;
+    return found_or_else(found, arguments, &given, status);
+}
+
+/* The entity tags of the members of a list. No value if there is no member, or one is no tag. */
+static PyObject *etags_value(PyObject *type, union slot *at) {
+    const struct text text = written_in(&at[1]);
+    const uint8_t *next = text.bytes, *end = next + text.length;
+    PyObject *kind = next < end ? PyObject_GetAttrString(type, "_TAG") : NULL, *list = kind ? PyList_New(0) : NULL;
+    while (list && next < end) {
+        const uint8_t *behind = memchr(next, '\n', (size_t)(end - next));
+        const struct text line = {next, behind - next};
+        struct tag_parts parts;
+        const bool is_tag = split_tag(line, &parts) && tag_status(line, &parts) == TYPED_HEADERS_DONE;
+        append(&list, is_tag ? etag_value(kind, &parts) : NULL);
+        next = behind + 1;
+    }
+    PyObject *value = list ? new_value(type) : NULL;
+    if (value) {
+        set_member(&value, TAGS, tuple_of(list));
+    } else {
+        Py_XDECREF(list);
+    }
+    Py_XDECREF(kind);
+    return value;
+}
+
+static PyObject *parse_etags(PyObject *module, PyObject *arguments) {
+    (void)module;
+    return parse(&members_call, arguments, etags_value);
 }
 
 /* Where a parameter's value ends: at a semicolon that isn't between quotes. */
@@ -687,141 +846,278 @@ static const char *value_end(const char *at, const char *end) {
 
 /* The names and values of the parameters of a canonical media type, each behind a semicolon and a space. */
 static PyObject *parameters_of(const char *at, const char *end) {
-    PyObject *list = PyList_New(0), *found = NULL;
+    PyObject *list = at < end ? PyList_New(0) : NULL;
+    if (at == end) {
+        return PyTuple_New(0);
+    }
     while (list && at < end) {
         const char *name = at + 2, *value = memchr(name, '=', (size_t)(end - name));
         at = value_end(value + 1, end);
-        PyObject *pair = Py_BuildValue("NN", PyUnicode_DecodeLatin1(name, value - name, NULL),
-                                       PyUnicode_DecodeLatin1(value + 1, at - value - 1, NULL));
-        if (!pair || PyList_Append(list, pair)) {
-            Py_CLEAR(list);
-        }
-        Py_XDECREF(pair);
+        append(&list, pair_of(latin_1(name, value - name), latin_1(value + 1, at - value - 1)));
     }
-    if (list) {
-        found = PyList_AsTuple(list);
-        Py_DECREF(list);
-    }
-    return found;
+    return tuple_of(list);
 }
 
-/* The value of a canonical media type. */
-static PyObject *media_type_value(PyObject *type, PyObject *text) {
-    char *at;
-    Py_ssize_t length;
+static PyObject *media_type_value(PyObject *type, union slot *at) {
+    const struct text text = written_in(&at[1]);
+    const char *begin = (const char *)text.bytes, *end = begin + text.length;
+    const char *slash = memchr(begin, '/', (size_t)text.length), *behind = value_end(begin, end);
     PyObject *value = new_value(type);
-    if (!value || PyBytes_AsStringAndSize(text, &at, &length)) {
-        Py_XDECREF(value);
-        return NULL;
-    }
-    const char *end = at + length, *slash = memchr(at, '/', (size_t)length), *behind = value_end(at, end);
-    if (!set_member(value, TYPE, PyUnicode_DecodeLatin1(at, slash - at, NULL)) ||
-        !set_member(value, SUBTYPE, PyUnicode_DecodeLatin1(slash + 1, behind - slash - 1, NULL)) ||
-        !set_member(value, PARAMETERS, parameters_of(behind, end))) {
-        Py_CLEAR(value);
-    }
+    set_member(&value, TYPE, latin_1(begin, slash - begin));
+    set_member(&value, SUBTYPE, latin_1(slash + 1, behind - slash - 1));
+    set_member(&value, PARAMETERS, parameters_of(behind, end));
     return value;
 }
 
-/* Makes a call of one argument. */
-static PyObject *make_with(const struct call *call, PyObject *argument) {
-    PyObject *alone = PyTuple_Pack(1, argument), *found = alone ? make(call, alone) : NULL;
-    Py_XDECREF(alone);
-    return found;
+static PyObject *parse_media_type(PyObject *module, PyObject *arguments) {
+    (void)module;
+    return parse(&media_type_call, arguments, media_type_value);
 }
 
-/* Calls whose values are instances of a class of the package: each gives one, or the status if it isn't DONE. */
-
-/* What a call gives after the status, if that is DONE. Else the status is put into `found`, unless there is an error. */
-static PyObject *given_by(PyObject *result, PyObject **found) {
-    PyObject *status = result ? PyTuple_GetItem(result, 0) : NULL, *value = NULL;
-    *found = NULL;
-    if (status && PyLong_AsLong(status) == TYPED_HEADERS_DONE) {
-        value = PyTuple_GetItem(result, 1);
-        Py_XINCREF(value);
-    } else if (status) {
-        *found = status;
-        Py_INCREF(status);
-    }
-    Py_XDECREF(result);
+static PyObject *range_value(PyObject *type, const struct typed_headers_bytes_range *range) {
+    PyObject *value = new_value(type);
+    set_member(&value, FIRST, PyLong_FromUnsignedLongLong(range->first));
+    set_member(&value, LAST, PyLong_FromUnsignedLongLong(range->last));
     return value;
 }
 
-/* A value of two members, taken from a tuple. */
-static PyObject *pair_value(PyObject *type, PyObject *pair, enum member_name first, enum member_name second) {
-    PyObject *value = new_value(type), *one = PyTuple_GetItem(pair, 0), *other = PyTuple_GetItem(pair, 1);
-    Py_XINCREF(one);
-    Py_XINCREF(other);
-    if (!value) {
-        Py_XDECREF(one);
-        Py_XDECREF(other);
-    } else if (!set_member(value, first, one)) {
-        Py_XDECREF(other);
-        Py_CLEAR(value);
-    } else if (!set_member(value, second, other)) {
-        Py_CLEAR(value);
-    }
+/* The type is a tuple of that of the value, and that of its range. */
+static PyObject *content_range_value(PyObject *types, union slot *at) {
+    const struct typed_headers_content_range *given = &at[1].any.content_range;
+    const struct typed_headers_bytes_range range = {given->first, given->last};
+    PyObject *type = PyTuple_GetItem(types, 0), *value = type ? new_value(type) : NULL;
+    set_member(&value, RANGE, given->has_range ? range_value(PyTuple_GetItem(types, 1), &range) : none());
+    set_member(&value, LENGTH, given->has_length ? PyLong_FromUnsignedLongLong(given->length) : none());
     return value;
 }
 
 static PyObject *content_range_as(PyObject *module, PyObject *arguments) {
-    PyObject *type, *range_type, *lines, *found, *range = Py_None;
-    unsigned long long first, last;
-    PyObject *length;
-    int has_range;
     (void)module;
-    if (!PyArg_ParseTuple(arguments, "OOO", &type, &range_type, &lines)) {
-        return NULL;
-    }
-    PyObject *given = given_by(make_with(&content_range_call, lines), &found);
-    if (given && PyArg_ParseTuple(given, "KKOi", &first, &last, &length, &has_range)) {
-        Py_INCREF(range);
-        if (has_range) {
-            Py_DECREF(range);
-            range = pair_value(range_type, given, FIRST, LAST);
-        }
-        PyObject *both = range ? Py_BuildValue("NO", range, length) : NULL;
-        found = both ? pair_value(type, both, RANGE, LENGTH) : NULL;
-        Py_XDECREF(both);
-    }
-    Py_XDECREF(given);
-    return found;
+    return value_or_status(&content_range_call, arguments, content_range_value);
 }
 
-static PyObject *media_type_as(PyObject *module, PyObject *arguments) {
-    PyObject *type, *lines, *found;
-    (void)module;
-    if (!PyArg_ParseTuple(arguments, "OO", &type, &lines)) {
-        return NULL;
+static PyObject *ranges_value(PyObject *type, union slot *at) {
+    const struct typed_headers_bytes_range *ranges = at[2].room.at;
+    PyObject *list = PyList_New(0);
+    for (size_t place = 0; list && place < at[2].room.written; place++) {
+        append(&list, range_value(type, &ranges[place]));
     }
-    PyObject *given = given_by(make_with(&media_type_call, lines), &found);
-    if (given) {
-        found = media_type_value(type, given);
-        Py_DECREF(given);
-    }
-    return found;
+    return list;
 }
 
 static PyObject *ranges_as(PyObject *module, PyObject *arguments) {
-    PyObject *type, *found;
     (void)module;
-    if (PyTuple_Size(arguments) != 3 || !(type = PyTuple_GetItem(arguments, 0))) {
-        PyErr_SetString(PyExc_TypeError, "ranges_as takes 3 arguments");
-        return NULL;
-    }
-    PyObject *rest = PyTuple_GetSlice(arguments, 1, 3);
-    PyObject *given = rest ? given_by(make(&ranges_call, rest), &found) : NULL;
-    Py_XDECREF(rest);
-    if (!rest || !given) {
-        return rest ? found : NULL;
-    }
-    for (Py_ssize_t place = 0; given && place < PyList_Size(given); place++) {
-        PyObject *range = pair_value(type, PyList_GetItem(given, place), FIRST, LAST);
-        if (!range || PyList_SetItem(given, place, range)) {
-            Py_CLEAR(given);
+    return value_or_status(&ranges_call, arguments, ranges_value);
+}
+
+/* Members that aren't set have the class' defaults. */
+static PyObject *cache_control_value(PyObject *type, union slot *at) {
+    const struct typed_headers_cache_directives *given = &at[1].any.cache_directives;
+    const struct typed_headers_directive_seconds *seconds[] = {&given->max_age, &given->max_stale, &given->min_fresh,
+                                                               &given->s_maxage};
+    const uint8_t flags[] = {given->no_cache, given->no_store, given->no_transform, given->only_if_cached,
+                             given->must_revalidate, given->must_understand, given->is_public, given->is_private,
+                             given->immutable, given->proxy_revalidate};
+    PyObject *value = new_value(type);
+    for (int place = 0; place < 4; place++) {
+        if (seconds[place]->is_set) {
+            set_member(&value, MAX_AGE + place, PyLong_FromUnsignedLongLong(seconds[place]->seconds));
         }
     }
-    return given;
+    for (int place = 0; place < 10; place++) {
+        if (flags[place]) {
+            set_member(&value, NO_CACHE + place, PyBool_FromLong(1));
+        }
+    }
+    return value;
+}
+
+static bool is_same_letter(uint8_t one, char other) {
+    return (one >= 'A' && one <= 'Z' ? one + 32 : one) == (uint8_t)other;
+}
+
+/* Whether a text spells a name in any case, and behind it, if that is asked for, `=` before a comma. */
+static bool spells(struct text text, const char *name, bool with_argument) {
+    const Py_ssize_t length = (Py_ssize_t)strlen(name);
+    for (Py_ssize_t begin = 0; begin + length <= text.length; begin++) {
+        Py_ssize_t place = 0;
+        while (place < length && is_same_letter(text.bytes[begin + place], name[place])) {
+            place++;
+        }
+        if (place < length) {
+            continue;
+        }
+        for (place += begin; with_argument && place < text.length && text.bytes[place] != ','; place++) {
+            if (text.bytes[place] == '=') {
+                return true;
+            }
+        }
+        if (!with_argument) {
+            return true;
+        }
+    }
+    return false;
+}
+
+/* No value if the lines spell what other calls say of them. */
+static PyObject *plain_cache_control_value(PyObject *type, union slot *at) {
+    const struct text lines = at[0].lines.text;
+    const bool is_plain = !spells(lines, "stale-", false) && !spells(lines, "no-cache", true) &&
+                          !spells(lines, "private", true);
+    return is_plain ? cache_control_value(type, at) : NULL;
+}
+
+static PyObject *parse_cache_control(PyObject *module, PyObject *arguments) {
+    (void)module;
+    return parse(&cache_control_call, arguments, plain_cache_control_value);
+}
+
+static PyObject *basic_value(PyObject *type, union slot *at) {
+    const struct text text = written_in(&at[2]);
+    const char *user = (const char *)text.bytes;
+    const Py_ssize_t length = (Py_ssize_t)at[1].size;
+    PyObject *value = new_value(type);
+    set_member(&value, USER, PyUnicode_DecodeUTF8(user, length, NULL));
+    set_member(&value, PASSWORD, PyUnicode_DecodeUTF8(user + length, text.length - length, NULL));
+    return value;
+}
+
+static PyObject *bearer_value(PyObject *type, union slot *at) {
+    const struct text text = written_in(&at[1]);
+    PyObject *value = new_value(type);
+    set_member(&value, TOKEN, latin_1((const char *)text.bytes, text.length));
+    return value;
+}
+
+/* Credentials of Bearer, or else of Basic. */
+static PyObject *parse_credentials(PyObject *module, PyObject *arguments) {
+    struct given given;
+    uint8_t status;
+    (void)module;
+    if (!read_parsed(arguments, &given)) {
+        return NULL;
+    }
+    PyObject *found = make_value(&bearer_call, &given, bearer_value, &status);
+    if (!found && status == TYPED_HEADERS_REFUSED && !PyErr_Occurred()) {
+        found = make_value(&basic_call, &given, basic_value, &status);
+    }
+    return found_or_else(found, arguments, &given, status);
+}
+
+/* The names and values of lines that each have `=` behind the name. */
+static PyObject *cookie_value(PyObject *type, union slot *at) {
+    const struct text text = written_in(&at[1]);
+    const char *next = (const char *)text.bytes, *end = next + text.length;
+    PyObject *value = new_value(type), *list = PyList_New(0);
+    while (list && next < end) {
+        const char *behind = memchr(next, '\n', (size_t)(end - next));
+        const char *sign = memchr(next, '=', (size_t)(behind - next));
+        append(&list, pair_of(latin_1(next, sign - next), latin_1(sign + 1, behind - sign - 1)));
+        next = behind + 1;
+    }
+    set_member(&value, PAIRS, tuple_of(list));
+    return value;
+}
+
+static PyObject *parse_cookie(PyObject *module, PyObject *arguments) {
+    (void)module;
+    return parse(&cookies_call, arguments, cookie_value);
+}
+
+/* A part of a field: its letter, its name or its text, and its value or None. */
+static PyObject *part_of(const char *at, const char *end) {
+    const char *sign = *at == 'p' ? memchr(at, '=', (size_t)(end - at)) : NULL;
+    PyObject *kind = latin_1(at, 1), *name = latin_1(at + 1, (sign ? sign : end) - at - 1);
+    PyObject *value = sign ? latin_1(sign + 1, end - sign - 1) : none();
+    PyObject *part = kind && name && value ? PyTuple_Pack(3, kind, name, value) : NULL;
+    Py_XDECREF(kind);
+    Py_XDECREF(name);
+    Py_XDECREF(value);
+    return part;
+}
+
+/* The parts of fields: a list of those of each element, up to an empty line. */
+static PyObject *groups_value(PyObject *type, union slot *at) {
+    const struct text text = written_in(&at[2]);
+    const char *next = (const char *)text.bytes, *end = next + text.length;
+    PyObject *groups = PyList_New(0), *group = groups ? PyList_New(0) : NULL;
+    (void)type;
+    while (groups && group && next < end) {
+        const char *behind = memchr(next, '\n', (size_t)(end - next));
+        if (behind > next) {
+            append(&group, part_of(next, behind));
+        } else {
+            append(&groups, group);
+            group = PyList_New(0);
+        }
+        next = behind + 1;
+    }
+    if (!group) {
+        Py_CLEAR(groups);
+    } else if (PyList_Size(group) > 0) {
+        append(&groups, group);
+    } else {
+        Py_DECREF(group);
+    }
+    return groups;
+}
+
+static PyObject *groups(PyObject *module, PyObject *arguments) {
+    (void)module;
+    return value_or_status(&field_parts_call, arguments, groups_value);
+}
+
+/* The parameters up to an empty line, whose end is the next line. NULL also if a part is none. */
+static PyObject *parameters_before(const char **next, const char *end) {
+    PyObject *list = PyList_New(0);
+    for (const char *behind; list && **next != '\n'; *next = behind + 1) {
+        const char *at = *next;
+        behind = memchr(at, '\n', (size_t)(end - at));
+        const char *sign = *at == 'p' ? memchr(at, '=', (size_t)(behind - at)) : NULL;
+        if (sign) {
+            append(&list, pair_of(latin_1(at + 1, sign - at - 1), latin_1(sign + 1, behind - sign - 1)));
+        } else if (*at == 'n') {
+            append(&list, pair_of(latin_1(at + 1, behind - at - 1), none()));
+        } else {
+            Py_CLEAR(list);
+        }
+    }
+    ++*next;
+    return tuple_of(list);
+}
+
+/* An element: a text, and parameters behind it. NULL also if it is something else. */
+static PyObject *element_before(PyObject *type, PyObject *member, bool is_link, const char **next, const char *end) {
+    const char *at = *next, *behind = memchr(at, '\n', (size_t)(end - at));
+    const bool is_one = is_link ? *at == 'v' : (*at == 'v' || *at == 'n') && behind > at + 1;
+    PyObject *value = is_one ? new_value(type) : NULL, *text = value ? latin_1(at + 1, behind - at - 1) : NULL;
+    if (value && (!text || PyObject_GenericSetAttr(value, member, text))) {
+        Py_CLEAR(value);
+    }
+    Py_XDECREF(text);
+    *next = behind + 1;
+    PyObject *parameters = value ? parameters_before(next, end) : NULL;
+    if (value) {
+        set_member(&value, PARAMETERS, parameters);
+    }
+    return value;
+}
+
+/* The elements of fields. The type is a tuple of that of an element, and of the name of its text. None if one of them
+   has something else than parameters behind it. */
+static PyObject *elements_value(PyObject *types, union slot *at) {
+    const struct text text = written_in(&at[2]);
+    const char *next = (const char *)text.bytes, *end = next + text.length;
+    PyObject *type = PyTuple_GetItem(types, 0), *member = PyTuple_GetItem(types, 1), *list = PyList_New(0);
+    while (type && member && list && next < end) {
+        append(&list, element_before(type, member, at[0].u8 == TYPED_HEADERS_LINKS, &next, end));
+    }
+    return list || PyErr_Occurred() ? list : none();
+}
+
+static PyObject *elements_as(PyObject *module, PyObject *arguments) {
+    (void)module;
+    return value_or_status(&field_parts_call, arguments, elements_value);
 }
 
 /* A header section. */
@@ -833,59 +1129,173 @@ static bool is_value_byte(char byte) {
 
 static bool is_name_byte(char byte) { return byte != ':' && byte != '\r' && byte != '\n'; }
 
-/* Adds a name or a value, and what ends it, to a section. False if it can't be one, or if there is no memory. */
-static bool add_part(PyObject *part, bool (*is_allowed)(char), const char *end, struct text *section, uint8_t **room) {
-    PyObject *bytes = bytes_of(part);
-    char *at;
-    Py_ssize_t length;
-    bool is_added = bytes && PyBytes_AsStringAndSize(bytes, &at, &length) == 0;
-    for (Py_ssize_t place = 0; is_added && place < length; place++) {
-        is_added = is_allowed(at[place]);
-    }
-    const size_t before = (size_t)section->length, after = strlen(end);
-    uint8_t *more = is_added ? PyMem_Realloc(*room, before + (size_t)length + after) : NULL;
-    if (more) {
-        memcpy(more + before, at, (size_t)length);
-        memcpy(more + before + (size_t)length, end, after);
-        *room = more;
-        section->length = (Py_ssize_t)(before + (size_t)length + after);
-    }
-    Py_XDECREF(bytes);
-    return more != NULL;
+/* A section that is being made: on the stack, or if it doesn't fit, in memory. */
+struct section_text {
+    uint8_t *at, *memory;
+    size_t length, room;
+    uint8_t few[SHORT_TEXT];
+};
+
+static void begin_section(struct section_text *section) {
+    section->at = section->few, section->memory = NULL, section->length = 0, section->room = SHORT_TEXT;
 }
 
-/* The section of a dictionary of names to single values. None of another one, and if a name or a value can be none. */
+/* Makes room for so many bytes more. */
+static bool reserve(struct section_text *section, size_t more) {
+    if (section->length + more <= section->room) {
+        return true;
+    }
+    const size_t room = 2 * (section->length + more);
+    uint8_t *memory = PyMem_Realloc(section->memory, room);
+    if (memory && !section->memory) {
+        memcpy(memory, section->few, section->length);
+    }
+    if (memory) {
+        section->at = section->memory = memory, section->room = room;
+    }
+    return memory != NULL;
+}
+
+/* Adds a name or a value, and what ends it, to a section. False if it can't be one, or if there is no memory. */
+static bool add_part(PyObject *part, bool (*is_allowed)(char), const char *end, struct section_text *section) {
+    struct lines line;
+    PyObject *bytes = NULL;
+    const char *at = (const char *)line.line;
+    clear_lines(&line);
+    if (read_short(part, &line)) {
+        at = (const char *)line.text.bytes;
+    } else if (!(bytes = bytes_of(part)) || PyBytes_AsStringAndSize(bytes, (char **)&at, &line.text.length)) {
+        Py_XDECREF(bytes);
+        return false;
+    }
+    const size_t length = (size_t)line.text.length, after = strlen(end);
+    bool is_added = reserve(section, length + after);
+    for (size_t place = 0; is_added && place < length; place++) {
+        is_added = is_allowed(at[place]);
+    }
+    if (is_added) {
+        memcpy(section->at + section->length, at, length);
+        memcpy(section->at + section->length + length, end, after);
+        section->length += length + after;
+    }
+    Py_XDECREF(bytes);
+    return is_added;
+}
+
+static bool add_field(PyObject *name, PyObject *value, struct section_text *section) {
+    const size_t before = section->length;
+    return name && value && add_part(name, is_name_byte, ": ", section) && section->length > before + 2 &&
+           add_part(value, is_value_byte, "\n", section);
+}
+
+/*
+ * The section of a dictionary of names to single values, or of a list or a tuple of pairs. None of anything else, and if
+ * a name or a value can be none.
+ */
 static PyObject *section(PyObject *module, PyObject *arguments) {
     PyObject *fields, *name, *value, *found = NULL;
-    struct text made = {NULL, 0};
-    uint8_t *room = NULL;
+    struct section_text made;
     Py_ssize_t place = 0;
+    bool is_made = true;
     (void)module;
+    begin_section(&made);
     if (!PyArg_ParseTuple(arguments, "O", &fields)) {
         return NULL;
     }
-    bool is_made = PyDict_CheckExact(fields);
-    while (is_made && PyDict_Next(fields, &place, &name, &value)) {
-        const Py_ssize_t before = made.length;
-        is_made = add_part(name, is_name_byte, ": ", &made, &room) && made.length > before + 2 &&
-                  add_part(value, is_value_byte, "\n", &made, &room);
+    if (PyDict_CheckExact(fields)) {
+        while (is_made && PyDict_Next(fields, &place, &name, &value)) {
+            is_made = add_field(name, value, &made);
+        }
+    } else if (PyList_CheckExact(fields) || PyTuple_CheckExact(fields)) {
+        const bool is_list = PyList_CheckExact(fields);
+        const Py_ssize_t count = is_list ? PyList_Size(fields) : PyTuple_Size(fields);
+        for (; is_made && place < count; place++) {
+            PyObject *pair = is_list ? PyList_GetItem(fields, place) : PyTuple_GetItem(fields, place);
+            is_made = pair && PyTuple_CheckExact(pair) && PyTuple_Size(pair) == 2 &&
+                      add_field(PyTuple_GetItem(pair, 0), PyTuple_GetItem(pair, 1), &made);
+        }
+    } else {
+        is_made = false;
     }
     PyErr_Clear();
-    if (is_made) {
-        found = PyBytes_FromStringAndSize((const char *)room, made.length);
-    } else {
-        found = Py_None;
-        Py_INCREF(found);
+    found = is_made ? PyBytes_FromStringAndSize((const char *)made.at, (Py_ssize_t)made.length) : none();
+    PyMem_Free(made.memory);
+    return found;
+}
+
+/* A name of a field in lower case. */
+static PyObject *lower_name(const char *at, Py_ssize_t length) {
+    char few[SHORT_LINE];
+    bool is_ascii = length <= SHORT_LINE;
+    for (Py_ssize_t place = 0; is_ascii && place < length; place++) {
+        is_ascii = (unsigned char)at[place] < 128;
+        few[place] = at[place] >= 'A' && at[place] <= 'Z' ? (char)(at[place] + 32) : at[place];
     }
-    PyMem_Free(room);
+    if (is_ascii) {
+        return latin_1(few, length);
+    }
+    PyObject *name = latin_1(at, length), *lower = name ? PyObject_CallMethod(name, "lower", NULL) : NULL;
+    Py_XDECREF(name);
+    return lower;
+}
+
+static bool is_blank(char byte) { return byte == ' ' || byte == '\t'; }
+
+/* The name, in lower case, and the value of a line of a section. */
+static PyObject *pair_at(const char *next, const char *end) {
+    const char *colon = memchr(next, ':', (size_t)(end - next)), *from = colon ? colon + 1 : end, *to = end;
+    while (from < to && is_blank(*from)) {
+        from++;
+    }
+    while (from < to && is_blank(to[-1])) {
+        to--;
+    }
+    return pair_of(lower_name(next, (colon ? colon : end) - next), latin_1(from, to - from));
+}
+
+/* The pairs of the lines of a section up to an empty one. */
+static PyObject *pairs(PyObject *module, PyObject *arguments) {
+    char *next;
+    Py_ssize_t length;
+    PyObject *section = PyTuple_GetItem(arguments, 0), *list = NULL;
+    (void)module;
+    if (!section || PyBytes_AsStringAndSize(section, &next, &length) || !(list = PyList_New(0))) {
+        return NULL;
+    }
+    for (const char *last = next + length; list && next < last;) {
+        char *end = memchr(next, '\n', (size_t)(last - next)), *behind = end ? end + 1 : next + (last - next);
+        end = end ? end : behind;
+        end -= end > next && end[-1] == '\r';
+        if (end == next) {
+            break;
+        }
+        append(&list, pair_at(next, end));
+        next = behind;
+    }
+    return list;
+}
+
+/* The pair of a name and a value. None if they are no field. */
+static PyObject *pair(PyObject *module, PyObject *arguments) {
+    struct section_text made;
+    (void)module;
+    begin_section(&made);
+    const bool is_made = add_field(PyTuple_GetItem(arguments, 0), PyTuple_GetItem(arguments, 1), &made);
+    PyErr_Clear();
+    PyObject *found = is_made ? pair_at((const char *)made.at, (const char *)made.at + made.length - 1) : none();
+    PyMem_Free(made.memory);
     return found;
 }
 
 #define METHOD(name) {#name, call_##name, METH_VARARGS, NULL}
 #define OWN(name) {#name, name, METH_VARARGS, NULL}
+#define PARSE(name)                                                                                                    \
+    {"parse_" #name, parse_##name, METH_VARARGS,                                                                       \
+     "parse_" #name "($module, type, line, /, *more)\n--\n\nThe value of field lines."}
 static PyMethodDef methods[] = {
-    CALLS, OWN(content_range_as), OWN(etag), OWN(media_type_as), OWN(ranges_as), OWN(section), OWN(use_keys),
-    OWN(version), {NULL, NULL, 0, NULL},
+    CALLS, OWN(content_range_as), OWN(elements_as), OWN(groups), OWN(pair), OWN(pairs),
+    PARSE(cache_control), PARSE(cookie), PARSE(credentials), PARSE(etag), PARSE(etags), PARSE(media_type), OWN(ranges_as),
+    OWN(section), OWN(use_keys), OWN(version), {NULL, NULL, 0, NULL},
 };
 
 static struct PyModuleDef definition = {

@@ -2,65 +2,139 @@
 
     speed.py
 
-Prints a table: microseconds of this process for a call, the least of fifteen runs, and ours as a multiple of the
-other's. A framework that isn't there is left out.
+Prints a table: microseconds of this process for a call, the least of fifteen runs that alternate with those of the
+other side, and ours as a multiple of the other's. A framework that isn't there is left out.
 """
 import email.utils
+import http.cookies
 import importlib
 import time
 import timeit
 from collections.abc import Callable
 from datetime import datetime, timezone
+from typing import Any
 
 import typed_headers as ours
 
-RUNS, CALLS = 15, 3000
+RUNS, CALLS = 15, 2000
 DATE = "Sun, 06 Nov 1994 08:49:37 GMT"
 TIME = datetime(1994, 11, 6, 8, 49, 37, tzinfo=timezone.utc)
 CONDITION = {"REQUEST_METHOD": "GET", "HTTP_IF_NONE_MATCH": '"a"'}
 TARGET = ours.Target('"a"')
+BASIC, BEARER = "Basic QWxhZGRpbjpvcGVuIHNlc2FtZQ==", "Bearer mF_9.B5f-4.1JqM"
+COOKIES = "SID=31d4d96e407aad42; lang=en-US; theme=dark"
+DIRECTIVES = "no-cache, max-age=60, private"
+TYPES, OFFERED_TYPES = "text/html, application/xml;q=0.9, */*;q=0.8", ["text/plain", "application/xml", "text/html"]
+LANGUAGES, OFFERED_LANGUAGES = "da, en-gb;q=0.8, en;q=0.7", ["en-US", "en-GB", "de"]
+CODINGS, OFFERED_CODINGS = "gzip, deflate, br;q=0.9", ["br", "gzip", "identity"]
+CHALLENGE = 'Digest realm="b", nonce="c", qop="auth"'
+DISPOSITION = 'attachment; filename="a b.txt"'
+FIELDS = {
+    "Content-Type": "text/html; charset=utf-8",
+    "Content-Length": "42",
+    "ETag": '"a"',
+    "Cache-Control": "no-cache, max-age=60",
+    "Vary": "Accept",
+    "Date": DATE,
+}
+
+Call = Callable[[], object]
+#: What is called, what it is beside, our call and theirs.
+Row = tuple[str, str, Call, Call]
 
 
-def micros(call: Callable[[], object]) -> float:
-    return min(timeit.repeat(call, number=CALLS, repeat=RUNS, timer=time.process_time)) / CALLS * 1e6
+def micros(*calls: Call) -> list[float]:
+    """The times of calls, which alternate."""
+    found = [timeit.repeat(call, number=CALLS, repeat=1, timer=time.process_time) for call in calls]
+    for _ in range(RUNS - 1):
+        for place, call in enumerate(calls):
+            found[place] += timeit.repeat(call, number=CALLS, repeat=1, timer=time.process_time)
+    return [min(times) / CALLS * 1e6 for times in found]
 
 
-def other(name: str) -> object | None:
+def other(name: str) -> Any:
     try:
         return importlib.import_module(name)
     except ImportError:
         return None
 
 
-def main() -> None:
-    werkzeug, django = other("werkzeug.http"), other("django.utils.http")
-    calls: list[tuple[str, Callable[[], object], str, Callable[[], object] | None]] = [
-        ("`date(line)`", lambda: ours.date(DATE), "email", lambda: email.utils.parsedate_to_datetime(DATE)),
-        ("`format_date(time)`", lambda: ours.format_date(TIME), "email",
+def beside_library() -> list[Row]:
+    return [
+        ("`date(line)`", "email", lambda: ours.date(DATE), lambda: email.utils.parsedate_to_datetime(DATE)),
+        ("`format_date(time)`", "email", lambda: ours.format_date(TIME),
          lambda: email.utils.format_datetime(TIME, usegmt=True)),
+        ("`Cookie.parse(line)`", "http.cookies", lambda: ours.Cookie.parse(COOKIES),
+         lambda: http.cookies.SimpleCookie(COOKIES)),
     ]
-    if werkzeug:
-        calls += [(title, mine, "werkzeug", theirs) for title, mine, theirs in (
-            ("`date(line)`", lambda: ours.date(DATE), lambda: werkzeug.parse_date(DATE)),
-            ("`age(line)`", lambda: ours.age("7"), lambda: werkzeug.parse_age("7")),
-            ("`CacheControl.parse(line)`", lambda: ours.CacheControl.parse("no-cache, max-age=60, private"),
-             lambda: werkzeug.parse_cache_control_header("no-cache, max-age=60, private")),
-            ("`ETag.parse(line)`", lambda: ours.ETag.parse('W/"abc"'), lambda: werkzeug.unquote_etag('W/"abc"')),
-            ("`MediaType.parse(line)`", lambda: ours.MediaType.parse("text/html; charset=utf-8"),
-             lambda: werkzeug.parse_options_header("text/html; charset=utf-8")),
-            ("`Range.parse(line).satisfiable(n)`", lambda: ours.Range.parse("bytes=0-499").satisfiable(1000),
-             lambda: werkzeug.parse_range_header("bytes=0-499").range_for_length(1000)),
-            ("`ContentRange.parse(line)`", lambda: ours.ContentRange.parse("bytes 0-4/10"),
-             lambda: werkzeug.parse_content_range_header("bytes 0-4/10")),
-            ("`evaluate(..)`", lambda: ours.evaluate("GET", {"If-None-Match": '"a"'}, TARGET),
-             lambda: werkzeug.is_resource_modified(CONDITION, etag="a")),
-        )]
-    if django:
-        calls.append(("`date(line)`", lambda: ours.date(DATE), "django", lambda: django.parse_http_date(DATE)))
+
+
+def beside_werkzeug(it: Any, kinds: Any) -> list[Row]:
+    headers, theirs = ours.Headers(FIELDS), kinds.Headers(FIELDS)
+    given = ours.CacheControl(max_age=60, public=True), it.parse_cache_control_header("max-age=60, public")
+    rows: list[tuple[str, Call, Call]] = [
+        ("`date(line)`", lambda: ours.date(DATE), lambda: it.parse_date(DATE)),
+        ("`format_date(time)`", lambda: ours.format_date(TIME), lambda: it.http_date(TIME)),
+        ("`age(line)`", lambda: ours.age("7"), lambda: it.parse_age("7")),
+        ("`members(line)`", lambda: ours.members("Accept, Origin"), lambda: it.parse_list_header("Accept, Origin")),
+        ("`CacheControl.parse(line)`", lambda: ours.CacheControl.parse(DIRECTIVES),
+         lambda: it.parse_cache_control_header(DIRECTIVES)),
+        ("`str(CacheControl)`", lambda: str(given[0]), lambda: given[1].to_header()),
+        ("`Challenge.parse_all(line)`", lambda: ours.Challenge.parse_all(CHALLENGE),
+         lambda: kinds.WWWAuthenticate.from_header(CHALLENGE)),
+        ("`ContentDisposition.parse(line)`", lambda: ours.ContentDisposition.parse(DISPOSITION),
+         lambda: it.parse_options_header(DISPOSITION)),
+        ("`ContentRange.parse(line)`", lambda: ours.ContentRange.parse("bytes 0-4/10"),
+         lambda: it.parse_content_range_header("bytes 0-4/10")),
+        ("`Cookie.parse(line)`", lambda: ours.Cookie.parse(COOKIES), lambda: it.parse_cookie(COOKIES)),
+        ("`Credentials.parse(line)` of Basic", lambda: ours.Credentials.parse(BASIC),
+         lambda: kinds.Authorization.from_header(BASIC)),
+        ("`Credentials.parse(line)` of Bearer", lambda: ours.Credentials.parse(BEARER),
+         lambda: kinds.Authorization.from_header(BEARER)),
+        ("`ETag.parse(line)`", lambda: ours.ETag.parse('W/"abc"'), lambda: it.unquote_etag('W/"abc"')),
+        ("`ETags.parse(line)`", lambda: ours.ETags.parse('"a", W/"b"'), lambda: it.parse_etags('"a", W/"b"')),
+        ("`MediaType.parse(line)`", lambda: ours.MediaType.parse("text/html; charset=utf-8"),
+         lambda: it.parse_options_header("text/html; charset=utf-8")),
+        ("`Range.parse(line).satisfiable(n)`", lambda: ours.Range.parse("bytes=0-499").satisfiable(1000),
+         lambda: it.parse_range_header("bytes=0-499").range_for_length(1000)),
+        ("`Accept.parse(line)`", lambda: ours.Accept.parse(TYPES),
+         lambda: it.parse_accept_header(TYPES, kinds.MIMEAccept)),
+        ("`choose_type(..)`", lambda: ours.choose_type({"Accept": TYPES}, OFFERED_TYPES),
+         lambda: it.parse_accept_header(TYPES, kinds.MIMEAccept).best_match(OFFERED_TYPES)),
+        ("`choose_coding(..)`", lambda: ours.choose_coding({"Accept-Encoding": CODINGS}, OFFERED_CODINGS),
+         lambda: it.parse_accept_header(CODINGS).best_match(OFFERED_CODINGS)),
+        ("`choose_language(..)`", lambda: ours.choose_language({"Accept-Language": LANGUAGES}, OFFERED_LANGUAGES),
+         lambda: it.parse_accept_header(LANGUAGES, kinds.LanguageAccept).best_match(OFFERED_LANGUAGES)),
+        ("`evaluate(..)`", lambda: ours.evaluate("GET", {"If-None-Match": '"a"'}, TARGET),
+         lambda: it.is_resource_modified(CONDITION, etag="a")),
+        ("`Headers(six)[name]`", lambda: ours.Headers(FIELDS)["etag"], lambda: kinds.Headers(FIELDS)["etag"]),
+        ("`headers[name]`", lambda: headers["etag"], lambda: theirs["etag"]),
+        ("`headers[name] = value`", lambda: headers.__setitem__("etag", '"b"'),
+         lambda: theirs.__setitem__("etag", '"b"')),
+    ]
+    return [(title, "werkzeug", mine, call) for title, mine, call in rows]
+
+
+def beside_django(it: Any, cookies: Any) -> list[Row]:
+    rows: list[tuple[str, Call, Call]] = [
+        ("`date(line)`", lambda: ours.date(DATE), lambda: it.parse_http_date(DATE)),
+        ("`format_date(seconds)`", lambda: ours.format_date(784111777), lambda: it.http_date(784111777)),
+        ("`Cookie.parse(line)`", lambda: ours.Cookie.parse(COOKIES), lambda: cookies.parse_cookie(COOKIES)),
+        ("`ETags.parse(line)`", lambda: ours.ETags.parse('"a", W/"b"'), lambda: it.parse_etags('"a", W/"b"')),
+    ]
+    return [(title, "django", mine, call) for title, mine, call in rows]
+
+
+def main() -> None:
+    rows = beside_library()
+    if other("werkzeug"):
+        rows += beside_werkzeug(other("werkzeug.http"), other("werkzeug.datastructures"))
+    if other("django"):
+        rows += beside_django(other("django.utils.http"), other("django.http.cookie"))
+    found = [(micros(mine, theirs), title, name) for title, name, mine, theirs in rows]
     print("| Call | beside | ours | theirs | ours / theirs |\n|---|---|---:|---:|---:|")
-    for title, mine, name, theirs in calls:
-        times = micros(mine), micros(theirs)
-        print(f"| {title} | {name} | {times[0]:.2f} | {times[1]:.2f} | {times[0] / times[1]:.2f} |")
+    for (mine, theirs), title, name in sorted(found, key=lambda it: it[0][0] / it[0][1]):
+        print(f"| {title} | {name} | {mine:.2f} | {theirs:.2f} | {mine / theirs:.2f} |")
 
 
 if __name__ == "__main__":

@@ -99,6 +99,18 @@ class Sections(unittest.TestCase):
                 headers.add(name, value)
         self.assertEqual(headers.pairs(), before)
 
+    def test_a_mapping_with_what_is_no_field(self) -> None:
+        """It changes once that is gone."""
+        headers = Headers("A: b\x00\nC: d\n")
+        with self.assertRaises(InvalidField):
+            headers["c"] = "e"
+        with self.assertRaises(InvalidField):
+            headers.add("c", "e")
+        self.assertEqual(headers.pairs(), [("a", "b\x00"), ("c", "d")])
+        del headers["a"]
+        headers["c"] = "e"
+        self.assertEqual((headers.pairs(), headers.section), ([("c", "e")], b"c: e\n"))
+
     def test_typed_reads(self) -> None:
         headers = Headers(
             {

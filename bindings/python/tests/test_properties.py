@@ -248,6 +248,10 @@ def by_wsgi(make: Callable[[Any], Any]) -> Any:
 PARAMETERS = some.lists(some.tuples(NAME, some.one_of(some.none(), MADE)), max_size=3)
 SERVED = wsgi.Served(it.Resource(["GET"], [it.Representation("text/plain", 4, '"a"')]), lambda place: b"milk")
 POLICY = it.CorsPolicy(["https://a.example"], ["PUT"], "*", "*", 60)
+def tags_of(tags: List[Tuple[str, bool]], is_any: bool) -> it.ETags:
+    return it.ETags(tuple(it.ETag(*tag) for tag in tags), is_any)
+
+
 VALUES: Dict[str, Any] = {
     "CacheControl": call(
         it.CacheControl,
@@ -290,7 +294,12 @@ VALUES: Dict[str, Any] = {
     "Cookie": call(it.Cookie, some.lists(some.tuples(MADE, MADE), max_size=3)),
     "Credentials": some.one_of(call(it.Credentials, ANY_TEXT, ANY_TEXT), call(it.Credentials, token=ANY_TEXT)),
     "ETag": call(it.ETag, ANY_TEXT, BOOL),
+    "ETags": call(tags_of, some.lists(some.tuples(ANY_TEXT, BOOL), max_size=3), BOOL),
     "Host": call(it.Host, ANY_TEXT, some.one_of(some.none(), NUMBER)),
+    "IfRange": some.one_of(
+        call(lambda *tag: it.IfRange(it.ETag(*tag)), ANY_TEXT, BOOL),
+        call(it.IfRange, date=some.datetimes(timezones=some.just(timezone.utc))),
+    ),
     "MediaType": call(
         it.MediaType,
         some.sampled_from(["text", "Image", "a b", ""]),
@@ -729,6 +738,8 @@ class Threads(unittest.TestCase):
         first.ended(now=1000)
         values: List[Any] = [
             it.ETag("a"),
+            it.ETags((it.ETag("a"),)),
+            it.IfRange(it.ETag("a")),
             it.MediaType("text", "html", (("q", "1"),)),
             it.CacheControl(max_age=5),
             it.Range("bytes=0-3"),

@@ -13,7 +13,7 @@ import time
 import unittest
 from contextlib import suppress
 from pathlib import Path
-from typing import IO, Any, Callable, Iterator, List, Optional, Tuple, Union
+from typing import IO, Any, Callable, Dict, Iterator, List, Optional, Tuple, Union
 
 from typed_headers import Cache, Gateway, HeaderError
 from typed_headers.asgi import Cached
@@ -31,7 +31,15 @@ MIB = 1024 * 1024
 #: What an origin server does between the bytes that it sends: it ends the connection, or resets it.
 CUT, RESET = "cut", "reset"
 Piece = Union[bytes, float, str]
-OPTIONS = {"proxy_headers": False, "server_header": False, "date_header": False, "access_log": False}
+OPTIONS: Dict[str, Any] = {
+    "proxy_headers": False,
+    "server_header": False,
+    "date_header": False,
+    "access_log": False,
+    # (with httptools uvicorn drops the host of a request's target, and rejects methods)
+    "http": "h11",
+    "loop": "asyncio",
+}
 DATE = b"Date: Sun, 06 Nov 1994 08:49:37 GMT\r\n"
 
 
@@ -658,7 +666,8 @@ PROGRAM = """
 import sys, uvicorn
 from typed_headers import Gateway
 from typed_headers.proxy import Proxy
-uvicorn.run(Proxy(sys.argv[1], Gateway("gw.example")), fd=int(sys.argv[2]), log_level="critical")
+uvicorn.run(Proxy(sys.argv[1], Gateway("gw.example")), fd=int(sys.argv[2]), log_level="critical",
+            http="h11", loop="asyncio")
 """
 LARGE = 100 * MIB
 

@@ -1003,8 +1003,8 @@ class Clients(Storages):
         def ask(storage: Storage, method: str) -> Tuple[bool, bytes]:
             with requests.Session() as session:
                 session.mount("http://", CachedAdapter(storage=storage, secret=b"mine"))
-                found = session.request(method, self.url)
-                return found.from_cache, found.content  # type: ignore[attr-defined]
+                found: Any = session.request(method, self.url)
+                return found.from_cache, found.content
 
         self.judge(ask)
         program = (

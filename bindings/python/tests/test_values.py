@@ -6,7 +6,8 @@ import pickle
 import unittest
 from concurrent.futures import ProcessPoolExecutor
 from datetime import datetime, timedelta, timezone
-from typing import Any, Callable, Tuple
+from random import Random
+from typing import Any, Callable, List, Tuple, get_type_hints
 
 from typed_headers import (
     ByteRange,
@@ -15,9 +16,11 @@ from typed_headers import (
     Cookie,
     Credentials,
     ETag,
+    ETags,
     HeaderError,
     Headers,
     Host,
+    IfRange,
     InvalidField,
     InvalidSection,
     MediaType,
@@ -28,6 +31,7 @@ from typed_headers import (
     Section,
     StrictTransportSecurity,
     age,
+    canonical_field,
     canonical_section,
     content_length,
     date,
@@ -39,6 +43,8 @@ from typed_headers import (
     members,
     websocket_accept,
 )
+
+from typed_headers._names import FIELDS
 
 # The example of RFC 9110, section 5.6.7, in the three formats.
 DATES = ("Sun, 06 Nov 1994 08:49:37 GMT", "Sunday, 06-Nov-94 08:49:37 GMT", "Sun Nov  6 08:49:37 1994")
@@ -214,6 +220,30 @@ class Directives(unittest.TestCase):
         self.assertEqual(named, wanted)
         self.assertEqual(CacheControl.parse(str(named)), named)
         self.assertEqual(str(CacheControl()), "")
+
+    def test_lines_that_one_call_parses(self) -> None:
+        """They give what all calls give."""
+        parts = ["no-cache", "Private", "private=a", "stale-if-error", "Stale-while-revalidate=1", "max-age=2", "=", ","]
+        parts += ['"', "\\", "public", "no-cache =b", "x", 'no-cache="a, b"', " ", "s-maxage=x", "proxy-revalidate"]
+        draw = Random(1)
+        for _ in range(2000):
+            lines = ["".join(draw.choices(parts + [", "] * 8, k=draw.randint(1, 7))) for _ in range(draw.randint(1, 2))]
+            found: List[str] = []
+            for parse in (lambda: CacheControl.parse(*lines), lambda: CacheControl._otherwise(0, tuple(lines))):
+                try:
+                    found.append(repr(parse()))
+                except InvalidField as error:
+                    found.append(str(error))
+            self.assertEqual(found[0], found[1], lines)
+
+    def test_text_is_canonical(self) -> None:
+        names = [name for name, kind in get_type_hints(CacheControl).items() if "stale_" not in name]
+        for one in names:
+            for other in names:
+                given = {it: True if isinstance(getattr(CacheControl(), it), bool) else 5 for it in (one, other)}
+                if "_fields" not in one + other:
+                    text = str(CacheControl(**given))  # type: ignore[arg-type]
+                    self.assertEqual(canonical_field("Cache-Control", text), [text])
 
     def test_rejected(self) -> None:
         with self.assertRaisesRegex(InvalidField, "cache-control: .*not 'max-age=x'"):
@@ -399,6 +429,78 @@ class TypedValues(unittest.TestCase):
         self.assertFalse(has_member("", "a,,b"))
         with self.assertRaises(InvalidField):
             members("a\n")
+
+    def test_tags_of_conditions(self) -> None:
+        tags = ETags.parse('"a,b", W/"c"', '"d"')
+        self.assertEqual([str(it) for it in tags], ['"a,b"', 'W/"c"', '"d"'])
+        self.assertTrue(tags.matches_strongly(ETag("d")) and tags.matches_weakly(ETag("c")))
+        self.assertFalse(tags.matches_strongly(ETag("c", weak=True)) or tags.matches_weakly(ETag("a")))
+        self.assertTrue(ETags.parse("*").matches_strongly(ETag("x")))
+        self.assertEqual(ETags.parse("").tags, ())
+        self.assertEqual(pickle.loads(pickle.dumps(tags)), tags)
+        for line in ("a", '"a', '"a", b', '*, "a"', '"\xe9"', "a\n"):
+            with self.assertRaisesRegex(InvalidField, "if-none-match"):
+                ETags.parse(line)
+        with self.assertRaises(HeaderError):
+            ETags((ETag("a"),), is_any=True)
+        with self.assertRaises(HeaderError):
+            ETags((ETag("\xe9"),))
+        with self.assertRaises(TypeError):
+            ETags(("a",))  # type: ignore[arg-type]
+
+    def test_conditions_of_ranges(self) -> None:
+        self.assertEqual(IfRange.parse('W/"a"'), IfRange(ETag("a", weak=True)))
+        self.assertEqual([IfRange.parse(it).date for it in DATES], [TIME] * 3)
+        self.assertEqual(str(IfRange(date=TIME)), DATES[0])
+        for line in ("a", '"a", "b"', "Sun, 06 Nov 1994"):
+            with self.assertRaisesRegex(InvalidField, "if-range"):
+                IfRange.parse(line)
+        with self.assertRaises(HeaderError):
+            IfRange()
+        with self.assertRaises(HeaderError):
+            IfRange(ETag("a"), TIME)
+
+    def test_each_field_is_an_attribute(self) -> None:
+        examples: Any = {
+            "Accept-Ranges": ("bytes", ["bytes"], None),
+            "Access-Control-Allow-Credentials": ("true", True, "false"),
+            "Access-Control-Allow-Headers": ("A, b", ["A", "b"], None),
+            "Access-Control-Allow-Methods": ("GET,PUT", ["GET", "PUT"], None),
+            "Access-Control-Allow-Origin": ("https://a.example", "https://a.example", "a"),
+            "Access-Control-Expose-Headers": ("", [], None),
+            "Access-Control-Max-Age": ("060", 60, "x"),
+            "Access-Control-Request-Headers": ("a", ["a"], None),
+            "Access-Control-Request-Method": ("PUT", "PUT", "a b"),
+            "Content-Encoding": ("gzip, br", ["gzip", "br"], None),
+            "Content-Location": ("/a", "/a", None),
+            "Expect": ("100-continue", "100-continue", "x"),
+            "If-Match": ('"a"', ETags((ETag("a"),)), "a"),
+            "If-Modified-Since": (DATES[1], TIME, "x"),
+            "If-None-Match": ("*", ETags(is_any=True), "a"),
+            "If-Range": ('"a"', IfRange(ETag("a")), "a"),
+            "If-Unmodified-Since": (DATES[2], TIME, "x"),
+            "Location": ("/b", "/b", None),
+            "Pragma": ("no-cache", "no-cache", None),
+            "Referer": ("https://a/", "https://a/", "\xe9"),
+            "Sec-WebSocket-Accept": ("s3pPLMBiTxaQ9kYGzzhZRbK+xOo=", "s3pPLMBiTxaQ9kYGzzhZRbK+xOo=", None),
+            "Sec-WebSocket-Key": ("dGhlIHNhbXBsZSBub25jZQ==", "dGhlIHNhbXBsZSBub25jZQ==", None),
+            "Sec-WebSocket-Version": ("13", 13, "12"),
+            "Server": ("x/1", "x/1", "\xe9"),
+            "TE": ("trailers, deflate;q=0.5", ["trailers", "deflate;q=0.5"], None),
+            "Transfer-Encoding": ("gzip, chunked", ["gzip", "chunked"], None),
+            "Upgrade": ("websocket", "websocket", None),
+            "User-Agent": ("curl", "curl", "\xe9"),
+        }
+        for name, (line, value, wrong) in examples.items():
+            member = name.lower().replace("-", "_")
+            for kind in (Headers, Section):
+                self.assertEqual(getattr(kind({name: line}), member), value, name)
+            self.assertIsNone(getattr(Headers(), member))
+            if wrong is not None:
+                with self.assertRaisesRegex(InvalidField, name.lower()):
+                    getattr(Headers({name: wrong}), member)
+        for name in FIELDS:
+            self.assertIsInstance(getattr(Headers, name.replace("-", "_")), property, name)
 
     def test_headers_have_them(self) -> None:
         headers = Headers(

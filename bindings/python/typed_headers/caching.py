@@ -12,7 +12,7 @@ from typing import TYPE_CHECKING, Any, Callable, Iterable, List, Optional, Seque
 from . import _library
 from ._library import Text, Time
 from .errors import HeaderError
-from .headers import Headers, HeadersLike
+from .headers import Headers, HeadersLike, section_of
 
 if TYPE_CHECKING:
     from ._stored import Shelf
@@ -88,7 +88,7 @@ def may_store(method: Text, request: HeadersLike, status: int, response: Headers
     >>> may_store("GET", {}, 200, {"Cache-Control": "private, max-age=60"}, shared=True)
     False
     """
-    verb, asked, given = _library.to_bytes(method, "method"), Headers(request).section, Headers(response).section
+    verb, asked, given = _library.to_bytes(method, "method"), section_of(request), section_of(response)
     ended, answer = _library.calls.may_store((verb, asked), _library.to_number(status, "status", 16), given, shared)
     _library.check(ended, lambda: _refused(asked, given))
     return answer == 1
@@ -102,7 +102,7 @@ def lifetime(response: HeadersLike, received: Optional[Time] = None, *, shared: 
     >>> lifetime({"Cache-Control": "max-age=60, s-maxage=10"}, shared=True)
     10
     """
-    given = Headers(response).section
+    given = section_of(response)
     status, seconds = _library.calls.lifetime(given, _received(received), shared)
     _library.check(status, lambda: _refused(given))
     return None if status == _library.ABSENT else seconds
@@ -120,7 +120,7 @@ def heuristic_lifetime(
     >>> heuristic_lifetime(200, dates, shared=False)
     360
     """
-    given, code = Headers(response).section, _library.to_number(status, "status", 16)
+    given, code = section_of(response), _library.to_number(status, "status", 16)
     ended, seconds = _library.calls.heuristic_lifetime(code, given, _received(received), shared)
     _library.check(ended, lambda: _refused(given))
     return None if ended == _library.ABSENT else seconds
@@ -136,7 +136,7 @@ def current_age(response: HeadersLike, times: Times) -> int:
     >>> current_age({"Age": "5"}, Times(request=1000, response=1000, now=1010))
     15
     """
-    given = Headers(response).section
+    given = section_of(response)
     status, seconds = _library.calls.current_age(given, times._seconds())
     _library.check(status, lambda: _refused(given))
     return seconds
@@ -160,9 +160,9 @@ def decide(
     >>> decide("GET", {}, "GET", {}, response, Times(request=1000, response=1000, now=1010), shared=True)
     <Decision.SERVE: 0>
     """
-    first, given = Headers(stored_request).section, Headers(response).section
+    first, given = section_of(stored_request), section_of(response)
     stored = (_library.to_bytes(stored_method, "stored_method"), first, given)
-    asked = (_library.to_bytes(method, "method"), Headers(request).section)
+    asked = (_library.to_bytes(method, "method"), section_of(request))
     status, decision = _library.calls.decide(stored, asked, times._seconds(), shared)
     _library.check(status, lambda: _refused(first, asked[1], given))
     return Decision(decision)
@@ -177,7 +177,7 @@ def validators(response: HeadersLike, received: Optional[Time] = None) -> Tuple[
     >>> validators({"ETag": '"a"'})
     (('if-none-match', '"a"'),)
     """
-    given = Headers(response).section
+    given = section_of(response)
     status, text = _library.calls.validators(given, _received(received))
     _library.check(status, lambda: _refused(given))
     return tuple(Headers(text).pairs())
@@ -320,7 +320,7 @@ class Pass:
 
     def came(self, status: int, response: HeadersLike, *, now: Optional[Time] = None) -> Union[Ask, Reply, PassOn]:
         """What is done with the status and the fields of the origin's response."""
-        given, code = Headers(response).section, _library.to_number(status, "status", 16)
+        given, code = section_of(response), _library.to_number(status, "status", 16)
         step = self._step("came", _library.calls.pass_came, code, given, _present(now), sections=(given,))
         assert isinstance(step, (Ask, Reply, PassOn))
         return step

@@ -103,11 +103,17 @@ _evaluate, _to_bytes = _library.calls.evaluate, _library.to_bytes
 
 
 def _facts(target: Target, now: Optional[Time]) -> _Facts:
-    etag = target.etag
-    tag = b"" if etag is None else _to_bytes(str(etag), "etag")
-    modified = None if target.last_modified is None else _library.to_seconds(target.last_modified, "last_modified")
     present = int(time.time()) if now is None else _library.to_seconds(now, "now")
-    return tag, modified, present, target.exists, target.is_date_strong
+    known: Optional[Tuple[bytes, Optional[int]]] = target.__dict__.get("_known")
+    if known is None:
+        etag, modified = target.etag, target.last_modified
+        known = (
+            b"" if etag is None else _to_bytes(str(etag), "etag"),
+            None if modified is None else _library.to_seconds(modified, "last_modified"),
+        )
+        # (a target doesn't change)
+        target.__dict__["_known"] = known
+    return known[0], known[1], present, target.exists, target.is_date_strong
 
 
 def _refused(method: Text, request: HeadersLike, target: Target) -> HeaderError:
@@ -140,10 +146,11 @@ def evaluate(
     <Precondition.FAILED: 412>
     """
     verb, facts = _to_bytes(method, "method"), _facts(target, now)
-    if isinstance(request, Section):
-        status, answer = _library.calls.section_evaluate(request._handle, verb, facts)
-    else:
+    # (what is asked first takes no time)
+    if type(request) is dict or not isinstance(request, Section):
         status, answer = _evaluate((verb, section_of(request)), facts)
+    else:
+        status, answer = _library.calls.section_evaluate(request._handle, verb, facts)
     if status:
         _library.check(status, lambda: _refused(method, request, target))
     return _PRECONDITIONS[answer]

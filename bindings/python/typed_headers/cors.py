@@ -7,7 +7,7 @@ from typing import ClassVar, Iterable, List, Optional, Tuple, Union
 from . import _library
 from ._library import Text
 from .errors import HeaderError
-from .headers import Headers, HeadersLike, asked_of
+from .headers import Headers, HeadersLike, asked_of, section_of
 
 __all__ = ["CORS_FIELDS", "CorsAnswer", "CorsKind", "CorsPolicy"]
 
@@ -119,7 +119,7 @@ class CorsPolicy:
         `response` has the fields of the response as its handler left it, of which Vary counts. A preflight is answered
         with a status from 200 to 299.
         """
-        verb, asked, given = _library.to_bytes(method, "method"), asked_of(request), Headers(response).section
+        verb, asked, given = _library.to_bytes(method, "method"), asked_of(request), section_of(response)
         status, (kind, is_allowed), text = _library.calls.cors_policy_answer(self._handle, asked, (verb, given))
         _library.check(status, lambda: _refused(verb, asked if isinstance(asked, bytes) else b"", given))
         return CorsAnswer(CorsKind(kind), is_allowed == 1, tuple(Headers(text).pairs()))

@@ -8,7 +8,7 @@ from typing import ClassVar, Iterable, Optional, Tuple, Union
 from . import _library
 from ._library import Text, Time
 from .errors import HeaderError
-from .headers import Headers, HeadersLike
+from .headers import Headers, HeadersLike, section_of
 
 __all__ = [
     "Action",
@@ -251,7 +251,7 @@ class Gateway:
         >>> outcome.action, outcome.status, outcome.reason
         (<Action.REJECT: 2>, 400, <Rejection.LENGTH_AND_CODING: 1>)
         """
-        verb, section = _library.to_bytes(method, "method"), Headers(request).section
+        verb, section = _library.to_bytes(method, "method"), section_of(request)
         target = b"" if authority is None else _library.to_bytes(authority, "authority")
         status, (framed, code, action, reason, sends_continue), text = _library.calls.forward_request(
             self._parts, _hop(hop), (verb, section), _version(version, "version"), target
@@ -283,7 +283,7 @@ class Gateway:
         >>> Gateway("gw").forward_response("GET", 200, {"Content-Length": "5"}, received=784111777).fields
         (('via', '1.1 gw'), ('date', 'Sun, 06 Nov 1994 08:49:37 GMT'), ('content-length', '5'))
         """
-        verb, section = _library.to_bytes(method, "method"), Headers(response).section
+        verb, section = _library.to_bytes(method, "method"), section_of(response)
         number = _library.to_number(status, "status", 16)
         second = _library.to_seconds(time.time_ns() // 10**9 if received is None else received, "received")
         versions = (_version(version, "version"), _version(client_version, "client_version"))
@@ -327,7 +327,7 @@ def framing(
     >>> framing("POST", {"Transfer-Encoding": "gzip"})
     FramingOutcome(framing=None, status=400, reason=<Rejection.LAST_CODING_NOT_CHUNKED: 4>)
     """
-    verb, section = _library.to_bytes(method, "method"), Headers(fields).section
+    verb, section = _library.to_bytes(method, "method"), section_of(fields)
     number = 0 if status is None else _library.to_number(status, "status", 16)
     ended, (framed, code, reason) = _library.calls.framing((verb, section, number, _version(version, "version")))
     _library.check(ended, lambda: _wrong_section(section) or HeaderError(

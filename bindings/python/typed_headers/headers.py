@@ -2,10 +2,12 @@
 
 import re
 from datetime import datetime
+from functools import lru_cache
 from typing import (
     TYPE_CHECKING,
     Any,
     Callable,
+    Dict,
     Iterable,
     Iterator,
     List,
@@ -29,7 +31,9 @@ from .values import (
     Cookie,
     Credentials,
     ETag,
+    ETags,
     Host,
+    IfRange,
     MediaType,
     Origin,
     Range,
@@ -53,6 +57,7 @@ Parsed = TypeVar("Parsed")
 
 #: Names and values of fields.
 Fields = List[Tuple[str, str]]
+_Named = Dict[str, Tuple[str, ...]]
 
 
 def _parts() -> Any:
@@ -73,12 +78,21 @@ def canonical_field(name: Text, *lines: Text) -> List[str]:
     >>> canonical_field("If-None-Match", '"a"', 'W/"b"')
     ['"a", W/"b"']
     """
-    field = _library.to_str(_library.to_bytes(name, "name")).lower()
-    given = _library.to_lines(field, lines)
+    field = (name if isinstance(name, str) else _library.to_str(_library.to_bytes(name, "name"))).lower()
     if field in FIELDS:
-        return [_library.to_str(line) for line in _library.canonical_lines(field, given)]
-    _library.canonical_text(_field_of(field, b""))
+        status, found = _library.calls.field(field.encode("ascii"), lines)
+        if status:
+            raise _library.failed(status, field, lines)
+        return _library.to_str(found).split("\n")[:-1]
+    given = _library.to_lines(field, lines)
+    _check_name(field)
     return [_library.to_str(line.strip(b" \t")) for line in given]
+
+
+@lru_cache(maxsize=256)
+def _check_name(field: str) -> None:
+    """Raises an error if this is no field name."""
+    _library.canonical_text(_field_of(field, b""))
 
 
 def canonical_section(section: "HeadersLike") -> str:
@@ -93,7 +107,7 @@ def canonical_section(section: "HeadersLike") -> str:
     return _library.to_str(_library.canonical_text(Headers(section).section))
 
 
-_section = _library.calls.section
+_section, _pair, _parse = _library.calls.section, _library.calls.pair, _library.calls.pairs
 # A line of a section as it is made of a name and a value.
 _FIELD = re.compile(rb"[^:\r\n]+: [\t -~\x80-\xff]*\n")
 
@@ -109,15 +123,6 @@ def _field_of(name: Text, value: Text) -> bytes:
     return field
 
 
-def _parse(section: bytes) -> Iterator[Tuple[str, str]]:
-    for line in section.split(b"\n"):
-        line = line[:-1] if line.endswith(b"\r") else line
-        if not line:
-            return
-        name, _, value = line.partition(b":")
-        yield _library.to_str(name).lower(), _library.to_str(value.strip(b" \t"))
-
-
 def _pairs_of(fields: Any) -> Iterable[Tuple[Text, Text]]:
     """Pairs of what a framework has: a name may come several times."""
     # (`items` of httpx and Starlette has each name once)
@@ -126,6 +131,45 @@ def _pairs_of(fields: Any) -> Iterable[Tuple[Text, Text]]:
         pairs: Iterable[Tuple[Text, Text]] = fields
         return pairs
     return [(name, value) for name, given in items() for value in _values(given)]
+
+
+class _State:
+    """The fields of a message at a time: a text, what it is parsed to once that is asked for, or both."""
+
+    __slots__ = ("by_name", "is_checked", "pairs", "text")
+
+    def __init__(
+        self,
+        text: Optional[bytes],
+        pairs: Optional[Fields] = None,
+        by_name: Optional[_Named] = None,
+        is_checked: bool = True,
+    ) -> None:
+        self.text, self.pairs, self.by_name = text, pairs, by_name
+        #: Whether each pair is known to be a field.
+        self.is_checked = is_checked
+
+    def section(self) -> bytes:
+        text = self.text
+        if text is None:
+            text = self.text = b"".join([_field_of(*it) for it in self.pairs or ()])
+        return text
+
+    def parsed(self) -> Fields:
+        pairs = self.pairs
+        if pairs is None:
+            pairs = self.pairs = _parse(self.text or b"")
+        return pairs
+
+    def named(self) -> _Named:
+        """The lines of each name."""
+        found = self.by_name
+        if found is None:
+            found = {}
+            for name, value in self.parsed():
+                found[name] = (*found[name], value) if name in found else (value,)
+            self.by_name = found
+        return found
 
 
 class Headers(MutableMapping[str, str]):
@@ -154,88 +198,102 @@ class Headers(MutableMapping[str, str]):
     [('vary', '*'), ('age', '7')]
     """
 
-    #: The header section as bytes: a line for each field.
-    section: bytes
+    _state: _State
 
     def __init__(self, fields: "HeadersLike" = ()) -> None:
-        self._pairs: Optional[Tuple[bytes, List[Tuple[str, str]]]] = None
-        if isinstance(fields, Headers):
-            self.section = fields.section
-        elif isinstance(fields, (str, bytes, bytearray, memoryview)):
-            self.section = _library.to_bytes(fields, "the header section")
-        else:
-            self.section = b"".join([_field_of(name, value) for name, value in _pairs_of(fields)])
+        text, is_checked = _section(fields), True
+        if text is None:
+            if isinstance(fields, (str, bytes, bytearray, memoryview)):
+                text, is_checked = _library.to_bytes(fields, "the header section"), False
+            elif isinstance(fields, Headers):
+                text, is_checked = fields.section, fields._state.is_checked
+            else:
+                text = b"".join([_field_of(name, value) for name, value in _pairs_of(fields)])
+        self._state = _State(text, is_checked=is_checked)
+
+    @property
+    def section(self) -> bytes:
+        """The header section as bytes: a line for each field."""
+        return self._state.section()
 
     def __repr__(self) -> str:
-        shown = [(name, "..." if name in SECRETS else value) for name, value in self._parsed()]
+        shown = [(name, "..." if name in SECRETS else value) for name, value in self._state.parsed()]
         return f"{type(self).__name__}({shown!r})"
 
     def __eq__(self, other: object) -> bool:
-        return isinstance(other, Headers) and self.pairs() == other.pairs()
+        return isinstance(other, Headers) and self._state.parsed() == other._state.parsed()
 
     def __reduce__(self) -> Tuple[object, ...]:
         return type(self), (self.section,)
 
     def __iter__(self) -> Iterator[str]:
         """The names, in lower case, each once."""
-        return iter(dict.fromkeys(name for name, _ in self._parsed()))
+        return iter(self._state.named())
 
     def __len__(self) -> int:
-        return len({name for name, _ in self._parsed()})
+        return len(self._state.named())
 
     def __contains__(self, name: object) -> bool:
-        return isinstance(name, str) and bool(self.lines(name))
+        return isinstance(name, str) and name.lower() in self._state.named()
 
     def __getitem__(self, name: str) -> str:
-        lines = self.lines(name)
-        if not lines:
+        state = self._state
+        lines = (state.by_name or state.named()).get(name.lower())
+        if lines is None:
             raise KeyError(name)
-        return ", ".join(lines)
+        return lines[0] if len(lines) == 1 else ", ".join(lines)
 
     def __setitem__(self, name: str, value: str) -> None:
         """Puts a single field line where the first of that name is, or at the end."""
-        field, line = name.lower(), _field_of(name, value)
-        others, place = [], None
-        for other, given in self._parsed():
-            if other != field:
-                others.append(_field_of(other, given))
-            elif place is None:
-                place = len(others)
-        others.insert(len(others) if place is None else place, line)
-        self._change(b"".join(others))
+        field = _pair(name, value) or _parse(_field_of(name, value))[0]
+        pairs, named = self._changing(field[0])
+        lines = named.get(field[0])
+        if lines is None:
+            pairs.append(field)
+        else:
+            place = pairs.index((field[0], lines[0]))
+            pairs[place] = field
+            if len(lines) > 1:
+                pairs[place + 1 :] = [it for it in pairs[place + 1 :] if it[0] != field[0]]
+        named[field[0]] = field[1:]
+        self._state = _State(None, pairs, named)
 
     def __delitem__(self, name: str) -> None:
-        if name not in self:
-            raise KeyError(name)
         field = name.lower()
-        self._change(b"".join(_field_of(other, value) for other, value in self._parsed() if other != field))
+        if field not in self._state.named():
+            raise KeyError(name)
+        pairs, named = self._changing(field)
+        named.pop(field, None)
+        self._state = _State(None, [it for it in pairs if it[0] != field], named)
 
     def add(self, name: str, value: str) -> None:
         """Appends a field line."""
-        line = _field_of(name, value)
-        self._change(b"".join(_field_of(*it) for it in self._parsed()) + line)
+        field = _pair(name, value) or _parse(_field_of(name, value))[0]
+        pairs, _ = self._changing()
+        self._state = _State(None, [*pairs, field])
 
-    def _change(self, section: bytes) -> None:
-        self.section = section
-
-    def _parsed(self) -> List[Tuple[str, str]]:
-        section, found = self.section, self._pairs
-        if found is None or found[0] is not section:
-            found = self._pairs = section, list(_parse(section))
-        return found[1]
+    def _changing(self, replaced: str = "") -> Tuple[Fields, _Named]:
+        """Copies of what the fields are parsed to, of which others than those of a name stay."""
+        state = self._state
+        pairs = state.parsed()
+        if not state.is_checked:
+            for it in pairs:
+                if it[0] != replaced:
+                    _field_of(*it)
+        return pairs[:], state.named().copy()
 
     def pairs(self) -> Fields:
         """The names, in lower case, and values of the field lines, in order."""
-        return list(self._parsed())
+        return list(self._state.parsed())
 
     def raw(self) -> List[Tuple[bytes, bytes]]:
         """`pairs` as bytes, as ASGI has them."""
-        return [(name.encode("latin-1"), value.encode("latin-1")) for name, value in self._parsed()]
+        return [(name.encode("latin-1"), value.encode("latin-1")) for name, value in self._state.parsed()]
 
     def lines(self, name: str) -> Sequence[str]:
         """The field lines of a name, without the white space at their ends."""
-        field = name.lower()
-        return tuple(value for other, value in self._parsed() if other == field)
+        state = self._state
+        return (state.by_name or state.named()).get(name.lower(), ())
 
     def canonical(self, name: str) -> Optional[List[str]]:
         """The canonical field lines of a name, or `None` if it has none: see `canonical_field`."""
@@ -418,6 +476,170 @@ class Headers(MutableMapping[str, str]):
         lines = self.lines("vary")
         return members(*lines) if lines else None
 
+    @property
+    def accept_ranges(self) -> Optional[List[str]]:
+        """The range units of `Accept-Ranges`."""
+        return self._list("accept-ranges")
+
+    @property
+    def access_control_allow_credentials(self) -> Optional[bool]:
+        """`True` if there is `Access-Control-Allow-Credentials`."""
+        return None if self._text("access-control-allow-credentials") is None else True
+
+    @property
+    def access_control_allow_headers(self) -> Optional[List[str]]:
+        """The names of `Access-Control-Allow-Headers`."""
+        return self._list("access-control-allow-headers")
+
+    @property
+    def access_control_allow_methods(self) -> Optional[List[str]]:
+        """The methods of `Access-Control-Allow-Methods`."""
+        return self._list("access-control-allow-methods")
+
+    @property
+    def access_control_allow_origin(self) -> Optional[str]:
+        """`*`, `null` or the origin of `Access-Control-Allow-Origin`."""
+        return self._text("access-control-allow-origin")
+
+    @property
+    def access_control_expose_headers(self) -> Optional[List[str]]:
+        """The names of `Access-Control-Expose-Headers`."""
+        return self._list("access-control-expose-headers")
+
+    @property
+    def access_control_max_age(self) -> Optional[int]:
+        """The seconds of `Access-Control-Max-Age`."""
+        return self._number("access-control-max-age")
+
+    @property
+    def access_control_request_headers(self) -> Optional[List[str]]:
+        """The names of `Access-Control-Request-Headers`."""
+        return self._list("access-control-request-headers")
+
+    @property
+    def access_control_request_method(self) -> Optional[str]:
+        """The method of `Access-Control-Request-Method`."""
+        return self._text("access-control-request-method")
+
+    @property
+    def content_encoding(self) -> Optional[List[str]]:
+        """The codings of `Content-Encoding`, in the order in which they were applied."""
+        return self._list("content-encoding")
+
+    @property
+    def content_location(self) -> Optional[str]:
+        """The reference of `Content-Location`."""
+        return self._text("content-location")
+
+    @property
+    def expect(self) -> Optional[str]:
+        """`100-continue`."""
+        return self._text("expect")
+
+    @property
+    def if_match(self) -> Optional[ETags]:
+        """The entity tags of `If-Match`."""
+        return self._tags("if-match")
+
+    @property
+    def if_modified_since(self) -> Optional[datetime]:
+        """The time of `If-Modified-Since`."""
+        return self._time("if-modified-since")
+
+    @property
+    def if_none_match(self) -> Optional[ETags]:
+        """The entity tags of `If-None-Match`."""
+        return self._tags("if-none-match")
+
+    @property
+    def if_range(self) -> Optional[IfRange]:
+        """The entity tag or the time of `If-Range`."""
+        return self._part("if-range", IfRange.parse)
+
+    @property
+    def if_unmodified_since(self) -> Optional[datetime]:
+        """The time of `If-Unmodified-Since`."""
+        return self._time("if-unmodified-since")
+
+    @property
+    def location(self) -> Optional[str]:
+        """The reference of `Location`."""
+        return self._text("location")
+
+    @property
+    def pragma(self) -> Optional[str]:
+        """The text of `Pragma`."""
+        return self._text("pragma")
+
+    @property
+    def referer(self) -> Optional[str]:
+        """The reference of `Referer`."""
+        return self._text("referer")
+
+    @property
+    def sec_websocket_accept(self) -> Optional[str]:
+        """The text of `Sec-WebSocket-Accept`."""
+        return self._text("sec-websocket-accept")
+
+    @property
+    def sec_websocket_key(self) -> Optional[str]:
+        """The text of `Sec-WebSocket-Key`."""
+        return self._text("sec-websocket-key")
+
+    @property
+    def sec_websocket_version(self) -> Optional[int]:
+        """The 13 of `Sec-WebSocket-Version`."""
+        return self._number("sec-websocket-version")
+
+    @property
+    def server(self) -> Optional[str]:
+        """The text of `Server`."""
+        return self._text("server")
+
+    @property
+    def te(self) -> Optional[List[str]]:
+        """The transfer codings of `TE`, with their parameters."""
+        return self._list("te")
+
+    @property
+    def transfer_encoding(self) -> Optional[List[str]]:
+        """The codings of `Transfer-Encoding`, in the order in which they were applied."""
+        return self._list("transfer-encoding")
+
+    @property
+    def upgrade(self) -> Optional[str]:
+        """The protocols of `Upgrade`."""
+        return self._text("upgrade")
+
+    @property
+    def user_agent(self) -> Optional[str]:
+        """The text of `User-Agent`."""
+        return self._text("user-agent")
+
+    def _text(self, name: str) -> Optional[str]:
+        """The canonical field lines of a name, joined by commas."""
+        lines = self.canonical(name)
+        return None if lines is None else ", ".join(lines)
+
+    def _list(self, name: str) -> Optional[List[str]]:
+        lines = self.canonical(name)
+        return None if lines is None else members(*lines) if lines else []
+
+    def _number(self, name: str) -> Optional[int]:
+        text = self._text(name)
+        return None if text is None else int(text)
+
+    def _time(self, name: str) -> Optional[datetime]:
+        text = self._text(name)
+        return None if text is None else date(text)
+
+    def _tags(self, name: str) -> Optional[ETags]:
+        lines = self.lines(name)
+        try:
+            return ETags.parse(*lines) if lines else None
+        except InvalidField:
+            raise _library.rejected(name, _library.to_lines(name, lines)) from None
+
 
 class Section(Headers):
     """The header fields of a message, parsed once for all that is asked of them.
@@ -442,7 +664,7 @@ class Section(Headers):
         if status:
             _library.check(status, lambda: _library.wrong_section("the header section", self.section))
 
-    def _change(self, section: bytes) -> None:
+    def _changing(self, replaced: str = "") -> Tuple[Fields, _Named]:
         raise TypeError("a Section doesn't change, as it is parsed once: change Headers(section)")
 
     def canonical(self, name: str) -> Optional[List[str]]:
@@ -460,6 +682,8 @@ class Section(Headers):
 
 def section_of(fields: "HeadersLike") -> bytes:
     """The header section as bytes, as `Headers` has it."""
+    if type(fields) is Headers:
+        return fields.section
     return _section(fields) or Headers(fields).section
 
 

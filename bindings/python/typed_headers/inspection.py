@@ -16,7 +16,7 @@ from ._library import Text, Time
 from ._names import FIELDS
 from .caching import Decision, Times, current_age, decide, lifetime, may_store, validators
 from .conditions import Precondition, Selection, Target, evaluate, select
-from .errors import HeaderError, InvalidField, InvalidSection, TooLarge
+from .errors import HeaderError, InvalidField
 from .headers import Headers, canonical_field
 from .values import Host, Origin
 
@@ -129,11 +129,10 @@ _REQUEST = re.compile(rb"([!#$%&'*+.^_`|~0-9A-Za-z-]+) \S+ HTTP/\d(?:\.\d)?")
 
 
 def _are_fields(section: bytes) -> bool:
-    try:
-        _library.canonical_text(section)
-    except (InvalidSection, TooLarge):
-        return False
-    return True
+    status, _ = _library.calls.section_new(section)
+    if status == _library.Status.NO_MEMORY:
+        raise MemoryError
+    return not status
 
 
 def _head(lines: List[bytes]) -> Head:
@@ -172,7 +171,7 @@ def parse_heads(text: Text) -> Tuple[Optional[Head], Optional[Head]]:
     heads: List[List[bytes]] = []
     is_open = False
     for line in lines:
-        is_start = bool(_RESPONSE.fullmatch(line) or _REQUEST.fullmatch(line))
+        is_start = b"HTTP/" in line and bool(_RESPONSE.fullmatch(line) or _REQUEST.fullmatch(line))
         if is_start or not heads and line:
             heads.append([])
             is_open = True
@@ -250,11 +249,12 @@ def inspect(text: Text, *, received: Optional[Time] = None, length: Optional[int
     request = Headers(asked.section) if asked else Headers()
 
     def one(name: str) -> Optional[str]:
-        lines = known(lambda: headers.canonical(name))
+        lines = known(lambda: headers.canonical(name)) if headers.lines(name) else None
         return ", ".join(lines) if lines else None
 
     ranges = tuple((name, line) for name in ("accept-ranges", "range", "content-range") for line in [one(name)] if line)
-    target = Target(known(lambda: headers.etag), known(lambda: headers.last_modified)) if answered else Target()
+    modified = known(lambda: headers.last_modified)
+    target = Target(known(lambda: headers.etag), modified) if answered else Target()
     precondition = known(lambda: evaluate(method, request, target, at)) if asked and answered else None
     selection = None
     if asked and length is not None and precondition in (None, Precondition.PERFORM):
@@ -265,8 +265,9 @@ def inspect(text: Text, *, received: Optional[Time] = None, length: Optional[int
 
     status = answered.status or 200
 
+    times = Times(at, at, at)
+
     def cache(shared: bool) -> Optional[CacheReport]:
-        times = Times(at, at, at)
         return known(
             lambda: CacheReport(
                 may_store(method, request, status, headers, shared=shared),
@@ -293,7 +294,7 @@ def inspect(text: Text, *, received: Optional[Time] = None, length: Optional[int
         validators=ValidatorReport(
             None if tag is None else str(tag),
             None if tag is None else str(tag).startswith("W/"),
-            known(lambda: headers.last_modified),
+            modified,
             known(lambda: validators(headers, at)) or (),
         ),
         ranges=ranges,
@@ -311,19 +312,21 @@ def report_data(report: Report) -> Dict[str, Any]:
 
 
 _NAMES: Dict[type, Optional[Tuple[str, ...]]] = {}
+_SAME = (str, bool, int, type(None))
 
 
 def _plain(value: object) -> Any:
-    if value is None or isinstance(value, (str, bool)):
-        return value
-    if isinstance(value, (tuple, list)):
-        return [_plain(it) for it in value]
-    if isinstance(value, int):
-        return value.name.lower() if isinstance(value, IntEnum) else value
     kind = type(value)
+    if kind in _SAME:
+        return value
+    if kind is tuple or kind is list:
+        return [it if type(it) is str else _plain(it) for it in value]  # type: ignore[attr-defined]
+    if isinstance(value, IntEnum):
+        return value.name.lower()
     if kind not in _NAMES:
-        _NAMES[kind] = tuple(it.name for it in fields(value)) if is_dataclass(value) else None
+        _NAMES[kind] = tuple(it.name for it in fields(kind)) if is_dataclass(kind) else None
     names = _NAMES[kind]
-    if names is not None:
-        return {name: _plain(getattr(value, name)) for name in names}
-    return value.isoformat() if isinstance(value, datetime) else value
+    if names is None:
+        return value.isoformat() if isinstance(value, datetime) else value
+    members = value.__dict__
+    return {name: it if type(it) in _SAME else _plain(it) for name in names for it in (members[name],)}

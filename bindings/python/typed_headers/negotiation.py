@@ -19,7 +19,8 @@ __all__ = [
     "type_quality",
 ]
 
-_ACCEPT, _ACCEPT_ENCODING, _ACCEPT_LANGUAGE, _LOOK_UP = range(4)
+#: What is negotiated. The last is a language, too, which lookup finds.
+TYPE, CODING, LANGUAGE, LOOK_UP = range(4)
 _FIELDS = ("accept", "accept-encoding", "accept-language", "accept-language")
 _CHOICES = (
     _library.calls.choose_type,
@@ -44,8 +45,8 @@ class Quality:
     is_acceptable: bool
 
 
-def _lines(dimension: int, request: HeadersLike) -> Tuple[Text, ...]:
-    return tuple(Headers(request).lines(_FIELDS[dimension]))
+def _lines(dimension: int, request: HeadersLike) -> Sequence[Text]:
+    return Headers(request).lines(_FIELDS[dimension])
 
 
 def _reject(dimension: int, lines: Sequence[Text], offers: List[bytes]) -> NoReturn:
@@ -56,21 +57,38 @@ def _reject(dimension: int, lines: Sequence[Text], offers: List[bytes]) -> NoRet
     raise _library.rejected(name, _library.to_lines(name, lines), "a field line has a byte that no field value has")
 
 
-def _choose(dimension: int, request: HeadersLike, offers: Sequence[str]) -> Optional[str]:
+def _joined(offers: Tuple[str, ...]) -> bytes:
+    """The offers as lines of one text."""
+    try:
+        text = "\n".join(offers).encode("latin-1")
+    except (TypeError, UnicodeEncodeError):
+        return _library.joined(_library.to_lines("offers", offers))
+    if text.count(b"\n") >= len(offers) or b"\r" in text:
+        return _library.joined(_library.to_lines("offers", offers))
+    return text + b"\n"
+
+
+def choose_by(dimension: int, lines: Tuple[Text, ...], offers: Sequence[str]) -> Optional[str]:
+    """The offer that is chosen by the lines of the dimension's field."""
     offered = tuple(offers)
-    texts = _library.to_lines("offers", offered)
-    if isinstance(request, Section) and dimension != _LOOK_UP:
-        status, place = _CHOICES_OF_SECTION[dimension](request._handle, _library.joined(texts))
-        _library.check(status, lambda: _reject(dimension, (), texts))
-    else:
-        lines = _lines(dimension, request)
-        status, place = _CHOICES[dimension](lines, _library.joined(texts))
-        _library.check(status, lambda: _reject(dimension, lines, texts))
+    status, place = _CHOICES[dimension](lines, _joined(offered))
+    if not status:
+        return offered[place]
+    _library.check(status, lambda: _reject(dimension, lines, _library.to_lines("offers", offered)))
+    return None
+
+
+def _choose(dimension: int, request: HeadersLike, offers: Sequence[str]) -> Optional[str]:
+    if type(request) is dict or not isinstance(request, Section) or dimension == LOOK_UP:
+        return choose_by(dimension, tuple(_lines(dimension, request)), offers)
+    offered = tuple(offers)
+    status, place = _CHOICES_OF_SECTION[dimension](request._handle, _joined(offered))
+    _library.check(status, lambda: _reject(dimension, (), _library.to_lines("offers", offered)))
     return None if status == _library.ABSENT else offered[place]
 
 
 def _rate(dimension: int, request: HeadersLike, offer: Text) -> Quality:
-    lines, text = _lines(dimension, request), _library.to_bytes(offer, "offer")
+    lines, text = tuple(_lines(dimension, request)), _library.to_bytes(offer, "offer")
     status, (weight, is_acceptable) = _QUALITIES[dimension](lines, text)
     _library.check(status, lambda: _reject(dimension, lines, []))
     return Quality(weight, is_acceptable == 1)
@@ -87,7 +105,7 @@ def choose_type(request: HeadersLike, offers: Sequence[str]) -> Optional[str]:
     >>> choose_type({"Accept": "image/png"}, ["text/plain"]) is None
     True
     """
-    return _choose(_ACCEPT, request, offers)
+    return _choose(TYPE, request, offers)
 
 
 def choose_coding(request: HeadersLike, offers: Sequence[str]) -> Optional[str]:
@@ -98,7 +116,7 @@ def choose_coding(request: HeadersLike, offers: Sequence[str]) -> Optional[str]:
     >>> choose_coding({"Accept-Encoding": "gzip, br;q=0.9"}, ["br", "gzip", "identity"])
     'gzip'
     """
-    return _choose(_ACCEPT_ENCODING, request, offers)
+    return _choose(CODING, request, offers)
 
 
 def choose_language(request: HeadersLike, offers: Sequence[str]) -> Optional[str]:
@@ -107,7 +125,7 @@ def choose_language(request: HeadersLike, offers: Sequence[str]) -> Optional[str
     >>> choose_language({"Accept-Language": "da, en-gb;q=0.8, en;q=0.7"}, ["en-US", "en-GB"])
     'en-GB'
     """
-    return _choose(_ACCEPT_LANGUAGE, request, offers)
+    return _choose(LANGUAGE, request, offers)
 
 
 def look_up_language(request: HeadersLike, offers: Sequence[str]) -> Optional[str]:
@@ -116,7 +134,7 @@ def look_up_language(request: HeadersLike, offers: Sequence[str]) -> Optional[st
     >>> look_up_language({"Accept-Language": "en-GB"}, ["de", "en"])
     'en'
     """
-    return _choose(_LOOK_UP, request, offers)
+    return _choose(LOOK_UP, request, offers)
 
 
 def type_quality(request: HeadersLike, offer: Text) -> Quality:
@@ -125,7 +143,7 @@ def type_quality(request: HeadersLike, offer: Text) -> Quality:
     >>> type_quality({"Accept": "audio/*;q=0.2"}, "audio/ogg")
     Quality(weight=200, is_acceptable=True)
     """
-    return _rate(_ACCEPT, request, offer)
+    return _rate(TYPE, request, offer)
 
 
 def coding_quality(request: HeadersLike, offer: Text) -> Quality:
@@ -134,7 +152,7 @@ def coding_quality(request: HeadersLike, offer: Text) -> Quality:
     >>> coding_quality({"Accept-Encoding": "gzip"}, "identity")
     Quality(weight=0, is_acceptable=True)
     """
-    return _rate(_ACCEPT_ENCODING, request, offer)
+    return _rate(CODING, request, offer)
 
 
 def language_quality(request: HeadersLike, offer: Text) -> Quality:
@@ -143,4 +161,4 @@ def language_quality(request: HeadersLike, offer: Text) -> Quality:
     >>> language_quality({"Accept-Language": "en"}, "eng")
     Quality(weight=0, is_acceptable=False)
     """
-    return _rate(_ACCEPT_LANGUAGE, request, offer)
+    return _rate(LANGUAGE, request, offer)

@@ -5,20 +5,21 @@ Each type has `parse`, from field lines, and `str`, a field line. What is malfor
 
 from dataclasses import dataclass, field
 from datetime import datetime
-from typing import Any, Dict, Iterator, List, NamedTuple, NoReturn, Optional, Sequence, Tuple, Type, TypeVar
+from typing import Any, Dict, Iterator, List, NoReturn, Optional, Sequence, Tuple, Type, TypeVar
 from urllib.parse import quote, unquote
 
 from . import _library
 from ._library import Text
 from .errors import HeaderError, InvalidField
 from .negotiation import (
+    CODING,
+    LANGUAGE,
+    LOOK_UP,
+    TYPE,
     Quality,
-    choose_coding,
-    choose_language,
-    choose_type,
+    choose_by,
     coding_quality,
     language_quality,
-    look_up_language,
     type_quality,
 )
 from .values import date, format_date
@@ -40,58 +41,39 @@ __all__ = [
 Parameters = Tuple[Tuple[str, Optional[str]], ...]
 
 _ELEMENTS, _CHALLENGES, _LINKS, _SET_COOKIES, _VALUES = range(5)
-_TOKEN = frozenset("!#$%&'*+-.^_`|~0123456789abcdefghijklmnopqrstuvwxyzABCDEFGHIJKLMNOPQRSTUVWXYZ")
+_is_token = _library.TOKEN.fullmatch
+_read_elements, _read_groups = _library.calls.elements_as, _library.calls.groups
+
+#: A part: a letter that says what it is, its name or its text, and its value, if it has one.
+_Part = Tuple[str, str, Optional[str]]
+_PARAMETER = ("n", "p")
 
 
-class _Part(NamedTuple):
-    """A part: what it is, and its text."""
-
-    kind: str
-    text: str
-
-
-def _parts(form: int, name: str, lines: Tuple[Text, ...]) -> List[_Part]:
-    """The parts of field lines; an empty one ends each element."""
-    status, found = _library.calls.field_parts(form, lines)
-    if status:
-        raise _library.failed(status, name, lines, "a field line has a byte that no field value has")
-    return [_Part(line[:1], line[1:]) for line in _library.to_str(found).split("\n")[:-1]]
-
-
-def _groups(form: int, name: str, lines: Tuple[Text, ...]) -> Iterator[List[_Part]]:
+def _groups(form: int, name: str, line: Text, more: Tuple[Text, ...]) -> List[List[_Part]]:
     """The parts of each element."""
-    group: List[_Part] = []
-    for part in _parts(form, name, lines):
-        if part.kind:
-            group.append(part)
-        else:
-            yield group
-            group = []
+    found = _read_groups(None, line, more, form)
+    if isinstance(found, int):
+        raise _library.failed(found, name, (line, *more), "a field line has a byte that no field value has")
+    return found
 
 
 def _reject(name: str, lines: Sequence[Text], expected: str) -> NoReturn:
     raise _library.rejected(name, _library.to_lines(name, lines), f"expected {expected}")
 
 
-def _parameter(part: _Part) -> Optional[Tuple[str, Optional[str]]]:
-    """The parameter that a part is, if it is one."""
-    if part.kind == "n":
-        return part.text, None
-    if part.kind == "p":
-        name, _, value = part.text.partition("=")
-        return name, value
-    return None
-
-
 def _parameters(parts: Sequence[_Part]) -> Optional[Parameters]:
     """The parameters that all of these parts are, or `None` if one is something else."""
-    found = [_parameter(part) for part in parts]
-    return None if None in found else tuple(it for it in found if it is not None)
+    found = []
+    for kind, name, value in parts:
+        if kind not in _PARAMETER:
+            return None
+        found.append((name, value))
+    return tuple(found)
 
 
 def _shown(text: str) -> str:
     """A text as a token, or else as a quoted-string (RFC 9110, sections 5.6.2 and 5.6.4)."""
-    if text and _TOKEN.issuperset(text):
+    if _is_token(text):
         return text
     return '"' + text.replace("\\", "\\\\").replace('"', '\\"') + '"'
 
@@ -102,13 +84,18 @@ def _pair(name: str, value: Optional[str]) -> str:
 
 def _first(parameters: Parameters, name: str) -> Optional[str]:
     """The value of the first parameter of a name, in any case."""
-    return next((value for other, value in parameters if other.lower() == name.lower()), None)
+    lower = name.lower()
+    for other, value in parameters:
+        if other.lower() == lower:
+            return value
+    return None
 
 
 def _to_parameters(given: Any, what: str) -> Parameters:
-    pairs = tuple((name, value) for name, value in given)
-    if not all(isinstance(name, str) and isinstance(value, (str, type(None))) for name, value in pairs):
-        raise TypeError(f"{what}: expected pairs of str, or of str and None")
+    pairs = tuple([(name, value) for name, value in given]) if given else ()
+    for name, value in pairs:
+        if not isinstance(name, str) or value is not None and not isinstance(value, str):
+            raise TypeError(f"{what}: expected pairs of str, or of str and None")
     return pairs
 
 
@@ -131,15 +118,26 @@ class Element:
         return _first(self.parameters, name)
 
 
-def _elements(name: str, lines: Tuple[Text, ...], form: int = _ELEMENTS) -> Tuple[Element, ...]:
-    """The elements of field lines, each with parameters alone behind its value."""
-    found = []
-    for first, *others in _groups(form, name, lines):
-        parameters = _parameters(others)
-        if parameters is None or first.kind not in "vn" or not first.text:
-            _reject(name, lines, "a list of values with parameters (RFC 9110, section 5.6.6)")
-        found.append(Element(first.text, parameters))
-    return tuple(found)
+Value = TypeVar("Value")
+
+
+def _elements(
+    kinds: Tuple[Type[Value], str], name: str, line: Text, more: Tuple[Text, ...], form: int = _ELEMENTS
+) -> List[Value]:
+    """The elements of field lines, each with parameters alone behind its text."""
+    found = _read_elements(kinds, line, more, form)
+    if isinstance(found, int):
+        raise _library.failed(found, name, (line, *more), "a field line has a byte that no field value has")
+    if found is None:
+        _reject(name, (line, *more), _FORMS[form])
+    return found
+
+
+_FORMS = {
+    _ELEMENTS: "a list of values with parameters (RFC 9110, section 5.6.6)",
+    _LINKS: "a list of links (RFC 8288, section 3)",
+    _VALUES: "a word with parameters (RFC 6266, section 4.1)",
+}
 
 
 Preference = TypeVar("Preference", bound="_Preferences")
@@ -157,13 +155,13 @@ class _Preferences:
         object.__setattr__(self, "elements", tuple(self.elements))
         if not all(isinstance(it, Element) for it in self.elements):
             raise TypeError("elements: expected elements of Element")
-        if self.elements and _elements(self._NAME, (str(self),)) != self.elements:
+        if self.elements and self.parse(str(self)) != self:
             raise HeaderError(f"{self._NAME}: {str(self)!r} has other elements")
 
     @classmethod
     def parse(cls: Type[Preference], line: Text, *more: Text) -> Preference:
         """The elements of all field lines."""
-        return cls(_elements(cls._NAME, (line, *more)))
+        return _made(cls, elements=tuple(_elements((Element, "value"), cls._NAME, line, more)))
 
     def __str__(self) -> str:
         return ", ".join(map(str, self.elements))
@@ -189,7 +187,7 @@ class Accept(_Preferences):
 
     def best_match(self, offers: Sequence[str]) -> Optional[str]:
         """The media type that is served, of those that a server has, the most wanted first: `choose_type`."""
-        return choose_type({self._NAME: str(self)}, offers)
+        return choose_by(TYPE, (str(self),), offers)
 
     def quality(self, offer: Text) -> Quality:
         """How acceptable a media type is: `type_quality`."""
@@ -207,7 +205,7 @@ class AcceptEncoding(_Preferences):
 
     def best_match(self, offers: Sequence[str]) -> Optional[str]:
         """The coding that is served: `choose_coding`."""
-        return choose_coding({self._NAME: str(self)}, offers)
+        return choose_by(CODING, (str(self),), offers)
 
     def quality(self, offer: Text) -> Quality:
         """How acceptable a coding is: `coding_quality`."""
@@ -226,11 +224,11 @@ class AcceptLanguage(_Preferences):
 
     def best_match(self, offers: Sequence[str]) -> Optional[str]:
         """The language that is served by basic filtering: `choose_language`."""
-        return choose_language({self._NAME: str(self)}, offers)
+        return choose_by(LANGUAGE, (str(self),), offers)
 
     def look_up(self, offers: Sequence[str]) -> Optional[str]:
         """The language that lookup finds: `look_up_language`."""
-        return look_up_language({self._NAME: str(self)}, offers)
+        return choose_by(LOOK_UP, (str(self),), offers)
 
     def quality(self, offer: Text) -> Quality:
         """How acceptable a language is: `language_quality`."""
@@ -239,7 +237,9 @@ class AcceptLanguage(_Preferences):
 
 def _extended(value: Optional[str]) -> Optional[str]:
     """What the value of a parameter whose name ends in `*` means (RFC 8187, section 3.2), or `None`."""
-    charset, _, rest = (value or "").partition("'")
+    if value is None:
+        return None
+    charset, _, rest = value.partition("'")
     _, quoted, text = rest.partition("'")
     if not quoted or charset.lower() not in ("utf-8", "iso-8859-1"):
         return None
@@ -291,16 +291,23 @@ class ContentDisposition:
     @classmethod
     def parse(cls, line: Text, *more: Text) -> "ContentDisposition":
         """The disposition of the only field line."""
-        lines = (line, *more)
-        found = _elements("content-disposition", lines, _VALUES)
-        if len(found) != 1 or not _TOKEN.issuperset(found[0].value):
-            _reject("content-disposition", lines, "a word with parameters (RFC 6266, section 4.1)")
-        parameters = found[0].parameters
-        others = tuple(it for it in parameters if it[0].lower() not in ("filename", "filename*"))
+        found = _elements((Element, "value"), "content-disposition", line, more, _VALUES)
+        if len(found) != 1 or not _is_token(found[0].value):
+            _reject("content-disposition", (line, *more), _FORMS[_VALUES])
+        names: Dict[str, Optional[str]] = {}
+        others = []
+        for it in found[0].parameters:
+            name = it[0].lower()
+            if name == "filename" or name == "filename*":
+                names.setdefault(name, it[1])
+            else:
+                others.append(it)
+        filename = _extended(names["filename*"]) if "filename*" in names else None
+        if filename is None:
+            filename = names.get("filename")
         value = object.__new__(cls)
-        value.__dict__.update(
-            type=found[0].value.lower(), filename=_text_of(parameters, "filename"), parameters=others
-        )
+        members = value.__dict__
+        members["type"], members["filename"], members["parameters"] = found[0].value.lower(), filename, tuple(others)
         return value
 
     @property
@@ -342,19 +349,22 @@ class Challenge:
     @classmethod
     def parse_all(cls, line: Text, *more: Text) -> List["Challenge"]:
         """The challenges of all field lines of `WWW-Authenticate` or `Proxy-Authenticate`."""
-        lines, found = (line, *more), []
-        for part in _parts(_CHALLENGES, "www-authenticate", lines):
-            if part.kind == "s":
-                found.append(_made(cls, scheme=part.text, parameters=(), token=None))
-                continue
-            last = found[-1].__dict__ if found else {"token": "", "parameters": ()}
-            parameter = _parameter(part)
-            if part.kind == "k" and part.text:
-                last["token"] = part.text
-            elif part.kind == "p" and last["token"] is None and parameter:
-                last["parameters"] = (*last["parameters"], parameter)
-            elif part.kind != "k":
-                _reject("www-authenticate", lines, "a list of challenges (RFC 9110, section 11.6.1)")
+        found: List[Challenge] = []
+        # (a token before the first scheme is none)
+        last: Dict[str, Any] = {"token": "", "parameters": ()}
+        for group in _groups(_CHALLENGES, "www-authenticate", line, more):
+            for kind, text, value in group:
+                if kind == "s":
+                    challenge = _made(cls, scheme=text, parameters=(), token=None)
+                    found.append(challenge)
+                    last = challenge.__dict__
+                elif kind == "k":
+                    if text:
+                        last["token"] = text
+                elif kind == "p" and last["token"] is None:
+                    last["parameters"] += ((text, value),)
+                else:
+                    _reject("www-authenticate", (line, *more), "a list of challenges (RFC 9110, section 11.6.1)")
         return found
 
     @property
@@ -372,9 +382,6 @@ class Challenge:
         shown += [f'realm="{value}"' if name.lower() == "realm" and value is not None and _shown(value) == value
                   else _pair(name, value) for name, value in self.parameters]
         return f"{self.scheme} {', '.join(shown)}".rstrip(" ")
-
-
-Value = TypeVar("Value")
 
 
 def _made(cls: Type[Value], **given: Any) -> Value:
@@ -408,13 +415,7 @@ class Link:
     @classmethod
     def parse_all(cls, line: Text, *more: Text) -> List["Link"]:
         """The links of all field lines of `Link`."""
-        lines, found = (line, *more), []
-        for first, *others in _groups(_LINKS, "link", lines):
-            parameters = _parameters(others)
-            if parameters is None or first.kind != "v":
-                _reject("link", lines, "a list of links (RFC 8288, section 3)")
-            found.append(_made(cls, target=first.text, parameters=parameters))
-        return found
+        return _elements((cls, "target"), "link", line, more, _LINKS)
 
     @property
     def relations(self) -> List[str]:
@@ -453,12 +454,12 @@ class Forwarded:
     @classmethod
     def parse_all(cls, line: Text, *more: Text) -> List["Forwarded"]:
         """The elements of all field lines of `Forwarded`: the nearest proxy's is the last."""
-        lines, found = (line, *more), []
-        for parts in _groups(_ELEMENTS, "forwarded", lines):
-            pairs = _parameters([it for it in parts if it != ("v", "")])
+        found = []
+        for parts in _groups(_ELEMENTS, "forwarded", line, more):
+            pairs = _parameters([it for it in parts if it[:2] != ("v", "")])
             names = [name.lower() for name, _ in pairs or ()]
             if not pairs or len(set(names)) < len(names) or None in [value for _, value in pairs]:
-                _reject("forwarded", lines, "a list of pairs, each name once (RFC 7239, section 4)")
+                _reject("forwarded", (line, *more), "a list of pairs, each name once (RFC 7239, section 4)")
             found.append(_made(cls, parameters=pairs))
         return found
 
@@ -508,8 +509,7 @@ class CacheStatus:
     @classmethod
     def parse_all(cls, line: Text, *more: Text) -> List["CacheStatus"]:
         """The caches of all field lines of `Cache-Status`: the nearest to the client is the last."""
-        found = _elements("cache-status", (line, *more))
-        return [_made(cls, cache=it.value, parameters=it.parameters) for it in found]
+        return _elements((cls, "cache"), "cache-status", line, more)
 
     @property
     def is_hit(self) -> bool:
@@ -535,8 +535,10 @@ class CacheStatus:
 
 
 def _number(text: Optional[str]) -> Optional[int]:
-    digits = (text or "").removeprefix("-")
-    return int(text or "") if digits.isascii() and digits.isdigit() and len(digits) <= 15 else None
+    if not text:
+        return None
+    digits = text.removeprefix("-")
+    return int(text) if digits.isascii() and digits.isdigit() and len(digits) <= 15 else None
 
 
 @dataclass(frozen=True)
@@ -584,23 +586,22 @@ class SetCookie:
     def parse(cls, line: Text, *more: Text) -> "SetCookie":
         """The cookie of the first field line (RFC 6265, section 5.2): of two attributes of a name the last counts, and
         what an attribute can't be counts as not there."""
-        first, *others = next(_groups(_SET_COOKIES, "set-cookie", (line, *more)))
-        pair = _parameter(first)
-        if pair is None or pair[1] is None:
+        (_, first, content), *others = _groups(_SET_COOKIES, "set-cookie", line, more)[0]
+        if content is None:
             _reject("set-cookie", (line,), "a name, = and a value (RFC 6265, section 5.2)")
         given: Dict[str, str] = {}
         unknown: List[Tuple[str, Optional[str]]] = []
-        for part in others:
-            name, value = _parameter(part) or ("", None)
-            if name.lower() in _ATTRIBUTES:
-                given[name.lower()] = value or ""
+        for _, name, value in others:
+            lower = name.lower()
+            if lower in _ATTRIBUTES:
+                given[lower] = value or ""
             elif name:
                 unknown.append((name, value))
         path, same_site = given.get("path", ""), given.get("samesite", "").lower()
         return _made(
             cls,
-            name=pair[0],
-            value=pair[1],
+            name=first,
+            value=content,
             path=path if path.startswith("/") else None,
             domain=given.get("domain", "").removeprefix(".").lower() or None,
             max_age=_number(given.get("max-age")),
@@ -637,7 +638,9 @@ _ATTRIBUTES = ("path", "domain", "max-age", "expires", "secure", "httponly", "sa
 
 
 def _date(text: Optional[str]) -> Optional[datetime]:
+    if not text:
+        return None
     try:
-        return date(text or "")
+        return date(text)
     except InvalidField:
         return None

@@ -56,10 +56,10 @@ class TypedHeader:
 _TYPES: Dict[str, Any] = {
     name.replace("_", "-"): get_args(get_type_hints(it.fget, localns={"parts": parts})["return"])[0]
     for name, it in vars(Headers).items()
-    if isinstance(it, property)
+    if isinstance(it, property) and name != "section"
 }
 #: The field of each type that isn't that of several.
-_FIELDS = {kind: name for name, kind in reversed(_TYPES.items()) if kind not in (int, datetime, List[str])}
+_FIELDS = {kind: name for name, kind in reversed(_TYPES.items()) if kind not in (bool, int, str, datetime, List[str])}
 
 
 class _Parameter(NamedTuple):

@@ -5,17 +5,19 @@ Texts are `str` with a character for each byte (ISO 8859-1), as in WSGI and `htt
 
 import re
 from base64 import b64encode
-from dataclasses import dataclass, field, fields
+from dataclasses import dataclass, field
 from datetime import datetime, timedelta, timezone
 from enum import Enum
-from typing import Any, Iterator, List, Optional, Tuple, Type, TypeVar
+from typing import TYPE_CHECKING, Any, Iterator, List, Optional, Tuple, Type, TypeVar
 
 from . import _library
 from ._library import Text, Time
 from .errors import HeaderError, InvalidField
 
 # (a name of this module is found in half the time)
-_read_etag = _library.calls.etag
+_read_content_range = _library.calls.content_range_as
+_read_ranges = _library.calls.ranges_as
+_NO_MEMORY = int(_library.Status.NO_MEMORY)
 
 __all__ = [
     "ByteRange",
@@ -24,7 +26,9 @@ __all__ = [
     "Cookie",
     "Credentials",
     "ETag",
+    "ETags",
     "Host",
+    "IfRange",
     "MediaType",
     "Origin",
     "Range",
@@ -148,21 +152,23 @@ class ETag:
     weak: bool = False
 
     def __post_init__(self) -> None:
-        _library.check_types(self, opaque=str, weak=bool)
-        lines = (str(self),)
-        if '"' in self.opaque:
-            raise _library.rejected("etag", _library.to_lines("etag", lines))
-        status, _ = _library.calls.weak_eq(lines, lines)
-        if status:
-            raise _library.failed(status, "etag", lines)
+        if not isinstance(self.opaque, str) or not isinstance(self.weak, bool):
+            _library.check_types(self, opaque=str, weak=bool)
+        ETag.parse(str(self))
+
+    if TYPE_CHECKING:
+
+        @classmethod
+        def parse(cls, line: Text, *more: Text) -> "ETag":
+            """The entity tag that the only field line of `ETag` is."""
+            raise NotImplementedError
+
+    else:
+        parse = classmethod(_library.calls.parse_etag)
 
     @classmethod
-    def parse(cls, line: Text, *more: Text) -> "ETag":
-        """The entity tag that the only field line of `ETag` is."""
-        found = _read_etag(cls, (line, *more) if more else line)
-        if isinstance(found, ETag):
-            return found
-        raise _library.failed(found, "etag", (line, *more))
+    def _otherwise(cls, status: int, lines: Tuple[Text, ...]) -> "ETag":
+        raise _library.failed(status, "etag", lines)
 
     def __str__(self) -> str:
         return f'W/"{self.opaque}"' if self.weak else f'"{self.opaque}"'
@@ -174,6 +180,105 @@ class ETag:
     def matches_weakly(self, other: "ETag") -> bool:
         """Whether both tags are equal but for `W/` (RFC 9110, section 8.8.3.2)."""
         return _library.calls.weak_eq((str(self),), (str(other),))[1] == 1
+
+
+@dataclass(frozen=True)
+class ETags:
+    """The entity tags of `If-Match` or `If-None-Match`, or `*` for any (RFC 9110, sections 13.1.1 and 13.1.2).
+
+    >>> tags = ETags.parse('"a", W/"b"')
+    >>> tags.matches_weakly(ETag("b")), tags.matches_strongly(ETag("b")), len(tags)
+    (True, False, 2)
+    >>> ETags.parse("*").is_any, str(ETags((ETag("a"), ETag("b", weak=True))))
+    (True, '"a", W/"b"')
+    """
+
+    tags: Tuple[ETag, ...] = ()
+    #: Whether this is `*`, which has no tags.
+    is_any: bool = False
+
+    _TAG = ETag
+
+    def __post_init__(self) -> None:
+        object.__setattr__(self, "tags", tuple(self.tags))
+        _library.check_types(self, is_any=bool)
+        if not all(isinstance(it, ETag) for it in self.tags):
+            raise TypeError("tags: expected entity tags of ETag")
+        if self.is_any and self.tags:
+            raise HeaderError("tags: expected either any or these")
+        if ETags.parse(str(self)) != self:
+            raise HeaderError(f"tags: {str(self)!r} has other tags, as a list has ASCII alone")
+
+    if TYPE_CHECKING:
+
+        @classmethod
+        def parse(cls, line: Text, *more: Text) -> "ETags":
+            """The tags of all field lines."""
+            raise NotImplementedError
+
+    else:
+        parse = classmethod(_library.calls.parse_etags)
+
+    @classmethod
+    def _otherwise(cls, status: int, lines: Tuple[Text, ...]) -> "ETags":
+        """What lines without tags are: empty, or `*`. (A list past ASCII has no members.)"""
+        text = b"".join(_library.to_lines("if-none-match", lines)).strip(b", \t")
+        if status or text not in (b"", b"*"):
+            raise _library.failed(status, "if-none-match", lines)
+        return _made(cls, tags=(), is_any=text == b"*")
+
+    def __str__(self) -> str:
+        return "*" if self.is_any else ", ".join(map(str, self.tags))
+
+    def __iter__(self) -> Iterator[ETag]:
+        return iter(self.tags)
+
+    def __len__(self) -> int:
+        return len(self.tags)
+
+    def matches_strongly(self, tag: ETag) -> bool:
+        """Whether this is `*`, or a tag matches as `ETag.matches_strongly` says. `If-Match` is compared so."""
+        return self.is_any or any(it.matches_strongly(tag) for it in self.tags)
+
+    def matches_weakly(self, tag: ETag) -> bool:
+        """Whether this is `*`, or a tag matches as `ETag.matches_weakly` says. `If-None-Match` is compared so."""
+        return self.is_any or any(it.matches_weakly(tag) for it in self.tags)
+
+
+@dataclass(frozen=True)
+class IfRange:
+    """On what a request for a range depends: an entity tag, or a date (RFC 9110, section 13.1.5).
+
+    >>> IfRange.parse('"a"').etag
+    ETag(opaque='a', weak=False)
+    >>> str(IfRange(date=datetime(1994, 11, 6, 8, 49, 37, tzinfo=timezone.utc)))
+    'Sun, 06 Nov 1994 08:49:37 GMT'
+    """
+
+    etag: Optional[ETag] = None
+    date: Optional[datetime] = None
+
+    def __post_init__(self) -> None:
+        _library.check_types(self, etag=(ETag, type(None)), date=(datetime, type(None)))
+        if (self.etag is None) == (self.date is None):
+            raise HeaderError("if-range: expected either an entity tag or a date")
+        if self.date is not None:
+            object.__setattr__(self, "date", _library.to_datetime(_library.to_seconds(self.date, "date")))
+        _check("if-range", str(self))
+
+    @classmethod
+    def parse(cls, line: Text, *more: Text) -> "IfRange":
+        """The tag or the date of the field line."""
+        text = _only("if-range", (line, *more))
+        try:
+            return _made(cls, etag=ETag.parse(text), date=None)
+        except InvalidField:
+            return _made(cls, etag=None, date=date(text))
+
+    def __str__(self) -> str:
+        if self.date is not None:
+            return format_date(self.date)
+        return str(self.etag)
 
 
 @dataclass(frozen=True)
@@ -204,13 +309,19 @@ class MediaType:
         for name in ("type", "subtype", "parameters"):
             object.__setattr__(self, name, getattr(read, name))
 
+    if TYPE_CHECKING:
+
+        @classmethod
+        def parse(cls, line: Text, *more: Text) -> "MediaType":
+            """The media type that the first field line of `Content-Type` is."""
+            raise NotImplementedError
+
+    else:
+        parse = classmethod(_library.calls.parse_media_type)
+
     @classmethod
-    def parse(cls, line: Text, *more: Text) -> "MediaType":
-        """The media type that the first field line of `Content-Type` is."""
-        found = _library.calls.media_type_as(cls, (line, *more))
-        if isinstance(found, int):
-            raise _library.failed(found, "content-type", (line, *more))
-        return found
+    def _otherwise(cls, status: int, lines: Tuple[Text, ...]) -> "MediaType":
+        raise _library.failed(status, "content-type", lines)
 
     def __str__(self) -> str:
         return self.essence + "".join(f"; {name}={value}" for name, value in self.parameters)
@@ -299,10 +410,19 @@ class CacheControl:
                 if not _library.TOKEN.fullmatch(field_name):
                     raise HeaderError(f"{name}: {field_name!r} is no field name (RFC 9110, section 5.1)")
 
+    if TYPE_CHECKING:
+
+        @classmethod
+        def parse(cls, line: Text, *more: Text) -> "CacheControl":
+            """The directives of all field lines."""
+            raise NotImplementedError
+
+    else:
+        parse = classmethod(_library.calls.parse_cache_control)
+
     @classmethod
-    def parse(cls, line: Text, *more: Text) -> "CacheControl":
-        """The directives of all field lines."""
-        lines = (line, *more)
+    def _otherwise(cls, status: int, lines: Tuple[Text, ...]) -> "CacheControl":
+        """What the lines encode, of which some directives are those of other calls."""
         status, found = _library.calls.cache_control(lines)
         if status:
             raise _library.failed(status, "cache-control", lines)
@@ -315,14 +435,45 @@ class CacheControl:
         return _made(cls, **members, **dict(zip(_STALE, stale)), **dict(zip(_NAMES, names)))
 
     def __str__(self) -> str:
-        known = {it.name: getattr(self, it.name) for it in fields(self)}
-        names = [f'{name[:-7].replace("_", "-")}="{", ".join(known.pop(name))}"' for name in _NAMES if known[name]]
-        stale = [f'{name.replace("_", "-")}={known.pop(name)}' for name in _STALE if known[name] is not None]
-        words = [name.replace("_", "-") for name, value in known.items() if value is True]
-        words += [f'{name.replace("_", "-")}={known[name]}' for name in _SECONDS if known[name] is not None]
-        # (the typed header has none of the others)
-        line = _only("cache-control", (", ".join(words),))
-        return ", ".join(([line] if line else []) + stale + names)
+        # (in the order of a canonical field line)
+        shown = []
+        if self.no_cache:
+            shown.append("no-cache")
+        if self.no_store:
+            shown.append("no-store")
+        if self.no_transform:
+            shown.append("no-transform")
+        if self.only_if_cached:
+            shown.append("only-if-cached")
+        if self.must_revalidate:
+            shown.append("must-revalidate")
+        if self.public:
+            shown.append("public")
+        if self.private:
+            shown.append("private")
+        if self.immutable:
+            shown.append("immutable")
+        if self.must_understand:
+            shown.append("must-understand")
+        if self.proxy_revalidate:
+            shown.append("proxy-revalidate")
+        if self.max_age is not None:
+            shown.append(f"max-age={self.max_age}")
+        if self.max_stale is not None:
+            shown.append(f"max-stale={self.max_stale}")
+        if self.min_fresh is not None:
+            shown.append(f"min-fresh={self.min_fresh}")
+        if self.s_maxage is not None:
+            shown.append(f"s-maxage={self.s_maxage}")
+        if self.stale_while_revalidate is not None:
+            shown.append(f"stale-while-revalidate={self.stale_while_revalidate}")
+        if self.stale_if_error is not None:
+            shown.append(f"stale-if-error={self.stale_if_error}")
+        if self.no_cache_fields:
+            shown.append(f'no-cache="{", ".join(self.no_cache_fields)}"')
+        if self.private_fields:
+            shown.append(f'private="{", ".join(self.private_fields)}"')
+        return ", ".join(shown)
 
 
 def _arguments(lines: Tuple[Text, ...], name: bytes) -> Tuple[str, ...]:
@@ -370,12 +521,12 @@ class Range:
 
     def __post_init__(self) -> None:
         _library.check_types(self, text=str)
-        self._positions((self.text,), 0)
+        _ranges(self.text, (), 0)
 
     @classmethod
     def parse(cls, line: Text, *more: Text) -> "Range":
         """The ranges of the first field line."""
-        cls._positions((line, *more), 0)
+        _ranges(line, more, 0)
         return _made(cls, text=line if isinstance(line, str) else _library.to_str(bytes(line)))
 
     @classmethod
@@ -395,17 +546,14 @@ class Range:
 
     def satisfiable(self, length: int) -> List[ByteRange]:
         """The ranges that a representation of so many bytes can satisfy, in order (RFC 9110, section 14.1.2)."""
-        found = _library.calls.ranges_as(ByteRange, (self.text,), _library.to_number(length, "length"))
-        if isinstance(found, int):
-            raise _library.failed(found, "range", (self.text,))
-        return found
+        return _ranges(self.text, (), _library.to_number(length, "length"))
 
-    @staticmethod
-    def _positions(lines: Tuple[Text, ...], length: int) -> List[Tuple[int, int]]:
-        status, found = _library.calls.ranges(lines, length)
-        if status:
-            raise _library.failed(status, "range", lines)
-        return found
+
+def _ranges(line: Text, more: Tuple[Text, ...], length: int) -> List[ByteRange]:
+    found = _read_ranges(ByteRange, line, more, length)
+    if isinstance(found, int):
+        raise _library.failed(found, "range", (line, *more))
+    return found
 
 
 @dataclass(frozen=True)
@@ -433,7 +581,7 @@ class ContentRange:
     @classmethod
     def parse(cls, line: Text, *more: Text) -> "ContentRange":
         """The range of the first field line."""
-        found = _library.calls.content_range_as(cls, ByteRange, (line, *more))
+        found = _read_content_range((cls, ByteRange), line, more)
         if isinstance(found, int):
             raise _library.failed(found, "content-range", (line, *more))
         return found
@@ -557,25 +705,27 @@ class Credentials:
     token: Optional[str] = field(default=None, repr=False)
 
     def __post_init__(self) -> None:
-        _library.check_types(self, **dict.fromkeys(("user", "password", "token"), (str, type(None))))
+        for given in (self.user, self.password, self.token):
+            if given is not None and not isinstance(given, str):
+                _library.check_types(self, **dict.fromkeys(("user", "password", "token"), (str, type(None))))
         if (self.user is None) != (self.password is None) or (self.user is None) == (self.token is None):
             raise HeaderError("credentials: expected either a user name and a password, or a token")
         if Credentials.parse(str(self)) != self:
             raise HeaderError("credentials: a user name has no colon, and a token is printable ASCII")
 
+    if TYPE_CHECKING:
+
+        @classmethod
+        def parse(cls, line: Text, *more: Text) -> "Credentials":
+            """The credentials of the first field line of `Authorization` or of `Proxy-Authorization`."""
+            raise NotImplementedError
+
+    else:
+        parse = classmethod(_library.calls.parse_credentials)
+
     @classmethod
-    def parse(cls, line: Text, *more: Text) -> "Credentials":
-        """The credentials of the first field line of `Authorization` or of `Proxy-Authorization`."""
-        lines = (line, *more)
-        status, length, found = _library.calls.basic(lines)
-        if not status:
-            user, password = found[:length].decode("utf-8"), found[length:].decode("utf-8")
-            return _made(cls, user=user, password=password, token=None)
-        if status != _library.Status.NO_MEMORY:
-            status, found = _library.calls.bearer(lines)
-        if not status:
-            return _made(cls, user=None, password=None, token=_library.to_str(found))
-        if status == _library.Status.NO_MEMORY:
+    def _otherwise(cls, status: int, lines: Tuple[Text, ...]) -> "Credentials":
+        if status == _NO_MEMORY:
             raise MemoryError
         _library.to_lines("authorization", lines)
         # (the message doesn't show the lines, which may hold a secret)
@@ -611,14 +761,19 @@ class Cookie:
         if Cookie.parse(str(self)).pairs != self.pairs:
             raise _library.rejected("cookie", _library.to_lines("cookie", [str(self)]))
 
+    if TYPE_CHECKING:
+
+        @classmethod
+        def parse(cls, line: Text, *more: Text) -> "Cookie":
+            """The cookies of all field lines. What has no `=` is skipped."""
+            raise NotImplementedError
+
+    else:
+        parse = classmethod(_library.calls.parse_cookie)
+
     @classmethod
-    def parse(cls, line: Text, *more: Text) -> "Cookie":
-        """The cookies of all field lines. What has no `=` is skipped."""
-        status, found = _library.calls.cookies((line, *more))
-        if status:
-            raise _library.failed(status, "cookie", (line, *more))
-        pairs = (it.partition("=") for it in _library.to_str(found).split("\n")[:-1])
-        return _made(cls, pairs=tuple((name, value) for name, _, value in pairs))
+    def _otherwise(cls, status: int, lines: Tuple[Text, ...]) -> "Cookie":
+        raise _library.failed(status, "cookie", lines)
 
     def get(self, name: str) -> Optional[str]:
         """The value of the first cookie with this name."""

@@ -9,7 +9,7 @@ from . import _library
 from ._library import Text
 from .cors import unsent_origin
 from .errors import HeaderError
-from .headers import Headers, HeadersLike
+from .headers import Headers, HeadersLike, section_of
 
 __all__ = ["Fault", "Flaw", "Handshake", "websocket_check", "websocket_request", "websocket_respond"]
 
@@ -87,7 +87,7 @@ def websocket_respond(
     >>> websocket_respond("GET", request).fault
     <Fault.NO_KEY: 7>
     """
-    verb, section = _library.to_bytes(method, "method"), Headers(request).section
+    verb, section = _library.to_bytes(method, "method"), section_of(request)
     number = _library.to_number(version, "version", 8)
     allowed = _values("origins", origins)
     rules = (_values("protocols", protocols), allowed)
@@ -118,7 +118,7 @@ def websocket_check(sent: HeadersLike, status: int, response: HeadersLike) -> Op
     >>> websocket_check(websocket_request(), 200, {})
     <Flaw.NOT_SWITCHED: 1>
     """
-    asked, told = Headers(sent).section, Headers(response).section
+    asked, told = section_of(sent), section_of(response)
     number = _library.to_number(status, "status", 16)
     ended, flaw = _library.calls.websocket_check((asked, told, number))
     _library.check(ended, lambda: _wrong_sections(asked, told) or HeaderError(f"status: {status} is no status code"))
