@@ -679,16 +679,14 @@ static PyObject *parse(const struct call *call, PyObject *arguments, value_maker
 
 /* Values whose type is a frozen dataclass. The names are those of its members. */
 
-enum member_name { OPAQUE, WEAK, TAGS, FIRST, LAST, RANGE, LENGTH, TYPE, SUBTYPE, PARAMETERS, PAIRS, USER, PASSWORD, TOKEN,
-                   MAX_AGE, MAX_STALE, MIN_FRESH, S_MAXAGE, NO_CACHE, NO_STORE, NO_TRANSFORM, ONLY_IF_CACHED,
+enum member_name { OPAQUE, WEAK, TAGS, FIRST, LAST, RANGE, LENGTH, TYPE, SUBTYPE, PARAMETERS, PAIRS, USER, PASSWORD,
+                   TOKEN, MAX_AGE, MAX_STALE, MIN_FRESH, S_MAXAGE, NO_CACHE, NO_STORE, NO_TRANSFORM, ONLY_IF_CACHED,
                    MUST_REVALIDATE, MUST_UNDERSTAND, PUBLIC, PRIVATE, IMMUTABLE, PROXY_REVALIDATE, MEMBERS };
 
 static const char *const MEMBER_TEXTS[MEMBERS] = {
-    "opaque",   "weak",     "tags",         "first",          "last",            "range",           "length",
-    "type",     "subtype",  "parameters",   "pairs",          "user",            "password",        "token",
-    "max_age",  "max_stale", "min_fresh",   "s_maxage",       "no_cache",        "no_store",        "no_transform",
-    "only_if_cached",       "must_revalidate", "must_understand", "public",      "private",         "immutable",
-    "proxy_revalidate"};
+    "opaque", "weak", "tags", "first", "last", "range", "length", "type", "subtype", "parameters", "pairs", "user",
+    "password", "token", "max_age", "max_stale", "min_fresh", "s_maxage", "no_cache", "no_store", "no_transform",
+    "only_if_cached", "must_revalidate", "must_understand", "public", "private", "immutable", "proxy_revalidate"};
 static PyObject *member_names[MEMBERS];
 
 static bool make_member_names(void) {
@@ -1189,8 +1187,8 @@ static bool add_field(PyObject *name, PyObject *value, struct section_text *sect
 }
 
 /*
- * The section of a dictionary of names to single values, or of a list or a tuple of pairs. None of anything else, and if
- * a name or a value can be none.
+ * The section of a dictionary of names to single values, or of a list or a tuple of pairs. None of anything else, and
+ * if a name or a value can be none.
  */
 static PyObject *section(PyObject *module, PyObject *arguments) {
     PyObject *fields, *name, *value, *found = NULL;
@@ -1293,9 +1291,9 @@ static PyObject *pair(PyObject *module, PyObject *arguments) {
     {"parse_" #name, parse_##name, METH_VARARGS,                                                                       \
      "parse_" #name "($module, type, line, /, *more)\n--\n\nThe value of field lines."}
 static PyMethodDef methods[] = {
-    CALLS, OWN(content_range_as), OWN(elements_as), OWN(groups), OWN(pair), OWN(pairs),
-    PARSE(cache_control), PARSE(cookie), PARSE(credentials), PARSE(etag), PARSE(etags), PARSE(media_type), OWN(ranges_as),
-    OWN(section), OWN(use_keys), OWN(version), {NULL, NULL, 0, NULL},
+    CALLS, OWN(content_range_as), OWN(elements_as), OWN(groups), OWN(pair), OWN(pairs), PARSE(cache_control),
+    PARSE(cookie), PARSE(credentials), PARSE(etag), PARSE(etags), PARSE(media_type), OWN(ranges_as), OWN(section),
+    OWN(use_keys), OWN(version), {NULL, NULL, 0, NULL},
 };
 
 static struct PyModuleDef definition = {
