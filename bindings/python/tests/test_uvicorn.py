@@ -319,8 +319,9 @@ class Limits(unittest.TestCase):
             self.assertTrue(read_all(client).startswith(b"HTTP/1.1 408 "))
 
     def test_large_contents(self) -> None:
-        class Own(Quick):
+        class Own(Protocol):
             most_content = 1000
+            linger_time = 1.0
 
         with Server(echo, Own) as server:
             content = b"x" * 1000
@@ -715,7 +716,7 @@ class WithStarlette(unittest.TestCase):
             key, certificate = f"{folder}/key", f"{folder}/certificate"
             run("openssl", "req", "-x509", "-newkey", "rsa:2048", "-nodes", "-days", "2", "-subj", "/CN=localhost",
                 "-addext", "subjectAltName=IP:127.0.0.1", "-keyout", key, "-out", certificate)
-            with Server(application(), Quick, ssl_keyfile=key, ssl_certfile=certificate) as server:
+            with Server(application(), ssl_keyfile=key, ssl_certfile=certificate) as server:
                 context = ssl.create_default_context(cafile=certificate)
                 self.check(server.url("").replace("http:", "https:"), verify=context)
                 with context.wrap_socket(server.connect(), server_hostname="127.0.0.1") as client:

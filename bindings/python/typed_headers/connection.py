@@ -271,9 +271,9 @@ class Connection:
     def send(self, event: Union[Response, Data, EndOfMessage]) -> None:
         """Sends the head, a piece of the content, or the end of the response to the request that waits.
 
-        `HeaderError` if the status or a field is none, and `TooLarge` if more is held than may be: nothing of the
+        `HeaderError` if the status or a field is invalid, and `TooLarge` if more is held than may be: nothing of the
         response was sent then, and another one may be. `LocalProtocolError` if the event is out of order, or if the
-        library doesn't send such a response, as 101: then the connection has failed.
+        library doesn't send such a response, as 101: the connection has failed then, and `our_state` is `ERROR`.
         """
         if isinstance(event, Response):
             self._plan(event)
