@@ -41,7 +41,7 @@ OnConnection P (Some (held.Connection old)) (Some (held.Connection new)) answer 
 OnConnection P (Some (held.Connection old)) other answer = ⊥
 OnConnection P old new answer = (answer ≡ Err Absent) × (new ≡ old)
 
--- these bytes were received, and these handed out
+-- these bytes were received, and these written
 abbrev pub HasMoved : List ℕ → List ℕ → HeldConnection → HeldConnection → Type 0
 HasMoved received sent old new =
     (now : HostHistory)
@@ -89,7 +89,7 @@ Responds old new (Ok tt) =
 Responds old new (Err failure) =
     (failure ≡ Refused) × (new ≡ old) × ¬ (old.connection.machine.phase ≡ Asking)
 
--- So many of the bytes that the connection offers were handed out. If it offers fewer nothing changes.
+-- So many of the bytes that the connection offers were written. If it offers fewer nothing changes.
 abbrev pub HandsOut : ℕ → HeldConnection → HeldConnection → Result (Unit {0}) Failure → Type 0
 HandsOut count old new (Ok tt) =
     ((now : HostHistory) (bytes : List ℕ) → length bytes ≡ count → Offers (host_gives now) old.connection.machine bytes
@@ -115,7 +115,7 @@ IsRejectedBy (event.Closed (reason.Refused why)) status = code_digits status ≡
 IsRejectedBy other status = status ≡ 0
 
 -- The connection took steps, and says what it wants. Where it needs input, each whole request that was received is
--- answered, and all of the answers were handed out.
+-- answered, and all of the answers were written.
 abbrev pub Wants : HeldConnection → HeldConnection → Result ℕ Failure → Type 0
 Wants old new (Ok number) =
     HasMoved [] [] old new
@@ -204,7 +204,7 @@ Shows text handle new_handle old new before written status =
     (new_handle ≡ handle)
     × Writes (λ bytes. bytes) (λ _. done) (OnHeld (IsText text) (connection_in handle)) old new before written status
 
--- the range that is to be handed out next; `Absent` if there is none
+-- the range that is to be sent next; `Absent` if there is none
 abbrev pub IsRangeNext : HeldConnection → Result OpenRange Failure → Type 0
 IsRangeNext held (Ok extent) = IsNextRange held.connection.machine extent
 IsRangeNext held (Err failure) = (failure ≡ Absent) × HasNoRange held.connection.machine

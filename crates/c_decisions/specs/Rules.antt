@@ -36,7 +36,7 @@ Finds allocates P (Err TooLarge) = ⊥
 abbrev pub FindsOfLine : {V : Type 0} → (V → Type 0) → Result V Failure → Type 0
 FindsOfLine P answer = Finds ⊤ P answer
 
--- the lines read the values, one each
+-- the lines decode to the values, one each
 abbrev pub ReadEach : {V : Type 0} → (Line → V → Type 0) → List Line → Vec V → Type 0
 ReadEach reads lines values = AllZip reads lines values.items
 

@@ -1,4 +1,4 @@
--- Lists of values of which a star stands for any.
+-- Lists of values, where a star means any.
 use Rattle.std.specs.Prelude.{Bool, false, List, [], ◌∷◌, bytes_eq, codes}
 use Rattle.headers.specs.Lines.{Line}
 

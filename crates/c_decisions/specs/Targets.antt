@@ -19,7 +19,7 @@ IsTagOf text (Ok (Some tag)) = FieldDecodes reads_etag text (Ok tag)
 IsTagOf text (Err Absent) = ⊥
 IsTagOf text (Err failure) = FieldDecodes reads_etag text (Err failure)
 
--- the date of a second, if it is known; one past the year 9999 is refused
+-- the date of a second, if it is known; one past the year 9999 is rejected
 abbrev pub IsDateOf : Bool → ℕ → Result (Option ℕ) Failure → Type 0
 IsDateOf is_known second (Ok date) = date ≡ known is_known second
 IsDateOf is_known second (Err failure) = (failure ≡ Refused) × (is_known ≡ true) × (¬ (IsDated second))

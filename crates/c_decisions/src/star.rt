@@ -1,4 +1,4 @@
-//! Lists of values of which a star stands for any.
+//! Lists of values, where a star means any.
 ghost use Rattle.std.specs.Prelude.{◌≡◌};
 ghost use Rattle.headers.specs.Lines.{lines_of};
 ghost use Rattle.c_decisions.specs.Star.{is_any};

@@ -32,7 +32,7 @@ fn path_of(connection: &ServerConnection) -> &str
     connection.request().uri().path()
 }
 
-// Tells the service what was found. Refused if a path is left to open.
+// Tells the service what was found. `REFUSED` if a path is left to open.
 fn tell(
     alloc: Global,
     files: &mut HeldFiles,

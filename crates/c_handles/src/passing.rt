@@ -202,7 +202,7 @@ pub fn pass_failed(
     facts
 }
 
-/// Keeps a piece of the content of the response that passes on, for the store.
+/// Keeps a piece of the content of the response that is forwarded, for the store.
 pub fn pass_received(alloc: Global, pass: &mut Handle, piece: &[u8]) -> Result<(), Failure>
     ensures { OnPass (Receives piece.now) pass.old.held pass.new.held result }
 {

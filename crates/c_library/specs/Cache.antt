@@ -120,7 +120,7 @@ Decides stored request moments is_shared (Err failure) =
     ⊎ (IsMapOf stored.request.now (Err failure)
     ⊎ (IsMapOf request.section.now (Err failure) ⊎ IsMapOf stored.response.now (Err failure))))
 
--- the text is that of the fields that validate the response, which came at a moment, or the section could not be read
+-- the text is that of the fields that validate the response, which came at a time, or the section could not be parsed
 abbrev pub Validates : List ℕ → ℕ → Result (Vec ℕ) Failure → Type 0
 Validates response received (Ok text) =
     (told : Entries FieldValue)

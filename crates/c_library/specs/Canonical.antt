@@ -7,7 +7,7 @@ use Rattle.c_library.specs.declared.canonical.Canonical.{Canonical}
 use Rattle.c_parts.{specs.declared.status.Failure.Failure, specs.declared.status.Failure.TheVariants.{Refused, Memory}}
 use Rattle.c_parts.{specs.declared.status.Failure.TheVariants.{Absent, TooLarge}, specs.Endings.{done, marked, Writes}}
 
--- What an answer says of an input: its canonical text, and whether some name's lines were refused; `Refused` only if a
+-- What an answer says of an input: its canonical text, and whether some name's lines were rejected; `Refused` only if a
 -- line before the first empty one is no field; `TooLarge` only if the input is too long, or has more fields than a map
 -- has room for; `Memory` only if there is a line before the first empty one.
 abbrev pub IsCanonicalAnswer : List ℕ → Result Canonical Failure → Type 0

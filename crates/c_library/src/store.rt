@@ -200,7 +200,7 @@ pub extern "C" fn typed_headers_pass_content(
     ended(copy_pass_content(alloc, pass, from, room, written))
 }
 
-/// Keeps a piece of the content of the response that passes on, for the store.
+/// Keeps a piece of the content of the response that is forwarded, for the store.
 #[unsafe(no_mangle)]
 pub extern "C" fn typed_headers_pass_received(alloc: Global, pass: &mut Handle, piece: &[u8]) -> u8
     ensures { Ends (OnPass (Receives piece.now) pass.old.held pass.new.held) result }

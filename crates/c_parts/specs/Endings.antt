@@ -1,4 +1,4 @@
--- How calls end: their status, and what stands at the caller's pointers.
+-- How calls end: their status, and what is at the caller's pointers.
 use Rattle.std.specs.Prelude.{◌≡◌, ℕ, ◌<◌, ◌≤◌, List, length, take, drop, Result, Ok, Err}
 use Rattle.c_parts.specs.declared.status.Failure.{Failure}
 use Rattle.c_parts.specs.declared.status.Failure.TheVariants.{Refused, Memory, Absent, TooLarge}
@@ -7,7 +7,7 @@ use Rattle.c_parts.specs.declared.status.Failure.TheVariants.{Refused, Memory, A
 abbrev pub done : ℕ
 done = 0
 
--- the status of a call that wrote a text in which a refusal is marked
+-- the status of a call that wrote a text in which a rejection is marked
 abbrev pub marked : ℕ
 marked = 6
 

@@ -18,11 +18,11 @@ abbrev pub field_lines : List ℕ → List Line
 field_lines [] = []
 field_lines (byte ∷ text) = input_lines (without_last 10 (byte ∷ text))
 
--- each line of the text may be a header value, and the lines read the value
+-- each line of the text may be a header value, and the lines decode to the value
 abbrev pub FieldReads : {V : Type 0} → (List Line → V → Type 0) → List ℕ → V → Type 0
 FieldReads reads text value = All IsFieldValue (field_lines text) × reads (field_lines text) value
 
--- What an answer says of a text: a value only if its lines read it, `Refused` only if there are lines and they read
+-- What an answer says of a text: a value only if its lines encode it, `Refused` only if there are lines, which give
 -- nothing, `Absent` only if there is no line, and `Memory` only if there are lines.
 abbrev pub FieldDecodes : {V : Type 0} → (List Line → V → Type 0) → List ℕ → Result V Failure → Type 0
 FieldDecodes reads text (Ok value) = HasLine (field_lines text) × FieldReads reads text value

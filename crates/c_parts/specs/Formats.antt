@@ -55,7 +55,7 @@ abbrev pub FormatsContentRange : ContentRangeParts → Result FieldValue Failure
 FormatsContentRange parts =
     Formats (IsContent (content_of parts)) (λ (value : FieldValue). value.bytes ≡ content_text (content_of parts))
 
--- the tag of an opaque part, each byte of which may stand there
+-- the tag of an opaque part, each byte of which is allowed there
 abbrev pub FormatsTag : Bool → List ℕ → Result (Vec ℕ) Failure → Type 0
 FormatsTag is_weak opaque =
     Formats (AllPass is_tag_byte opaque)

@@ -17,7 +17,7 @@ IsMapOf input (Err TooLarge) = HasTooManyFields input
 IsMapOf input (Err Memory) = HasLine (section input)
 IsMapOf input (Err Absent) = ⊥
 
--- what the refusal of a map is to a call
+-- what the error of a map is to a call
 abbrev pub failure_of : HeaderMapError → Failure
 failure_of MaxSizeReached = TooLarge
 failure_of OutOfMemory = Memory

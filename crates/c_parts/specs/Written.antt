@@ -1,4 +1,4 @@
--- The lines that a header writes of the value that its lines read.
+-- The lines that a header writes of the value that its lines decode to.
 use Rattle.std.specs.Prelude.{◌≡◌, ◌⊎◌, ℕ, ◌||◌, Bool, List, [], ◌∷◌, ◌++◌, flat_map, All, Some, None, Result, Ok, Err}
 use Rattle.std.{specs.Prelude.{MatchBool, bytes_eq, codes}, specs.Global.Vec}
 use Rattle.http_header.{specs.FieldName.IsFieldName, specs.FieldValue.{FieldValue, IsFieldValue}, specs.Token.lowercase}
@@ -49,7 +49,7 @@ abbrev pub HasNoBlock : List ℕ → List ℕ → Type 0
 HasNoBlock name text = ¬ (IsFieldName name) ⊎ (HasLine (field_lines text) × ¬ (All IsFieldValue (field_lines text)))
 
 -- The lines that are written. `Refused` only if the name is no field name, or a line is no header value, or the header
--- refuses the lines. `Memory` only if the name is copied, or there is a line.
+-- rejects the lines. `Memory` only if the name is copied, or there is a line.
 abbrev pub IsWrittenAs : List ℕ → List ℕ → Result (Vec FieldValue) Failure → Type 0
 IsWrittenAs name text (Ok lines) = HasBlock name text (Some (lines_of lines.items))
 IsWrittenAs name text (Err Refused) = HasNoBlock name text ⊎ HasBlock name text None

@@ -211,7 +211,7 @@ module _ (now : ℕ) (old : Shared) (before : Stepped) (new : Shared) (after : S
       pub text : after.text ≡ before.text
       pub beside : IsSameBeside old new
 
-    -- `Absent` if no response passes on that is to be stored
+    -- `Absent` if no response is forwarded that is to be stored
     abbrev pub Ends : Result (Option ℕ) Failure → Type 0
     Ends (Ok number) = IsEnded (Ok number)
     Ends (Err failure) =
@@ -227,7 +227,7 @@ content_with most piece (Some content) =
     if nat_le (length content + length piece) most then Some (content ++ piece) else None
 
 module _ (piece : List ℕ) (before after : Stepped) where
-  -- of a pass by which a response passes on that is to be stored, this content is kept
+  -- of a pass that forwards a response that is to be stored, this content is kept
   pub record IsKept (content : Option (List ℕ)) : Type 0 where
     pub passing : ¬ (IsNotPassing before.pass.phase)
     pub content_is : content_of after ≡ content
@@ -237,7 +237,7 @@ module _ (piece : List ℕ) (before after : Stepped) where
     pub text : after.text ≡ before.text
     pub place : after.place ≡ before.place
 
-  -- The piece is kept with those before it. `Absent` if no response passes on that is to be stored. If memory runs out
+  -- The piece is kept with those before it. `Absent` if no response to be stored is forwarded. If memory runs out
   -- for bytes that would be kept, nothing is from now on.
   abbrev pub Receives : Result (Unit {0}) Failure → Type 0
   Receives (Ok one) = IsKept (content_with before.most piece (content_of before))

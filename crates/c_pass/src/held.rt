@@ -37,7 +37,7 @@ pub struct Stepped {
     pub shown: Option<Bytes>,
     /// The field lines that its last step takes.
     pub text: Vec<u8>,
-    /// What came so far of the content of the response that passes on, if it may still be stored.
+    /// What came so far of the content of the response that is forwarded, if it may still be stored.
     pub content: Option<Vec<u8>>,
     /// How many bytes of it the store may have: a pass keeps no more.
     pub most: usize,

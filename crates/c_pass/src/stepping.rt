@@ -214,7 +214,7 @@ pub fn failed(
     }
 }
 
-// Whether a response passes on that is to be stored.
+// Whether a response is forwarded that is to be stored.
 fn is_passing(pass: &Pass) -> bool
     ensures { MatchBool result (¬ (IsNotPassing pass.now.phase)) (IsNotPassing pass.now.phase) }
 {
@@ -244,7 +244,7 @@ fn content_with(
     Ok(Some(content))
 }
 
-/// Keeps a piece of the content of the response that passes on, for the store.
+/// Keeps a piece of the content of the response that is forwarded, for the store.
 pub fn received(stepped: &mut Stepped, piece: &[u8]) -> Result<(), Failure>
     ensures { Receives piece.now stepped.old stepped.new result }
 {

@@ -35,7 +35,7 @@ pub record IsRule (lines : RuleLines) (place : ℕ) (method : Line) (rule : Meth
   pub accept_encoding : lines_at rule.takes (codes "accept-encoding")
       ≡ option_lines (filled_at lines.accept_encoding place)
 
--- the method can't be read, or there is no memory for its rule
+-- the method can't be parsed, or its rule runs out of memory
 abbrev pub FailsAtRule : Line → Failure → Type 0
 FailsAtRule method failure = (failure ≡ Memory) ⊎ IsMethodOf method (Err failure)
 
@@ -48,7 +48,7 @@ module _ (methods : List Line) where
   abbrev pub AreRules : RuleLines → List MethodRule → Type 0
   AreRules lines rules = IsEachAt (IsRuleAt lines) (length methods) rules
 
-  -- a method can't be read, or there is no memory for its rule
+  -- a method can't be parsed, or its rule runs out of memory
   abbrev pub FailsAtMethod : Failure → Type 0
   FailsAtMethod failure =
       (place : ℕ) × (method : Line) × (slice_get methods place ≡ Some method) × FailsAtRule method failure

@@ -58,7 +58,7 @@ module _ (settings : Settings) (key : List ℕ) (came : StoredResponse) where
   IsNumbered old new (Err error) =
       IsToStore settings.policy came Complete × FitsAlone settings.limits 1 (size_at key came) × IsLeft old new
 
-  -- the calls by which it is stored, if it may be
+  -- the calls that store it, if it may be stored
   pub record IsStoring (calls : History) (old new : Kept) (number : Result (Option ℕ) AllocError) : Type 0 where
     pub before : History
     pub describing : AreDescribing before

@@ -21,14 +21,14 @@ IsInvalidation key method status response calls =
 
 module _ (settings : Settings) (key : List ℕ) where
   module _ (request : Request) where
-    -- the response passes on, and is kept if it is to be stored
+    -- the response is forwarded, and is kept if it is to be stored
     abbrev pub IsPassedOn : ℕ → LineMap → Result Next AllocError → Type 0
     IsPassedOn status response (Ok (PassOn kept)) =
         MatchBool kept (IsWanted settings.policy request status response)
         (¬ (IsWanted settings.policy request status response))
     IsPassedOn status response other = ⊥
 
-    -- A response that says that the origin failed is replaced by what may be served now, or passes on if nothing may
+    -- A response that says that the origin failed is replaced by what may be served now, or forwarded if nothing may
     -- be.
     abbrev pub IsFailing : ℕ → LineMap → ℕ → Kept → Result Next AllocError → Type 0
     IsFailing status response now new (Ok (Reply reply)) =

@@ -32,7 +32,7 @@ abbrev pub asked_of : Phase → Option Asked
 asked_of (Asking asked) = Some asked
 asked_of other = None
 
--- no response passes on that is to be stored
+-- no response is forwarded that is to be stored
 abbrev pub IsNotPassing : Phase → Type 0
 IsNotPassing (Passing asked status response) = ⊥
 IsNotPassing other = ⊤

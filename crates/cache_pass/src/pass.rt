@@ -25,7 +25,7 @@ pub enum Phase {
     Began,
     /// The origin is asked.
     Asking(Asked),
-    /// The origin's response passes on, with this status and these fields, and is to be stored.
+    /// The origin's response is forwarded, with this status and these fields, and is to be stored.
     Passing(Asked, StatusCode, HeaderMap),
     /// Nothing more comes.
     Ended,

@@ -24,7 +24,7 @@ pub enum OutOfOrder {
     Came,
     /// `failed` where the origin isn't asked.
     Failed,
-    /// `ended` where no response passes on that is to be stored.
+    /// `ended` where no response is forwarded that is to be stored.
     Ended,
 }
 

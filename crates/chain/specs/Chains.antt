@@ -52,7 +52,7 @@ pub record IsOwn (reply : Reply) : Type 0 where
   pub content : reply.content ≡ []
   pub fields : (name : List ℕ) → IsCarried name → reply.fields name ≡ []
 
--- What those behind a list of hops give, the hop nearest to the client first: the last one passes on to the server of
+-- What those behind a list of hops give, the hop nearest to the client first: the last one forwards to the server of
 -- the target.
 module _ (site : List ℕ → Server) where
   abbrev pub behind : List Hop → Origin

@@ -9,7 +9,7 @@ use http_header::ORIGIN;
 use rfc_fields::only_value;
 use std::alloc::AllocError;
 
-// The value of `Access-Control-Allow-Origin`. `None` in place of the listed origins stands for any origin.
+// The value of `Access-Control-Allow-Origin`. `None` in place of the listed origins means any origin.
 pub(crate) fn granted(
     origins: &Option<Vec<HeaderValue>>,
     request: &HeaderMap,

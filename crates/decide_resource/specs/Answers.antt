@@ -18,7 +18,7 @@ use Rattle.decide_resource.specs.declared.resource.State.TheVariants as state
 
 -- ---- the representation that a request selects (section 12.1)
 
--- the first representation stands for none
+-- the first representation, where the choice is none
 abbrev pub place_of : List Representation → Option ℕ → Option ℕ
 place_of representations (Some place) = Some place
 place_of [] None = None
@@ -114,7 +114,7 @@ pub record Stops (resource : Resource) (request : Request) (reason : Reason) (st
   pub sends : sent ≡ sent_for reason
   pub has_fields : fields ≡ reason_fields resource request reason
 
--- nothing stands in the way
+-- nothing prevents the method
 abbrev pub is_admitted : Reason → Bool
 is_admitted Reason.Admitted = true
 is_admitted reason = false

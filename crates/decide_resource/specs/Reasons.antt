@@ -63,7 +63,7 @@ in_order =
     ∷ PartialContent ∷ Moved ∷ Gone ∷ NotFound ∷ Options ∷ LengthRequired ∷ ContentTooLarge ∷ UnsupportedMediaType
     ∷ UnsupportedCoding ∷ NotAcceptable ∷ PreconditionRequired ∷ []
 
--- the first that applies, or else that nothing stands in the way
+-- the first that applies, or else that nothing prevents the method
 abbrev pub or_admitted : Option Reason → Reason
 or_admitted None = Admitted
 or_admitted (Some reason) = reason

@@ -83,7 +83,7 @@ pub fn performed_method_replaces_what_it_names()
         → answer.sends ≡ Perform → ReplacesNamed present resource request }
 {}
 
-/// Theorem: Allow lists exactly the methods that aren't answered by 405 (RFC 9110, section 10.2.1).
+/// Theorem: Allow lists exactly the methods to which 405 doesn't apply (RFC 9110, section 10.2.1).
 pub fn allow_is_exact()
     ensures { (present : ℕ) (resource : Resource) (request : Request)
         → Contains (methods resource.rules.items) request.method

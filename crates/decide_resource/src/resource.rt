@@ -9,7 +9,7 @@ use http::Method;
 /// A method of a resource, and what it requires of a request.
 #[derive(Debug, Drop)]
 pub struct MethodRule {
-    /// The method. GET stands for HEAD too (RFC 9110, section 9.3.2). Each resource has OPTIONS, and
+    /// The method. GET means HEAD too (RFC 9110, section 9.3.2). Each resource has OPTIONS, and
     /// a rule for HEAD or OPTIONS is ignored.
     pub method: Method,
     /// What content the method takes, as the fields that say so in a response: Accept for its media

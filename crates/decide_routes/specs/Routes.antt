@@ -36,12 +36,12 @@ Matches [] path = path ≡ []
 Matches (token ∷ pattern) path = Takes (token == param_token) (token == catch_all_token) token (Matches pattern) path
 
 module _ {K : Type 0} where
-  -- no row has this pattern
+  -- no entry has this pattern
   abbrev pub LacksPattern : List ℕ → RowsOf K → Type 0
   LacksPattern pattern [] = ⊤
   LacksPattern pattern ((other, key) ∷ rows) = (other ≢ pattern) × LacksPattern pattern rows
 
-  -- no two rows have the same pattern
+  -- no two entries have the same pattern
   abbrev pub IsDistinct : RowsOf K → Type 0
   IsDistinct [] = ⊤
   IsDistinct ((pattern, key) ∷ rows) = LacksPattern pattern rows × IsDistinct rows

@@ -57,7 +57,7 @@ fn copied(value: Option<&HeaderValue>) -> Result<Option<HeaderValue>, AllocError
     }
 }
 
-// The field lines of a field that has one at most.
+// The field lines of a field that has at most one.
 fn push_optional(
     alloc: Global,
     fields: &mut Vec<Encoded>,

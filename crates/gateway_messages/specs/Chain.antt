@@ -18,7 +18,7 @@ pub record IsForwardedAs (request next : Request) : Type 0 where
   pub forwarded : IsForwarded gateway request sent
   pub received : IsReceivedAs request.method sent next
 
--- what each gateway of a row forwards, from a request on
+-- what each of several gateways forwards, one after another, from a request on
 abbrev pub IsChain : Request → List Request → Type 0
 IsChain request [] = ⊤
 IsChain request (next ∷ rest) = IsForwardedAs request next × IsChain next rest

@@ -11,7 +11,7 @@ begins_encoded (b ∷ []) = false
 begins_encoded (b ∷ c ∷ []) = false
 begins_encoded (b ∷ c ∷ d ∷ s) = is_encoded b c d
 
--- the text begins with a byte that may stand in a registered name by itself, or with an encoded one
+-- the text begins with a byte that a registered name may have by itself, or with an encoded one
 abbrev pub begins_part : Line → Bool
 begins_part [] = false
 begins_part (b ∷ s) = is_name_byte b || begins_encoded (b ∷ s)

@@ -13,12 +13,12 @@ trailer_names =
     ∷ codes "proxy-authentication-info" ∷ codes "repr-digest" ∷ codes "server-timing" ∷ codes "signature"
     ∷ codes "signature-input" ∷ []
 
--- a field of this name may stand in a trailer section, and this gateway doesn't protect it
+-- a trailer section may have a field of this name, and this gateway doesn't protect it
 abbrev pub may_trail : Gateway → List ℕ → Bool
 may_trail gateway name =
     list_any (bytes_eq name) trailer_names && not (list_any (bytes_eq name) gateway.protected.items)
 
--- the received field lines of the name are forwarded: it is end-to-end, and may stand in a trailer section
+-- the received field lines of the name are forwarded: it is end-to-end, and a trailer section may have it
 unfoldable pub trailer_goes_on : Gateway → List Member → List ℕ → Bool
 trailer_goes_on gateway options name =
     not (is_hop_by_hop gateway.consumes_credentials options name) && may_trail gateway name
@@ -29,7 +29,7 @@ trailer_goes_on gateway options name =
 -- forwarded: only chunked content is followed by trailer fields.
 pub record ForwardsTrailers (gateway : Gateway) (framing : Framing) (message received forwarded : LineMap) : Type 0
   where
-    -- a field that may stand there and is end-to-end keeps its field lines, in order
+    -- a field that is allowed there and is end-to-end keeps its field lines, in order
     pub end_to_end : framing ≡ Chunked → (name : List ℕ) → IsEndToEnd gateway message name
         → may_trail gateway name ≡ true → forwarded name ≡ received name
     pub hop_by_hop : (name : List ℕ) → IsHopByHop gateway message name → forwarded name ≡ []

@@ -130,7 +130,7 @@ pub fn next_gateway_frames_alike()
 }
 
 /// Theorem: merging trailer fields into the header section changes neither the framing, nor any
-/// field but those that may stand in a trailer section (RFC 9110, section 6.5.1).
+/// field but those that a trailer section may have (RFC 9110, section 6.5.1).
 pub fn trailers_may_be_merged()
     ensures framing { (gateway : Gateway) (framing : Framing) (message received : LineMap)
         (fields trailers : List Field) (recipient : Recipient)

@@ -33,7 +33,7 @@ fn is_protected(gateway: &Gateway, name: &str) -> bool
     gateway.protected.iter().any(|own| name == own.as_str())
 }
 
-/// Whether the field may stand in a trailer section, and the gateway doesn't protect it.
+/// Whether a trailer section may have the field, and the gateway doesn't protect it.
 pub(crate) fn may_trail(gateway: &Gateway, name: &str) -> bool
     ensures { result ≡ may_trail gateway.now name.now }
 {

@@ -80,7 +80,7 @@ abbrev pub after_pieces : List (List ℕ) → Encoder → Encoder
 after_pieces [] e = e
 after_pieces (piece ∷ pieces) e = after_pieces pieces (after_piece e (length piece))
 
--- none of them is refused
+-- none of them is rejected
 abbrev pub ArePassed : List (List ℕ) → Encoder → Type 0
 ArePassed [] e = ⊤
 ArePassed (piece ∷ pieces) e =

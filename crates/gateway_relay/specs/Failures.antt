@@ -56,7 +56,7 @@ IsMapFailure fields failure = ⊥
 
 -- Why content isn't passed on, where the decoder gave these pieces of the stream: the input, and what was taken of a
 -- reader, of which this is left. It is malformed, and no bytes that follow would mend it; or it is cut short; or its
--- trailer fields have no map; or the encoder refuses a piece; or else a read or a write failed, or memory ran out.
+-- trailer fields have no map; or the encoder rejects a piece; or else a read or a write failed, or memory ran out.
 abbrev pub IsRelayFailure : Bool → Decoder → Encoder → List ℕ → Option (List ℕ) → List (List ℕ) → RelayFailure → Type 0
 IsRelayFailure ends_with_connection d e stream left pieces Failed.Reader = ⊤
 IsRelayFailure ends_with_connection d e stream left pieces Failed.CutShort =
@@ -82,7 +82,7 @@ abbrev pub write_failure : WriteError → RelayFailure
 write_failure Write.OutOfMemory = Failed.OutOfMemory
 write_failure e = Failed.Unsendable e
 
--- the call returns the refusal of `http1`, if there is one, or memory runs out
+-- the call returns the error of `http1`, if there is one, or memory runs out
 abbrev pub Refuses : {T : Type 0} → Option WriteError → Result T WriteError → Type 0
 Refuses refusal result =
     MatchResult result (λ _. refusal ≡ None) (λ e. (e ≡ Write.OutOfMemory) ⊎ (refusal ≡ Some e))
@@ -100,14 +100,14 @@ pub record WritesPart (text : List ℕ) (held held_after : Option (List ℕ)) : 
   pub parts : text ≡ sent ++ unsent
   pub told : Appends held held_after sent
 
--- why a text isn't written, and what is written nevertheless; `http1` may refuse it
+-- why a text isn't written, and what is written nevertheless; `http1` may reject it
 abbrev pub FailsToWrite : Option WriteError → List ℕ → Option (List ℕ) → Option (List ℕ) → RelayFailure → Type 0
 FailsToWrite refusal text held held_after (Failed.Unsendable e) = (refusal ≡ Some e) × (held_after ≡ held)
 FailsToWrite refusal text held held_after Failed.Writer = (refusal ≡ None) × WritesPart text held held_after
 FailsToWrite refusal text held held_after Failed.OutOfMemory = held_after ≡ held
 FailsToWrite refusal text held held_after failure = ⊥
 
--- The text is written, if `http1` doesn't refuse it. If it does, or memory runs out, nothing is written.
+-- The text is written, if `http1` doesn't reject it. If it does, or memory runs out, nothing is written.
 abbrev pub Writes : {T : Type 0} → Option WriteError → List ℕ → Option (List ℕ) → Option (List ℕ)
     → Result T RelayFailure → Type 0
 Writes refusal text held held_after result =

@@ -24,7 +24,7 @@ pub const MAX_FIELDS: usize = 100;
 pub struct Request {
     /// The method.
     pub method: Method,
-    /// The target, as it stands in the request line.
+    /// The target, as the request line has it.
     pub target: Bytes,
     /// The minor version of HTTP/1.
     pub minor: u8,

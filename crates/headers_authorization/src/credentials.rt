@@ -55,7 +55,7 @@ fn has_scheme(line: &[u8], scheme: &str) -> bool
     end < line.len() && line[end] == b' ' && line[..end].eq_ignore_ascii_case(scheme.as_bytes())
 }
 
-// The credentials that the first line reads, if it has their scheme.
+// The credentials that the first line decodes to, if it has their scheme.
 pub(crate) fn first_credentials<C: Credentials, I: Iterator>(
     alloc: Global,
     values: &mut I,

@@ -18,7 +18,7 @@ use Rattle.headers_caching.specs.CacheControl.{Directives, carries, number_in, i
 use Rattle.headers_caching.specs.CacheControl.{directives_of, lines_of_directives, flag_rows, number_rows, print_flag}
 use Rattle.headers_caching.specs.CacheControl.{print_number, printed}
 
--- directives are equal if they agree in each row
+-- directives are equal if they agree in each entry of the table
 pub same_rows : (a b : Directives) → AllByRecursion (λ row. row.1 a ≡ row.1 b) flag_rows
     → AllByRecursion (λ row. row.1 a ≡ row.1 b) number_rows → a ≡ b
 same_rows a b flags numbers = λ i.
@@ -49,7 +49,7 @@ pub both : {X : Type 0} (P Q R : X → Type 0) → ((x : X) → P x → Q x → 
 both P Q R h [] ps qs = tt
 both P Q R h (x ∷ xs) ps qs = (h x ps.0 qs.0, both P Q R h xs ps.1 qs.1)
 
--- equal directives agree in each row
+-- equal directives agree in each entry of the table
 pub rows_same : {V : Type 0} (a b : Directives) → a ≡ b → (rows : List (List ℕ × (Directives → V)))
     → AllByRecursion (λ row. row.1 a ≡ row.1 b) rows
 rows_same a b e = every _ (λ row. ap row.1 e)
@@ -79,7 +79,7 @@ number_names = (
   ((refl, λ ds. (refl, refl)), ((refl, λ ds. (refl, refl)), ((refl, λ ds. (refl, refl)), tt))),
 )
 
--- what is encoded of the rows whose names pass
+-- what is encoded of the entries whose names pass
 abbrev of_rows : {V : Type 0} → (List ℕ → Bool) → (List ℕ → V → List (List ℕ)) → Directives
     → List (List ℕ × (Directives → V)) → List (List ℕ)
 of_rows q print d rows = flat_map (λ row. cond (q row.0) (print row.0 (row.1 d)) []) rows

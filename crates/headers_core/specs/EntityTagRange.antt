@@ -5,7 +5,7 @@ use Rattle.headers_items.{specs.Places.{comma, items}, specs.Merge.merge}
 use Rattle.headers_core.specs.declared.entity_tag_range.EntityTagRange.{EntityTagRange}
 use Rattle.headers_core.specs.declared.entity_tag_range.EntityTagRange.TheVariants as range
 
--- the byte that stands for any tag
+-- the byte that means any tag
 abbrev pub star : List ℕ
 star = codes "*"
 

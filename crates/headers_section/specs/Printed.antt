@@ -1,4 +1,4 @@
--- The block that a choice of what is printed stands for.
+-- The block that a choice of what is printed gives.
 use Rattle.std.specs.Prelude.{List, Some, None}
 use Rattle.headers.specs.Lines.{Line, lines_of}
 use Rattle.headers_section.specs.{CanonicalText.Block, declared.block.Printed.Printed}

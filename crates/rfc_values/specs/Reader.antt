@@ -22,7 +22,7 @@ is_near now d =
     nat_le (seconds (in_year d (d.year - 50))) (unix_epoch + now)
     && nat_lt (unix_epoch + now) (seconds (in_year d (d.year + 50)))
 
--- the date in the first of n centuries, from this one on, in which it is near now
+-- the date in the first of n centuries, from this one on, that brings it near now
 unfoldable pub in_near_century : ℕ → DateTime → ℕ → ℕ → Option DateTime
 in_near_century now d zero century = None
 in_near_century now d (suc n) century =

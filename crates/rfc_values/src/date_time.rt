@@ -124,7 +124,7 @@ impl DateTime {
         earlier.seconds() <= now && now < later.seconds()
     }
 
-    /// Returns the date in the century in which it is within fifty years of `now`, in seconds since
+    /// Returns the date in the century that brings it within fifty years of `now`, in seconds since
     /// 1970. `None` if that is after the year 9999.
     pub fn in_near_century(self, now: u64) -> Option<DateTime>
         requires year { self.year < 100 }

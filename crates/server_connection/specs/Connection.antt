@@ -64,7 +64,7 @@ IsSaid m (Says.Closed why) = (m.state ≡ Closing why) × (m.output.items ≡ []
 IsSaid m Says.Aborted = (m.state ≢ Open) × (¬ (IsClosing m.state)) × (m.output.items ≡ [])
 
 -- A history of calls on a connection that began in a state of the application. It led to this one, these bytes were
--- received in it, and these were handed out.
+-- received in it, and these were written.
 pub data IsReached {H : Type 0} (plans : Plans H) (gives : H → Gives) (config : Config) (first : H)
     : Machine → H → List ℕ → List ℕ → Type 0 where
   begun : (m : Machine) → m.config ≡ config → Runs plans gives first m first new_past →
@@ -75,7 +75,7 @@ pub data IsReached {H : Type 0} (plans : Plans H) (gives : H → Gives) (config 
       IsReached plans gives config first new now (received ++ more_received) (sent ++ more_sent)
 
 -- After those bytes the connection needs input: the input goes on, each whole request that was received is answered,
--- and the request after those was invited to go on if it waits for `100 Continue`. Nothing waits to be handed out.
+-- and the request after those was invited to go on if it waits for `100 Continue`. Nothing waits to be written.
 pub record HasRested {H : Type 0} (plans : Plans H) (gives : H → Gives) (first : H) (m : Machine) (now : H)
     (received sent : List ℕ) : Type 0 where
   pub past : Past

@@ -338,7 +338,7 @@ IsNextRange m extent =
 abbrev pub HasNoRange : Machine → Type 0
 HasNoRange m = (extent : OpenRange) → ¬ (IsNextRange m extent)
 
--- So many bytes of the range that is next were handed out, where no others wait, it is so long, and they end below
+-- So many bytes of the range that is next were sent, where no others wait, it is so long, and they end below
 -- 2^64.
 abbrev pub HandsOutRange : Machine → Machine → ℕ → Type 0
 HandsOutRange old new count =
@@ -410,7 +410,7 @@ sends_left phase state pieces = 0
 abbrev pub work : Machine → ℕ
 work m = length m.input.items + sends_left m.phase m.state (length m.left.items)
 
--- the past after these bytes were received and handed out
+-- the past after these bytes were received and written
 abbrev pub past_after : Past → List ℕ → List ℕ → List Call → Past
 past_after p received sent calls = record {
   received = p.received ++ received;
@@ -419,7 +419,7 @@ past_after p received sent calls = record {
 }
 
 -- A call leads from one state of the connection and the application to another. These bytes were received in it, and
--- these were handed out.
+-- these were written.
 pub record Moves {H : Type 0} (plans : Plans H) (gives : H → Gives) (old : Machine) (before : H)
     (received sent : List ℕ) (new : Machine) (now : H) : Type 0 where
   pub config : new.config ≡ old.config

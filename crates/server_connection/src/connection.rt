@@ -164,9 +164,9 @@ impl ServerConnection {
         matches!(self.machine.phase, Phase::Receiving)
     }
 
-    /// Whether HTTP has nothing more to do here, and all was handed out.
+    /// Whether HTTP has nothing more to do here, and all was written.
     ///
-    /// This is the theorem of the crate: whatever the history of calls, what was handed out answers what was received.
+    /// This is the theorem of the crate: whatever the history of calls, what was written answers what was received.
     pub fn is_done<A: Application>(&self) -> bool
         ensures done { IsTrue result ↔ (IsClosing self.now.machine.state × (self.now.machine.output.items ≡ [])) }
         ensures exchanged { (config : Config) (first now : A) (received sent : List ℕ)

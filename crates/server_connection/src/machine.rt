@@ -203,7 +203,7 @@ impl Machine {
         Ok(count)
     }
 
-    /// Says that so many of the bytes that it offers were handed out.
+    /// Says that so many of the bytes that it offers were written.
     pub(crate) fn hand_out<A: Application>(&mut self, count: usize)
         ensures moves { (now : A) (bytes : List ℕ) → length bytes ≡ count → Offers (A.gives now) self.old bytes
             → Moves A.plans A.gives self.old now [] bytes self.new now }

@@ -34,7 +34,7 @@ ends_in_slash path = nat_lt 0 (length path) && (slice_index path (length path - 
 abbrev pub names_folder : List ℕ → Bool
 names_folder path = (length path == 0) || ends_in_slash path
 
--- a folder stands for its file `index.html`
+-- a folder means its file `index.html`
 abbrev pub with_index : List ℕ → List ℕ
 with_index path = if names_folder path then path ++ codes "index.html" else path
 

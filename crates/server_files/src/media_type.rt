@@ -6,7 +6,7 @@ ghost use Rattle.server_files.specs.MediaTypes.{picture_type_of, program_type_of
 
 use headers::HeaderValue;
 
-/// The media type that the extension of a file's name stands for, without its dot and in lower case.
+/// The media type of the extension of a file's name, without its dot and in lower case.
 /// `application/octet-stream` if it isn't known.
 pub fn media_type_of(extension: &str) -> HeaderValue
     ensures { result ≡ plain_value (media_type_of extension.now) }

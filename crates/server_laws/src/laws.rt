@@ -106,7 +106,7 @@ pub fn strong_tag_is_not_lost()
     lists_parse_one_way();
 }
 
-/// Theorem: the ETag of a response with bytes in memory is the digest of all of them, as a strong tag.
+/// Theorem: the ETag of a response to GET or HEAD with bytes in memory is the digest of all of them, as a strong tag.
 pub fn tag_of_memory_is_its_digest()
     ensures { (now : Option ℕ) (left : ℕ) (site : Site) (look : List ℕ → Entry) (request : Request (List ℕ))
         (response : Response) (kept : Kept) (tag : Line) → IsGetOrHead (head_of request).method

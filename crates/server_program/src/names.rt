@@ -5,7 +5,7 @@ use std::fs::{DirEntry, Metadata};
 use std::io;
 use std::io::ErrorKind;
 
-// What a name stands for, with every link resolved. `None` if a link leads out of the root or to nothing,
+// What a name leads to, with every link resolved. `None` if a link leads out of the root or to nothing,
 // or if it may not be followed.
 fn resolved(rt: &HostRuntime, root: &str, entry: &DirEntry) -> io::Result<Option<Metadata>> {
     let metadata = entry.metadata()?;
@@ -25,7 +25,7 @@ fn resolved(rt: &HostRuntime, root: &str, entry: &DirEntry) -> io::Result<Option
     }
 }
 
-// The name as a listing has it. `None` if it stands for neither a file nor a folder of the root.
+// The name as a listing has it. `None` if it leads to neither a file nor a folder of the root.
 fn name_of(rt: &HostRuntime, root: &str, entry: &DirEntry) -> io::Result<Option<String>> {
     let Some(metadata) = resolved(rt, root, entry)? else {
         return Ok(None);

@@ -56,7 +56,7 @@ impl<'a> InnerPath<'a> {
         fs::metadata(rt, self.path.as_str())
     }
 
-    /// Opens the file or the folder that stands there, to be read. `None` if what was opened isn't in the
+    /// Opens the file or the folder that is there, to be read. `None` if what was opened isn't in the
     /// root, as if a link took the place of a folder after the path was resolved.
     pub fn open(&self, rt: &HostRuntime) -> io::Result<Option<fs::File>> {
         let file = fs::File::open(rt, self.path.as_str())?;

@@ -25,7 +25,7 @@ abbrev pub len_of : Source → ℕ
 len_of (Kept kept) = length kept.content
 len_of (Opened opened) = opened.len
 
--- These bytes may be read from this place on: of what is kept, those that stand there. Of an open file nothing is
+-- These bytes may be read from this place on: of what is kept, those that are there. Of an open file nothing is
 -- known.
 abbrev pub gives_at : Source → Gives
 gives_at (Kept kept) start bytes = bytes ≡ take (length bytes) (drop start kept.content)

@@ -3,7 +3,7 @@ use Rattle.std.specs.Prelude.{◌≡◌, ℕ, false, List, [], ◌∷◌, None, 
 use Rattle.decide_preconditions.specs.Boundaries.{multipart_type}
 use Rattle.decide_resource.{specs.declared.resource.MethodRule.MethodRule, specs.declared.resource.Resource.Resource}
 
--- the method is GET, which stands for HEAD too, and asks nothing of a request
+-- the method is GET, which means HEAD too, and asks nothing of a request
 pub record IsRead (rule : MethodRule) : Type 0 where
   pub method : rule.method ≡ codes "GET"
   pub is_free : rule.needs_condition ≡ false

@@ -17,7 +17,7 @@ use server_connection::ResponsePlan as Response;
 use std::alloc::{AllocError, Global};
 use std::mem::replace;
 
-/// The date of a moment, if there is a clock and its year has four digits.
+/// The date of a time, if there is a clock and its year has four digits.
 pub(crate) fn date_of(now: Option<u64>) -> Option<Date>
     ensures { result ≡ date_of now }
 {

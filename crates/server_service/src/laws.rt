@@ -25,7 +25,7 @@ pub use server_files::laws::{
     listing_links_to_each_name, redirects_stay_on_the_host, shown_text_is_escaped,
 };
 
-/// A request has one response at most at a moment, where the store has one entry at each path: two
+/// A request has at most one response at a time, where the store has one entry at each path: two
 /// responses have the same status, the same fields in the same order, and the same pieces.
 pub fn request_has_one_response()
     ensures { (now : Option ℕ) (left : ℕ) (site : Site) (look : List ℕ → Entry) (request : Request (List ℕ))
@@ -49,7 +49,7 @@ pub fn sent_bytes_are_those_of_the_ranges()
         → sent ≡ bytes_of kept.content pieces }
 {}
 
-/// A GET of a file, for a host that is served, that makes no condition and asks for no range, and for no
+/// A GET of a file, for a host that is served, that has no condition, range or unknown expectation, and asks for no
 /// coding where the store negotiates codings, is answered by 200. Of a file in memory exactly the content is sent.
 pub fn get_gets_the_content()
     ensures { (now : Option ℕ) (left : ℕ) (site : Site) (divider : List ℕ) (look : List ℕ → Entry)

@@ -11,7 +11,7 @@ use test_rows::{Arguments, Calls, CaseAnswer, CaseFailure};
 /// The calls of a gateway.
 pub struct Gateways;
 
-// What the next word stands for.
+// What the next word means.
 fn choose<T: Copy>(arguments: &mut Arguments<'_>, choices: &[(&str, T)]) -> Result<T, CaseFailure> {
     let word = arguments.word()?;
     for (name, choice) in choices {

@@ -137,7 +137,7 @@ fn judge<W: Write>(
     Ok(())
 }
 
-// Plays a history, once more from its beginning if a call wants for memory.
+// Plays a history, once more from its beginning if a call runs out of memory.
 fn replay_history<W: Write>(
     alloc: Global,
     keys: RandomState,

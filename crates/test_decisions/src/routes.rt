@@ -9,7 +9,7 @@ use headers::{HeaderMap, HeaderValue, set_all};
 use http::Method;
 use test_rows::{Arguments, Calls, CaseAnswer, CaseFailure};
 
-/// The time of rows: the start of 2026.
+/// The time of test cases: the start of 2026.
 const PRESENT: u64 = 1_767_225_600;
 
 /// The calls of routes.

@@ -1,4 +1,4 @@
-//! What each call writes of a header, and what it leaves if it is refused memory.
+//! What each call writes of a header, and what it leaves if it runs out of memory.
 use crate::replay::{Getters, copy_of};
 use crate::writing::{lines_behind, value_before, written};
 use headers::{
@@ -32,7 +32,7 @@ fn add_unless(is_wanted: bool, name: &str, answer: &mut CaseAnswer) {
     }
 }
 
-// The lines that a header writes, with the value before them. `None` if the call is refused and the
+// The lines that a header writes, with the value before them. `None` if the call fails and the
 // list isn't as it was.
 fn encoded<H: Header>(alloc: Global, header: &H) -> Result<Option<Vec<HeaderValue>>, CaseFailure> {
     let mut lines = value_before(alloc)?;
@@ -53,7 +53,7 @@ fn map_with(alloc: Global, name: HeaderName) -> Result<HeaderMap, CaseFailure> {
     Ok(map)
 }
 
-/// Whether these lines, and no others, stand under the name.
+/// Whether the name has these lines, and no others.
 pub fn holds(map: &HeaderMap, name: &HeaderName, lines: &[HeaderValue]) -> bool {
     let all = map.get_all(name);
     let mut values = all.iter();
@@ -66,7 +66,7 @@ pub fn holds(map: &HeaderMap, name: &HeaderName, lines: &[HeaderValue]) -> bool 
     values.next().is_none()
 }
 
-// Whether the text, and no other line, stands under the name.
+// Whether the name has the text, and no other line.
 fn holds_text(map: &HeaderMap, name: &HeaderName, text: &str) -> bool {
     let all = map.get_all(name);
     let mut values = all.iter();
@@ -81,7 +81,7 @@ fn keeps_other(map: &HeaderMap) -> bool {
     map.keys_len() == 2 && holds_text(map, &HeaderName::from_static("accept"), "kept")
 }
 
-/// Whether a beginning of the lines stands under the name, neither empty nor whole.
+/// Whether the name has a beginning of the lines, neither empty nor whole.
 pub fn holds_beginning(map: &HeaderMap, name: &HeaderName, lines: &[HeaderValue]) -> bool {
     let count = map.get_all(name).iter().count();
     if count == 0 || count >= lines.len() {
@@ -90,7 +90,7 @@ pub fn holds_beginning(map: &HeaderMap, name: &HeaderName, lines: &[HeaderValue]
     holds(map, name, &lines[..count])
 }
 
-// That map with a header put in. `None` if the call is refused, and the lines under the name are neither
+// That map with a header put in. `None` if the call fails, and the lines under the name are neither
 // the old one nor a beginning of the new ones, or another name's changed.
 fn inserted<H: Header>(
     alloc: Global,
@@ -166,8 +166,8 @@ fn add_calls<H: Header>(
     reads::<H>(&map, lines, answer)
 }
 
-/// Adds the lines that each call writes of the header that the lines read, after the name of a call that
-/// writes others. `(left)` if a call that was refused memory left what it must not.
+/// Adds the lines that each call writes of what the lines decode to, after the name of a call that
+/// writes others. `(left)` if a call that ran out of memory left what it must not.
 pub fn everywhere<H: Header + Getters<P>, P>(
     arguments: &mut Arguments<'_>,
     answer: &mut CaseAnswer,

@@ -117,7 +117,7 @@ pub fn decode_hinted<H: Header + Getters<P>, P>(
     show(&header, answer)
 }
 
-// The lines that are written of what was read, or none if it was refused.
+// The encoding of what was decoded, or none if it was rejected.
 fn rewritten<H: Header>(
     alloc: Global,
     answer: Result<H, Refused<Error>>,
@@ -129,7 +129,7 @@ fn rewritten<H: Header>(
     }
 }
 
-// The words are a text, how often it stands in each line, and how many lines there are.
+// The words are a text, how often each line has it, and how many lines there are.
 fn repeated(arguments: &mut Arguments<'_>) -> Result<Vec<HeaderValue>, CaseFailure> {
     let alloc = arguments.alloc();
     let text = arguments.bytes()?;

@@ -1,4 +1,4 @@
-//! The calls of rows that every header has.
+//! The calls of test cases that every header has.
 #![tactic(auto)]
 
 mod everywhere;

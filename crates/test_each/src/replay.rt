@@ -84,7 +84,7 @@ pub fn show_result<H: Header + Getters<P>, P, E: Into<CaseFailure>>(
     }
 }
 
-/// The lines that a header writes, what its getters give, and whether the lines read an equal header, if it
+/// The lines that a header writes, what its getters give, and whether the lines decode to an equal header, if it
 /// could be made.
 pub fn show_back_result<H: Header + Getters<P> + PartialEq, P, E: Into<CaseFailure>>(
     made: Result<H, E>,
@@ -122,7 +122,7 @@ pub fn say(word: impl Display + Drop, answer: &mut CaseAnswer) -> Result<(), Cas
     Ok(())
 }
 
-/// The lines that a header writes, what its getters give, and whether the lines read an equal header.
+/// The lines that a header writes, what its getters give, and whether the lines decode to an equal header.
 pub fn show_back<H: Header + Getters<P> + PartialEq, P>(
     header: &H,
     answer: &mut CaseAnswer,
@@ -138,7 +138,7 @@ pub fn show_back<H: Header + Getters<P> + PartialEq, P>(
     Ok(())
 }
 
-/// Adds the names of a walk.
+/// Adds the names of an iterator.
 pub fn show_names<I: Iterator<Item = Result<HeaderName, AllocError>> + Drop>(
     walk: I,
     answer: &mut CaseAnswer,

@@ -14,7 +14,7 @@ use std::alloc::AllocError;
 use std::cmp::Ordering;
 use std::hash::{DefaultHasher, Hash, Hasher};
 
-/// Equality, order and hash of a number or a date go by its seconds.
+/// Equality, order and hash of a number or a date depend on its seconds.
 pub fn same_age(age: &Age, other: &Age) -> bool
     ensures { IsTrue result ↔ (age.now ≡ other.now) }
 {
@@ -58,7 +58,7 @@ pub fn same_location(one: &Location, other: &Location) -> bool
     one == other
 }
 
-/// Equality, order and hash of a text go by its bytes alone.
+/// Equality, order and hash of a text depend on its bytes alone.
 pub fn same_server(one: &Server, other: &Server) -> bool
     ensures { IsTrue result ↔ (one.now.bytes ≡ other.now.bytes) }
 {

@@ -115,7 +115,7 @@ fn quotes_in(text: &[u8]) -> usize
     text.iter().filter(|byte| **byte == b'"').count()
 }
 
-// Whether a comma stands at the place, outside quotes.
+// Whether a comma is at the place, outside quotes.
 #[tactic(auto, unfolding(headers_items::specs::Places::is_counting_place))]
 fn is_counting(text: &[u8], place: usize) -> bool
     requires { place < length text.now }

@@ -1,4 +1,4 @@
-//! The calls of rows on what stands below the headers and above them: lists, texts, entity tags, errors,
+//! The calls of test cases on what is below the headers and above them: lists, texts, entity tags, errors,
 //! maps, the program `headers_canon`, and a header of a user's own.
 #![tactic(auto)]
 
@@ -20,7 +20,7 @@ use headers_items::SemiColon;
 use test_each::size_hint;
 use test_rows::{Arguments, Calls, CaseAnswer, CaseFailure};
 
-/// The calls on what stands below the headers and above them.
+/// The calls on what is below the headers and above them.
 pub struct Parts;
 
 fn call_part(

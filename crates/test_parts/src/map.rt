@@ -37,7 +37,7 @@ pub fn same_lines(one: &HeaderMap, other: &HeaderMap) -> bool {
     has_all_but(one, other, None) && has_all_but(other, one, None)
 }
 
-// Whether a map is as it was before a step that was refused memory, but for lines of that
+// Whether a map is as it was before a step that ran out of memory, but for lines of that
 // step that may have been begun.
 fn is_left(map: &HeaderMap, before: &HeaderMap, step: &Step) -> bool {
     if same_lines(map, before) {

@@ -94,7 +94,7 @@ pub struct Sink {
     pub writes: u64,
     /// How many flushes were made.
     pub flushes: u64,
-    /// Whether it found no memory for its bytes.
+    /// Whether it ran out of memory for its bytes.
     pub is_refused: bool,
 }
 

@@ -78,7 +78,7 @@ fn text(arguments: &mut Arguments<'_>) -> Result<HeaderValueString, CaseFailure>
     Ok(HeaderValueString::from_str(arguments.alloc(), text.as_str())?)
 }
 
-// How a refusal is printed: of invalid input, or if an allocation fails.
+// How an error is printed: of invalid input, or if an allocation fails.
 fn refusal(arguments: &mut Arguments<'_>, answer: &mut CaseAnswer) -> Result<(), CaseFailure> {
     let refused: Refused<Error> = match arguments.word() {
         Ok("memory") => Refused::Memory(AllocError),

@@ -1,4 +1,4 @@
-//! Makes the calls of the rows in the files that it is given, and prints those that are answered
+//! Makes the calls of the test cases in the files that it is given, and prints those that are answered
 //! otherwise than is wanted.
 #![tactic(auto)]
 

@@ -17,7 +17,7 @@ pub enum CaseFailure {
 }
 
 impl CaseFailure {
-    /// Returns the word that stands for the failure in an answer.
+    /// Returns the word for the failure in an answer.
     pub fn as_str(self) -> &'static str {
         match self {
             CaseFailure::Refused => "(refused)",

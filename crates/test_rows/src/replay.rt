@@ -101,7 +101,7 @@ fn replay_line<C: Calls, W: Write>(
     replay_row::<C, W>(alloc, file, number, expanded.as_str(), tally, writer)
 }
 
-// Makes the calls of the rows of a text, and prints those that are answered otherwise.
+// Makes the calls of the test cases of a text, and prints those that are answered otherwise.
 fn replay_text<C: Calls, W: Write>(
     alloc: Global,
     file: &str,

@@ -47,7 +47,7 @@ is_whole extent = nat_le extent.first 0 && nat_le extent.len (extent.last + 1)
 
 -- ---- what fields say
 
--- the greatest number, which stands for all that are greater
+-- the greatest number, which also means all that are greater
 abbrev pub greatest : ℕ
 greatest = 2 ^ 64 - 1
 

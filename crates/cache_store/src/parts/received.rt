@@ -46,7 +46,7 @@ fn came_of_part(reception: Reception, count: u64, extent: Extent) -> Option<Exte
     }
 }
 
-// The number of Content-Length. 2^64 - 1 stands for all that are greater.
+// The number of Content-Length. 2^64 - 1 means all that are greater, too.
 fn length_in(message: &HeaderMap) -> Option<u64>
     ensures { result ≡ length_in (lines_at message.now) }
 {
