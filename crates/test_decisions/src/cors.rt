@@ -71,10 +71,8 @@ fn max_age(alloc: Global, rules: &HeaderMap) -> Result<Option<u64>, CaseFailure>
     let Some(line) = rules.get("max-age") else {
         return Ok(None);
     };
-    match line.to_str() {
-        Ok(text) => Ok(Some(Arguments::new(alloc, text).number()?)),
-        Err(_) => Err(CaseFailure::NoCall),
-    }
+    let text = line.to_str().map_err(|_| CaseFailure::NoCall)?;
+    Ok(Some(Arguments::new(alloc, text).number()?))
 }
 
 // The rules of the fields that are left.
@@ -103,11 +101,10 @@ fn kind_word(kind: CorsKind) -> &'static str {
 fn make_new(arguments: &mut Arguments<'_>, answer: &mut CaseAnswer) -> Result<(), CaseFailure> {
     let rules = read_rules(arguments)?;
     match CorsPolicy::new(arguments.alloc(), rules) {
-        Ok(_) => answer.word("made"),
-        Err(RulesError::Memory) => return Err(CaseFailure::Memory),
-        Err(error) => answer.word(format_args!("{error:?}")),
+        Ok(_) => Ok(answer.word("made")?),
+        Err(RulesError::Memory) => Err(CaseFailure::Memory),
+        Err(error) => Ok(answer.word(format_args!("{error:?}"))?),
     }
-    Ok(())
 }
 
 fn read_policy(arguments: &mut Arguments<'_>) -> Result<CorsPolicy, CaseFailure> {
@@ -135,10 +132,9 @@ fn make_answer(arguments: &mut Arguments<'_>, answer: &mut CaseAnswer) -> Result
         is_allowed,
         fields,
     } = policy.answer(answer.alloc(), &request, &response)?;
-    set_all(&mut response, fields)?;
-    answer.word(format_args!("{} {is_allowed}", kind_word(kind)));
-    answer.map(&response);
-    Ok(())
+    set_all(&mut response, fields).map_err(|_| CaseFailure::Memory)?;
+    answer.word(format_args!("{} {is_allowed}", kind_word(kind)))?;
+    answer.map(&response)
 }
 
 /// The calls of a policy, and what a negotiation varies by.
@@ -151,13 +147,12 @@ impl Calls for Cors {
         answer: &mut CaseAnswer,
     ) -> Result<(), CaseFailure> {
         match name {
-            "CorsPolicy.new" => make_new(arguments, answer)?,
-            "CorsPolicy.answer" => make_answer(arguments, answer)?,
+            "CorsPolicy.new" => make_new(arguments, answer),
+            "CorsPolicy.answer" => make_answer(arguments, answer),
             "accept.varies" => answer.line(&varies_by::<Accept>()),
             "encoding.varies" => answer.line(&varies_by::<AcceptEncoding>()),
             "language.varies" => answer.line(&varies_by::<AcceptLanguage>()),
-            _ => return Err(CaseFailure::NoCall),
+            _ => Err(CaseFailure::NoCall),
         }
-        Ok(())
     }
 }

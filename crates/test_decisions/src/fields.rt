@@ -21,72 +21,55 @@ fn read_field(arguments: &mut Arguments<'_>) -> Result<HeaderMap, CaseFailure> {
     Ok(map)
 }
 
-fn add_value(value: &Value<'_>, answer: &mut CaseAnswer) {
+fn add_value(value: &Value<'_>, answer: &mut CaseAnswer) -> Result<(), AllocError> {
     answer.word(match value {
         Value::Token(_) => "token",
         Value::Quoted(_) => "quoted",
-    });
-    let octets: Result<Vec<u8>, AllocError> = value.octets().collect(answer.alloc());
-    match octets {
-        Ok(octets) => answer.bytes(&octets),
-        Err(AllocError) => answer.cut(),
-    }
+    })?;
+    let octets: Vec<u8> = value.octets().collect(answer.alloc())?;
+    answer.bytes(&octets)
 }
 
-fn add_directive(directive: Result<Option<Directive<'_>>, Malformed>, answer: &mut CaseAnswer) {
+fn add_directive(
+    directive: Result<Option<Directive<'_>>, Malformed>,
+    answer: &mut CaseAnswer,
+) -> Result<(), CaseFailure> {
     match directive {
         Ok(Some(directive)) => {
-            answer.bytes(directive.name);
+            answer.bytes(directive.name)?;
             if let Some(value) = directive.argument {
-                add_value(&value, answer);
+                add_value(&value, answer)?;
             }
         }
-        Ok(None) => answer.none(),
-        Err(Malformed) => answer.word("(malformed)"),
+        Ok(None) => answer.none()?,
+        Err(Malformed) => answer.word("(malformed)")?,
     }
+    Ok(())
 }
 
-fn add_member(member: Result<&[u8], Malformed>, answer: &mut CaseAnswer) {
+fn add_member(
+    member: Result<&[u8], Malformed>,
+    answer: &mut CaseAnswer,
+) -> Result<(), CaseFailure> {
     match member {
-        Ok(text) => answer.bytes(text),
-        Err(Malformed) => answer.word("(malformed)"),
+        Ok(text) => Ok(answer.bytes(text)?),
+        Err(Malformed) => Ok(answer.word("(malformed)")?),
     }
 }
 
-fn add_members(members: Members<'_>, answer: &mut CaseAnswer) {
+fn add_members(members: Members<'_>, answer: &mut CaseAnswer) -> Result<(), CaseFailure> {
     for member in members {
-        add_member(member, answer);
+        add_member(member, answer)?;
     }
-    add_none(answer);
+    add_none(answer)
 }
 
 // An answer that is empty so far is none.
-fn add_none(answer: &mut CaseAnswer) {
+fn add_none(answer: &mut CaseAnswer) -> Result<(), CaseFailure> {
     if answer.as_str().is_empty() {
-        answer.none();
+        answer.none()?;
     }
-}
-
-// Calls with a field and a word, which is empty if the call has none.
-fn add_field_answer(name: &str, map: &HeaderMap, word: &[u8], answer: &mut CaseAnswer) {
-    let lines = map.get_all(CACHE_CONTROL);
-    match name {
-        // the members of the field
-        "field" => {
-            for member in FieldMembers::new(&lines) {
-                add_member(member, answer);
-            }
-            add_none(answer);
-        }
-        // the first directive of the name
-        "find" => add_directive(find_directive(&lines, word), answer),
-        // whether the field surely lacks the directive of the name
-        "clear" => answer.word(is_clear_of(&lines, word)),
-        // whether each member is a token
-        "tokens" => answer.word(are_tokens(&lines)),
-        // whether some member is the token
-        _ => answer.word(contains_token(&lines, word)),
-    }
+    Ok(())
 }
 
 // Calls with a field: LINE .., after a name or a token.
@@ -99,34 +82,51 @@ fn make_field_call(
         "field" | "tokens" => Vec::new(arguments.alloc()),
         _ => arguments.bytes()?,
     };
-    add_field_answer(name, &read_field(arguments)?, &word, answer);
-    Ok(())
+    let map = read_field(arguments)?;
+    let lines = map.get_all(CACHE_CONTROL);
+    match name {
+        // the members of the field
+        "field" => {
+            for member in FieldMembers::new(&lines) {
+                add_member(member, answer)?;
+            }
+            add_none(answer)
+        }
+        // the first directive of the name
+        "find" => add_directive(find_directive(&lines, &word), answer),
+        // whether the field surely lacks the directive of the name
+        "clear" => Ok(answer.word(is_clear_of(&lines, &word))?),
+        // whether each member is a token
+        "tokens" => Ok(answer.word(are_tokens(&lines))?),
+        // whether some member is the token
+        _ => Ok(answer.word(contains_token(&lines, &word))?),
+    }
 }
 
 // ELEMENT: its value and its parameters.
-fn add_parts(element: &[u8], answer: &mut CaseAnswer) {
+fn add_parts(element: &[u8], answer: &mut CaseAnswer) -> Result<(), CaseFailure> {
     match Parameterized::read(element) {
         Ok(parts) => {
-            answer.bytes(parts.value);
-            add_members(parts.parameters, answer);
+            answer.bytes(parts.value)?;
+            add_members(parts.parameters, answer)
         }
-        Err(Malformed) => answer.word("(malformed)"),
+        Err(Malformed) => Ok(answer.word("(malformed)")?),
     }
 }
 
 // VALUE VALUE: whether both mean the same octets.
-fn add_equal(one: &[u8], other: &[u8], answer: &mut CaseAnswer) {
+fn add_equal(one: &[u8], other: &[u8], answer: &mut CaseAnswer) -> Result<(), CaseFailure> {
     match (read_value(one), read_value(other)) {
-        (Ok(one), Ok(other)) => answer.word(one.same_octets(&other)),
-        _ => answer.word("(malformed)"),
+        (Ok(one), Ok(other)) => Ok(answer.word(one.same_octets(&other))?),
+        _ => Ok(answer.word("(malformed)")?),
     }
 }
 
-// Calls with a text, and with a second one that is empty if the call has none.
-fn add_text_answer(
+// Calls with a text.
+fn make_text_call(
     name: &str,
     text: &[u8],
-    other: &[u8],
+    arguments: &mut Arguments<'_>,
     answer: &mut CaseAnswer,
 ) -> Result<(), CaseFailure> {
     match name {
@@ -136,30 +136,15 @@ fn add_text_answer(
         // the directive that it is
         "directive" => add_directive(read_directive(text).map(|it| Some(it)), answer),
         "parameters" => add_parts(text, answer),
-        "equal" => add_equal(text, other, answer),
+        "equal" => add_equal(text, &arguments.bytes()?, answer),
         // the number, the delta-seconds, and the weight in thousandths that it is
-        "number" => answer.option(number(text)),
-        "seconds" => answer.option(delta_seconds(text)),
-        "weight" => answer.option(weight(text)),
+        "number" => Ok(answer.option(number(text))?),
+        "seconds" => Ok(answer.option(delta_seconds(text))?),
+        "weight" => Ok(answer.option(weight(text))?),
         // what follows the comment that it begins with
         "comment" => add_member(skip_comment(text), answer),
-        _ => return Err(CaseFailure::NoCall),
+        _ => Err(CaseFailure::NoCall),
     }
-    Ok(())
-}
-
-// Calls with a text.
-fn make_text_call(
-    name: &str,
-    arguments: &mut Arguments<'_>,
-    answer: &mut CaseAnswer,
-) -> Result<(), CaseFailure> {
-    let text = arguments.bytes()?;
-    let other = match name {
-        "equal" => arguments.bytes()?,
-        _ => Vec::new(arguments.alloc()),
-    };
-    add_text_answer(name, &text, &other, answer)
 }
 
 impl Calls for FieldCases {
@@ -172,7 +157,10 @@ impl Calls for FieldCases {
             "field" | "find" | "clear" | "tokens" | "contains" => {
                 make_field_call(name, arguments, answer)
             }
-            _ => make_text_call(name, arguments, answer),
+            _ => {
+                let text = arguments.bytes()?;
+                make_text_call(name, &text, arguments, answer)
+            }
         }
     }
 }

@@ -6,6 +6,7 @@ use gateway_hops::{
 use gateway_messages::{FieldLine, Framing, Gateway, MessageHead, Pseudonym, forward_trailers};
 use headers::{Encoded, HeaderMap, HeaderName, HeaderValue};
 use http_header::CONNECTION;
+use std::alloc::AllocError;
 use test_rows::{Arguments, Calls, CaseAnswer, CaseFailure};
 
 /// The calls of a gateway.
@@ -30,13 +31,14 @@ fn read_value(arguments: &mut Arguments<'_>) -> Result<Option<HeaderValue>, Case
     }
 }
 
-fn add_encoded(encoded: &[Encoded], answer: &mut CaseAnswer) {
+fn add_encoded(encoded: &[Encoded], answer: &mut CaseAnswer) -> Result<(), AllocError> {
     for field in encoded {
-        answer.name(field.name.as_str());
+        answer.word(format_args!("({})", field.name.as_str()))?;
         for line in &field.lines {
-            answer.bytes(line.as_bytes());
+            answer.bytes(line.as_bytes())?;
         }
     }
+    Ok(())
 }
 
 // NAME consumed|relayed|underscores|signed: a gateway that protects X-Client, and if it is signed, Signature.
@@ -63,11 +65,12 @@ fn read_gateway(arguments: &mut Arguments<'_>) -> Result<Gateway, CaseFailure> {
     Ok(gateway)
 }
 
-fn add_fields(fields: &[FieldLine], answer: &mut CaseAnswer) {
+fn add_fields(fields: &[FieldLine], answer: &mut CaseAnswer) -> Result<(), AllocError> {
     for field in fields {
-        answer.name(field.name.as_str());
-        answer.bytes(field.value.as_bytes());
+        answer.word(format_args!("({})", field.name.as_str()))?;
+        answer.bytes(field.value.as_bytes())?;
     }
+    Ok(())
 }
 
 // `trailers GATEWAY FRAMING CONNECTION TRAILERS`: the trailer fields that are forwarded.
@@ -79,7 +82,7 @@ fn call_trailers(
     let framing = match arguments.word()? {
         "unstated" => Framing::Unstated,
         "chunked" => Framing::Chunked,
-        word => Framing::Length(word.parse()?),
+        word => Framing::Length(word.parse().map_err(|_| CaseFailure::NoCall)?),
     };
     let mut fields = HeaderMap::new(arguments.alloc());
     if let Some(connection) = read_value(arguments)? {
@@ -91,8 +94,7 @@ fn call_trailers(
         framing,
     };
     let sent = forward_trailers(answer.alloc(), &gateway, &message, &trailers)?;
-    add_fields(sent.as_slice(), answer);
-    Ok(())
+    Ok(add_fields(sent.as_slice(), answer)?)
 }
 
 // `connection close|no trailers|no UPGRADE`: the fields of the connection.
@@ -109,15 +111,12 @@ fn call_connection(
         upgrade: upgrade.as_ref(),
     };
     let encoded = next.fields(answer.alloc())?;
-    add_encoded(encoded.as_slice(), answer);
-    Ok(())
+    Ok(add_encoded(encoded.as_slice(), answer)?)
 }
 
 // The next two words, as a node with an address and a hidden port.
 fn read_node(arguments: &mut Arguments<'_>) -> Result<Node, CaseFailure> {
-    let Ok(address) = arguments.word()?.parse() else {
-        return Err(CaseFailure::NoCall);
-    };
+    let address = arguments.word()?.parse().map_err(|_| CaseFailure::NoCall)?;
     let port = Obfuscated::new(arguments.alloc(), arguments.word()?)?;
     Ok(Node {
         name: NodeName::Address(address),
@@ -151,8 +150,7 @@ fn call_forwarding(
     };
     let fields = HeaderMap::new(answer.alloc());
     let encoded = forwarding_fields(answer.alloc(), forwarding, &arrival, &fields)?;
-    add_encoded(encoded.as_slice(), answer);
-    Ok(())
+    Ok(add_encoded(encoded.as_slice(), answer)?)
 }
 
 impl Calls for Gateways {

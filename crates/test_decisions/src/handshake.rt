@@ -30,14 +30,13 @@ fn show_answer(
         own,
         &Origins::any(),
     )?;
-    answer.word(response.status().as_u16());
+    answer.word(response.status().as_u16())?;
     if let Response::BadRequest(fault) = &response {
-        answer.word(format_args!("{fault:?}"));
+        answer.word(format_args!("{fault:?}"))?;
     }
     let mut map = HeaderMap::new(alloc);
-    set_all(&mut map, response.fields(alloc)?)?;
-    answer.map(&map);
-    Ok(())
+    set_all(&mut map, response.fields(alloc)?).map_err(|_| CaseFailure::Memory)?;
+    answer.map(&map)
 }
 
 // `check SENT (/) STATUS RESPONSE`: what a client that sent these fields finds in a response.
@@ -45,8 +44,8 @@ fn show_check(arguments: &mut Arguments<'_>, answer: &mut CaseAnswer) -> Result<
     let sent = arguments.map()?;
     let status = status(arguments)?;
     match check(&sent, status, &arguments.map()?) {
-        Checked::Open => answer.word("open"),
-        Checked::Fail(flaw) => answer.word(format_args!("{flaw:?}")),
+        Checked::Open => answer.word("open")?,
+        Checked::Fail(flaw) => answer.word(format_args!("{flaw:?}"))?,
     }
     Ok(())
 }
@@ -59,9 +58,9 @@ fn show_origins(arguments: &mut Arguments<'_>, answer: &mut CaseAnswer) -> Resul
         origins.push(origin.clone()?)?;
     }
     match Origins::listed(alloc, origins) {
-        Ok(_) => answer.word("listed"),
+        Ok(_) => answer.word("listed")?,
         Err(Refused::Invalid(UnsentOrigin { place })) => {
-            answer.word(format_args!("UnsentOrigin {place}"));
+            answer.word(format_args!("UnsentOrigin {place}"))?;
         }
         Err(Refused::Memory(_)) => return Err(CaseFailure::Memory),
     }

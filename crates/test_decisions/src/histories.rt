@@ -40,12 +40,11 @@ fn is_aside(line: &str) -> bool {
 
 // The lines at the beginning that are of the history whose first line is before them.
 fn calls_in<'s, 'a>(lines: &'s [&'a str]) -> &'s [&'a str] {
-    for (count, line) in lines.iter().enumerate() {
-        if !line.starts_with("  ") {
-            return &lines[..count];
-        }
+    let others = lines.iter().position(|line| !line.starts_with("  "));
+    match others {
+        Some(count) => &lines[..count],
+        None => lines,
     }
-    lines
 }
 
 // The calls of lines whose first one has this number.
@@ -81,9 +80,7 @@ fn answer_of(alloc: Global, caches: &mut Caches, call: &str) -> Result<CaseAnswe
     let (name, arguments) = call.split_once(' ').unwrap_or((call, ""));
     let mut arguments = Arguments::new(alloc, arguments);
     let mut answer = CaseAnswer::new(alloc);
-    let made = make(caches, name, &mut arguments, &mut answer);
-    answer.checked()?;
-    made?;
+    make(caches, name, &mut arguments, &mut answer)?;
     if arguments.is_empty() {
         Ok(answer)
     } else {
@@ -103,8 +100,7 @@ fn play(
         match answer_of(alloc, &mut caches, row.call) {
             Err(CaseFailure::NoCall | CaseFailure::Refused) => {
                 let mut answer = CaseAnswer::new(alloc);
-                answer.word(CaseFailure::NoCall.as_str());
-                answer.checked()?;
+                answer.word(CaseFailure::NoCall.as_str())?;
                 answers.push(answer)?;
             }
             made => answers.push(made?)?,
@@ -200,12 +196,8 @@ fn replay_text<W: Write>(
 
 // Whether the first call of a text is in a history.
 fn has_histories(text: &str) -> bool {
-    for line in text.lines() {
-        if !is_aside(line) {
-            return line.starts_with("cache ");
-        }
-    }
-    false
+    let first = text.lines().find(|line| !is_aside(line));
+    first.is_some_and(|line| line.starts_with("cache "))
 }
 
 // Makes the calls of a file, whose name is given.

@@ -32,16 +32,17 @@ fn read_limits(arguments: &mut Arguments<'_>) -> Result<RangeLimits, CaseFailure
     })
 }
 
-fn show_selection(selection: &Selection, answer: &mut CaseAnswer) {
+fn show_selection(selection: &Selection, answer: &mut CaseAnswer) -> Result<(), CaseFailure> {
     match selection {
-        Selection::Whole => answer.word("whole"),
-        Selection::Unsatisfiable => answer.word("unsatisfiable"),
+        Selection::Whole => answer.word("whole")?,
+        Selection::Unsatisfiable => answer.word("unsatisfiable")?,
         Selection::Parts(parts) => {
             for Part { first, last } in parts {
-                answer.word(format_args!("{first}-{last}"));
+                answer.word(format_args!("{first}-{last}"))?;
             }
         }
     }
+    Ok(())
 }
 
 /// `select_within GAP HEAD PARTS METHOD FIELD.. (/) ETAG SECOND strong|weak LENGTH`.
@@ -72,7 +73,6 @@ impl Calls for WithinLimits {
             limits,
         };
         let found = select(alloc, &request, &current, &facts)?;
-        show_selection(&found, answer);
-        Ok(())
+        show_selection(&found, answer)
     }
 }

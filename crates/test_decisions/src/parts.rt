@@ -31,11 +31,11 @@ fn add_whole(
     whole: StoredResponse,
     answer: &mut CaseAnswer,
 ) -> Result<(), CaseFailure> {
-    answer.word("whole");
-    add_stored(&whole, answer);
+    answer.word("whole")?;
+    add_stored(&whole, answer)?;
     let stored = store.store(answer.alloc(), target, whole, Reception::Complete)?;
     if stored.is_none() {
-        answer.word("unstored");
+        answer.word("unstored")?;
     }
     Ok(())
 }
@@ -51,25 +51,29 @@ fn call_record(
 ) -> Result<(), CaseFailure> {
     let came = read_came(arguments)?;
     match parts.record(answer.alloc(), target, came, reception)? {
-        Recorded::Unstored => answer.word("unstored"),
-        Recorded::Stored => answer.word("stored"),
-        Recorded::Whole(whole) => return add_whole(store, target, whole, answer),
+        Recorded::Unstored => Ok(answer.word("unstored")?),
+        Recorded::Stored => Ok(answer.word("stored")?),
+        Recorded::Whole(whole) => add_whole(store, target, whole, answer),
         Recorded::Once(once) => {
-            answer.word("once");
-            add_stored(&once, answer);
+            answer.word("once")?;
+            add_stored(&once, answer)
         }
     }
-    Ok(())
 }
 
 // A 206: the bytes, and the fields.
-fn add_part_answer(parts: &PartStore, target: &str, found: &PartAnswer, answer: &mut CaseAnswer) {
-    answer.word("serve");
+fn add_part_answer(
+    parts: &PartStore,
+    target: &str,
+    found: &PartAnswer,
+    answer: &mut CaseAnswer,
+) -> Result<(), CaseFailure> {
+    answer.word("serve")?;
     match parts.bytes(answer.alloc(), target, found.number, &found.part) {
-        Some(bytes) => answer.bytes(bytes),
-        None => answer.none(),
+        Some(bytes) => answer.bytes(bytes)?,
+        None => answer.none()?,
     }
-    add_fields(&found.fields, answer);
+    add_fields(&found.fields, answer)
 }
 
 // NOW MOST METHOD REQUEST: what is done with a request.
@@ -87,26 +91,25 @@ fn call_look_up_part(
     match parts.lookup(answer.alloc(), target, &asked.head(), times)? {
         PartLookup::Serve(found) => add_part_answer(parts, target, &found, answer),
         PartLookup::Complete(fields) => {
-            answer.word("complete");
-            add_fields(&fields, answer);
+            answer.word("complete")?;
+            add_fields(&fields, answer)
         }
-        PartLookup::Unavailable => answer.word("unavailable"),
-        PartLookup::Forward => answer.word("forward"),
+        PartLookup::Unavailable => Ok(answer.word("unavailable")?),
+        PartLookup::Forward => Ok(answer.word("forward")?),
     }
-    Ok(())
 }
 
 // Above each number that a history's parts have.
 const NUMBERS: u64 = 32;
 
 // The part of a target with the least number, or `(none)`.
-fn call_part(parts: &PartStore, target: &str, answer: &mut CaseAnswer) {
+fn call_part(parts: &PartStore, target: &str, answer: &mut CaseAnswer) -> Result<(), CaseFailure> {
     for number in 1..NUMBERS {
         if let Some(part) = parts.response(target, number) {
             return add_stored(part, answer);
         }
     }
-    answer.none();
+    Ok(answer.none()?)
 }
 
 // METHOD STATUS: the first part that is left under the target.
@@ -118,8 +121,7 @@ fn call_invalidate_parts(
 ) -> Result<(), CaseFailure> {
     let (method, status) = (method(arguments)?, status(arguments)?);
     parts.invalidate(answer.alloc(), target, &method, status);
-    call_part(parts, target, answer);
-    Ok(())
+    call_part(parts, target, answer)
 }
 
 /// Makes a call of a store of parts, and adds its answer.
@@ -142,15 +144,11 @@ pub fn make_part_call(
             answer,
         ),
         "look_up_part" => call_look_up_part(parts, target, arguments, answer),
-        "part" => {
-            call_part(parts, target, answer);
-            Ok(())
-        }
+        "part" => call_part(parts, target, answer),
         "invalidate_parts" => call_invalidate_parts(parts, target, arguments, answer),
         "remove_parts" => {
             parts.remove(answer.alloc(), target);
-            call_part(parts, target, answer);
-            Ok(())
+            call_part(parts, target, answer)
         }
         _ => Err(CaseFailure::NoCall),
     }

@@ -10,7 +10,7 @@ use test_rows::{Arguments, Calls, CaseAnswer, CaseFailure};
 // Date is the time at which a 304 came, and Age is removed.
 fn age_anew(stored: &mut HeaderMap, second: u64, answer: &CaseAnswer) -> Result<(), CaseFailure> {
     let date = date_field(answer.alloc(), second)?;
-    set_all(stored, vec![in answer.alloc(); date]?)?;
+    set_all(stored, vec![in answer.alloc(); date]?).map_err(|_| CaseFailure::Memory)?;
     stored.remove(AGE);
     Ok(())
 }
@@ -23,15 +23,13 @@ fn call_freshening(
 ) -> Result<(), CaseFailure> {
     let (mut stored, update) = (arguments.map()?, arguments.map()?);
     let Some(fields) = freshening_fields(arguments.alloc(), &stored, &update)? else {
-        answer.word("not_updated");
-        return Ok(());
+        return Ok(answer.word("not_updated")?);
     };
     if let Some(second) = second {
         age_anew(&mut stored, second, answer)?;
     }
-    set_all(&mut stored, fields)?;
-    answer.map(&stored);
-    Ok(())
+    set_all(&mut stored, fields).map_err(|_| CaseFailure::Memory)?;
+    answer.map(&stored)
 }
 
 // KIND LIFETIME AGE REQUEST RESPONSE: what is done with the GET, by a response to the same.
@@ -54,8 +52,7 @@ fn call_decide_by(
         response: &response,
     };
     let decision = decide_by(&stored, &request, freshness, kind);
-    answer.word(format_args!("{decision:?}"));
-    Ok(())
+    Ok(answer.word(format_args!("{decision:?}"))?)
 }
 
 // Whether each member of a dictionary is well formed.
@@ -80,8 +77,7 @@ fn call_dictionary(
 ) -> Result<(), CaseFailure> {
     let line = arguments.bytes()?;
     if !is_dictionary(&line) {
-        answer.word("malformed");
-        return Ok(());
+        return Ok(answer.word("malformed")?);
     }
     let mut rest = Some(line.as_slice());
     for _ in 0..=line.len() {
@@ -91,15 +87,15 @@ fn call_dictionary(
         let Some(entry) = read_entry(text) else {
             break;
         };
-        answer.bytes(entry.member.key);
+        answer.bytes(entry.member.key)?;
         match entry.member.value {
-            ItemValue::Integer(digits) => answer.bytes(digits),
-            ItemValue::Boolean(is) => answer.word(is),
+            ItemValue::Integer(digits) => answer.bytes(digits)?,
+            ItemValue::Boolean(is) => answer.word(is)?,
             ItemValue::String(inside) => {
-                answer.word("(string)");
-                answer.bytes(inside);
+                answer.word("(string)")?;
+                answer.bytes(inside)?;
             }
-            ItemValue::Other => answer.word("(other)"),
+            ItemValue::Other => answer.word("(other)")?,
         }
         rest = entry.next;
     }
@@ -107,25 +103,9 @@ fn call_dictionary(
 }
 
 // The seconds since 1970 of a time that is none before.
-fn show_time(time: Option<Timestamp>, answer: &mut CaseAnswer) {
-    answer.option(match time {
-        Some(time) => time.unix_seconds(),
-        None => None,
-    });
-}
-
-// SECOND: the time of a second.
-fn call_second(arguments: &mut Arguments<'_>, answer: &mut CaseAnswer) -> Result<(), CaseFailure> {
-    let second = arguments.number()?;
-    show_time(Some(Timestamp::from_unix_seconds(second)), answer);
-    Ok(())
-}
-
-// DATE SECOND: the time of a date that came at a second.
-fn call_date(arguments: &mut Arguments<'_>, answer: &mut CaseAnswer) -> Result<(), CaseFailure> {
-    let date = arguments.bytes()?;
-    show_time(read_date(&date, arguments.number()?), answer);
-    Ok(())
+fn show_time(time: Option<Timestamp>, answer: &mut CaseAnswer) -> Result<(), CaseFailure> {
+    let seconds = time.and_then(|time| time.unix_seconds());
+    Ok(answer.option(seconds)?)
 }
 
 /// The decisions of the cache policy.
@@ -145,8 +125,13 @@ impl Calls for Policies {
             }
             "decide_by" => call_decide_by(arguments, answer),
             "dictionary" => call_dictionary(arguments, answer),
-            "from_unix_seconds" => call_second(arguments, answer),
-            "read_date" => call_date(arguments, answer),
+            "from_unix_seconds" => {
+                show_time(
+                    Some(Timestamp::from_unix_seconds(arguments.number()?)),
+                    answer,
+                )
+            }
+            "read_date" => show_time(read_date(&arguments.bytes()?, arguments.number()?), answer),
             _ => Err(CaseFailure::NoCall),
         }
     }

@@ -18,20 +18,16 @@ pub struct Routing;
 // Why, the status, what is sent, and the fields of a response that had these.
 fn add_outcome(made: Made, mut map: HeaderMap, answer: &mut CaseAnswer) -> Result<(), CaseFailure> {
     let reason = made.reason;
-    answer.word(format_args!("{reason:?}"));
-    match made.status {
-        Some(status) => answer.word(status.as_u16()),
-        None => answer.none(),
-    }
+    answer.word(format_args!("{reason:?}"))?;
+    answer.option(made.status.map(|status| status.as_u16()))?;
     match made.sends {
-        Sends::Nothing => answer.word("nothing"),
-        Sends::Planned(Some(place), Plan::Full) => answer.word(format_args!("{place} whole")),
-        Sends::Planned(Some(place), Plan::Single(_)) => answer.word(format_args!("{place} part")),
+        Sends::Nothing => answer.word("nothing")?,
+        Sends::Planned(Some(place), Plan::Full) => answer.word(format_args!("{place} whole"))?,
+        Sends::Planned(Some(place), Plan::Single(_)) => answer.word(format_args!("{place} part"))?,
         _ => return Err(CaseFailure::NoCall),
     }
-    set_all(&mut map, made.fields)?;
-    answer.map(&map);
-    Ok(())
+    set_all(&mut map, made.fields).map_err(|_| CaseFailure::Memory)?;
+    answer.map(&map)
 }
 
 // A request of HTTP/1.1 without content, which the server may deny.
@@ -142,10 +138,7 @@ impl Calls for Routing {
             "route_over" => call_route_over(arguments, answer),
             "denied" => call_denied(arguments, answer),
             // `stage REASON`: its stage.
-            "stage" => {
-                answer.word(read_reason(arguments)?.stage());
-                Ok(())
-            }
+            "stage" => Ok(answer.word(read_reason(arguments)?.stage())?),
             _ => Err(CaseFailure::NoCall),
         }
     }

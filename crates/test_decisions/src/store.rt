@@ -7,7 +7,7 @@ use cache_store::parts::PartStore;
 use cache_store::{Limits, Lookup, LookupTimes, Options, Refreshed, Store, named_targets};
 use headers::{Encoded, HeaderMap};
 use http::{Method, StatusCode};
-use std::alloc::Global;
+use std::alloc::{AllocError, Global};
 use std::hash::RandomState;
 use test_rows::{Arguments, CaseAnswer, CaseFailure};
 
@@ -72,16 +72,13 @@ pub fn read_options(alloc: Global, arguments: &mut Arguments<'_>) -> Result<Opti
 
 /// The next word, as a number of bytes or of responses.
 pub fn size(arguments: &mut Arguments<'_>) -> Result<usize, CaseFailure> {
-    Ok(usize::try_from(arguments.number()?)?)
+    usize::try_from(arguments.number()?).map_err(|_| CaseFailure::NoCall)
 }
 
 /// The next word, as a status.
 pub fn status(arguments: &mut Arguments<'_>) -> Result<StatusCode, CaseFailure> {
-    let code = u16::try_from(arguments.number()?)?;
-    match StatusCode::from_u16(code) {
-        Ok(status) => Ok(status),
-        Err(_) => Err(CaseFailure::NoCall),
-    }
+    let code = u16::try_from(arguments.number()?).map_err(|_| CaseFailure::NoCall)?;
+    StatusCode::from_u16(code).map_err(|_| CaseFailure::NoCall)
 }
 
 /// The next word, as a method.
@@ -145,7 +142,12 @@ impl Update {
 }
 
 // The content of the response with a number, or `(none)`.
-fn add_content(store: &Store, target: &str, number: u64, answer: &mut CaseAnswer) {
+fn add_content(
+    store: &Store,
+    target: &str,
+    number: u64,
+    answer: &mut CaseAnswer,
+) -> Result<(), AllocError> {
     match store.response(target, number) {
         Some(response) => answer.bytes(response.content.as_slice()),
         None => answer.none(),
@@ -153,16 +155,22 @@ fn add_content(store: &Store, target: &str, number: u64, answer: &mut CaseAnswer
 }
 
 /// Fields, also those without a field line.
-pub fn add_fields(fields: &[Encoded], answer: &mut CaseAnswer) {
+pub fn add_fields(fields: &[Encoded], answer: &mut CaseAnswer) -> Result<(), CaseFailure> {
     for field in fields {
-        answer.name(field.name.as_str());
+        answer.word(format_args!("({})", field.name.as_str()))?;
         for line in field.lines.iter() {
-            answer.line(line);
+            answer.line(line)?;
         }
     }
+    Ok(())
 }
 
-fn add_lookup(store: &Store, target: &str, found: &Lookup, answer: &mut CaseAnswer) {
+fn add_lookup(
+    store: &Store,
+    target: &str,
+    found: &Lookup,
+    answer: &mut CaseAnswer,
+) -> Result<(), CaseFailure> {
     let (word, number, fields) = match found {
         Lookup::Serve(number, age) => ("serve", *number, std::slice::from_ref(age)),
         Lookup::ServeAndRevalidate(number, age) => {
@@ -172,12 +180,12 @@ fn add_lookup(store: &Store, target: &str, found: &Lookup, answer: &mut CaseAnsw
         Lookup::ValidateOrServe(number, fields) => {
             ("validate_or_serve", *number, fields.as_slice())
         }
-        Lookup::Unavailable => return answer.word("unavailable"),
-        Lookup::Forward => return answer.word("forward"),
+        Lookup::Unavailable => return Ok(answer.word("unavailable")?),
+        Lookup::Forward => return Ok(answer.word("forward")?),
     };
-    answer.word(word);
-    add_content(store, target, number, answer);
-    add_fields(fields, answer);
+    answer.word(word)?;
+    add_content(store, target, number, answer)?;
+    add_fields(fields, answer)
 }
 
 fn look_up(
@@ -196,8 +204,7 @@ fn look_up(
         }
         None => store.lookup(alloc, target, &request, now)?,
     };
-    add_lookup(store, target, &found, answer);
-    Ok(())
+    add_lookup(store, target, &found, answer)
 }
 
 // NOW METHOD REQUEST, and before METHOD the greatest lifetime that is guessed: what is done, the
@@ -251,12 +258,11 @@ fn call_store(
 ) -> Result<(), CaseFailure> {
     let came = read_came(arguments)?;
     let stored = store.store(arguments.alloc(), target, came, reception)?;
-    answer.word(if stored.is_some() {
+    Ok(answer.word(if stored.is_some() {
         "stored"
     } else {
         "unstored"
-    });
-    Ok(())
+    })?)
 }
 
 // An update: which response is the answer after a 304.
@@ -274,18 +280,17 @@ fn call_freshen(
         &update.fields,
         update.exchange,
     )? {
-        Refreshed::Absent => answer.word("absent"),
-        Refreshed::Unchanged => answer.word("unchanged"),
+        Refreshed::Absent => Ok(answer.word("absent")?),
+        Refreshed::Unchanged => Ok(answer.word("unchanged")?),
         Refreshed::Stored(number) => {
-            answer.word("stored");
-            add_content(store, target, number, answer);
+            answer.word("stored")?;
+            Ok(add_content(store, target, number, answer)?)
         }
         Refreshed::Once(response) => {
-            answer.word("once");
-            add_stored(&response, answer);
+            answer.word("once")?;
+            add_stored(&response, answer)
         }
     }
-    Ok(())
 }
 
 // An update: how many responses are left under the target after a 200 to HEAD.
@@ -303,8 +308,7 @@ fn call_freshen_by_head(
         &update.fields,
         update.exchange,
     )?;
-    answer.word(store.responses(target).len());
-    Ok(())
+    Ok(answer.word(store.responses(target).len())?)
 }
 
 // The next word, as whether ranges are answered.
@@ -328,14 +332,12 @@ fn call_answer(
     let ranges = ranges(arguments)?;
     let asked = StoreRequest::read(arguments)?;
     let Some(number) = number_at(store.responses(target), place) else {
-        answer.none();
-        return Ok(());
+        return Ok(answer.none()?);
     };
     match store.answer(answer.alloc(), target, number, &asked.head(), now, ranges)? {
-        Some(found) => add_stored_answer(found, answer),
-        None => answer.none(),
+        Some(found) => Ok(add_stored_answer(found, answer)?),
+        None => Ok(answer.none()?),
     }
-    Ok(())
 }
 
 // The number of the response at a place.
@@ -344,7 +346,7 @@ fn number_at(responses: &[StoredResponse], place: usize) -> Option<u64> {
 }
 
 // How a stored response answers conditions and ranges.
-fn add_stored_answer(found: StoredAnswer, answer: &mut CaseAnswer) {
+fn add_stored_answer(found: StoredAnswer, answer: &mut CaseAnswer) -> Result<(), AllocError> {
     match found {
         StoredAnswer::Whole => answer.word("whole"),
         StoredAnswer::Part(part) => answer.word(format_args!("part {}-{}", part.first, part.last)),
@@ -363,8 +365,7 @@ fn call_invalidate(
 ) -> Result<(), CaseFailure> {
     let (method, status) = (method(arguments)?, status(arguments)?);
     store.invalidate(arguments.alloc(), target, &method, status);
-    answer.word(store.responses(target).len());
-    Ok(())
+    Ok(answer.word(store.responses(target).len())?)
 }
 
 // RESPONSE: how many URLs of its origin the response names, and these.
@@ -377,31 +378,32 @@ fn call_named_targets(
     let Ok(urls) = named_targets(answer.alloc(), target, &response) else {
         return Err(CaseFailure::Memory);
     };
-    answer.word(urls.len());
+    answer.word(urls.len())?;
     for url in &urls {
-        answer.bytes(url.as_str().as_bytes());
+        answer.bytes(url.as_str().as_bytes())?;
     }
     Ok(())
 }
 
 /// A stored response: method, status, content, times and fields.
-pub fn add_stored(response: &StoredResponse, answer: &mut CaseAnswer) {
-    answer.word(response.method.as_str());
-    answer.word(response.status.as_u16());
-    answer.bytes(response.content.as_slice());
-    answer.word(response.requested);
-    answer.word(response.received);
-    answer.map(&response.response);
+pub fn add_stored(response: &StoredResponse, answer: &mut CaseAnswer) -> Result<(), CaseFailure> {
+    answer.word(response.method.as_str())?;
+    answer.word(response.status.as_u16())?;
+    answer.bytes(response.content.as_slice())?;
+    answer.word(response.requested)?;
+    answer.word(response.received)?;
+    answer.map(&response.response)
 }
 
 // How many responses are stored under the target, and each of them.
-fn call_responses(store: &Store, target: &str, answer: &mut CaseAnswer) {
+fn call_responses(store: &Store, target: &str, answer: &mut CaseAnswer) -> Result<(), CaseFailure> {
     let responses = store.responses(target);
-    answer.word(responses.len());
+    answer.word(responses.len())?;
     for response in responses {
-        answer.word("(/)");
-        add_stored(response, answer);
+        answer.word("(/)")?;
+        add_stored(response, answer)?;
     }
+    Ok(())
 }
 
 /// Makes a call of a cache, and adds its answer. The first word is the target.
@@ -426,10 +428,7 @@ pub fn make(
         "answer" => call_answer(store, target, arguments, answer),
         "invalidate" => call_invalidate(store, target, arguments, answer),
         "named_targets" => call_named_targets(target, arguments, answer),
-        "responses" => {
-            call_responses(store, target, answer);
-            Ok(())
-        }
+        "responses" => call_responses(store, target, answer),
         _ => make_part_call(&mut caches.parts, store, name, target, arguments, answer),
     }
 }

@@ -4,7 +4,7 @@ use crate::writing::{lines_behind, value_before, written};
 use headers::{
     Encoded, Header, HeaderMap, HeaderMapExt, HeaderName, HeaderValue, canonical, encoding,
 };
-use std::alloc::Global;
+use std::alloc::{AllocError, Global};
 use test_rows::{Arguments, CaseAnswer, CaseFailure};
 
 /// Whether two lines have the same bytes, and are marked alike.
@@ -26,10 +26,11 @@ fn are_same(lines: &[HeaderValue], others: &[HeaderValue]) -> bool {
 }
 
 // Adds the name of a call that doesn't write the wanted lines.
-fn add_unless(is_wanted: bool, name: &str, answer: &mut CaseAnswer) {
-    if !is_wanted {
-        answer.word(name);
+fn add_unless(is_wanted: bool, name: &str, answer: &mut CaseAnswer) -> Result<(), AllocError> {
+    if is_wanted {
+        return Ok(());
     }
+    answer.word(name)
 }
 
 // The lines that a header writes, with the value before them. `None` if the call fails and the
@@ -134,18 +135,17 @@ fn reads<H: Header>(
 ) -> Result<(), CaseFailure> {
     let alloc = answer.alloc();
     let tried = map.typed_try_get::<H>(alloc)?;
-    add_unless(gives(alloc, tried, lines)?, "(typed_try_get)", answer);
+    add_unless(gives(alloc, tried, lines)?, "(typed_try_get)", answer)?;
     let got = map.typed_get::<H>(alloc);
     if got.is_none() {
         return Err(CaseFailure::Memory);
     }
-    add_unless(gives(alloc, got, lines)?, "(typed_get)", answer);
+    add_unless(gives(alloc, got, lines)?, "(typed_get)", answer)?;
     let is_wanted = match canonical::<H>(alloc, map)? {
         Some(encoded) => is_encoding::<H>(&encoded, lines),
         None => false,
     };
-    add_unless(is_wanted, "(canonical)", answer);
-    Ok(())
+    Ok(add_unless(is_wanted, "(canonical)", answer)?)
 }
 
 // Names the calls on the header, and then on a map that has it, that don't write the lines.
@@ -156,13 +156,12 @@ fn add_calls<H: Header>(
 ) -> Result<(), CaseFailure> {
     let alloc = answer.alloc();
     let is_wanted = is_encoding::<H>(&encoding(alloc, &header)?, lines);
-    add_unless(is_wanted, "(encoding)", answer);
+    add_unless(is_wanted, "(encoding)", answer)?;
     let Some(map) = inserted(alloc, header, lines)? else {
-        answer.word("(left)");
-        return Ok(());
+        return Ok(answer.word("(left)")?);
     };
     let is_wanted = holds(&map, &H::name(), lines) && keeps_other(&map);
-    add_unless(is_wanted, "(typed_insert)", answer);
+    add_unless(is_wanted, "(typed_insert)", answer)?;
     reads::<H>(&map, lines, answer)
 }
 
@@ -176,21 +175,17 @@ pub fn everywhere<H: Header + Getters<P>, P>(
     let header: H = arguments.header_of_rest()?;
     let copy = copy_of(alloc, &header)?;
     let (Some(lines), Some(of_copy)) = (encoded(alloc, &header)?, encoded(alloc, &copy)?) else {
-        answer.word("(left)");
-        return Ok(());
+        return Ok(answer.word("(left)")?);
     };
-    add_unless(are_same(&of_copy, &lines), "(copy)", answer);
+    add_unless(are_same(&of_copy, &lines), "(copy)", answer)?;
     match lines_behind(&lines) {
         Some(behind) => {
             add_calls(header, behind, answer)?;
             for line in behind {
-                answer.bytes(line.as_bytes());
+                answer.bytes(line.as_bytes())?;
             }
             Ok(())
         }
-        None => {
-            answer.word("(changed)");
-            Ok(())
-        }
+        None => Ok(answer.word("(changed)")?),
     }
 }

@@ -90,9 +90,8 @@ pub fn size_hint(
     answer: &mut CaseAnswer,
 ) -> Result<(), CaseFailure> {
     let (least, greatest) = hinted_names("size_hint", arguments)?.size_hint();
-    answer.word(least);
-    answer.option(greatest);
-    Ok(())
+    answer.word(least)?;
+    Ok(answer.option(greatest)?)
 }
 
 // The header of lines from an iterator with this hint.
@@ -133,7 +132,7 @@ fn rewritten<H: Header>(
 fn repeated(arguments: &mut Arguments<'_>) -> Result<Vec<HeaderValue>, CaseFailure> {
     let alloc = arguments.alloc();
     let text = arguments.bytes()?;
-    let length = usize::try_from(arguments.number()?)?;
+    let length = usize::try_from(arguments.number()?).map_err(|_| CaseFailure::NoCall)?;
     let line = text.repeat(alloc, length)?;
     let mut lines = Vec::new(alloc);
     for _ in 0..arguments.number()? {
@@ -164,8 +163,7 @@ pub fn harmless<H: Header>(
         Some(_) => "decoded",
         None => "rejected",
     };
-    answer.word(word);
-    Ok(())
+    Ok(answer.word(word)?)
 }
 
 /// Adds the lengths of the lines that encode the header that such lines decode to.
@@ -176,7 +174,7 @@ pub fn lengths<H: Header>(
     let alloc = arguments.alloc();
     let header: H = decode_values(alloc, &repeated(arguments)?)?;
     for line in written(alloc, &header)?.iter() {
-        answer.word(line.len());
+        answer.word(line.len())?;
     }
     Ok(())
 }

@@ -10,6 +10,6 @@ pub use crate::everywhere::{holds, holds_beginning, is_same};
 pub use crate::hinted::{hinted_methods, hinted_names, size_hint};
 pub use crate::replay::{
     Getters, call, cmp, debug_secret, eq, hash, padded, say, show, show_back, show_back_result,
-    show_made, show_names, show_result, show_text, show_written,
+    show_made, show_names, show_result, show_text,
 };
 pub use crate::writing::{add_written, writes};

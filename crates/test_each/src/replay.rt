@@ -15,15 +15,12 @@ use test_rows::{Arguments, CaseAnswer, CaseFailure, append_lines};
 /// the header and from this trait.
 pub trait Getters<P>: Drop {
     /// Adds what its getters give, and returns its copy.
-    fn getters(&self, answer: &mut CaseAnswer) -> Result<Self, AllocError>;
+    fn getters(&self, answer: &mut CaseAnswer) -> Result<Self, CaseFailure>;
 }
 
 /// A copy of a header.
-pub fn copy_of<H: Getters<P>, P>(alloc: Global, header: &H) -> Result<H, AllocError> {
-    let mut answer = CaseAnswer::new(alloc);
-    let copy = header.getters(&mut answer)?;
-    answer.checked()?;
-    Ok(copy)
+pub fn copy_of<H: Getters<P>, P>(alloc: Global, header: &H) -> Result<H, CaseFailure> {
+    header.getters(&mut CaseAnswer::new(alloc))
 }
 
 // Whether the answer says of the field with this name whether it is marked sensitive, also if it isn't.
@@ -36,19 +33,16 @@ fn answers_mark(name: &HeaderName) -> bool {
 fn shown<H: Header + Getters<P>, P>(
     alloc: Global,
     header: &H,
-) -> Result<(CaseAnswer, H), AllocError> {
+) -> Result<(CaseAnswer, H), CaseFailure> {
     let mut answer = CaseAnswer::new(alloc);
     let lines = written(alloc, header)?;
-    answer.list(lines.as_slice());
+    answer.list(lines.as_slice())?;
     let copy = header.getters(&mut answer)?;
-    let mut is_marked = false;
-    for line in lines.iter() {
-        is_marked |= line.is_sensitive();
-    }
+    let is_marked = lines.iter().any(|line| line.is_sensitive());
     if answers_mark(&H::name()) {
-        answer.word(is_marked);
+        answer.word(is_marked)?;
     } else if is_marked {
-        answer.word("(sensitive)");
+        answer.word("(sensitive)")?;
     }
     Ok((answer, copy))
 }
@@ -61,8 +55,7 @@ pub fn show<H: Header + Getters<P>, P>(
 ) -> Result<(), CaseFailure> {
     let (of_header, copy) = shown(answer.alloc(), header)?;
     let (of_copy, _again) = shown(answer.alloc(), &copy)?;
-    add_with_copy(&of_header, &of_copy, answer);
-    Ok(())
+    Ok(add_with_copy(&of_header, &of_copy, answer)?)
 }
 
 /// The same of a header that was just made.
@@ -96,30 +89,18 @@ pub fn show_back_result<H: Header + Getters<P> + PartialEq, P, E: Into<CaseFailu
     }
 }
 
-// Whether the text of a header is the line that it writes.
-fn is_printed<H: Header + Display>(alloc: Global, header: &H) -> Result<bool, AllocError> {
-    let text = header.to_string(alloc)?;
-    writes(alloc, header, text.as_str())
-}
-
 /// Adds whether the text of a header is the line that it writes.
-pub fn show_text<H: Header + Display>(header: &H, answer: &mut CaseAnswer) {
-    answer.tried(is_printed(answer.alloc(), header));
-}
-
-/// Adds the lines that encode the header that lines decode to.
-pub fn show_written<H: Header>(
-    arguments: &mut Arguments<'_>,
+pub fn show_text<H: Header + Display>(
+    header: &H,
     answer: &mut CaseAnswer,
 ) -> Result<(), CaseFailure> {
-    let header: H = arguments.header_of_rest()?;
-    Ok(add_written(&header, answer)?)
+    let text = header.to_string(answer.alloc())?;
+    say(writes(answer.alloc(), header, text.as_str())?, answer)
 }
 
 /// Adds a word.
 pub fn say(word: impl Display + Drop, answer: &mut CaseAnswer) -> Result<(), CaseFailure> {
-    answer.word(word);
-    Ok(())
+    Ok(answer.word(word)?)
 }
 
 /// The lines that a header writes, what its getters give, and whether the lines decode to an equal header.
@@ -134,15 +115,14 @@ pub fn show_back<H: Header + Getters<P> + PartialEq, P>(
         Err(Refused::Invalid(_)) => false,
         Err(Refused::Memory(_)) => return Err(CaseFailure::Memory),
     };
-    answer.word(is_equal);
-    Ok(())
+    Ok(answer.word(is_equal)?)
 }
 
 /// Adds the names of an iterator.
 pub fn show_names<I: Iterator<Item = Result<HeaderName, AllocError>> + Drop>(
     walk: I,
     answer: &mut CaseAnswer,
-) -> Result<(), AllocError>
+) -> Result<(), CaseFailure>
     requires can { I.can_next walk }
     requires ends { IsFinite (I.remaining walk) }
 {
@@ -150,8 +130,7 @@ pub fn show_names<I: Iterator<Item = Result<HeaderName, AllocError>> + Drop>(
     for name in walk {
         names.push(name?)?;
     }
-    answer.list(names.as_slice());
-    Ok(())
+    Ok(answer.list(names.as_slice())?)
 }
 
 /// Whether the headers of two lines are equal; and `(copy)` if the copy of the first answers otherwise.
@@ -162,9 +141,9 @@ pub fn eq<H: Header + Getters<P> + PartialEq, P>(
     let first: H = arguments.header()?;
     let second: H = arguments.header()?;
     let is_equal = first == second;
-    answer.word(is_equal);
+    answer.word(is_equal)?;
     if (copy_of(arguments.alloc(), &first)? == second) != is_equal {
-        answer.word("(copy)");
+        answer.word("(copy)")?;
     }
     Ok(())
 }
@@ -182,8 +161,7 @@ pub fn cmp<H: Header + PartialOrd>(
         Some(Ordering::Greater) => "greater",
         None => "(none)",
     };
-    answer.word(order);
-    Ok(())
+    Ok(answer.word(order)?)
 }
 
 // The hash of a value.
@@ -200,8 +178,7 @@ pub fn hash<H: Header + Eq + Hash>(
 ) -> Result<(), CaseFailure> {
     let first: H = arguments.header()?;
     let second: H = arguments.header()?;
-    answer.word(hash_of(&first) == hash_of(&second));
-    Ok(())
+    Ok(answer.word(hash_of(&first) == hash_of(&second))?)
 }
 
 /// The text of the header of a line, as it is printed to the right of 20 columns.
@@ -210,8 +187,8 @@ pub fn padded<H: Header + Display>(
     answer: &mut CaseAnswer,
 ) -> Result<(), CaseFailure> {
     let header: H = arguments.header()?;
-    answer.text(format_args!("{header:>20}"));
-    Ok(())
+    let text = format!(in arguments.alloc(); "{header:>20}")?;
+    Ok(answer.bytes(text.as_bytes())?)
 }
 
 /// How `{:?}` prints the header of lines that are marked sensitive.
@@ -224,8 +201,8 @@ pub fn debug_secret<H: Header + Debug>(
         line.set_sensitive(true);
     }
     let header: H = decode_values(arguments.alloc(), &lines)?;
-    answer.text(format_args!("{header:?}"));
-    Ok(())
+    let text = format!(in arguments.alloc(); "{header:?}")?;
+    Ok(answer.bytes(text.as_bytes())?)
 }
 
 // A map that has the lines under the header's name, and other names before and after it.
@@ -252,15 +229,11 @@ fn typed_try_get<H: Header + Getters<P>, P>(
         return Err(CaseFailure::Memory);
     }
     if is_given != has_header {
-        answer.word("(typed_get)");
-        return Ok(());
+        return Ok(answer.word("(typed_get)")?);
     }
     match tried? {
         Some(header) => show(&header, answer),
-        None => {
-            answer.none();
-            Ok(())
-        }
+        None => Ok(answer.none()?),
     }
 }
 
@@ -275,10 +248,7 @@ fn typed_get<H: Header + Getters<P>, P>(
         return show(&header, answer);
     }
     match map.typed_try_get::<H>(alloc) {
-        Ok(None) | Err(Refused::Invalid(_)) => {
-            answer.none();
-            Ok(())
-        }
+        Ok(None) | Err(Refused::Invalid(_)) => Ok(answer.none()?),
         Ok(Some(_)) | Err(Refused::Memory(_)) => Err(CaseFailure::Memory),
     }
 }
@@ -290,7 +260,7 @@ fn typed_insert<H: Header>(
     answer: &mut CaseAnswer,
 ) -> Result<(), CaseFailure> {
     let alloc = arguments.alloc();
-    let count = usize::try_from(arguments.number()?)?;
+    let count = usize::try_from(arguments.number()?).map_err(|_| CaseFailure::NoCall)?;
     let mut first = arguments.lines()?;
     if count > first.len() {
         return Err(CaseFailure::NoCall);
@@ -301,8 +271,7 @@ fn typed_insert<H: Header>(
     append_lines(&mut map, &H::name(), others)?;
     map.typed_insert(alloc, header)?;
     let kept: Vec<&HeaderValue> = map.get_all(H::name()).iter().collect(alloc)?;
-    answer.list(kept.as_slice());
-    Ok(())
+    Ok(answer.list(kept.as_slice())?)
 }
 
 /// Adds the answer of a call of a header. No hint of an iterator is read, so that of a wrong one is
@@ -313,12 +282,9 @@ pub fn call<H: Header + Getters<P>, P>(
     answer: &mut CaseAnswer,
 ) -> Result<(), CaseFailure> {
     match call {
-        "name" => {
-            answer.bytes(H::name().as_bytes());
-            Ok(())
-        }
+        "name" => Ok(answer.bytes(H::name().as_bytes())?),
         "decode" | "decode_one_hint" => show(&arguments.header_of_rest::<H>()?, answer),
-        "writes" => show_written::<H>(arguments, answer),
+        "writes" => Ok(add_written(&arguments.header_of_rest::<H>()?, answer)?),
         "secret" => secret::<H, P>(arguments, answer),
         "everywhere" => everywhere::<H, P>(arguments, answer),
         "harmless" => harmless::<H>(arguments, answer),

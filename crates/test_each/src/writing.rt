@@ -41,17 +41,17 @@ pub fn lines_behind(lines: &[HeaderValue]) -> Option<&[HeaderValue]> {
 }
 
 // Adds lines, and whether all of them are marked sensitive, or some and not others.
-fn add_lines(lines: &[HeaderValue], answer: &mut CaseAnswer) {
+fn add_lines(lines: &[HeaderValue], answer: &mut CaseAnswer) -> Result<(), AllocError> {
     if lines.is_empty() {
-        answer.none();
+        return answer.none();
     }
     let mut marked: usize = 0;
     for line in lines {
-        answer.bytes(line.as_bytes());
+        answer.bytes(line.as_bytes())?;
         marked = marked.saturating_add(line.is_sensitive().into());
     }
     match marked {
-        0 => {}
+        0 => Ok(()),
         _ if marked == lines.len() => answer.word("(sensitive)"),
         _ => answer.word("(mixed)"),
     }
@@ -64,20 +64,24 @@ pub fn add_written<H: Header>(header: &H, answer: &mut CaseAnswer) -> Result<(),
     match lines_behind(&lines) {
         Some(behind) => add_lines(behind, answer),
         None => {
-            answer.word("(changed)");
-            add_lines(&lines, answer);
+            answer.word("(changed)")?;
+            add_lines(&lines, answer)
         }
     }
-    Ok(())
 }
 
 /// Adds the words of a header, and, if those of its copy are others, these after them.
-pub fn add_with_copy(of_header: &CaseAnswer, of_copy: &CaseAnswer, answer: &mut CaseAnswer) {
-    answer.append(of_header);
+pub fn add_with_copy(
+    of_header: &CaseAnswer,
+    of_copy: &CaseAnswer,
+    answer: &mut CaseAnswer,
+) -> Result<(), AllocError> {
+    answer.word(of_header.as_str())?;
     if of_copy.as_str() != of_header.as_str() {
-        answer.word("(copy)");
-        answer.append(of_copy);
+        answer.word("(copy)")?;
+        answer.word(of_copy.as_str())?;
     }
+    Ok(())
 }
 
 /// Adds the lines that encode the header that marked lines decode to, and those of its copy.
@@ -95,6 +99,5 @@ pub fn secret<H: Header + Getters<P>, P>(
     add_written(&header, &mut of_header)?;
     let mut of_copy = CaseAnswer::new(alloc);
     add_written(&copy_of(alloc, &header)?, &mut of_copy)?;
-    add_with_copy(&of_header, &of_copy, answer);
-    Ok(())
+    Ok(add_with_copy(&of_header, &of_copy, answer)?)
 }

@@ -2,8 +2,7 @@
 use crate::Http;
 use crate::own::Pin;
 use headers::authorization::{Authorization, Basic, Bearer, Credentials, ProxyAuthorization};
-use std::alloc::AllocError;
-use test_each::{Getters, say, show_back, show_made, show_written};
+use test_each::{Getters, add_written, show_back, show_made};
 use test_rows::{Arguments, CaseAnswer, CaseFailure};
 
 /// `Authorization` of Basic.
@@ -16,32 +15,32 @@ pub type ProxyAuthorizationBasic = ProxyAuthorization<Basic>;
 pub type ProxyAuthorizationBearer = ProxyAuthorization<Bearer>;
 
 impl Getters<Http> for Authorization<Basic> {
-    fn getters(&self, answer: &mut CaseAnswer) -> Result<Authorization<Basic>, AllocError> {
-        answer.bytes(self.username().as_bytes());
-        answer.bytes(self.password().as_bytes());
-        self.clone(answer.alloc())
+    fn getters(&self, answer: &mut CaseAnswer) -> Result<Authorization<Basic>, CaseFailure> {
+        answer.bytes(self.username().as_bytes())?;
+        answer.bytes(self.password().as_bytes())?;
+        Ok(self.clone(answer.alloc())?)
     }
 }
 
 impl Getters<Http> for Authorization<Bearer> {
-    fn getters(&self, answer: &mut CaseAnswer) -> Result<Authorization<Bearer>, AllocError> {
-        answer.bytes(self.token().as_bytes());
-        self.clone(answer.alloc())
+    fn getters(&self, answer: &mut CaseAnswer) -> Result<Authorization<Bearer>, CaseFailure> {
+        answer.bytes(self.token().as_bytes())?;
+        Ok(self.clone(answer.alloc())?)
     }
 }
 
 impl Getters<Http> for ProxyAuthorization<Basic> {
-    fn getters(&self, answer: &mut CaseAnswer) -> Result<ProxyAuthorization<Basic>, AllocError> {
-        answer.bytes(self.0.username().as_bytes());
-        answer.bytes(self.0.password().as_bytes());
-        self.clone(answer.alloc())
+    fn getters(&self, answer: &mut CaseAnswer) -> Result<ProxyAuthorization<Basic>, CaseFailure> {
+        answer.bytes(self.0.username().as_bytes())?;
+        answer.bytes(self.0.password().as_bytes())?;
+        Ok(self.clone(answer.alloc())?)
     }
 }
 
 impl Getters<Http> for ProxyAuthorization<Bearer> {
-    fn getters(&self, answer: &mut CaseAnswer) -> Result<ProxyAuthorization<Bearer>, AllocError> {
-        answer.bytes(self.0.token().as_bytes());
-        self.clone(answer.alloc())
+    fn getters(&self, answer: &mut CaseAnswer) -> Result<ProxyAuthorization<Bearer>, CaseFailure> {
+        answer.bytes(self.0.token().as_bytes())?;
+        Ok(self.clone(answer.alloc())?)
     }
 }
 
@@ -65,14 +64,18 @@ pub fn call_authorization(
         "Authorization.bearer" => {
             show_back(&Authorization::bearer(alloc, &arguments.text()?)?, answer)
         }
-        "AuthorizationBasic.scheme" => say(Basic::SCHEME, answer),
-        "AuthorizationBearer.scheme" => say(Bearer::SCHEME, answer),
+        "AuthorizationBasic.scheme" => Ok(answer.word(Basic::SCHEME)?),
+        "AuthorizationBearer.scheme" => Ok(answer.word(Bearer::SCHEME)?),
         "ProxyAuthorizationBasic.from" => {
             show_made(ProxyAuthorization(read_basic(arguments)?.0), answer)
         }
-        "AuthorizationPin.writes" => show_written::<Authorization<Pin>>(arguments, answer),
+        "AuthorizationPin.writes" => {
+            let header: Authorization<Pin> = arguments.header_of_rest()?;
+            Ok(add_written(&header, answer)?)
+        }
         "ProxyAuthorizationPin.writes" => {
-            show_written::<ProxyAuthorization<Pin>>(arguments, answer)
+            let header: ProxyAuthorization<Pin> = arguments.header_of_rest()?;
+            Ok(add_written(&header, answer)?)
         }
         _ => Err(CaseFailure::NoCall),
     }

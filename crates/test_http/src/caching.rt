@@ -1,13 +1,12 @@
 //! Calls of `Cache-Control`.
 use crate::Http;
 use headers::{CacheControl, equal_by_encoding};
-use std::alloc::AllocError;
 use std::time::Duration;
 use test_each::{Getters, say, show_back_result};
 use test_rows::{Arguments, CaseAnswer, CaseFailure};
 
 impl Getters<Http> for CacheControl {
-    fn getters(&self, answer: &mut CaseAnswer) -> Result<CacheControl, AllocError> {
+    fn getters(&self, answer: &mut CaseAnswer) -> Result<CacheControl, CaseFailure> {
         for flag in [
             self.no_cache(),
             self.no_store(),
@@ -19,7 +18,7 @@ impl Getters<Http> for CacheControl {
             self.must_revalidate(),
             self.must_understand(),
         ] {
-            answer.word(flag);
+            answer.word(flag)?;
         }
         for number in [
             self.max_age(),
@@ -27,12 +26,9 @@ impl Getters<Http> for CacheControl {
             self.min_fresh(),
             self.s_max_age(),
         ] {
-            match number {
-                Some(number) => answer.word(number.as_secs()),
-                None => answer.none(),
-            }
+            answer.option(number.map(|number| number.as_secs()))?;
         }
-        self.clone()
+        Ok(self.clone()?)
     }
 }
 
@@ -61,7 +57,7 @@ fn with_setters(arguments: &mut Arguments<'_>) -> Result<CacheControl, CaseFailu
     let mut value = CacheControl::new();
     for word in arguments.rest().split_whitespace() {
         let (setter, number) = word.split_once('=').unwrap_or((word, "0"));
-        let seconds = number.parse()?;
+        let seconds = number.parse().map_err(|_| CaseFailure::NoCall)?;
         value = with_setter(value, setter, seconds).ok_or(CaseFailure::NoCall)?;
     }
     Ok(value)

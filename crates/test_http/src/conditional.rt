@@ -7,28 +7,28 @@ use test_each::{Getters, say, show, show_back_result, show_made};
 use test_rows::{Arguments, CaseAnswer, CaseFailure};
 
 impl Getters<Http> for ETag {
-    fn getters(&self, answer: &mut CaseAnswer) -> Result<ETag, AllocError> {
-        answer.word(self.is_weak());
-        self.clone(answer.alloc())
+    fn getters(&self, answer: &mut CaseAnswer) -> Result<ETag, CaseFailure> {
+        answer.word(self.is_weak())?;
+        Ok(self.clone(answer.alloc())?)
     }
 }
 
 impl Getters<Http> for IfMatch {
-    fn getters(&self, answer: &mut CaseAnswer) -> Result<IfMatch, AllocError> {
-        answer.word(self.is_any());
-        self.clone(answer.alloc())
+    fn getters(&self, answer: &mut CaseAnswer) -> Result<IfMatch, CaseFailure> {
+        answer.word(self.is_any())?;
+        Ok(self.clone(answer.alloc())?)
     }
 }
 
 impl Getters<Http> for IfNoneMatch {
-    fn getters(&self, answer: &mut CaseAnswer) -> Result<IfNoneMatch, AllocError> {
-        self.clone(answer.alloc())
+    fn getters(&self, answer: &mut CaseAnswer) -> Result<IfNoneMatch, CaseFailure> {
+        Ok(self.clone(answer.alloc())?)
     }
 }
 
 impl Getters<Http> for IfRange {
-    fn getters(&self, answer: &mut CaseAnswer) -> Result<IfRange, AllocError> {
-        self.clone(answer.alloc())
+    fn getters(&self, answer: &mut CaseAnswer) -> Result<IfRange, CaseFailure> {
+        Ok(self.clone(answer.alloc())?)
     }
 }
 
@@ -69,8 +69,8 @@ fn compare(arguments: &mut Arguments<'_>, answer: &mut CaseAnswer) -> Result<(),
     let alloc = arguments.alloc();
     let first = arguments.tag()?;
     let second = arguments.tag()?;
-    answer.word(passes::<IfMatch>(alloc, &first, &second)?);
-    answer.word(passes::<IfNoneMatch>(alloc, &first, &second)?);
+    answer.word(passes::<IfMatch>(alloc, &first, &second)?)?;
+    answer.word(passes::<IfNoneMatch>(alloc, &first, &second)?)?;
     say(
         IfRange::etag(first).is_modified(Some(&second), None),
         answer,
@@ -119,10 +119,9 @@ fn call_any_condition<C: Condition + Getters<Http>>(
 fn show_named(header: &IfRange, answer: &mut CaseAnswer) -> Result<(), CaseFailure> {
     match header.named_tag(answer.alloc())? {
         Some(tag) => show(&tag, answer)?,
-        None => answer.none(),
+        None => answer.none()?,
     }
-    answer.option(header.named_date());
-    Ok(())
+    Ok(answer.option(header.named_date())?)
 }
 
 // Whether the target with a tag and a second is modified by the header.
@@ -136,9 +135,8 @@ fn is_modified(arguments: &mut Arguments<'_>, answer: &mut CaseAnswer) -> Result
 
 // The opaque part of a tag, and its line.
 fn show_parts(tag: ETag, answer: &mut CaseAnswer) -> Result<(), CaseFailure> {
-    answer.bytes(tag_of(&tag).view().tag());
-    answer.bytes(into_tag(tag).into_value().as_bytes());
-    Ok(())
+    answer.bytes(tag_of(&tag).view().tag())?;
+    Ok(answer.bytes(into_tag(tag).into_value().as_bytes())?)
 }
 
 /// Adds the answer of another call of these headers.

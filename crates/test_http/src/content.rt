@@ -1,18 +1,17 @@
 //! Calls of `Content-Type` and of media types.
 use crate::Http;
 use headers::{ContentType, Mime};
-use std::alloc::AllocError;
 use test_each::{Getters, say, show_made, show_result, writes};
 use test_rows::{Arguments, CaseAnswer, CaseFailure};
 
 impl Getters<Http> for ContentType {
-    fn getters(&self, answer: &mut CaseAnswer) -> Result<ContentType, AllocError> {
+    fn getters(&self, answer: &mut CaseAnswer) -> Result<ContentType, CaseFailure> {
         let alloc = answer.alloc();
         let mime = Mime::from(self.clone(alloc)?);
-        answer.bytes(mime.as_str().as_bytes());
+        answer.bytes(mime.as_str().as_bytes())?;
         let is_displayed = writes(alloc, self, self.to_string(alloc)?.as_str())?;
-        answer.word(is_displayed && mime.to_string(alloc)?.as_str() == mime.as_str());
-        self.clone(alloc)
+        answer.word(is_displayed && mime.to_string(alloc)?.as_str() == mime.as_str())?;
+        Ok(self.clone(alloc)?)
     }
 }
 
@@ -52,18 +51,17 @@ pub fn call_content(
 }
 
 fn show_mime(mime: &Mime, answer: &mut CaseAnswer) -> Result<(), CaseFailure> {
-    answer.bytes(mime.as_str().as_bytes());
-    answer.word(mime.to_string(answer.alloc())?.as_str() == mime.as_str());
-    Ok(())
+    answer.bytes(mime.as_str().as_bytes())?;
+    Ok(answer.word(mime.to_string(answer.alloc())?.as_str() == mime.as_str())?)
 }
 
 // Adds how a media type is printed: plainly, at a width of 12 to the right, and cut to 4 characters.
 fn format_mime(arguments: &mut Arguments<'_>, answer: &mut CaseAnswer) -> Result<(), CaseFailure> {
+    let alloc = arguments.alloc();
     let mime = read_mime(arguments)?;
-    answer.text(&mime);
-    answer.text(format_args!("{mime:>12}"));
-    answer.text(format_args!("{mime:.4}"));
-    Ok(())
+    answer.bytes(format!(in alloc; "{mime}")?.as_bytes())?;
+    answer.bytes(format!(in alloc; "{mime:>12}")?.as_bytes())?;
+    Ok(answer.bytes(format!(in alloc; "{mime:.4}")?.as_bytes())?)
 }
 
 // The media types that have names.
@@ -86,7 +84,7 @@ fn named(name: &str) -> Option<Mime> {
 fn equals(mime: &Mime, other: &Mime, answer: &mut CaseAnswer) -> Result<(), CaseFailure> {
     let is_equal = mime == other;
     if (mime.clone(answer.alloc())? == *other) != is_equal {
-        answer.word("(copy)");
+        answer.word("(copy)")?;
     }
     say(is_equal, answer)
 }

@@ -6,7 +6,6 @@ use headers::{
 };
 use http::Method;
 use http::method::MethodError;
-use std::alloc::AllocError;
 use test_each::{Getters, show_made, show_result};
 use test_rows::{Arguments, CaseAnswer, CaseFailure};
 
@@ -14,27 +13,27 @@ impl Getters<Http> for AccessControlAllowCredentials {
     fn getters(
         &self,
         answer: &mut CaseAnswer,
-    ) -> Result<AccessControlAllowCredentials, AllocError> {
-        answer.word(*self == AccessControlAllowCredentials);
-        self.clone()
+    ) -> Result<AccessControlAllowCredentials, CaseFailure> {
+        answer.word(*self == AccessControlAllowCredentials)?;
+        Ok(self.clone()?)
     }
 }
 
 impl Getters<Http> for AccessControlAllowOrigin {
-    fn getters(&self, answer: &mut CaseAnswer) -> Result<AccessControlAllowOrigin, AllocError> {
+    fn getters(&self, answer: &mut CaseAnswer) -> Result<AccessControlAllowOrigin, CaseFailure> {
         match self.origin() {
-            Some(origin) => show_origin(origin, self, answer),
-            None => answer.none(),
+            Some(origin) => show_origin(origin, self, answer)?,
+            None => answer.none()?,
         }
-        self.clone(answer.alloc())
+        Ok(self.clone(answer.alloc())?)
     }
 }
 
 impl Getters<Http> for AccessControlRequestMethod {
-    fn getters(&self, answer: &mut CaseAnswer) -> Result<AccessControlRequestMethod, AllocError> {
+    fn getters(&self, answer: &mut CaseAnswer) -> Result<AccessControlRequestMethod, CaseFailure> {
         let method = Method::from(self.clone(answer.alloc())?);
-        answer.bytes(method.as_str().as_bytes());
-        self.clone(answer.alloc())
+        answer.bytes(method.as_str().as_bytes())?;
+        Ok(self.clone(answer.alloc())?)
     }
 }
 

@@ -2,55 +2,53 @@
 use crate::Http;
 use headers::{Cookie, Header, Host, Origin, SetCookie};
 use http_uri::{Authority, UriError};
-use std::alloc::{AllocError, Global};
 use test_each::{Getters, show_made, show_result, show_text, writes};
 use test_rows::{Arguments, CaseAnswer, CaseFailure};
 
-// Whether the text of an origin is the line that a header writes.
-fn is_printed<H: Header>(alloc: Global, origin: &Origin, header: &H) -> Result<bool, AllocError> {
-    let text = origin.to_string(alloc)?;
-    writes(alloc, header, text.as_str())
-}
-
 /// Adds what the getters of an origin give, and whether its text is what the header writes.
-pub fn show_origin<H: Header>(origin: &Origin, header: &H, answer: &mut CaseAnswer) {
-    answer.word(origin.is_null());
-    answer.bytes(origin.scheme().as_bytes());
-    answer.bytes(origin.hostname().as_bytes());
-    answer.option(origin.port());
-    answer.tried(is_printed(answer.alloc(), origin, header));
+pub fn show_origin<H: Header>(
+    origin: &Origin,
+    header: &H,
+    answer: &mut CaseAnswer,
+) -> Result<(), CaseFailure> {
+    answer.word(origin.is_null())?;
+    answer.bytes(origin.scheme().as_bytes())?;
+    answer.bytes(origin.hostname().as_bytes())?;
+    answer.option(origin.port())?;
+    let text = origin.to_string(answer.alloc())?;
+    Ok(answer.word(writes(answer.alloc(), header, text.as_str())?)?)
 }
 
 impl Getters<Http> for Host {
-    fn getters(&self, answer: &mut CaseAnswer) -> Result<Host, AllocError> {
-        answer.bytes(self.hostname().as_bytes());
-        answer.option(self.port());
-        show_text(self, answer);
-        self.clone(answer.alloc())
+    fn getters(&self, answer: &mut CaseAnswer) -> Result<Host, CaseFailure> {
+        answer.bytes(self.hostname().as_bytes())?;
+        answer.option(self.port())?;
+        show_text(self, answer)?;
+        Ok(self.clone(answer.alloc())?)
     }
 }
 
 impl Getters<Http> for Origin {
-    fn getters(&self, answer: &mut CaseAnswer) -> Result<Origin, AllocError> {
-        show_origin(self, self, answer);
-        self.clone(answer.alloc())
+    fn getters(&self, answer: &mut CaseAnswer) -> Result<Origin, CaseFailure> {
+        show_origin(self, self, answer)?;
+        Ok(self.clone(answer.alloc())?)
     }
 }
 
 impl Getters<Http> for Cookie {
-    fn getters(&self, answer: &mut CaseAnswer) -> Result<Cookie, AllocError> {
-        answer.word(self.len());
+    fn getters(&self, answer: &mut CaseAnswer) -> Result<Cookie, CaseFailure> {
+        answer.word(self.len())?;
         for (key, text) in self.iter() {
-            answer.bytes(key.as_bytes());
-            answer.bytes(text.as_bytes());
+            answer.bytes(key.as_bytes())?;
+            answer.bytes(text.as_bytes())?;
         }
-        self.clone(answer.alloc())
+        Ok(self.clone(answer.alloc())?)
     }
 }
 
 impl Getters<Http> for SetCookie {
-    fn getters(&self, answer: &mut CaseAnswer) -> Result<SetCookie, AllocError> {
-        self.clone(answer.alloc())
+    fn getters(&self, answer: &mut CaseAnswer) -> Result<SetCookie, CaseFailure> {
+        Ok(self.clone(answer.alloc())?)
     }
 }
 
@@ -82,10 +80,9 @@ pub fn call_host(
             let key = arguments.text()?;
             let header: Cookie = arguments.header_of_rest()?;
             match header.get(key.as_str()) {
-                Some(text) => answer.bytes(text.as_bytes()),
-                None => answer.none(),
+                Some(text) => Ok(answer.bytes(text.as_bytes())?),
+                None => Ok(answer.none()?),
             }
-            Ok(())
         }
         "Host.from_authority" => show_result(of_authority(arguments), answer),
         "Origin.NULL" => show_made(Origin::NULL, answer),

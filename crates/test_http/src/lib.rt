@@ -8,7 +8,6 @@ mod content;
 mod cors;
 mod hosts;
 pub mod impls;
-mod kinds;
 mod lists;
 mod own;
 mod ranges;
@@ -16,24 +15,74 @@ mod security;
 mod texts;
 pub mod traits;
 
-use crate::authorization::call_authorization;
+use crate::authorization::{
+    AuthorizationBasic, AuthorizationBearer, ProxyAuthorizationBasic, ProxyAuthorizationBearer,
+    call_authorization,
+};
 use crate::caching::call_caching;
 use crate::conditional::{call_condition, call_conditional};
 use crate::content::{call_content, call_mime};
 use crate::cors::call_cors;
 use crate::hosts::call_host;
-use crate::kinds::call_kind;
 use crate::lists::{call_from_iter, call_list, call_nexts};
-use crate::own::call_own;
+use crate::own::{FirstCookie, OwnAge, call_own};
 use crate::ranges::call_range;
 use crate::security::call_security;
 use crate::texts::{call_date, call_text};
 use headers::*;
-use test_each::{cmp, debug_secret, hash, padded};
+use headers_user::MaxForwards;
+use test_each::{call, cmp, debug_secret, eq, hash, padded};
 use test_rows::{Arguments, Calls, CaseAnswer, CaseFailure};
 
 /// The calls on the headers, and on media types.
 pub struct Http;
+
+// Makes a call of the header of the kind.
+macro_rules! of_kind {
+    ($kind:ident $call:ident $given:tt $($header:ident)+) => {
+        match $kind {
+            $(stringify!($header) => $call::<$header, Http>$given,)+
+            _ => Err(CaseFailure::NoCall),
+        }
+    };
+}
+
+// The calls that every header has.
+fn call_header(
+    kind: &str,
+    word: &str,
+    arguments: &mut Arguments<'_>,
+    answer: &mut CaseAnswer,
+) -> Result<(), CaseFailure> {
+    of_kind!(kind call (word, arguments, answer)
+        AcceptRanges AccessControlAllowCredentials AccessControlAllowHeaders
+        AccessControlAllowMethods AccessControlAllowOrigin AccessControlExposeHeaders
+        AccessControlMaxAge AccessControlRequestHeaders AccessControlRequestMethod Age Allow
+        AuthorizationBasic AuthorizationBearer CacheControl Connection ContentDisposition
+        ContentEncoding ContentLength ContentLocation ContentRange ContentType Cookie Date ETag
+        Expect Expires FirstCookie Host IfMatch IfModifiedSince IfNoneMatch IfRange
+        IfUnmodifiedSince LastModified Location MaxForwards Origin OwnAge Pragma
+        ProxyAuthorizationBasic ProxyAuthorizationBearer Range Referer ReferrerPolicy RetryAfter
+        SecWebsocketAccept SecWebsocketKey SecWebsocketVersion Server SetCookie
+        StrictTransportSecurity Te TransferEncoding Upgrade UserAgent Vary)
+}
+
+// Equality.
+fn call_eq(
+    kind: &str,
+    arguments: &mut Arguments<'_>,
+    answer: &mut CaseAnswer,
+) -> Result<(), CaseFailure> {
+    of_kind!(kind eq (arguments, answer)
+        AcceptRanges AccessControlAllowCredentials AccessControlAllowHeaders
+        AccessControlAllowMethods AccessControlAllowOrigin AccessControlMaxAge
+        AccessControlRequestMethod Age Allow AuthorizationBasic AuthorizationBearer CacheControl
+        ContentLength ContentLocation ContentRange ContentType Date ETag Expect Expires Host
+        IfMatch IfModifiedSince IfNoneMatch IfRange IfUnmodifiedSince LastModified Location
+        MaxForwards Origin Pragma ProxyAuthorizationBasic ProxyAuthorizationBearer Range Referer
+        ReferrerPolicy RetryAfter SecWebsocketAccept SecWebsocketKey SecWebsocketVersion Server
+        StrictTransportSecurity Te Upgrade UserAgent Vary)
+}
 
 // Orders, texts at a width, and for a programmer, and hashes.
 fn call_some(
@@ -138,6 +187,7 @@ fn call_by_word(
     answer: &mut CaseAnswer,
 ) -> Result<(), CaseFailure> {
     match word {
+        "eq" => call_eq(kind, arguments, answer),
         "cmp" | "debug_secret" | "hash" | "padded" => call_some(kind, word, arguments, answer),
         "from_iter" | "from_hinted_iter" => call_from_iter(kind, word, arguments, answer),
         "nexts" => call_nexts(kind, arguments, answer),
@@ -156,7 +206,7 @@ impl Calls for Http {
             return Err(CaseFailure::NoCall);
         };
         let left = *arguments;
-        match call_kind(kind, word, arguments, answer) {
+        match call_header(kind, word, arguments, answer) {
             Err(CaseFailure::NoCall) => {
                 *arguments = left;
                 call_by_word(kind, name, word, arguments, answer)

@@ -6,7 +6,6 @@ use headers::{
     TransferEncoding, Upgrade, Vary,
 };
 use headers_names::{ListField, ListHeader, ListItem};
-use std::alloc::AllocError;
 use test_each::{
     Getters, debug_secret, hinted_methods, hinted_names, say, show_made, show_names, show_result,
 };
@@ -14,60 +13,60 @@ use test_rows::{Arguments, CaseAnswer, CaseFailure};
 
 // Lists of field names or of methods.
 impl<N: ListField> Getters<Http> for ListHeader<N> {
-    fn getters(&self, answer: &mut CaseAnswer) -> Result<ListHeader<N>, AllocError> {
+    fn getters(&self, answer: &mut CaseAnswer) -> Result<ListHeader<N>, CaseFailure> {
         let mut lines = Vec::new(answer.alloc());
         for item in self.iter(answer.alloc()) {
             lines.push(item?.into_line(answer.alloc())?)?;
         }
-        answer.list(lines.as_slice());
-        self.clone(answer.alloc())
+        answer.list(lines.as_slice())?;
+        Ok(self.clone(answer.alloc())?)
     }
 }
 
 impl Getters<Http> for AccessControlAllowHeaders {
-    fn getters(&self, answer: &mut CaseAnswer) -> Result<AccessControlAllowHeaders, AllocError> {
+    fn getters(&self, answer: &mut CaseAnswer) -> Result<AccessControlAllowHeaders, CaseFailure> {
         show_names(self.iter(answer.alloc()), answer)?;
-        self.clone(answer.alloc())
+        Ok(self.clone(answer.alloc())?)
     }
 }
 
 impl Getters<Http> for Vary {
-    fn getters(&self, answer: &mut CaseAnswer) -> Result<Vary, AllocError> {
-        answer.word(self.is_any());
+    fn getters(&self, answer: &mut CaseAnswer) -> Result<Vary, CaseFailure> {
+        answer.word(self.is_any())?;
         let names: Vec<&str> = self.iter_strs().collect(answer.alloc())?;
-        answer.list(names.as_slice());
-        self.clone(answer.alloc())
+        answer.list(names.as_slice())?;
+        Ok(self.clone(answer.alloc())?)
     }
 }
 
 impl Getters<Http> for Connection {
-    fn getters(&self, answer: &mut CaseAnswer) -> Result<Connection, AllocError> {
-        self.clone(answer.alloc())
+    fn getters(&self, answer: &mut CaseAnswer) -> Result<Connection, CaseFailure> {
+        Ok(self.clone(answer.alloc())?)
     }
 }
 
 impl Getters<Http> for ContentEncoding {
-    fn getters(&self, answer: &mut CaseAnswer) -> Result<ContentEncoding, AllocError> {
-        self.clone(answer.alloc())
+    fn getters(&self, answer: &mut CaseAnswer) -> Result<ContentEncoding, CaseFailure> {
+        Ok(self.clone(answer.alloc())?)
     }
 }
 
 impl Getters<Http> for Te {
-    fn getters(&self, answer: &mut CaseAnswer) -> Result<Te, AllocError> {
-        self.clone(answer.alloc())
+    fn getters(&self, answer: &mut CaseAnswer) -> Result<Te, CaseFailure> {
+        Ok(self.clone(answer.alloc())?)
     }
 }
 
 impl Getters<Http> for TransferEncoding {
-    fn getters(&self, answer: &mut CaseAnswer) -> Result<TransferEncoding, AllocError> {
-        answer.word(self.is_chunked());
-        self.clone(answer.alloc())
+    fn getters(&self, answer: &mut CaseAnswer) -> Result<TransferEncoding, CaseFailure> {
+        answer.word(self.is_chunked())?;
+        Ok(self.clone(answer.alloc())?)
     }
 }
 
 impl Getters<Http> for Upgrade {
-    fn getters(&self, answer: &mut CaseAnswer) -> Result<Upgrade, AllocError> {
-        self.clone(answer.alloc())
+    fn getters(&self, answer: &mut CaseAnswer) -> Result<Upgrade, CaseFailure> {
+        Ok(self.clone(answer.alloc())?)
     }
 }
 
@@ -113,9 +112,9 @@ fn contains_name(
     answer: &mut CaseAnswer,
 ) -> Result<(), CaseFailure> {
     let is_in = header.contains(&name);
-    answer.word(is_in);
+    answer.word(is_in)?;
     if header.contains(name) != is_in {
-        answer.word("(owned)");
+        answer.word("(owned)")?;
     }
     Ok(())
 }
@@ -162,8 +161,8 @@ macro_rules! nexts {
     ($header:ident.$items:ident($($given:expr),*), $arguments:ident, $answer:ident) => {{
         let header: $header = $arguments.header()?;
         let mut items = header.$items($($given),*);
-        $answer.word(items.next().is_some());
-        $answer.word(items.next().is_some());
+        $answer.word(items.next().is_some())?;
+        $answer.word(items.next().is_some())?;
         say(items.next().is_some(), $answer)
     }};
 }

@@ -62,7 +62,7 @@ impl FormHeader for FirstCookie {
 }
 
 impl Getters<Http> for OwnAge {
-    fn getters(&self, _answer: &mut CaseAnswer) -> Result<OwnAge, AllocError> {
+    fn getters(&self, _answer: &mut CaseAnswer) -> Result<OwnAge, CaseFailure> {
         Ok(OwnAge {
             seconds: self.seconds.clone()?,
         })
@@ -70,7 +70,7 @@ impl Getters<Http> for OwnAge {
 }
 
 impl Getters<Http> for FirstCookie {
-    fn getters(&self, _answer: &mut CaseAnswer) -> Result<FirstCookie, AllocError> {
+    fn getters(&self, _answer: &mut CaseAnswer) -> Result<FirstCookie, CaseFailure> {
         Ok(FirstCookie {
             line: self.line.clone()?,
         })
@@ -78,8 +78,8 @@ impl Getters<Http> for FirstCookie {
 }
 
 impl Getters<Http> for MaxForwards {
-    fn getters(&self, answer: &mut CaseAnswer) -> Result<MaxForwards, AllocError> {
-        answer.option(self.hops());
+    fn getters(&self, answer: &mut CaseAnswer) -> Result<MaxForwards, CaseFailure> {
+        answer.option(self.hops())?;
         Ok(*self)
     }
 }

@@ -1,27 +1,26 @@
 //! Calls of the headers of ranges.
 use crate::Http;
 use headers::{ContentRange, Range};
-use std::alloc::AllocError;
-use test_each::{Getters, show_back, show_result};
+use test_each::{Getters, show_back, show_back_result, show_result};
 use test_rows::{Arguments, CaseAnswer, CaseFailure};
 
 impl Getters<Http> for Range {
-    fn getters(&self, answer: &mut CaseAnswer) -> Result<Range, AllocError> {
-        self.clone(answer.alloc())
+    fn getters(&self, answer: &mut CaseAnswer) -> Result<Range, CaseFailure> {
+        Ok(self.clone(answer.alloc())?)
     }
 }
 
 impl Getters<Http> for ContentRange {
-    fn getters(&self, answer: &mut CaseAnswer) -> Result<ContentRange, AllocError> {
+    fn getters(&self, answer: &mut CaseAnswer) -> Result<ContentRange, CaseFailure> {
         match self.bytes_range() {
             Some((first, last)) => {
-                answer.word(first);
-                answer.word(last);
+                answer.word(first)?;
+                answer.word(last)?;
             }
-            None => answer.none(),
+            None => answer.none()?,
         }
-        answer.option(self.bytes_len());
-        self.clone()
+        answer.option(self.bytes_len())?;
+        Ok(self.clone()?)
     }
 }
 
@@ -36,13 +35,13 @@ fn satisfiable_ranges(
     for range in header.satisfiable_ranges(length) {
         ranges.push(range)?;
     }
-    answer.word(ranges.len());
+    answer.word(ranges.len())?;
     if header.satisfiable_ranges(length).count() != ranges.len() {
-        answer.word("(count)");
+        answer.word("(count)")?;
     }
     for (first, last) in ranges.iter() {
-        answer.bound(*first);
-        answer.bound(*last);
+        answer.bound(*first)?;
+        answer.bound(*last)?;
     }
     Ok(())
 }
@@ -62,10 +61,8 @@ pub fn call_range(
         "Range.satisfiable_ranges" => satisfiable_ranges(arguments, answer),
         "ContentRange.bytes" => {
             let range = (arguments.bound()?, arguments.bound()?);
-            match ContentRange::bytes(range, arguments.optional_number()?) {
-                Ok(header) => show_back(&header, answer),
-                Err(_) => Err(CaseFailure::Refused),
-            }
+            let header = ContentRange::bytes(range, arguments.optional_number()?);
+            show_back_result(header.map_err(|_| CaseFailure::Refused), answer)
         }
         "ContentRange.unsatisfied_bytes" => {
             let length = arguments.number()?;

@@ -4,7 +4,6 @@ use headers::{
     ReferrerPolicy, SecWebsocketAccept, SecWebsocketKey, SecWebsocketVersion,
     StrictTransportSecurity,
 };
-use std::alloc::AllocError;
 use test_each::{Getters, show, show_made, show_result};
 use test_rows::{Arguments, CaseAnswer, CaseFailure};
 
@@ -30,40 +29,40 @@ const POLICIES: [(&str, ReferrerPolicy); 8] = [
 ];
 
 impl Getters<Http> for ReferrerPolicy {
-    fn getters(&self, answer: &mut CaseAnswer) -> Result<ReferrerPolicy, AllocError> {
+    fn getters(&self, answer: &mut CaseAnswer) -> Result<ReferrerPolicy, CaseFailure> {
         for (name, policy) in POLICIES.iter() {
             if policy == self {
-                answer.word(*name);
+                answer.word(*name)?;
             }
         }
-        self.clone()
+        Ok(self.clone()?)
     }
 }
 
 impl Getters<Http> for StrictTransportSecurity {
-    fn getters(&self, answer: &mut CaseAnswer) -> Result<StrictTransportSecurity, AllocError> {
-        answer.word(self.max_age().as_secs());
-        answer.word(self.include_subdomains());
-        self.clone()
+    fn getters(&self, answer: &mut CaseAnswer) -> Result<StrictTransportSecurity, CaseFailure> {
+        answer.word(self.max_age().as_secs())?;
+        answer.word(self.include_subdomains())?;
+        Ok(self.clone()?)
     }
 }
 
 impl Getters<Http> for SecWebsocketKey {
-    fn getters(&self, answer: &mut CaseAnswer) -> Result<SecWebsocketKey, AllocError> {
-        self.clone(answer.alloc())
+    fn getters(&self, answer: &mut CaseAnswer) -> Result<SecWebsocketKey, CaseFailure> {
+        Ok(self.clone(answer.alloc())?)
     }
 }
 
 impl Getters<Http> for SecWebsocketAccept {
-    fn getters(&self, answer: &mut CaseAnswer) -> Result<SecWebsocketAccept, AllocError> {
-        self.clone(answer.alloc())
+    fn getters(&self, answer: &mut CaseAnswer) -> Result<SecWebsocketAccept, CaseFailure> {
+        Ok(self.clone(answer.alloc())?)
     }
 }
 
 impl Getters<Http> for SecWebsocketVersion {
-    fn getters(&self, answer: &mut CaseAnswer) -> Result<SecWebsocketVersion, AllocError> {
-        answer.word(*self == SecWebsocketVersion::V13);
-        self.clone()
+    fn getters(&self, answer: &mut CaseAnswer) -> Result<SecWebsocketVersion, CaseFailure> {
+        answer.word(*self == SecWebsocketVersion::V13)?;
+        Ok(self.clone()?)
     }
 }
 
@@ -87,10 +86,8 @@ fn show_policies(answer: &mut CaseAnswer) -> Result<(), CaseFailure> {
 // The key of 16 bytes.
 fn read_key(arguments: &mut Arguments<'_>) -> Result<SecWebsocketKey, CaseFailure> {
     let bytes = <[u8; 16]>::try_from(arguments.bytes()?.as_slice());
-    match bytes {
-        Ok(bytes) => Ok(SecWebsocketKey::from_bytes16(arguments.alloc(), bytes)?),
-        Err(_) => Err(CaseFailure::NoCall),
-    }
+    let bytes = bytes.map_err(|_| CaseFailure::NoCall)?;
+    Ok(SecWebsocketKey::from_bytes16(arguments.alloc(), bytes)?)
 }
 
 /// Adds the answer of a call of these headers of its own.

@@ -6,119 +6,118 @@ use headers::{
     UserAgent,
 };
 use headers_core::{DateHeader, NamedField, ValueHeader};
-use std::alloc::AllocError;
 use std::time::Duration;
 use test_each::{Getters, say, show_back_result, show_made, show_text};
 use test_rows::{Arguments, CaseAnswer, CaseFailure};
 
 // `Location` and `ContentLocation`.
 impl<N: NamedField> Getters<Http> for ValueHeader<N> {
-    fn getters(&self, answer: &mut CaseAnswer) -> Result<ValueHeader<N>, AllocError> {
-        self.clone(answer.alloc())
+    fn getters(&self, answer: &mut CaseAnswer) -> Result<ValueHeader<N>, CaseFailure> {
+        Ok(self.clone(answer.alloc())?)
     }
 }
 
 // `Date`, `Expires` and `LastModified`.
 impl<N: NamedField + Copy> Getters<Http> for DateHeader<N> {
-    fn getters(&self, answer: &mut CaseAnswer) -> Result<DateHeader<N>, AllocError> {
-        answer.word(self.unix_secs());
-        self.clone()
+    fn getters(&self, answer: &mut CaseAnswer) -> Result<DateHeader<N>, CaseFailure> {
+        answer.word(self.unix_secs())?;
+        Ok(self.clone()?)
     }
 }
 
 impl Getters<Http> for IfModifiedSince {
-    fn getters(&self, answer: &mut CaseAnswer) -> Result<IfModifiedSince, AllocError> {
-        answer.word(self.unix_secs());
-        self.clone()
+    fn getters(&self, answer: &mut CaseAnswer) -> Result<IfModifiedSince, CaseFailure> {
+        answer.word(self.unix_secs())?;
+        Ok(self.clone()?)
     }
 }
 
 impl Getters<Http> for IfUnmodifiedSince {
-    fn getters(&self, answer: &mut CaseAnswer) -> Result<IfUnmodifiedSince, AllocError> {
-        answer.word(self.unix_secs());
-        self.clone()
+    fn getters(&self, answer: &mut CaseAnswer) -> Result<IfUnmodifiedSince, CaseFailure> {
+        answer.word(self.unix_secs())?;
+        Ok(self.clone()?)
     }
 }
 
 impl Getters<Http> for RetryAfter {
-    fn getters(&self, _answer: &mut CaseAnswer) -> Result<RetryAfter, AllocError> {
-        self.clone()
+    fn getters(&self, _answer: &mut CaseAnswer) -> Result<RetryAfter, CaseFailure> {
+        Ok(self.clone()?)
     }
 }
 
 impl Getters<Http> for Age {
-    fn getters(&self, answer: &mut CaseAnswer) -> Result<Age, AllocError> {
-        answer.word(self.as_secs());
-        answer.word(Duration::from(*self).as_secs());
-        self.clone()
+    fn getters(&self, answer: &mut CaseAnswer) -> Result<Age, CaseFailure> {
+        answer.word(self.as_secs())?;
+        answer.word(Duration::from(*self).as_secs())?;
+        Ok(self.clone()?)
     }
 }
 
 impl Getters<Http> for AccessControlMaxAge {
-    fn getters(&self, answer: &mut CaseAnswer) -> Result<AccessControlMaxAge, AllocError> {
-        answer.word(Duration::from(self.clone()?).as_secs());
-        self.clone()
+    fn getters(&self, answer: &mut CaseAnswer) -> Result<AccessControlMaxAge, CaseFailure> {
+        answer.word(Duration::from(self.clone()?).as_secs())?;
+        Ok(self.clone()?)
     }
 }
 
 impl Getters<Http> for ContentLength {
-    fn getters(&self, answer: &mut CaseAnswer) -> Result<ContentLength, AllocError> {
-        answer.word(self.0);
-        self.clone()
+    fn getters(&self, answer: &mut CaseAnswer) -> Result<ContentLength, CaseFailure> {
+        answer.word(self.0)?;
+        Ok(self.clone()?)
     }
 }
 
 impl Getters<Http> for AcceptRanges {
-    fn getters(&self, answer: &mut CaseAnswer) -> Result<AcceptRanges, AllocError> {
-        answer.word(self.is_bytes());
-        answer.word(self.is_none());
-        self.clone(answer.alloc())
+    fn getters(&self, answer: &mut CaseAnswer) -> Result<AcceptRanges, CaseFailure> {
+        answer.word(self.is_bytes())?;
+        answer.word(self.is_none())?;
+        Ok(self.clone(answer.alloc())?)
     }
 }
 
 impl Getters<Http> for ContentDisposition {
-    fn getters(&self, answer: &mut CaseAnswer) -> Result<ContentDisposition, AllocError> {
-        answer.word(self.is_inline());
-        answer.word(self.is_attachment());
-        answer.word(self.is_form_data());
-        self.clone(answer.alloc())
+    fn getters(&self, answer: &mut CaseAnswer) -> Result<ContentDisposition, CaseFailure> {
+        answer.word(self.is_inline())?;
+        answer.word(self.is_attachment())?;
+        answer.word(self.is_form_data())?;
+        Ok(self.clone(answer.alloc())?)
     }
 }
 
 impl Getters<Http> for Expect {
-    fn getters(&self, answer: &mut CaseAnswer) -> Result<Expect, AllocError> {
-        answer.word(*self == Expect::CONTINUE);
-        self.clone()
+    fn getters(&self, answer: &mut CaseAnswer) -> Result<Expect, CaseFailure> {
+        answer.word(*self == Expect::CONTINUE)?;
+        Ok(self.clone()?)
     }
 }
 
 impl Getters<Http> for Pragma {
-    fn getters(&self, answer: &mut CaseAnswer) -> Result<Pragma, AllocError> {
-        answer.word(self.is_no_cache());
-        self.clone(answer.alloc())
+    fn getters(&self, answer: &mut CaseAnswer) -> Result<Pragma, CaseFailure> {
+        answer.word(self.is_no_cache())?;
+        Ok(self.clone(answer.alloc())?)
     }
 }
 
 impl Getters<Http> for Referer {
-    fn getters(&self, answer: &mut CaseAnswer) -> Result<Referer, AllocError> {
-        show_text(self, answer);
-        self.clone(answer.alloc())
+    fn getters(&self, answer: &mut CaseAnswer) -> Result<Referer, CaseFailure> {
+        show_text(self, answer)?;
+        Ok(self.clone(answer.alloc())?)
     }
 }
 
 impl Getters<Http> for Server {
-    fn getters(&self, answer: &mut CaseAnswer) -> Result<Server, AllocError> {
-        answer.bytes(self.as_str().as_bytes());
-        show_text(self, answer);
-        self.clone(answer.alloc())
+    fn getters(&self, answer: &mut CaseAnswer) -> Result<Server, CaseFailure> {
+        answer.bytes(self.as_str().as_bytes())?;
+        show_text(self, answer)?;
+        Ok(self.clone(answer.alloc())?)
     }
 }
 
 impl Getters<Http> for UserAgent {
-    fn getters(&self, answer: &mut CaseAnswer) -> Result<UserAgent, AllocError> {
-        answer.bytes(self.as_str().as_bytes());
-        show_text(self, answer);
-        self.clone(answer.alloc())
+    fn getters(&self, answer: &mut CaseAnswer) -> Result<UserAgent, CaseFailure> {
+        answer.bytes(self.as_str().as_bytes())?;
+        show_text(self, answer)?;
+        Ok(self.clone(answer.alloc())?)
     }
 }
 
@@ -151,66 +150,41 @@ pub fn call_date(
     }
 }
 
-// Adds the header that a call without arguments makes, or a constant.
-fn call_constant(name: &str, answer: &mut CaseAnswer) -> Result<(), CaseFailure> {
-    match name {
-        "AcceptRanges.bytes" => show_made(AcceptRanges::bytes(), answer),
-        "AcceptRanges.none" => show_made(AcceptRanges::none(), answer),
-        "ContentDisposition.inline" => show_made(ContentDisposition::inline(), answer),
-        "Expect.CONTINUE" => show_made(Expect::CONTINUE, answer),
-        "Pragma.no_cache" => show_made(Pragma::no_cache(), answer),
-        "Referer.from_static" => show_made(Referer::from_static("/a"), answer),
-        "Server.from_static" => show_made(Server::from_static("b/1"), answer),
-        "UserAgent.from_static" => show_made(UserAgent::from_static("c/2"), answer),
-        _ => Err(CaseFailure::NoCall),
-    }
-}
-
-// Adds the header that a call makes of a number of seconds.
-fn call_duration(
-    name: &str,
-    arguments: &mut Arguments<'_>,
-    answer: &mut CaseAnswer,
-) -> Result<(), CaseFailure> {
-    let duration = arguments.duration()?;
-    match name {
-        "Age.from_duration" => show_made(Age::from_duration(duration), answer),
-        "RetryAfter.delay" => show_made(RetryAfter::delay(duration), answer),
-        _ => show_made(AccessControlMaxAge::from_duration(duration), answer),
-    }
-}
-
-// Adds the header that a call makes of a text.
-fn call_from_str(
-    name: &str,
-    arguments: &mut Arguments<'_>,
-    answer: &mut CaseAnswer,
-) -> Result<(), CaseFailure> {
-    let alloc = arguments.alloc();
-    let text = arguments.text()?;
-    match name {
-        "Referer.from_str" => show_back_result(Referer::from_str(alloc, &text), answer),
-        "Server.from_str" => show_back_result(Server::from_str(alloc, &text), answer),
-        _ => show_back_result(UserAgent::from_str(alloc, &text), answer),
-    }
-}
-
 /// Adds the answer of a call of such a header of its own.
 pub fn call_text(
     name: &str,
     arguments: &mut Arguments<'_>,
     answer: &mut CaseAnswer,
 ) -> Result<(), CaseFailure> {
+    let alloc = arguments.alloc();
     match name {
+        "AcceptRanges.bytes" => show_made(AcceptRanges::bytes(), answer),
+        "AcceptRanges.none" => show_made(AcceptRanges::none(), answer),
+        "AccessControlMaxAge.from_duration" => {
+            show_made(
+                AccessControlMaxAge::from_duration(arguments.duration()?),
+                answer,
+            )
+        }
         "Age.from_secs" => show_made(Age::from_secs(arguments.number()?), answer),
+        "Age.from_duration" => show_made(Age::from_duration(arguments.duration()?), answer),
+        "ContentDisposition.inline" => show_made(ContentDisposition::inline(), answer),
         "ContentLength.new" => show_made(ContentLength(arguments.number()?), answer),
+        "Expect.CONTINUE" => show_made(Expect::CONTINUE, answer),
+        "Pragma.no_cache" => show_made(Pragma::no_cache(), answer),
         "RetryAfter.date" => show_made(RetryAfter::date(arguments.date()?), answer),
-        "AccessControlMaxAge.from_duration" | "Age.from_duration" | "RetryAfter.delay" => {
-            call_duration(name, arguments, answer)
+        "RetryAfter.delay" => show_made(RetryAfter::delay(arguments.duration()?), answer),
+        "Referer.from_static" => show_made(Referer::from_static("/a"), answer),
+        "Server.from_static" => show_made(Server::from_static("b/1"), answer),
+        "UserAgent.from_static" => show_made(UserAgent::from_static("c/2"), answer),
+        "Referer.from_str" => show_back_result(
+            Referer::from_str(alloc, &arguments.text()?),
+            answer,
+        ),
+        "Server.from_str" => show_back_result(Server::from_str(alloc, &arguments.text()?), answer),
+        "UserAgent.from_str" => {
+            show_back_result(UserAgent::from_str(alloc, &arguments.text()?), answer)
         }
-        "Referer.from_str" | "Server.from_str" | "UserAgent.from_str" => {
-            call_from_str(name, arguments, answer)
-        }
-        _ => call_constant(name, answer),
+        _ => Err(CaseFailure::NoCall),
     }
 }

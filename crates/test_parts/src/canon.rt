@@ -36,7 +36,7 @@ fn outcome_of(ended: Result<Outcome, RunError>, sink: &Sink) -> Result<&'static 
 
 // The next word, as a number of bytes.
 fn size(arguments: &mut Arguments<'_>) -> Result<usize, CaseFailure> {
-    Ok(usize::try_from(arguments.number()?)?)
+    usize::try_from(arguments.number()?).map_err(|_| CaseFailure::NoCall)
 }
 
 // The next word, as the kind of a failure, or `None` if it is absent.
@@ -61,11 +61,10 @@ fn call_run(arguments: &mut Arguments<'_>, answer: &mut CaseAnswer) -> Result<()
     let keys = RandomState::new(&SameBytes);
     let ended = run_with_system_keys(alloc, keys, &mut TextSource::new(&input), &mut other);
     if outcome_of(ended, &other)? != outcome || other.taken != sink.taken {
-        answer.word("(keys)");
+        answer.word("(keys)")?;
     }
-    answer.word(outcome);
-    answer.bytes(&sink.taken);
-    Ok(())
+    answer.word(outcome)?;
+    Ok(answer.bytes(&sink.taken)?)
 }
 
 // INPUT EACH NONSENSE FAILURE: how a run ends, the text that it writes, and how many reads were late.
@@ -75,10 +74,9 @@ fn call_reads(arguments: &mut Arguments<'_>, answer: &mut CaseAnswer) -> Result<
     let mut source = TextSource::with_failure(&input, each, nonsense, failure(arguments)?);
     let mut sink = Sink::new(arguments.alloc());
     let ended = run(arguments.alloc(), &mut source, &mut sink);
-    answer.word(outcome_of(ended, &sink)?);
-    answer.bytes(&sink.taken);
-    answer.word(source.late_reads);
-    Ok(())
+    answer.word(outcome_of(ended, &sink)?)?;
+    answer.bytes(&sink.taken)?;
+    Ok(answer.word(source.late_reads)?)
 }
 
 // INPUT EACH MOST FAILURE FLUSH_FAILURE: how a run ends, and what its writer holds, how many writes
@@ -90,11 +88,10 @@ fn call_writes(arguments: &mut Arguments<'_>, answer: &mut CaseAnswer) -> Result
     let (on_write, on_flush) = (failure(arguments)?, failure(arguments)?);
     let mut sink = Sink::with_failures(alloc, each, most, on_write, on_flush);
     let ended = run(alloc, &mut TextSource::new(&input), &mut sink);
-    answer.word(outcome_of(ended, &sink)?);
-    answer.bytes(&sink.taken);
-    answer.word(sink.writes);
-    answer.word(sink.flushes);
-    Ok(())
+    answer.word(outcome_of(ended, &sink)?)?;
+    answer.bytes(&sink.taken)?;
+    answer.word(sink.writes)?;
+    Ok(answer.word(sink.flushes)?)
 }
 
 // So many fields with different names.
@@ -112,9 +109,8 @@ fn call_names(arguments: &mut Arguments<'_>, answer: &mut CaseAnswer) -> Result<
     let input = fields(alloc, arguments.number()?)?;
     let mut sink = Sink::new(alloc);
     let ended = run(alloc, &mut TextSource::new(input.as_bytes()), &mut sink);
-    answer.word(outcome_of(ended, &sink)?);
-    answer.word(sink.taken.as_slice() == input.as_bytes());
-    Ok(())
+    answer.word(outcome_of(ended, &sink)?)?;
+    Ok(answer.word(sink.taken.as_slice() == input.as_bytes())?)
 }
 
 // OUTCOME: the exit status of a run that ended so.
@@ -128,8 +124,7 @@ fn call_status(arguments: &mut Arguments<'_>, answer: &mut CaseAnswer) -> Result
         "room" => Err(RunError::Room),
         _ => return Err(CaseFailure::NoCall),
     };
-    answer.word(exit_status(&ended));
-    Ok(())
+    Ok(answer.word(exit_status(&ended))?)
 }
 
 /// Adds the answer of a call of the program.

@@ -7,28 +7,34 @@ use headers::{
 use std::fmt::{Debug, Display};
 use test_rows::{Arguments, CaseAnswer, CaseFailure};
 
+fn text_of<E: Display>(error: &E, answer: &mut CaseAnswer) -> Result<(), CaseFailure> {
+    let text = error.to_string(answer.alloc())?;
+    Ok(answer.bytes(text.as_bytes())?)
+}
+
 // Whatever width and precision are asked for, and by its name.
-fn texts_of<E: Debug + Display>(error: &E, answer: &mut CaseAnswer) {
-    answer.text(error);
-    answer.text(format_args!("{error:>40.3}"));
-    answer.text(format_args!("{error:?}"));
+fn texts_of<E: Debug + Display>(error: &E, answer: &mut CaseAnswer) -> Result<(), CaseFailure> {
+    text_of(error, answer)?;
+    let padded = format!(in answer.alloc(); "{error:>40.3}")?;
+    answer.bytes(padded.as_bytes())?;
+    let name = format!(in answer.alloc(); "{error:?}")?;
+    Ok(answer.bytes(name.as_bytes())?)
 }
 
 /// Adds the text of an error by its name.
 pub fn display(arguments: &mut Arguments<'_>, answer: &mut CaseAnswer) -> Result<(), CaseFailure> {
     match arguments.word()? {
-        "Error" => answer.text(Error::invalid()),
-        "InvalidETag" => answer.text(InvalidETag),
-        "InvalidRange" => answer.text(InvalidRange),
-        "InvalidContentRange" => answer.text(InvalidContentRange),
-        "InvalidOrigin" => answer.text(InvalidOrigin),
-        "InvalidBearerToken" => answer.text(InvalidBearerToken),
-        "InvalidReferer" => answer.text(InvalidReferer),
-        "InvalidServer" => answer.text(InvalidServer),
-        "InvalidUserAgent" => answer.text(InvalidUserAgent),
-        _ => return Err(CaseFailure::NoCall),
+        "Error" => text_of(&Error::invalid(), answer),
+        "InvalidETag" => text_of(&InvalidETag, answer),
+        "InvalidRange" => text_of(&InvalidRange, answer),
+        "InvalidContentRange" => text_of(&InvalidContentRange, answer),
+        "InvalidOrigin" => text_of(&InvalidOrigin, answer),
+        "InvalidBearerToken" => text_of(&InvalidBearerToken, answer),
+        "InvalidReferer" => text_of(&InvalidReferer, answer),
+        "InvalidServer" => text_of(&InvalidServer, answer),
+        "InvalidUserAgent" => text_of(&InvalidUserAgent, answer),
+        _ => Err(CaseFailure::NoCall),
     }
-    Ok(())
 }
 
 /// Adds the text of an error by its name: as it is, under `{:>40.3}`, and under `{:?}`.
@@ -42,7 +48,6 @@ pub fn formats(arguments: &mut Arguments<'_>, answer: &mut CaseAnswer) -> Result
         "InvalidReferer" => texts_of(&InvalidReferer, answer),
         "InvalidServer" => texts_of(&InvalidServer, answer),
         "InvalidUserAgent" => texts_of(&InvalidUserAgent, answer),
-        _ => return Err(CaseFailure::NoCall),
+        _ => Err(CaseFailure::NoCall),
     }
-    Ok(())
 }

@@ -9,19 +9,19 @@ use std::convert::AsSlice;
 use test_rows::{Arguments, CaseAnswer, CaseFailure};
 
 /// Adds byte strings, or `(none)` if there are none.
-pub fn show_each<T: AsSlice<u8>>(items: &[T], answer: &mut CaseAnswer) {
+pub fn show_each<T: AsSlice<u8>>(items: &[T], answer: &mut CaseAnswer) -> Result<(), CaseFailure> {
     if items.is_empty() {
-        answer.none();
+        return Ok(answer.none()?);
     }
     for item in items {
-        answer.bytes(item.as_slice());
+        answer.bytes(item.as_slice())?;
     }
+    Ok(())
 }
 
 fn show_items<S: Separator>(list: &FlatCsv<S>, answer: &mut CaseAnswer) -> Result<(), CaseFailure> {
     let items: Vec<&str> = list.iter().collect(answer.alloc())?;
-    show_each(items.as_slice(), answer);
-    Ok(())
+    show_each(items.as_slice(), answer)
 }
 
 // The list that lines are merged to.
@@ -46,10 +46,9 @@ fn show_copy<S: Separator>(
     let list: FlatCsv<S> = merged(arguments)?;
     let copy = list.clone(arguments.alloc())?;
     if copy != list {
-        answer.word("(copy)");
+        answer.word("(copy)")?;
     }
-    answer.bytes(copy.to_value(arguments.alloc())?.as_bytes());
-    Ok(())
+    Ok(answer.bytes(copy.to_value(arguments.alloc())?.as_bytes())?)
 }
 
 fn are_equal<S: Separator>(
@@ -61,8 +60,7 @@ fn are_equal<S: Separator>(
         return Err(CaseFailure::NoCall);
     };
     let one: FlatCsv<S> = FlatCsv::from_value(one.clone()?);
-    answer.word(one == FlatCsv::from_value(other.clone()?));
-    Ok(())
+    Ok(answer.word(one == FlatCsv::from_value(other.clone()?))?)
 }
 
 /// Adds the answer of a call of the lists with a separator.
@@ -81,8 +79,7 @@ pub fn call_list<S: Separator>(
         "from_names" => {
             let names = arguments.names()?;
             let list: FlatCsv<S> = FlatCsv::from_names(arguments.alloc(), names)?;
-            answer.bytes(list.as_bytes());
-            Ok(())
+            Ok(answer.bytes(list.as_bytes())?)
         }
         "copy" => show_copy::<S>(arguments, answer),
         "eq" => are_equal::<S>(arguments, answer),
@@ -91,22 +88,23 @@ pub fn call_list<S: Separator>(
 }
 
 // A text has at most as many marks as bytes.
-fn show_marks(text: &[u8], answer: &mut CaseAnswer) {
+fn show_marks(text: &[u8], answer: &mut CaseAnswer) -> Result<(), CaseFailure> {
     let mut scan = Scan::new(text, b',');
     let mut is_found = false;
     for _ in text {
         if let Some(mark) = scan.next_mark() {
             is_found = true;
             let kind = if mark.quote { "quote" } else { "comma" };
-            answer.word(format_args!("{kind}:{}", mark.place));
+            answer.word(format_args!("{kind}:{}", mark.place))?;
         }
     }
     if !is_found {
-        answer.none();
+        answer.none()?;
     }
     if scan.next_mark().is_some() {
-        answer.word("(more)");
+        answer.word("(more)")?;
     }
+    Ok(())
 }
 
 fn quotes_in(text: &[u8]) -> usize
@@ -140,7 +138,7 @@ fn are_cuts(text: &[u8], start: usize, places: &[usize]) -> bool
 fn places(arguments: &mut Arguments<'_>) -> Result<Vec<usize>, CaseFailure> {
     let mut places = Vec::new(arguments.alloc());
     for word in arguments.rest().split_whitespace() {
-        places.push(word.parse()?)?;
+        places.push(word.parse().map_err(|_| CaseFailure::NoCall)?)?;
     }
     Ok(places)
 }
@@ -156,9 +154,8 @@ fn show_pieces(arguments: &mut Arguments<'_>, answer: &mut CaseAnswer) -> Result
     }
     let pieces = list.cut_at(alloc, places.as_slice())?;
     let merged: FlatCsv<Comma> = FlatCsv::from_lines(alloc, &mut pieces.iter())?;
-    answer.bytes(merged.as_bytes());
-    show_each(pieces.as_slice(), answer);
-    Ok(())
+    answer.bytes(merged.as_bytes())?;
+    show_each(pieces.as_slice(), answer)
 }
 
 /// Adds the answer of a call of the lists with commas: `marks TEXT` and `cut_at TEXT PLACE..`, or a
@@ -169,10 +166,7 @@ pub fn call_comma(
     answer: &mut CaseAnswer,
 ) -> Result<(), CaseFailure> {
     match call {
-        "marks" => {
-            show_marks(&arguments.bytes()?, answer);
-            Ok(())
-        }
+        "marks" => show_marks(&arguments.bytes()?, answer),
         "cut_at" => show_pieces(arguments, answer),
         _ => call_list::<Comma>(call, arguments, answer),
     }

@@ -82,15 +82,14 @@ fn show_applied(arguments: &mut Arguments<'_>, answer: &mut CaseAnswer) -> Resul
     let (mut map, steps) = Arguments::new(alloc, text).map_and_steps()?;
     if let Err(ApplyError { done, cause }) = apply(&mut map, steps) {
         if cause == InsertError::Full {
-            answer.word(format_args!("(full) {done}"));
+            answer.word(format_args!("(full) {done}"))?;
         } else if is_left_by(alloc, &map, text, done)? {
             return Err(CaseFailure::Memory);
         } else {
-            answer.word("(left)");
+            answer.word("(left)")?;
         }
     }
-    answer.map(&map);
-    Ok(())
+    answer.map(&map)
 }
 
 // The map once the fields of all `put` are set together.
@@ -103,9 +102,8 @@ fn show_set(arguments: &mut Arguments<'_>, answer: &mut CaseAnswer) -> Result<()
         };
         fields.push(field)?;
     }
-    set_all(&mut map, fields)?;
-    answer.map(&map);
-    Ok(())
+    set_all(&mut map, fields).map_err(|_| CaseFailure::Memory)?;
+    answer.map(&map)
 }
 
 // Puts the header that the lines encode into the map.
@@ -139,8 +137,7 @@ fn show_inserted(
         };
         insert_named(arguments.alloc(), &mut map, &encoded)?;
     }
-    answer.map(&map);
-    Ok(())
+    answer.map(&map)
 }
 
 // The lines of `canonical`, of a map that has these lines under the header's name.
@@ -153,10 +150,9 @@ fn show_canonical<H: Header>(
     append_lines(&mut map, &H::name(), arguments.lines()?)?;
     match canonical::<H>(alloc, &map)? {
         Some(encoded) if encoded.name == H::name() => show_each(encoded.lines.as_slice(), answer),
-        Some(_) => answer.word("(name)"),
-        None => answer.none(),
+        Some(_) => Ok(answer.word("(name)")?),
+        None => Ok(answer.none()?),
     }
-    Ok(())
 }
 
 fn show_canonical_of(
@@ -207,19 +203,17 @@ fn is_filled(alloc: Global, map: &HeaderMap, count: usize) -> Result<bool, CaseF
 
 // What is left of a map that was filled with so many numbered names.
 fn show_full(map: &HeaderMap, count: usize, answer: &mut CaseAnswer) -> Result<(), CaseFailure> {
-    answer.word(count);
+    answer.word(count)?;
     if !is_filled(answer.alloc(), map, count)? {
-        answer.word("(changed)");
+        answer.word("(changed)")?;
     }
-    let mut others = Vec::new(answer.alloc());
-    for name in map.keys() {
-        if !is_numbered(name.as_str()) {
-            others.push(name.as_str())?;
-        }
-    }
+    let mut others: Vec<&str> = map
+        .keys()
+        .map(|name| name.as_str())
+        .filter(|name| !is_numbered(name))
+        .collect(answer.alloc())?;
     others.sort_unstable();
-    answer.fields(map, others.as_slice());
-    Ok(())
+    answer.fields(map, others.as_slice())
 }
 
 fn apply_full(arguments: &mut Arguments<'_>, answer: &mut CaseAnswer) -> Result<(), CaseFailure> {
@@ -229,7 +223,7 @@ fn apply_full(arguments: &mut Arguments<'_>, answer: &mut CaseAnswer) -> Result<
     match apply(&mut map, steps) {
         Ok(()) => {}
         Err(ApplyError { done, cause }) if cause == InsertError::Full => {
-            answer.word(format_args!("(full) {done}"));
+            answer.word(format_args!("(full) {done}"))?;
         }
         Err(_) => return Err(CaseFailure::Memory),
     }
@@ -243,7 +237,7 @@ fn insert_full(arguments: &mut Arguments<'_>, answer: &mut CaseAnswer) -> Result
     let count = fill(alloc, &mut map)?;
     match map.typed_insert(alloc, age) {
         Ok(()) => {}
-        Err(InsertError::Full) => answer.word("(full)"),
+        Err(InsertError::Full) => answer.word("(full)")?,
         Err(InsertError::Memory) => return Err(CaseFailure::Memory),
     }
     show_full(&map, count, answer)
@@ -251,19 +245,21 @@ fn insert_full(arguments: &mut Arguments<'_>, answer: &mut CaseAnswer) -> Result
 
 // The texts of the errors of a step and of an insert.
 fn show_errors(arguments: &mut Arguments<'_>, answer: &mut CaseAnswer) -> Result<(), CaseFailure> {
+    let alloc = arguments.alloc();
     let cause = match arguments.word()? {
         "memory" => InsertError::Memory,
         "full" => InsertError::Full,
         _ => return Err(CaseFailure::NoCall),
     };
-    let done = usize::try_from(arguments.number()?)?;
-    answer.text(&cause);
+    let Ok(done) = usize::try_from(arguments.number()?) else {
+        return Err(CaseFailure::NoCall);
+    };
+    answer.bytes(format!(in alloc; "{cause}")?.as_bytes())?;
     let error = ApplyError { done, cause };
     if error != (ApplyError { done, cause }) || error == (ApplyError { done: !done, cause }) {
-        answer.word("(equal)");
+        answer.word("(equal)")?;
     }
-    answer.text(&error);
-    Ok(())
+    Ok(answer.bytes(format!(in alloc; "{error}")?.as_bytes())?)
 }
 
 /// Adds the answer of a call of a map.

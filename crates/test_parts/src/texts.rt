@@ -13,17 +13,15 @@ fn tag(arguments: &mut Arguments<'_>) -> Result<EntityTag, CaseFailure> {
 
 fn show_parts(bytes: &[u8], answer: &mut CaseAnswer) -> Result<(), CaseFailure> {
     let tag = EntityTagRef::parse(bytes).ok_or(CaseFailure::Refused)?;
-    answer.word(tag.is_weak());
-    answer.bytes(tag.tag());
-    Ok(())
+    answer.word(tag.is_weak())?;
+    Ok(answer.bytes(tag.tag())?)
 }
 
 fn compare(arguments: &mut Arguments<'_>, answer: &mut CaseAnswer) -> Result<(), CaseFailure> {
     let one = tag(arguments)?;
     let other = tag(arguments)?;
-    answer.word(one.view().strong_eq(&other.view()));
-    answer.word(one.view().weak_eq(&other.view()));
-    Ok(())
+    answer.word(one.view().strong_eq(&other.view()))?;
+    Ok(answer.word(one.view().weak_eq(&other.view()))?)
 }
 
 // Whether a tag that is copied off its line is weak, and its encoding.
@@ -32,11 +30,10 @@ fn show_copy(arguments: &mut Arguments<'_>, answer: &mut CaseAnswer) -> Result<(
     let line = HeaderValue::from_vec(arguments.bytes()?)?;
     let tag = EntityTag::from_val(alloc, &line)?.ok_or(CaseFailure::Refused)?;
     if tag.clone(alloc)? != tag {
-        answer.word("(copy)");
+        answer.word("(copy)")?;
     }
-    answer.word(tag.view().is_weak());
-    answer.bytes(tag.into_value().as_bytes());
-    Ok(())
+    answer.word(tag.view().is_weak())?;
+    Ok(answer.bytes(tag.into_value().as_bytes())?)
 }
 
 /// Adds the answer of a call of entity tags: `parts TEXT`, whether the tag is weak, and its opaque
@@ -68,9 +65,8 @@ pub fn call_tag_range(
     let tag = tag(arguments)?;
     let lines = arguments.lines()?;
     let range = EntityTagRange::from_lines(arguments.alloc(), &mut lines.iter())?;
-    answer.word(range.matches_strong(&tag));
-    answer.word(range.matches_weak(&tag));
-    Ok(())
+    answer.word(range.matches_strong(&tag))?;
+    Ok(answer.word(range.matches_weak(&tag))?)
 }
 
 fn text(arguments: &mut Arguments<'_>) -> Result<HeaderValueString, CaseFailure> {
@@ -85,8 +81,7 @@ fn refusal(arguments: &mut Arguments<'_>, answer: &mut CaseAnswer) -> Result<(),
         Ok(_) => return Err(CaseFailure::NoCall),
         Err(_) => Refused::from(Error::invalid()),
     };
-    answer.text(&refused);
-    Ok(())
+    Ok(answer.bytes(refused.to_string(answer.alloc())?.as_bytes())?)
 }
 
 /// Adds the answer of a call of texts: `trim TEXT`; `cmp TEXT TEXT`, how two are ordered; `refusal` and
@@ -98,18 +93,14 @@ pub fn call_text(
 ) -> Result<(), CaseFailure> {
     match call {
         "refusal" => refusal(arguments, answer),
-        "trim" => {
-            answer.bytes(trim(&arguments.bytes()?));
-            Ok(())
-        }
+        "trim" => Ok(answer.bytes(trim(&arguments.bytes()?))?),
         "cmp" => {
             let order = match text(arguments)?.cmp(&text(arguments)?) {
                 Ordering::Less => "less",
                 Ordering::Equal => "equal",
                 Ordering::Greater => "greater",
             };
-            answer.word(order);
-            Ok(())
+            Ok(answer.word(order)?)
         }
         _ => Err(CaseFailure::NoCall),
     }

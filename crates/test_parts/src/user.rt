@@ -19,10 +19,9 @@ pub fn insert_none(
         Err(InsertError::Memory) if same_lines(&map, &before) => {
             return Err(CaseFailure::Memory);
         }
-        Err(_) => answer.word("(left)"),
+        Err(_) => answer.word("(left)")?,
     }
-    answer.map(&map);
-    Ok(())
+    answer.map(&map)
 }
 
 // What becomes of a request with these fields, and its fields then.
@@ -35,17 +34,16 @@ fn show_forwarded(
     let mut map = Arguments::new(alloc, text).map()?;
     let before = Arguments::new(alloc, text).map()?;
     match forward(alloc, &mut map) {
-        Ok(Forwarded::Stop) => answer.word("stop"),
-        Ok(Forwarded::Passed(hops)) => answer.word(format_args!("passed {hops}")),
-        Ok(Forwarded::Unlimited) => answer.word("unlimited"),
-        Err(ForwardError::BadHops) => answer.word(ForwardError::BadHops),
+        Ok(Forwarded::Stop) => answer.word("stop")?,
+        Ok(Forwarded::Passed(hops)) => answer.word(format_args!("passed {hops}"))?,
+        Ok(Forwarded::Unlimited) => answer.word("unlimited")?,
+        Err(ForwardError::BadHops) => answer.word(ForwardError::BadHops)?,
         Err(ForwardError::Memory) if same_lines(&map, &before) => {
             return Err(CaseFailure::Memory);
         }
-        Err(ForwardError::Memory) => answer.word("(left)"),
+        Err(ForwardError::Memory) => answer.word("(left)")?,
     }
-    answer.map(&map);
-    Ok(())
+    answer.map(&map)
 }
 
 // The key in these fields, and the lines that encode it.
@@ -53,31 +51,22 @@ fn show_key(arguments: &mut Arguments<'_>, answer: &mut CaseAnswer) -> Result<()
     let alloc = arguments.alloc();
     let map = arguments.map()?;
     let Some(key) = key_of(alloc, &map)? else {
-        answer.none();
-        return Ok(());
+        return Ok(answer.none()?);
     };
-    answer.bytes(key.key().as_bytes());
+    answer.bytes(key.key().as_bytes())?;
     let encoded = encoding(alloc, &Authorization(key))?;
     for line in &encoded.lines {
-        answer.line(line);
+        answer.line(line)?;
     }
     Ok(())
 }
 
 // How an error is printed: plainly, at a width and a precision, and for a programmer.
-fn show_error(error: ForwardError, answer: &mut CaseAnswer) {
-    answer.text(&error);
-    answer.text(format_args!("{error:>40.3}"));
-    answer.text(format_args!("{error:?}"));
-}
-
-fn show_named(name: &str, answer: &mut CaseAnswer) -> Result<(), CaseFailure> {
-    match name {
-        "BadHops" => show_error(ForwardError::BadHops, answer),
-        "Memory" => show_error(ForwardError::Memory, answer),
-        _ => return Err(CaseFailure::NoCall),
-    }
-    Ok(())
+fn show_error(error: ForwardError, answer: &mut CaseAnswer) -> Result<(), CaseFailure> {
+    let alloc = answer.alloc();
+    answer.bytes(format!(in alloc; "{error}")?.as_bytes())?;
+    answer.bytes(format!(in alloc; "{error:>40.3}")?.as_bytes())?;
+    Ok(answer.bytes(format!(in alloc; "{error:?}")?.as_bytes())?)
 }
 
 /// Adds the answer of a call of a user's crate: `forward FIELD..`, `key_of FIELD..`, and
@@ -90,7 +79,11 @@ pub fn call_user(
     match call {
         "forward" => show_forwarded(arguments, answer),
         "key_of" => show_key(arguments, answer),
-        "formats" => show_named(arguments.word()?, answer),
+        "formats" => match arguments.word()? {
+            "BadHops" => show_error(ForwardError::BadHops, answer),
+            "Memory" => show_error(ForwardError::Memory, answer),
+            _ => Err(CaseFailure::NoCall),
+        },
         _ => Err(CaseFailure::NoCall),
     }
 }

@@ -25,7 +25,7 @@ fn read_value(alloc: Global, word: &str) -> Result<HeaderValue, CaseFailure> {
 }
 
 fn read_number(word: &str) -> Result<u64, CaseFailure> {
-    Ok(word.parse()?)
+    word.parse().map_err(|_| CaseFailure::NoCall)
 }
 
 impl<'a> Arguments<'a> {
@@ -79,10 +79,7 @@ impl<'a> Arguments<'a> {
 
     /// Takes the next word as text.
     pub fn text(&mut self) -> Result<String, CaseFailure> {
-        match String::from_utf8(self.bytes()?) {
-            Ok(text) => Ok(text),
-            Err(_) => Err(CaseFailure::NoCall),
-        }
+        String::from_utf8(self.bytes()?).map_err(|_| CaseFailure::NoCall)
     }
 
     /// Takes the next word as a number.
@@ -101,7 +98,7 @@ impl<'a> Arguments<'a> {
     /// Takes the next word as a port or `(none)`.
     pub fn port(&mut self) -> Result<Option<u16>, CaseFailure> {
         match self.option()? {
-            Some(word) => Ok(Some(word.parse()?)),
+            Some(word) => Ok(Some(word.parse().map_err(|_| CaseFailure::NoCall)?)),
             None => Ok(None),
         }
     }

@@ -37,9 +37,7 @@ pub fn answer_of<C: Calls>(alloc: Global, call: &str) -> Result<CaseAnswer, Case
     let (name, arguments) = call.split_once(' ').unwrap_or((call, ""));
     let mut arguments = Arguments::new(alloc, arguments);
     let mut answer = CaseAnswer::new(alloc);
-    let made = C::make(name, &mut arguments, &mut answer);
-    answer.checked()?;
-    made?;
+    C::make(name, &mut arguments, &mut answer)?;
     if arguments.is_empty() {
         Ok(answer)
     } else {

@@ -1,9 +1,8 @@
 //! Why a call has no answer.
-use headers::{ApplyError, InsertError, Refused};
+use headers::{InsertError, Refused};
 use http::method::MethodError;
 use http_header::{HeaderMapError, HeaderNameError, HeaderValueError};
 use std::alloc::{AllocError, AllocFailed};
-use std::num::{ParseIntError, TryFromIntError};
 
 /// Why a call has no answer.
 #[derive(Clone, Copy, Debug, PartialEq, Eq)]
@@ -57,24 +56,6 @@ impl From<HeaderMapError> for CaseFailure {
 impl From<InsertError> for CaseFailure {
     fn from(_error: InsertError) -> CaseFailure {
         CaseFailure::Memory
-    }
-}
-
-impl From<ApplyError> for CaseFailure {
-    fn from(_error: ApplyError) -> CaseFailure {
-        CaseFailure::Memory
-    }
-}
-
-impl From<ParseIntError> for CaseFailure {
-    fn from(_error: ParseIntError) -> CaseFailure {
-        CaseFailure::NoCall
-    }
-}
-
-impl From<TryFromIntError> for CaseFailure {
-    fn from(_error: TryFromIntError) -> CaseFailure {
-        CaseFailure::NoCall
     }
 }
 

@@ -8,7 +8,7 @@ use crate::answer::CaseAnswer;
 use crate::arguments::Arguments;
 use crate::failure::CaseFailure;
 use headers::{Encoded, HeaderMap, HeaderName, HeaderValue, Step};
-use std::alloc::{AllocError, Global};
+use std::alloc::Global;
 
 // What a word in parentheses begins.
 #[derive(Clone, Copy)]
@@ -77,14 +77,6 @@ fn read_parts(alloc: Global, text: &str) -> Result<Vec<Part>, CaseFailure> {
     Ok(parts)
 }
 
-fn names_of(alloc: Global, map: &HeaderMap) -> Result<Vec<&str>, AllocError> {
-    let mut names = Vec::new(alloc);
-    for name in map.keys() {
-        names.push(name.as_str())?;
-    }
-    Ok(names)
-}
-
 /// Appends field lines with a name to a map.
 pub fn append_lines(
     map: &mut HeaderMap,
@@ -138,37 +130,32 @@ impl<'a> Arguments<'a> {
 
 impl CaseAnswer {
     /// Appends a field line to the answer, and whether it is sensitive.
-    pub fn line(&mut self, line: &HeaderValue) {
-        self.bytes(line.as_bytes());
+    pub fn line(&mut self, line: &HeaderValue) -> Result<(), CaseFailure> {
+        self.bytes(line.as_bytes())?;
         if line.is_sensitive() {
-            self.word("(sensitive)");
+            self.word("(sensitive)")?;
         }
-    }
-
-    /// Appends a field name in parentheses.
-    pub fn name(&mut self, name: &str) {
-        self.word(format_args!("({name})"));
+        Ok(())
     }
 
     /// Appends the fields of a map that have one of these names.
-    pub fn fields(&mut self, map: &HeaderMap, names: &[&str]) {
+    pub fn fields(&mut self, map: &HeaderMap, names: &[&str]) -> Result<(), CaseFailure> {
         for name in names {
-            self.name(name);
+            self.word(format_args!("({name})"))?;
             for line in map.get_all(*name) {
-                self.line(line);
+                self.line(line)?;
             }
         }
+        Ok(())
     }
 
     /// Appends the fields of a map in the order of their names, or `(none)`.
-    pub fn map(&mut self, map: &HeaderMap) {
-        let Ok(mut names) = names_of(self.alloc(), map) else {
-            return self.cut();
-        };
+    pub fn map(&mut self, map: &HeaderMap) -> Result<(), CaseFailure> {
+        let mut names: Vec<&str> = map.keys().map(|name| name.as_str()).collect(self.alloc())?;
         names.sort_unstable();
         if names.is_empty() {
-            self.none();
+            return Ok(self.none()?);
         }
-        self.fields(map, names.as_slice());
+        self.fields(map, names.as_slice())
     }
 }
