@@ -5,7 +5,7 @@ ghost use Rattle.cache_policy.specs.{Varying.Suits, Fields.IsPresent, Policies.t
 ghost use Rattle.cache_policy.specs.{declared.Kind.TheVariants.Shared};
 ghost use Rattle.chain.specs.Caches.{Caching, IsFromStore, IsPlain, Reply, asked, key_of, unless_head};
 ghost use Rattle.chain.specs.Chains.{Hop, IsForwardedBack, IsOwn, IsTold, behind, meant};
-ghost use Rattle.chain.specs.Servers.{IsSent, SaysCloseAtMost, Server};
+ghost use Rattle.chain.specs.{Instances.IsInstance, Servers.{IsSent, SaysCloseAtMost, Server}};
 ghost use Rattle.chain.specs.{Responses.HasNoOptions, Responses.Returns, Ways.Reaches, Ways.sent_directly};
 ghost use Rattle.decide_cors.specs.Browser.{CorsCheck, Request as Sent};
 ghost use Rattle.gateway_messages.specs.{Forwarding.IsHopByHop, Forwarding.own_names, Spellings.has_mark};
@@ -16,7 +16,8 @@ ghost use Rattle.decide_resource.specs.{declared.resource.Resource.Resource};
 
 use cache_store::laws::{calls_justify_what_is_stored, lookups_serve_what_calls_justify};
 use decide_resource::laws::{
-    head_is_answered_as_get, members_alone_select, other_fields_change_nothing, vary_is_sound,
+    head_is_answered_as_get, members_alone_select, other_fields_change_nothing,
+    request_has_one_reason, vary_is_sound,
 };
 
 /// Theorem: gateways are invisible to a resource. What any number of gateways forward gets exactly
@@ -104,6 +105,14 @@ pub fn client_gets_what_the_resource_says()
     vary_is_sound();
     members_alone_select();
     other_fields_change_nothing();
+}
+
+/// Theorem: such a chain exists. A gateway, a cache and the server of a resource that is gone give a client a response
+/// whose Age is a second or more, and not the server's: the cache has stored it.
+pub fn a_chain_serves_from_its_store()
+    ensures { IsInstance }
+{
+    request_has_one_reason();
 }
 
 /// A server says of its connection at most that it is closed: a resource sets no connection option (RFC 9110,
