@@ -1,26 +1,25 @@
 -- What a client receives through gateways and caches is what the resource says.
-use Rattle.std.proofs.Common.{◌≡◌, ◌≢◌, ◌⊎◌, ℕ, ◌-◌, ◌≤◌, true, false, List, [], ◌∷◌, Some, None, refl, sym, ◌∙◌}
-use Rattle.std.{proofs.Common.{ap, subst, inl, inr, arith}, proofs.lemmas.Bool.{cases_Bool, cond_both}}
-use Rattle.std.{proofs.lemmas.Slice.Eq.bytes_eq-Decides, specs.Prelude.All}
-use Rattle.std.{specs.Prelude.{bytes_eq, codes}, specs.List.list_any}
+use Rattle.std.proofs.Common.{◌≡◌, ◌≢◌, ◌⊎◌, ◌↔◌, ℕ, ◌+◌, ◌≤◌, Bool, true, false, List, [], ◌∷◌, ◌++◌, Some, None, refl}
+use Rattle.std.proofs.Common.{◌∙◌, ap, append_assoc, subst, sym, inl, inr, arith, option_map}
+use Rattle.std.{proofs.lemmas.Bool.{cases_Bool, cond_both}, proofs.lemmas.Slice.Eq.bytes_eq-Decides}
+use Rattle.std.{specs.Prelude.{All, bytes_eq, codes}, specs.List.list_any}
 use Rattle.http_header.specs.Token.{lowercase}
-use Rattle.headers.{specs.LineMap.{fields_of, set_all}, specs.Lines.Line}
-use Rattle.cache_store.specs.Lookups.{freshness_of}
+use Rattle.headers.specs.{Date.fixdate, LineMap.{fields_of, set_all}, Lines.Line, Typed.HasLine}
 use Rattle.decide_preconditions.specs.Preconditions.{IsGetOrHead}
 use Rattle.cache_policy.{specs.Fields.{age_of, age_value, capped}, specs.Requests.AllowsMethod}
-use Rattle.chain.specs.Caches.{Caching, HasComeFrom, IsFromStore, IsPlain, Origin, Reply, unless_head}
-use Rattle.chain.specs.Chains.{Hop, IsForwardedBack, IsOwn, IsTold, behind, meant}
+use Rattle.chain.specs.Caches.{Caching, HasComeFrom, IsFromStore, IsPlain, Origin, Reply, second_of, unless_head}
+use Rattle.chain.specs.Chains.{Counts, Hop, IsBlank, IsForwardedBack, IsOwn, IsSentBack, IsTold, behind, caches, meant}
 use Rattle.chain.{specs.Chains.Hop.{Forwards, Stores}, specs.Ways.sent_directly, specs.Servers.IsCarried}
 use Rattle.chain.{specs.Servers.{SaysCloseAtMost, Server, sent_of}, proofs.ConnectionLemmas.crosses_if}
 use Rattle.chain.{proofs.ServerLemmas.{same_sent, says_close_at_most}, proofs.StoreLemmas.{StoreLaws, age_is}}
-use Rattle.chain.proofs.StoreLemmas.{alike_first, allowed_method, asked_first, come, counts, from, once_more}
-use Rattle.chain.proofs.StoreLemmas.{with_method, lacks, plain_first, quiet, right, shown, stored_as, suits}
+use Rattle.chain.proofs.StoreLemmas.{alike_first, allowed_method, asked_first, come, counts, from, good_at, once_more}
+use Rattle.chain.proofs.StoreLemmas.{with_method, lacks, plain_first, quiet, stored_as, suits}
 use Rattle.chain.{proofs.SuitLemmas.{MembersSelect, VaryIsSound, suited}, proofs.WayLemmas.{IsRead, ReadsNoMore}}
 use Rattle.chain.proofs.WayLemmas.{alike, alike_by, apart, choose_alike, choose_by, choose_direct, crosses, differs}
 use Rattle.chain.proofs.WayLemmas.{direct, no_options, same_lines}
 use Rattle.rfc_fields.specs.Members.{field_members}
-use Rattle.gateway_messages.{specs.Forwarding.{IsHopByHop, own_names}, specs.Spellings.has_mark}
-use Rattle.gateway_messages.specs.declared.gateway.Gateway.{Gateway}
+use Rattle.gateway_messages.{specs.Forwarding.{IsHopByHop, own_names, replaced}, specs.Spellings.has_mark}
+use Rattle.gateway_messages.specs.{declared.gateway.Gateway.Gateway, Responses.date_unless}
 use Rattle.gateway_messages.{specs.declared.protocol.Protocol.TheVariants.Http11, specs.HopByHop.connection_options}
 use Rattle.gateway_messages.{specs.HopByHop.{is_hop_by_hop, is_known}, proofs.SpellingLemmas.well_spelt}
 use Rattle.decide_resource.{specs.Answers.IsAnswer, specs.Requests.{Request, get_of, head_of}, specs.Vary.AreAlike}
@@ -55,91 +54,127 @@ nothing method =
 
 -- ---- one request in place of another
 
--- each answer to the one is an answer to the other, and both direct caches alike
+-- an answer to the one is an answer to the other, and both direct caches alike
 record Stands (r s : Request) : Type 0 where
-  answers : (present : ℕ) (resource : Resource) (answer : Answer) → IsAnswer present resource r answer
-      → IsAnswer present resource s answer
+  answers : (present : ℕ) (resource : Resource) (answer : Answer)
+      → IsAnswer present resource r answer ↔ IsAnswer present resource s answer
   method : r.method ≡ s.method
   directs : r.fields (codes "cache-control") ≡ s.fields (codes "cache-control")
 
--- both ways
-record Same (r s : Request) : Type 0 where
-  there : Stands r s
-  back : Stands s r
+stays : (r : Request) → Stands r r
+stays r = record { answers = λ present resource answer. ((λ h. h), (λ h. h)); method = refl; directs = refl }
 
-stays : (r : Request) → Same r r
-stays r =
+turned : {r s : Request} → Stands r s → Stands s r
+turned h =
     record {
-      there = record { answers = λ present resource answer h. h; method = refl; directs = refl };
-      back = record { answers = λ present resource answer h. h; method = refl; directs = refl };
+      answers =
+          λ present resource answer.
+          let both = h.answers present resource answer in (both.1, both.0);
+      method = sym h.method;
+      directs = sym h.directs;
     }
 
--- what is told of the one reply is told of another with the same fields, but for those of one connection
-told_by : {server : Server} {now : ℕ} {r s : Request} {before reply : Reply} → Stands r s
-    → IsTold server now r before → reply.status ≡ before.status → reply.content ≡ before.content
-    → ((name : List ℕ) → IsCarried name → reply.fields name ≡ before.fields name)
-    → age_value before.fields ≡ age_value reply.fields → SaysCloseAtMost reply.fields → IsTold server now s reply
-told_by {server = server} {now = now} h t status content fields age connection =
+-- a reply as it came, but for the fields of one connection and those that gateways write
+record Carries (before reply : Reply) : Type 0 where
+  status : reply.status ≡ before.status
+  content : reply.content ≡ before.content
+  fields : (name : List ℕ) → IsCarried name → reply.fields name ≡ before.fields name
+  date : HasLine (before.fields (codes "date")) → reply.fields (codes "date") ≡ before.fields (codes "date")
+  age : age_value before.fields ≡ age_value reply.fields
+  connection : SaysCloseAtMost reply.fields
+
+itself : (reply : Reply) → SaysCloseAtMost reply.fields → Carries reply reply
+itself reply connection =
+    record {
+      status = refl;
+      content = refl;
+      fields = λ name c. refl;
+      date = λ has. refl;
+      age = refl;
+      connection = connection;
+    }
+
+-- hops before others have no fewer caches
+more : (front hops : List Hop) → caches hops ≤ caches (front ++ hops)
+more [] hops = omega arith
+more (Forwards gateway ∷ front) hops = more front hops
+more (Stores caching ∷ front) hops =
+    let rest : caches hops ≤ caches (front ++ hops) = more front hops in omega (arith, rest)
+
+shorter : (seconds short other time now : ℕ) → short ≤ other → Counts seconds short time now
+    → Counts seconds other time now
+shorter seconds short other time now less (inl all) = inl all
+shorter seconds short other time now less (inr counted) = inr (omega (arith, less, counted))
+
+-- what is told behind some hops of the one reply is told before them of another that carries it
+told_by : {site : List ℕ → Server} {silent : List Hop → ℕ → Bool} {hops : List Hop} {sent came : ℕ} {target : List ℕ}
+    {r s : Request} {before reply : Reply} → (front : List Hop) (start now : ℕ) → start ≤ sent → came ≤ now
+    → Stands r s → IsTold site silent hops sent came target r before → Carries before reply
+    → IsTold site silent (front ++ hops) start now target s reply
+told_by {site = site} {hops = hops} {sent = sent} {came = came} {target = target} front start now early late h t k =
     record {
       time = t.time;
       said =
           record {
             answer = t.said.answer;
-            is = h.answers t.time (server.resource t.time) t.said.answer t.said.is;
-            status = t.said.status ∙ ap (λ (n : ℕ). Some n) (sym status);
-            content = rw (sym h.method, status) (content ∙ t.said.content);
-            fields = λ name c. rw status (fields name c ∙ t.said.fields name c);
+            is = (h.answers (second_of t.time) ((site target).resource t.time) t.said.answer).0 t.said.is;
+            status = t.said.status ∙ ap (λ (n : ℕ). Some n) (sym k.status);
+            content = rw (sym h.method, k.status) (k.content ∙ t.said.content);
+            fields = λ name c. rw k.status (k.fields name c ∙ t.said.fields name c);
           };
-      past = t.past;
-      aged = subst (λ (n : ℕ). capped (now - t.time) ≤ n) age t.aged;
+      left = t.left;
+      since = t.since;
+      after = omega (arith, early, t.after);
+      past = omega (arith, late, t.past);
+      aged =
+          subst (λ (n : ℕ). Counts n (caches (front ++ hops)) t.time t.left) k.age
+          (shorter _ _ _ _ _ (more front hops) t.aged);
       good =
           elim t.good [
             | inl e ↦ inl e
             | inr g ↦
                 inr (
                 record {
-                  policy = g.policy;
-                  stored = g.stored;
-                  same = λ name c. fields name c ∙ g.same name c;
-                  asks = g.asks;
+                  caching = g.caching;
+                  nearer = front ++ g.nearer;
+                  further = g.further;
+                  on_the_way = ap (λ (hops : List Hop). front ++ hops) g.on_the_way
+                      ∙ sym (append_assoc front g.nearer (Stores g.caching ∷ g.further));
+                  asked = g.asked;
+                  method = g.method ∙ h.method;
                   directs = g.directs ∙ h.directs;
-                  most = g.most;
-                  freshness = g.freshness;
-                  fresh_for = g.fresh_for;
-                  old = g.old;
-                  good = g.good;
+                  arrived = g.arrived;
+                  after = omega (arith, early, g.after);
+                  stored = g.stored;
+                  status = k.status ∙ g.status;
+                  same = λ name c. k.fields name c ∙ g.same name c;
+                  date = λ has. k.date (subst HasLine (sym (g.date has)) has) ∙ g.date has;
+                  found = g.found;
                 }
                 )
           ];
-      connection = connection;
+      connection = k.connection;
     }
 
-told_as : {server : Server} {now : ℕ} {r s : Request} {reply : Reply} → Stands r s → IsTold server now r reply
-    → IsTold server now s reply
-told_as h t = told_by h t refl refl (λ name c. refl) refl t.connection
+told_as : {site : List ℕ → Server} {silent : List Hop → ℕ → Bool} {hops : List Hop} {start now : ℕ} {target : List ℕ}
+    {r s : Request} {reply : Reply} → Stands r s → IsTold site silent hops start now target r reply
+    → IsTold site silent hops start now target s reply
+told_as {start = start} {now = now} {reply = reply} h t =
+    told_by [] start now (omega arith) (omega arith) h t (itself reply t.connection)
 
 module _ (reads : ReadsNoMore) where
   same_if : (r s : Request) → AreAlike r s → ChooseAlike r.fields s.fields
-      → r.fields (codes "cache-control") ≡ s.fields (codes "cache-control") → Same r s
+      → r.fields (codes "cache-control") ≡ s.fields (codes "cache-control") → Stands r s
   same_if r s alike choose line =
       record {
-        there =
-            record {
-              answers = λ present resource answer. (reads present resource r s answer alike choose).0;
-              method = alike.method;
-              directs = line;
-            };
-        back =
-            record {
-              answers = λ present resource answer. (reads present resource r s answer alike choose).1;
-              method = sym alike.method;
-              directs = sym line;
-            };
+        answers = λ present resource answer. reads present resource r s answer alike choose;
+        method = alike.method;
+        directs = line;
       }
 
   -- a request without connection options is as it is meant
   as_meant : (request : Request) → request.protocol ≡ Http11 → request.authority ≡ None
-      → connection_options request.fields ≡ [] → (hops : List Hop) → Same request (meant hops request)
+      → connection_options request.fields ≡ [] → (hops : List Hop) → Stands request (meant hops request)
   as_meant request modern origin none [] = stays _
   as_meant request modern origin none (Stores caching ∷ hops) = as_meant request modern origin none hops
   as_meant request modern origin none (Forwards gateway ∷ hops) =
@@ -148,71 +183,89 @@ module _ (reads : ReadsNoMore) where
       (crosses gateway request modern origin none (codes "cache-control") (refl, refl, refl, refl, refl, refl))
 
   plain_meant : {target : List ℕ} (request : Request) → IsPlain target request → (hops : List Hop)
-      → Same request (meant hops request)
+      → Stands request (meant hops request)
   plain_meant request h =
       as_meant request h.read.protocol h.read.authority
       (ap (λ (lines : List Line). field_members true lines) (h.without 0 [] (omega arith)))
 
 -- ---- a gateway
 
-module _ {gateway : Gateway} {origin : Origin} {now : ℕ} {target : List ℕ} {request : Request} {reply : Reply}
-    (f : IsForwardedBack gateway origin now target request reply) where
-  passes : SaysCloseAtMost f.behind.fields → (name : List ℕ) → is_known true name ≡ false
+-- a Date that there is stays
+same_date : (date : ℕ) (lines : List Line) → HasLine lines
+    → replaced (option_map fixdate (date_unless date lines)) lines ≡ lines
+same_date date [] has = absurd (omega arith)
+same_date date (line ∷ lines) has = refl
+
+module _ {gateway : Gateway} {behind reply : Reply} (f : IsSentBack gateway behind reply) where
+  status_behind : reply.status ≡ behind.status
+  status_behind = f.status ∙ f.received.status
+
+  passes : SaysCloseAtMost behind.fields → (name : List ℕ) → is_known true name ≡ false
       → lowercase name ≢ codes "close" → has_mark name ≡ false → All (λ own. own ≢ name) own_names
-      → reply.fields name ≡ f.behind.fields name
+      → reply.fields name ≡ behind.fields name
   passes at_most name end_to_end not_close unmarked not_own =
       let crossing = crosses_if gateway.consumes_credentials f.response.fields
-      (at_most.0, f.response_fields (codes "connection") ∙ at_most.1) name end_to_end not_close in
+      (at_most.0, f.received.fields (codes "connection") ∙ at_most.1) name end_to_end not_close in
       f.fields name
-      ∙ f.forwarded_back.fields.end_to_end name crossing (well_spelt gateway name unmarked) not_own
-      ∙ f.response_fields name
-
-  comes : SaysCloseAtMost f.behind.fields → (name : List ℕ) → IsCarried name
-      → reply.fields name ≡ f.behind.fields name
-  comes at_most name c = passes at_most name c.end_to_end c.not_close c.unmarked c.not_own
+      ∙ f.forwarded.fields.end_to_end name crossing (well_spelt gateway name unmarked) not_own
+      ∙ f.received.fields name
 
   -- fields of one connection end here, those that connection options name too
-  pub ends : (name : List ℕ) → IsHopByHop gateway f.behind.fields name → name ≢ codes "transfer-encoding"
+  pub ends : (name : List ℕ) → IsHopByHop gateway behind.fields name → name ≢ codes "transfer-encoding"
       → reply.fields name ≡ []
   ends name hop other =
-      let same : connection_options f.behind.fields ≡ connection_options f.response.fields
-      = ap (λ (lines : List Line). field_members true lines) (sym (f.response_fields (codes "connection"))) in
-      f.fields name ∙ f.forwarded_back.fields.hop_by_hop name (rw same at hop) other
+      let same : connection_options behind.fields ≡ connection_options f.response.fields
+      = ap (λ (lines : List Line). field_members true lines) (sym (f.received.fields (codes "connection"))) in
+      f.fields name ∙ f.forwarded.fields.hop_by_hop name (rw same at hop) other
+
+  carries : SaysCloseAtMost behind.fields → Carries behind reply
+  carries at_most =
+      record {
+        status = status_behind;
+        content = f.content;
+        fields = λ name c. passes at_most name c.end_to_end c.not_close c.unmarked c.not_own;
+        date =
+            λ has.
+            f.fields (codes "date") ∙ f.forwarded.fields.date
+            ∙ same_date f.date _ (subst HasLine (sym (f.received.fields (codes "date"))) has)
+            ∙ f.received.fields (codes "date");
+        age =
+            ap age_of
+            (sym (passes at_most (codes "age") refl (λ e. absurd (cc e)) refl (differs (codes "age") own_names refl)));
+        connection = (
+          false,
+          f.fields (codes "connection")
+              ∙ f.forwarded.fields.hop_by_hop (codes "connection") refl (apart (codes "connection") refl),
+        );
+      }
 
   -- a carried field that isn't behind the gateway isn't before it
-  lacks_behind : (name : List ℕ) → IsCarried name → f.behind.fields name ≡ [] → reply.fields name ≡ []
+  lacks_behind : (name : List ℕ) → IsCarried name → behind.fields name ≡ [] → reply.fields name ≡ []
   lacks_behind name c none =
       f.fields name
       ∙ elim (
       cases_Bool (is_hop_by_hop gateway.consumes_credentials (connection_options f.response.fields) name)
       ) [
-        | inl hop ↦ f.forwarded_back.fields.hop_by_hop name hop (coding_not_carried name c)
+        | inl hop ↦ f.forwarded.fields.hop_by_hop name hop (coding_not_carried name c)
         | inr crosses ↦
-            f.forwarded_back.fields.end_to_end name crosses (well_spelt gateway name c.unmarked) c.not_own
-            ∙ f.response_fields name ∙ none
+            f.forwarded.fields.end_to_end name crosses (well_spelt gateway name c.unmarked) c.not_own
+            ∙ f.received.fields name ∙ none
       ]
 
-  own_behind : IsOwn f.behind → IsOwn reply
-  own_behind own =
-      record {
-        status = rw (← (f.status ∙ f.response_status)) at own.status;
-        content = f.content ∙ own.content;
-        fields = λ name c. lacks_behind name c (own.fields name c);
-      }
+  blank_behind : IsBlank behind → IsBlank reply
+  blank_behind b =
+      record { content = f.content ∙ b.content; fields = λ name c. lacks_behind name c (b.fields name c) }
 
-  through : ReadsNoMore → {server : Server} → IsTold server now f.next f.behind
-      → IsTold server now (sent_directly gateway request) reply
-  through reads t =
-      let same = same_if reads (sent_directly gateway request) f.next (alike f.forwarded f.passed)
-      (choose_alike f.forwarded f.passed)
-      (same_lines f.forwarded f.passed (codes "cache-control") (refl, refl, refl, refl, refl, refl)) in
-      let age = passes t.connection (codes "age") refl (λ e. absurd (cc e)) refl
-      (differs (codes "age") own_names refl) in
-      told_by same.back t (f.status ∙ f.response_status) f.content (comes t.connection) (ap age_of (sym age)) (
-        false,
-        f.fields (codes "connection")
-            ∙ f.forwarded_back.fields.hop_by_hop (codes "connection") refl (apart (codes "connection") refl),
-      )
+through : ReadsNoMore → {gateway : Gateway} {origin : Origin} {start now : ℕ} {target : List ℕ} {request : Request}
+    {reply : Reply} {site : List ℕ → Server} {silent : List Hop → ℕ → Bool} {hops : List Hop}
+    → (f : IsForwardedBack gateway origin start now target request reply)
+    → IsTold site silent hops f.passed.sent f.passed.came target f.passed.next f.behind
+    → IsTold site silent (Forwards gateway ∷ hops) start now target (sent_directly gateway request) reply
+through reads {gateway = gateway} {start = start} {now = now} {request = request} f t =
+    let p = f.passed in
+    let same = same_if reads (sent_directly gateway request) p.next (alike p.there) (choose_alike p.there)
+    (same_lines p.there (codes "cache-control") (refl, refl, refl, refl, refl, refl)) in
+    told_by (Forwards gateway ∷ []) start now p.after p.past (turned same) t (carries f.back t.connection)
 
 -- ---- a cache
 
@@ -272,28 +325,50 @@ allowed_answer reads heads target request plain method (inr h) present resource 
 
 module _ (reads : ReadsNoMore) (heads : HeadIsAsGet) (sound : VaryIsSound) (members : MembersSelect)
     (law : StoreLaws) where
-  module _ {caching : Caching} {origin : Origin} {now : ℕ} {target : List ℕ} {request : Request} {reply : Reply}
-      (f : IsFromStore caching origin now target request reply) where
+  module _ {caching : Caching} {origin : Origin} {silent : ℕ → Bool} {start now : ℕ} {target : List ℕ}
+      {request : Request} {reply : Reply} (f : IsFromStore caching origin silent start now target request reply) where
     abbrev first : Request
     first = (come law f).request
 
-    abbrev came : HasComeFrom caching.clock origin now target first (come law f).came
+    abbrev came : HasComeFrom caching.clock origin f.time target first (come law f).came
     came = from law f
 
     status_is : reply.status ≡ came.reply.status
     status_is = f.status ∙ (come law f).kept.status ∙ came.noted.status
 
-    own_stored : IsOwn came.reply → IsOwn reply
+  module _ (site : List ℕ → Server) (silent : List Hop → ℕ → Bool) (hops : List Hop) {caching : Caching} {start now : ℕ}
+      {target : List ℕ} {request : Request} {reply : Reply}
+      (f : IsFromStore caching (behind site silent hops) (silent hops) start now target request reply) where
+    own_stored : IsOwn site silent hops (came f).sent (came f).received target (first f) (came f).reply
+        → IsOwn site silent (Stores caching ∷ hops) start now target request reply
     own_stored own =
         record {
-          status = rw (← status_is) at own.status;
-          content =
-              once_more law f [] (own.content ∙ sym (nothing first.method)) ∙ nothing request.method;
-          fields = λ name c. lacks law f name c.not_age (date_not_carried _ c) (own.fields name c);
+          reason =
+              inr (inl (
+                f,
+                record {
+                  sent = (came f).sent;
+                  came = (came f).received;
+                  past = omega (arith, (came f).past, f.past);
+                  first = first f;
+                  plain = plain_first law f;
+                  given_reply = (came f).reply;
+                  given = own.reason;
+                  status = (status_is f);
+                },
+              ));
+          blank =
+              record {
+                content =
+                    once_more law f [] (own.blank.content ∙ sym (nothing (first f).method)) ∙ nothing request.method;
+                fields = λ name c. lacks law f name c.not_age (date_not_carried _ c) (own.blank.fields name c);
+              };
         }
 
-    from_store : {server : Server} → IsTold server came.time first came.reply → IsTold server now request reply
-    from_store {server = server} t =
+    from_store : IsTold site silent hops (came f).sent (came f).received target (first f) (came f).reply
+        → IsTold site silent (Stores caching ∷ hops) start now target request reply
+    from_store t =
+        let server = site target in
         let said = t.said in
         let at_most = t.connection in
         let stored = λ (name : List ℕ) (c : IsCarried name). stored_as law f at_most name
@@ -302,52 +377,57 @@ module _ (reads : ReadsNoMore) (heads : HeadIsAsGet) (sound : VaryIsSound) (memb
         let asked_now = asked_first law f in
         let now_said = server.answers t.time asked_now in
         let both_alike = alike_first law f in
-        let same = suited sound members t.time (server.resource t.time) first asked_now said.answer now_said.0
-        (server.own t.time came.reply.status) said.is now_said.1 both_alike (suits law f
-        (set_all (server.own t.time came.reply.status) (fields_of said.answer.fields.items)) varies)
+        let same = suited sound members (second_of t.time) (server.resource t.time) (first f) asked_now said.answer
+        now_said.0 (server.own t.time (came f).reply.status) said.is now_said.1 both_alike (suits law f
+        (set_all (server.own t.time (came f).reply.status) (fields_of said.answer.fields.items)) varies)
         in
-        let aged = counts law f at_most t.time t.past t.aged in
-        let known = right law f in
+        let aged = counts law f at_most t.time t.left (caches hops) t.since t.after t.past t.aged in
         record {
           time = t.time;
           said =
               record {
                 answer = now_said.0;
                 is =
-                    allowed_answer reads heads target request f.sought.plain first.method (allowed_method law f)
-                    t.time (server.resource t.time)
+                    allowed_answer reads heads target request f.found.sought.plain (first f).method
+                    (allowed_method law f) (second_of t.time) (server.resource t.time)
                     now_said.0 now_said.1;
-                status = sym same.status ∙ said.status ∙ ap (λ (n : ℕ). Some n) (sym status_is);
+                status = sym same.status ∙ said.status ∙ ap (λ (n : ℕ). Some n) (sym (status_is f));
                 content =
                     once_more law f
-                    (server.content t.time came.reply.status (sent_of said.answer.sends)) said.content ∙ ap
-                    (λ (sent : _). unless_head request.method (server.content t.time came.reply.status sent))
+                    (server.content t.time (came f).reply.status (sent_of said.answer.sends)) said.content ∙ ap
+                    (λ (sent : _). unless_head request.method (server.content t.time (came f).reply.status sent))
                     (same_sent _ _ same.sends) ∙ ap
                     (λ (n : ℕ). unless_head request.method (server.content t.time n (sent_of now_said.0.sends)))
-                    (sym status_is);
+                    (sym (status_is f));
                 fields = λ name c.
                     f.fields name c.not_age ∙ stored name c ∙ said.fields name c
-                    ∙ ap (λ fields. set_all (server.own t.time came.reply.status) fields name) same.fields
+                    ∙ ap (λ fields. set_all (server.own t.time (came f).reply.status) fields name) same.fields
                     ∙ ap
                     (λ (n : ℕ). set_all (server.own t.time n) (fields_of now_said.0.fields.items) name)
-                    (sym status_is);
+                    (sym (status_is f));
               };
-          past = omega (arith, t.past, came.before, came.past);
-          aged = rw (← (age_is law f)) at aged;
+          left = f.time;
+          since = omega (arith, t.since, t.past, (came f).past);
+          after = f.after;
+          past = f.past;
+          aged = subst (λ (n : ℕ). Counts n (caches hops + 1) t.time f.time) (sym (age_is law f)) aged;
           good =
               inr (
               record {
-                policy = caching.policy;
-                stored = f.stored;
-                same = λ name c. f.fields name c.not_age;
-                asks = request.fields;
+                caching = caching;
+                nearer = [];
+                further = hops;
+                on_the_way = refl;
+                asked = request;
+                method = refl;
                 directs = refl;
-                most = caching.most;
-                freshness =
-                    freshness_of known.lifetime f.stored (shown law f);
-                fresh_for = known.fresh_for;
-                old = aged;
-                good = known.good;
+                arrived = start;
+                after = omega arith;
+                stored = f.stored;
+                status = f.status;
+                same = λ name c. f.fields name c.not_age;
+                date = λ has. f.fields (codes "date") (λ e. absurd (cc e));
+                found = good_at law f t.time t.left (caches hops + 1) t.since t.past aged;
               }
               );
           connection = quiet law f;
@@ -355,36 +435,50 @@ module _ (reads : ReadsNoMore) (heads : HeadIsAsGet) (sound : VaryIsSound) (memb
 
   -- ---- a chain
 
-  module _ (site : List ℕ → Server) where
-    pub tells : (hops : List Hop) (now : ℕ) (target : List ℕ) (request : Request) (reply : Reply)
-        → behind site hops now target request reply → IsTold (site target) now (meant hops request) reply ⊎ IsOwn reply
-    tells [] now target request reply h =
+  module _ (site : List ℕ → Server) (silent : List Hop → ℕ → Bool) where
+    pub tells : (hops : List Hop) (start now : ℕ) (target : List ℕ) (request : Request) (reply : Reply)
+        → behind site silent hops start now target request reply
+        → IsTold site silent hops start now target (meant hops request) reply
+        ⊎ IsOwn site silent hops start now target request reply
+    tells [] start now target request reply h =
         inl (
         record {
-          time = now;
-          said = h.said;
-          past = omega arith;
-          aged = omega arith;
+          time = h.0;
+          said = h.3.said;
+          left = h.0;
+          since = omega arith;
+          after = h.1;
+          past = h.2;
+          aged = inr (omega arith);
           good = inl refl;
-          connection = says_close_at_most _ _ _ _ h;
+          connection = says_close_at_most _ _ _ _ h.3;
         }
         )
-    tells (Forwards gateway ∷ hops) now target request reply (inr own) = inr own
-    tells (Forwards gateway ∷ hops) now target request reply (inl f) =
-        elim (tells hops now target f.next f.behind f.answered) [
+    tells (Forwards gateway ∷ hops) start now target request reply (inr h) =
+        inr (record { reason = inr h.0; blank = h.1 })
+    tells (Forwards gateway ∷ hops) start now target request reply (inl f) =
+        let p = f.passed in
+        elim (tells hops p.sent p.came target p.next f.behind p.answered) [
           | inl t ↦
-              let same = as_meant reads f.next f.passed.protocol f.passed.authority (no_options f.forwarded f.passed)
-              hops in
-              inl (through f reads (told_as same.back t))
-          | inr own ↦ inr (own_behind f own)
+              let passed = p.there.passed in
+              let same = as_meant reads p.next passed.protocol passed.authority (no_options p.there) hops in
+              inl (through reads f (told_as (turned same) t))
+          | inr k ↦ inr (record { reason = inl (f, k.reason); blank = blank_behind f.back k.blank })
         ]
-    tells (Stores caching ∷ hops) now target request reply (inl h) = tells hops now target request reply h
-    tells (Stores caching ∷ hops) now target request reply (inr (inr own)) = inr own
-    tells (Stores caching ∷ hops) now target request reply (inr (inl f)) =
-        elim (tells hops (came f).time target (first f) (came f).reply (came f).answered) [
+    tells (Stores caching ∷ hops) start now target request reply (inl h) =
+        elim (tells hops start now target request reply h) [
+          | inl t ↦
+              inl (told_by (Stores caching ∷ []) start now (omega arith) (omega arith) (stays _) t
+              (itself reply t.connection))
+          | inr k ↦ inr (record { reason = inl k.reason; blank = k.blank })
+        ]
+    tells (Stores caching ∷ hops) start now target request reply (inr (inr h)) =
+        inr (record { reason = inr (inr h.0); blank = h.1 })
+    tells (Stores caching ∷ hops) start now target request reply (inr (inl f)) =
+        elim (tells hops (came f).sent (came f).received target (first f) (came f).reply (came f).answered) [
           | inl t ↦
               let meant_first = plain_meant reads (first f) (plain_first law f) hops in
-              let meant_this = plain_meant reads request f.sought.plain hops in
-              inl (told_as meant_this.there (from_store f (told_as meant_first.back t)))
-          | inr own ↦ inr (own_stored f own)
+              let meant_this = plain_meant reads request f.found.sought.plain hops in
+              inl (told_as meant_this (from_store site silent hops f (told_as (turned meant_first) t)))
+          | inr own ↦ inr (own_stored site silent hops f own)
         ]

@@ -2,6 +2,7 @@ mod AgeLemmas
 mod ChainLemmas
 mod CheckLemmas
 mod ConnectionLemmas
+mod InstanceLemmas
 mod ResponseLemmas
 mod ServerLemmas
 mod ServingLemmas

@@ -4,7 +4,7 @@ use Rattle.std.{proofs.lemmas.Bool.{and_from, and_parts}, specs.Prelude.{bytes_e
 use Rattle.std.specs.List.{list_all}
 use Rattle.http_header.specs.FieldValue.{FieldValue}
 use Rattle.headers.{specs.LineMap.{Field, LineMap, fields_of, set, set_all}, specs.Lines.Line}
-use Rattle.chain.{specs.Caches.Reply, specs.Servers.{IsSent, SaysCloseAtMost, Server, connection_lines, sent_of}}
+use Rattle.chain.specs.{Caches.{Reply, second_of}, Servers.{IsSent, SaysCloseAtMost, Server, connection_lines, sent_of}}
 use Rattle.decide_cors.{specs.Fields.{covers_origin, grant_fields, granted, vary_sent}, specs.Kinds.is_preflight}
 use Rattle.decide_cors.specs.Policy.{Policy}
 use Rattle.decide_preconditions.specs.Fields.{fields_removed, fields_sent, is_known_by, is_whole, keeps_encoding}
@@ -190,6 +190,6 @@ pub says_close_at_most : (server : Server) (now : ℕ) (request : Request) (repl
 says_close_at_most server now request reply h = (
   h.closes,
   h.connection
-      ∙ sets_no_option now (server.resource now) request h.said.answer h.said.is
+      ∙ sets_no_option (second_of now) (server.resource now) request h.said.answer h.said.is
       (set (server.own now reply.status) (codes "connection", connection_lines h.closes)),
 )

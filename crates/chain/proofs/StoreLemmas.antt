@@ -1,9 +1,9 @@
 -- What a cache serves from its store came from those behind it.
-use Rattle.std.proofs.Common.{◌≡◌, ◌≢◌, ◌⊎◌, ℕ, ◌+◌, ◌-◌, ◌≤◌, Bool, true, false, List, [], ◌∷◌, ◌++◌, refl, sym, ◌∙◌}
-use Rattle.std.{proofs.Common.{ap, subst, inl, inr, arith}, proofs.lemmas.Bool.{and_parts, cases_Bool}}
+use Rattle.std.proofs.Common.{◌≡◌, ◌≢◌, ◌⊎◌, ℕ, ◌+◌, ◌-◌, ◌*◌, ◌≤◌, Bool, true, false, List, [], ◌∷◌, ◌++◌, refl}
+use Rattle.std.{proofs.Common.{◌∙◌, ap, arith, inl, inr, subst, sym}, proofs.lemmas.Bool.{and_parts, cases_Bool}}
 use Rattle.std.{proofs.lemmas.Bool.Decides.nat_tests, proofs.lemmas.List.Elements.All-weaker}
-use Rattle.std.{proofs.lemmas.List.Folds.list_any_at, specs.Prelude.{◌||◌, ◌==◌, not, bytes_eq, codes, unwrap_or, max}}
-use Rattle.std.specs.List.{list_all, list_any}
+use Rattle.std.{proofs.lemmas.List.Folds.list_any_at, specs.List.{list_all, list_any}}
+use Rattle.std.specs.Prelude.{◌||◌, ◌==◌, not, bytes_eq, codes, max, nat_le, unwrap_or}
 use Rattle.http_header.specs.Token.{lowercase}
 use Rattle.headers.{specs.LineMap.{Field, LineMap, lines_at}, specs.Lines.{Line, only_line}, specs.Text.is_text}
 use Rattle.headers.specs.Typed.{HasLine}
@@ -14,18 +14,19 @@ use Rattle.cache_store.{specs.History.{IsJustified, Run}, specs.Lookups.{IsAnswe
 use Rattle.cache_store.{specs.Lookups.freshness_of}
 use Rattle.cache_store.specs.declared.lookup.Lookup.TheVariants.{ValidateOrServe}
 use Rattle.cache_store.{proofs.HistoryLemmas.HasUnder-responses_at, proofs.NumberLemmas.Has-numbered}
-use Rattle.cache_policy.{specs.Decisions.{IsGoodEnough, MayServeOnError}, specs.Age.{age_at, apparent_age}}
-use Rattle.cache_policy.{specs.Fields.{age_of, age_value, capped}, specs.Requests.AllowsMethod}
+use Rattle.cache_policy.specs.Age.{age_at, apparent_age}
+use Rattle.cache_policy.{specs.Fields.{age_of, age_value, capped, greatest}, specs.Requests.AllowsMethod}
 use Rattle.decide_preconditions.specs.Preconditions.{IsGetOrHead}
 use Rattle.cache_policy.specs.{Requests.Request as Asked, Storing.IsShareable, Targets.governing}
 use Rattle.cache_policy.specs.{declared.Governing.Governing, declared.Kind.Kind, declared.Kind.TheVariants.Private}
 use Rattle.cache_policy.specs.{declared.Kind.TheVariants.Shared, Varying.Agree, Varying.Suits}
-use Rattle.cache_policy.specs.Policies.{AnswersUnder, Policy, asks as counted_of, tells}
+use Rattle.cache_policy.specs.Policies.{AnswersUnder, Policy, tells}
 use Rattle.cache_rules.{proofs.StoringLemmas.governed_alike, specs.Selection.IsCandidate, specs.Stored.fields_of_stored}
 use Rattle.cache_rules.{specs.Stored.times_of, specs.Storing.reuse_names, specs.declared.storing.Reception.Reception}
 use Rattle.cache_rules.specs.declared.stored.StoredResponse.{StoredResponse}
-use Rattle.chain.specs.Caches.{Act, Caching, HasAfter, HasComeFrom, IsFromStore, IsPlain, Origin, Reply, ServesOnError}
-use Rattle.chain.{specs.Caches.{asked, calls_of, key_of, unless_head}, specs.Caches.Act.{Looks, Takes, Drops}}
+use Rattle.chain.specs.Caches.{Act, Caching, Fails, HasAfter, HasComeFrom, IsFromStore, IsPlain, Origin, Reply}
+use Rattle.chain.specs.Caches.{ServesOnError, asked, calls_of, key_of, per_second, second_of, shown, unless_head}
+use Rattle.chain.{specs.Caches.Act.{Looks, Takes, Drops}, specs.Chains.{Counts, FindsGood, IsGood, IsGoodOnError}}
 use Rattle.chain.{specs.Servers.SaysCloseAtMost, proofs.AgeLemmas.age_of-decimal, proofs.ConnectionLemmas.crosses_if}
 use Rattle.rfc_fields.{specs.Members.field_members, specs.Scan.Member, specs.Scan.Member.{Whole, Malformed}}
 use Rattle.gateway_messages.specs.HopByHop.{connection_options, is_hop_by_hop, is_known, is_named}
@@ -195,57 +196,77 @@ once m n (inr h) content =
 
 -- ---- what is served
 
--- what is known of a stored response that a cache serves
-pub record IsRight (policy : Policy) (most : ℕ) (target : List ℕ) (calls : History) (request : LineMap) (asks : Asked)
-    (now : ℕ) (stored : StoredResponse) (age : Field) : Type 0 where
-  pub justified : IsJustified policy target calls stored
-  pub matches : IsCandidate asks stored
+-- what is known of a stored response that a cache serves at a time of its clock
+pub record IsRight (policy : Policy) (most : ℕ) (key : List ℕ) (calls : History) (request : Request) (shown : ℕ)
+    (failed : Type 0) (stored : StoredResponse) (age : Field) : Type 0 where
+  pub justified : IsJustified policy key calls stored
+  pub matches : IsCandidate (asked request) stored
   pub lifetime : ℕ
   pub fresh_for : IsFreshFor policy most stored lifetime
-  pub good : IsGoodEnough policy.kind
-      (counted_of policy request (fields_of_stored stored) (freshness_of lifetime stored now))
-      (tells policy (fields_of_stored stored)) (freshness_of lifetime stored now)
-      ⊎ MayServeOnError policy.kind
-      (counted_of policy request (fields_of_stored stored) (freshness_of lifetime stored now))
-      (tells policy (fields_of_stored stored)) (freshness_of lifetime stored now)
-  pub aged : age ≡ age_of_stored stored now
+  pub good : IsGood policy request.fields (fields_of_stored stored) (freshness_of lifetime stored shown)
+      ⊎ (IsGoodOnError policy request.fields (fields_of_stored stored) (freshness_of lifetime stored shown) × failed)
+  pub aged : age ≡ age_of_stored stored shown
 
--- The age of a stored response is no less than the time since it was said: that by which it was old when it came, and
--- the time since then by the clock.
-grows : (own given requested received shown start sent at came now time apparent : ℕ) → own ≡ given
-    → requested ≡ start → received ≡ start + (came - sent) → shown ≡ start + (now - sent) → time ≤ at → sent ≤ at
-    → at ≤ came → came ≤ now → capped (at - time) ≤ given
-    → capped (now - time) ≤ capped (max apparent (own + (received - requested)) + (shown - received))
-grows own given requested received shown start sent at came now time apparent same e f g past after before over aged =
-    omega (arith, same, e, f, g, past, after, before, over, aged)
+-- The seconds that a clock shows between two times are less than one too few.
+elapsed : (a b gone : ℕ) → b ≡ a + gone
+    → (second_of a ≤ second_of b) × (gone ≤ per_second * (second_of b - second_of a) + per_second)
+elapsed a b gone e = (omega (arith, e), omega (arith, e))
 
-module _ (law : StoreLaws) {caching : Caching} {origin : Origin} {now : ℕ} {target : List ℕ} {request : Request}
-    {reply : Reply} (f : IsFromStore caching origin now target request reply) where
+at_most_one : (x : ℕ) → (capped x ≡ greatest) ⊎ (capped x ≡ x)
+at_most_one x = elim (cases_Bool (nat_le x greatest)) [
+  | inl t ↦ inr (grind (arith, nat_tests, t))
+  | inr f ↦ inl (grind (arith, nat_tests, f))
+]
+
+-- The age of a stored response counts the time since it was said: that by which it was old when it came, and the time
+-- since the request by the clock, but for one second.
+module _ (given own requested received x y shows sent left came now time apparent short : ℕ) (same : own ≡ given)
+    (requested_at : requested ≡ x) (received_at : received ≡ y) (waited : x ≤ y) (rested : y ≤ shows)
+    (gone : now - sent ≤ per_second * (shows - x) + per_second) (since : time ≤ left) (after : sent ≤ left)
+    (before : left ≤ came) (over : came ≤ now) where
+  abbrev total : ℕ
+  total = max apparent (own + (received - requested)) + (shows - received)
+
+  least : given + (shows - x) ≤ total
+  least = omega (arith, same, requested_at, received_at, waited, rested)
+
+  grows : Counts given short time left → Counts (capped total) (short + 1) time now
+  grows (inl all) = inl (omega (arith, same, all))
+  grows (inr less) =
+      elim (at_most_one total) [
+        | inl all ↦ inl all
+        | inr all ↦ inr (omega (arith, all, least, rested, waited, gone, since, after, before, over, less))
+      ]
+
+module _ (law : StoreLaws) {caching : Caching} {origin : Origin} {silent : ℕ → Bool} {start now : ℕ}
+    {target : List ℕ} {request : Request} {reply : Reply}
+    (f : IsFromStore caching origin silent start now target request reply) where
   abbrev key : List ℕ
   key = key_of target request
 
   -- all that the cache did, the lookup that serves the response included
   abbrev calls : History
-  calls = calls_of (Looks target request ∷ f.acts)
+  calls = calls_of (Looks target request ∷ f.found.acts)
 
   -- what its clock shows
-  abbrev pub shown : ℕ
-  shown = caching.clock.shows now
+  abbrev pub present : ℕ
+  present = shown caching.clock f.time
 
-  all_acts : HasAfter caching origin now (Looks target request ∷ f.acts) f.contents
-  all_acts = (f.before, f.has, (f.sought.plain, f.sought.looked))
+  all_acts : HasAfter caching origin f.time (Looks target request ∷ f.found.acts) f.contents
+  all_acts = (f.found.before, f.found.has, (f.found.sought.plain, f.found.sought.looked))
 
   run : Run caching.policy caching.limits calls f.contents
-  run = runs caching origin now (Looks target request ∷ f.acts) f.contents all_acts
+  run = runs caching origin f.time (Looks target request ∷ f.found.acts) f.contents all_acts
 
   abbrev Right : StoredResponse → Type 0
   Right stored =
-      IsRight caching.policy caching.most key calls request.fields (asked request) shown stored f.age
+      IsRight caching.policy caching.most key calls request present
+      (Fails origin silent start f.time target request) stored f.age
 
   at_once : Serves f.lookup f.number f.age → Right f.stored
   at_once serves =
-      let s = law.0 caching.policy caching.limits calls f.contents run key caching.most (asked request) shown
-      f.lookup f.sought.answer f.number f.age serves in
+      let s = law.0 caching.policy caching.limits calls f.contents run key caching.most (asked request) present
+      f.lookup f.found.sought.answer f.number f.age serves in
       let same : s.response ≡ f.stored = cc (sym s.at ∙ f.at) in
       subst Right same
       (
@@ -265,56 +286,58 @@ module _ (law : StoreLaws) {caching : Caching} {origin : Origin} {now : ℕ} {ta
       (HasUnder-responses_at _ _ _ (Has-numbered _ _ _ f.at).0)
 
   on_error : (lookup : Lookup)
-      → IsAnswer caching.policy caching.most (asked request) shown (responses_at key f.contents) lookup
-      → ServesOnError lookup f.number → f.age ≡ age_of_stored f.stored shown → Right f.stored
-  on_error (ValidateOrServe at fields) answer here aged =
+      → IsAnswer caching.policy caching.most (asked request) present (responses_at key f.contents) lookup
+      → ServesOnError lookup f.number → Fails origin silent start f.time target request
+      → f.age ≡ age_of_stored f.stored present → Right f.stored
+  on_error (ValidateOrServe at fields) answer here failed aged =
       let found = answer.found in
       let selected = found.selected in
       let same : selected.response ≡ f.stored
       = cc (sym answer.shown ∙ ap (λ (n : ℕ). numbered n (responses_at key f.contents)) here ∙ f.at) in
       let decided : AnswersUnder caching.policy request.fields (fields_of_stored f.stored)
-      (freshness_of found.lifetime f.stored shown) decisions.RevalidateOrServe
+      (freshness_of found.lifetime f.stored present) decisions.RevalidateOrServe
       = rw same at found.decided in
       record {
         justified = under;
         matches = rw same at selected.is.0;
         lifetime = found.lifetime;
         fresh_for = rw same at found.fresh_for;
-        good = inr decided.2;
+        good = inr (decided.2, failed);
         aged = aged;
       }
-  on_error other answer here aged = absurd here
+  on_error other answer here failed aged = absurd here
 
   pub right : Right f.stored
   right = elim f.serves [
     | inl serves ↦ at_once serves
-    | inr h ↦ on_error f.lookup f.sought.answer h.0 h.1
+    | inr h ↦ on_error f.lookup f.found.sought.answer h.0 h.1 h.2
   ]
 
   pub is_candidate : IsCandidate (asked request) f.stored
   is_candidate = right.matches
 
-  pub come : HasCome caching origin now key f.stored
+  pub come : HasCome caching origin f.time key f.stored
   come =
-      has_come caching origin now key f.stored (Looks target request ∷ f.acts) f.contents all_acts right.justified
+      has_come caching origin f.time key f.stored (Looks target request ∷ f.found.acts) f.contents all_acts
+      right.justified
 
   -- it came for the same target and host
   pub one : AreOne come.target target come.request request
-  one = one_key come.target target come.request request come.plain f.sought.plain come.same
+  one = one_key come.target target come.request request come.plain f.found.sought.plain come.same
 
   pub plain_first : IsPlain target come.request
   plain_first = subst (λ (t : List ℕ). IsPlain t come.request) one.target come.plain
 
-  pub from : HasComeFrom caching.clock origin now target come.request come.came
+  pub from : HasComeFrom caching.clock origin f.time target come.request come.came
   from =
-      subst (λ (t : List ℕ). HasComeFrom caching.clock origin now t come.request come.came) one.target come.from
+      subst (λ (t : List ℕ). HasComeFrom caching.clock origin f.time t come.request come.came) one.target come.from
 
   -- the request with the method of the stored response
   abbrev pub asked_first : Request
   asked_first = with_method come.request.method request
 
   pub alike_first : AreAlike come.request asked_first
-  alike_first = plain_alike target come.request request plain_first f.sought.plain one.host
+  alike_first = plain_alike target come.request request plain_first f.found.sought.plain one.host
 
   -- if at most the end of the connection was said of it, what isn't for one connection is stored as it came
   module _ (at_most : SaysCloseAtMost from.reply.fields) where
@@ -363,7 +386,7 @@ module _ (law : StoreLaws) {caching : Caching} {origin : Origin} {now : ℕ} {ta
 
   -- Age of the reply
   abbrev pub counted : ℕ
-  counted = capped (age_at (times_of f.stored shown) (fields_of_stored f.stored))
+  counted = capped (age_at (times_of f.stored present) (fields_of_stored f.stored))
 
   pub age_is : age_value reply.fields ≡ counted
   age_is =
@@ -371,22 +394,38 @@ module _ (law : StoreLaws) {caching : Caching} {origin : Origin} {now : ℕ} {ta
       ap age_of line ∙ age_of-decimal _
 
   -- it counts the time since the reply came, and its age by then
-  pub counts : SaysCloseAtMost from.reply.fields → (time : ℕ) → time ≤ from.time
-      → capped (from.time - time) ≤ age_value from.reply.fields → capped (now - time) ≤ counted
-  counts at_most time past aged =
+  pub counts : SaysCloseAtMost from.reply.fields → (time left short : ℕ) → time ≤ left → from.sent ≤ left
+      → left ≤ from.received → Counts (age_value from.reply.fields) short time left
+      → Counts counted (short + 1) time f.time
+  counts at_most time left short past after before aged =
       let lines : age_value (fields_of_stored f.stored) ≡ age_value from.reply.fields
       = ap age_of (stored_as at_most (codes "age") refl (λ e. absurd (cc e)) (λ e. absurd (cc e))) in
       let clock = caching.clock in
-      let early : from.sent ≤ now = omega (arith, from.after, from.before, from.past) in
-      let then : from.sent ≤ from.received = omega (arith, from.after, from.before) in
-      let requested : f.stored.requested ≡ clock.shows from.sent = come.kept.requested ∙ from.noted.requested_at in
-      let received : f.stored.received ≡ clock.shows from.received = come.kept.received ∙ from.noted.received_at in
-      let shows_then = clock.runs from.sent from.received from.set_before then in
-      let shows_now = clock.runs from.sent now from.set_before early in
-      grows (age_value (fields_of_stored f.stored)) (age_value from.reply.fields) f.stored.requested f.stored.received
-      shown (clock.shows from.sent) from.sent from.time from.received now time
-      (apparent_age (times_of f.stored shown) (fields_of_stored f.stored)) lines requested
-      (received ∙ shows_then) shows_now past from.after from.before from.past aged
+      let over : from.sent ≤ f.time = omega (arith, from.after, from.past) in
+      let then : clock.set ≤ from.received = omega (arith, from.set_before, from.after) in
+      let waited = elapsed _ _ _ (clock.runs from.sent from.received from.set_before from.after) in
+      let rested = elapsed _ _ _ (clock.runs from.received f.time then from.past) in
+      let gone = elapsed _ _ _ (clock.runs from.sent f.time from.set_before over) in
+      grows (age_value from.reply.fields) (age_value (fields_of_stored f.stored)) f.stored.requested f.stored.received
+      (shown clock from.sent) (shown clock from.received) present from.sent left from.received f.time time
+      (apparent_age (times_of f.stored present) (fields_of_stored f.stored)) short lines
+      (come.kept.requested ∙ from.noted.requested_at) (come.kept.received ∙ from.noted.received_at) waited.0 rested.0
+      gone.1 past after before from.past aged
+
+  -- so the cache finds it good enough
+  pub good_at : (time left short : ℕ) → time ≤ left → left ≤ from.received → Counts counted short time f.time
+      → FindsGood caching origin silent short time start f.time target request f.stored
+  good_at time left short past before aged =
+      record {
+        came = from.received;
+        since = omega (arith, past, before);
+        past = from.past;
+        received = come.kept.received ∙ from.noted.received_at;
+        freshness = freshness_of right.lifetime f.stored present;
+        fresh_for = right.fresh_for;
+        old = aged;
+        good = right.good;
+      }
 
   -- a field that didn't come isn't in the reply, but for those that a cache writes
   pub lacks : (name : List ℕ) → name ≢ codes "age" → name ≢ codes "date" → from.reply.fields name ≡ []

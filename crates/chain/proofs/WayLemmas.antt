@@ -5,11 +5,10 @@ use Rattle.std.proofs.{lemmas.Bool.cases_Bool, lemmas.Slice.Eq.bytes_eq-Decides}
 use Rattle.std.proofs.lemmas.List.Elements.{All-cons, All-nil}
 use Rattle.std.specs.{Prelude.All, Prelude.◌||◌, Prelude.bytes_eq, List.list_any}
 use Rattle.headers.specs.Lines.{Line}
-use Rattle.chain.specs.Ways.{IsPassedOn, Reaches, end_to_end_lines, received, sent_directly}
+use Rattle.chain.specs.Ways.{IsSentOn, Reaches, end_to_end_lines, sent_directly}
 use Rattle.rfc_fields.specs.{Members.field_members, Scan.Member}
-use Rattle.gateway_messages.specs.{Forwarding.own_names, Forwarding.replaced, Requests.IsForwarded, Spellings.has_mark}
+use Rattle.gateway_messages.specs.{Forwarding.own_names, Forwarding.replaced, Spellings.has_mark}
 use Rattle.gateway_messages.specs.{declared.gateway.Gateway.Gateway, declared.protocol.Protocol.TheVariants.Http11}
-use Rattle.gateway_messages.specs.{declared.request.ForwardedRequest.ForwardedRequest}
 use Rattle.gateway_messages.specs.HopByHop.{connection_options, hop_by_hop_fields, is_hop_by_hop, is_known}
 use Rattle.gateway_messages.specs.HopByHop.{proxy_fields}
 use Rattle.decide_resource.specs.{Answers.IsAnswer, Requests.Request, Vary.AreAlike, Vary.ChooseAlike}
@@ -90,8 +89,7 @@ module _ (r s : Request) (each : (name : List ℕ) → IsRead name → r.fields 
 
 -- ---- one gateway
 
-module _ {gateway : Gateway} {request next : Request} {sent : ForwardedRequest}
-    (forwarded : IsForwarded gateway (received request) sent) (passed : IsPassedOn request sent next) where
+module _ {gateway : Gateway} {request next : Request} (h : IsSentOn gateway request next) where
   -- a field that no gateway writes has the lines that are meant for the server
   pub same_lines : (name : List ℕ) → IsRead name → end_to_end_lines gateway request name ≡ next.fields name
   same_lines name is =
@@ -99,23 +97,24 @@ module _ {gateway : Gateway} {request next : Request} {sent : ForwardedRequest}
       elim (cases_Bool (is_hop_by_hop gateway.consumes_credentials options name)) [
         | inl t ↦
             rw (is.0, t)
-            (sym (passed.fields name ∙ forwarded.fields.hop_by_hop name t (apart name is.3)))
+            (sym (h.passed.fields name ∙ h.forwarded.fields.hop_by_hop name t (apart name is.3)))
         | inr f ↦
-            rw (is.0, f) (sym (passed.fields name ∙ forwarded.fields.end_to_end name f (well_spelt _ _ is.2)
+            rw (is.0, f) (sym (h.passed.fields name ∙ h.forwarded.fields.end_to_end name f (well_spelt _ _ is.2)
             (differs name own_names is.1)))
       ]
 
   pub alike : AreAlike (sent_directly gateway request) next
   alike =
-      alike_by (sent_directly gateway request) next same_lines (sym passed.protocol) passed.method
-      (sym passed.authority) (sym (passed.fields (codes "host") ∙ forwarded.fields.host)) passed.content passed.denied
+      alike_by (sent_directly gateway request) next same_lines (sym h.passed.protocol) h.passed.method
+      (sym h.passed.authority) (sym (h.passed.fields (codes "host") ∙ h.forwarded.fields.host)) h.passed.content
+      h.passed.denied
 
   pub choose_alike : ChooseAlike (end_to_end_lines gateway request) next.fields
   choose_alike = choose_by (sent_directly gateway request) next same_lines
 
   pub no_options : connection_options next.fields ≡ []
   no_options =
-      let none = passed.fields (codes "connection") ∙ forwarded.fields.hop_by_hop (codes "connection") refl
+      let none = h.passed.fields (codes "connection") ∙ h.forwarded.fields.hop_by_hop (codes "connection") refl
       (apart (codes "connection") refl) in
       ap (λ (lines : List Line). field_members true lines) none
 
@@ -158,16 +157,15 @@ module _ (reads : ReadsNoMore) (present : ℕ) (resource : Resource) (answer : A
   behind p next last first modern origin none (gateway ∷ gateways) way =
       let directly = reads present resource next (sent_directly gateway next) answer
       (direct gateway next modern origin none) (choose_direct gateway next modern origin none) in
-      let onward = reads present resource (sent_directly gateway next) way.1 answer (alike way.2 way.3)
-      (choose_alike way.2 way.3) in
-      behind p way.1 last
+      let onward = reads present resource (sent_directly gateway next) way.0 answer (alike way.1) (choose_alike way.1)
+      in
+      behind p way.0 last
       ((λ h. onward.0 (directly.0 (first.0 h))), (λ h. first.1 (directly.1 (onward.1 h))))
-      way.3.protocol way.3.authority (no_options way.2 way.3) gateways way.4
+      way.1.passed.protocol way.1.passed.authority (no_options way.1) gateways way.2
 
   pub invisible : (gateway : Gateway) (gateways : List Gateway) (request last : Request)
       → Reaches (gateway ∷ gateways) request last → Gets (sent_directly gateway request) ↔ Gets last
   invisible gateway gateways request last way =
-      behind (sent_directly gateway request) way.1 last
-      (reads present resource (sent_directly gateway request) way.1 answer (alike way.2 way.3)
-      (choose_alike way.2 way.3))
-      way.3.protocol way.3.authority (no_options way.2 way.3) gateways way.4
+      behind (sent_directly gateway request) way.0 last
+      (reads present resource (sent_directly gateway request) way.0 answer (alike way.1) (choose_alike way.1))
+      way.1.passed.protocol way.1.passed.authority (no_options way.1) gateways way.2

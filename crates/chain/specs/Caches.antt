@@ -1,5 +1,6 @@
 -- A cache before other servers (RFC 9111): which requests it answers from its store, what it stores, and when.
-use Rattle.std.specs.Prelude.{◌≡◌, ◌≢◌, ◌⊎◌, ℕ, ◌+◌, ◌-◌, ◌≤◌, Bool, true, ◌&&◌, not, ◌==◌, List, [], ◌∷◌, ◌++◌, All}
+use Rattle.std.specs.Prelude.{◌≡◌, ◌≢◌, ◌⊎◌, ℕ, ◌+◌, ◌-◌, ◌/◌, ◌≤◌, Bool, true, ◌&&◌, not, ◌==◌, List, [], ◌∷◌, ◌++◌}
+use Rattle.std.specs.Prelude.{All, Contains}
 use Rattle.std.{specs.Prelude.{None, Some, bytes_eq, codes, if◌then◌else◌, unwrap_or}, specs.List.list_all}
 use Rattle.headers.{specs.LineMap.{Field, LineMap, lines_at}, specs.Lines.{Line, only_line}, specs.Text.is_text}
 use Rattle.cache_store.{specs.Contents.{Contents, responses_at}, specs.History.{Call, History, Step}}
@@ -25,9 +26,16 @@ pub record Reply : Type 0 where
 abbrev pub unless_head : List ℕ → List ℕ → List ℕ
 unless_head method content = if bytes_eq method (codes "HEAD") then [] else content
 
--- those who answer requests: at a time, in seconds since 1970, they give a request to a target this reply
+-- A time is a number of ticks since 1970. So many are in a second.
+abbrev pub per_second : ℕ
+per_second = 1_000_000_000
+
+abbrev pub second_of : ℕ → ℕ
+second_of time = time / per_second
+
+-- those who answer requests: to a request to a target that is sent at the first time they give this reply by the second
 abbrev pub Origin : Type 1
-Origin = ℕ → List ℕ → Request → Reply → Type 0
+Origin = ℕ → ℕ → List ℕ → Request → Reply → Type 0
 
 -- a request as a cache reads it
 abbrev pub asked : Request → Asked
@@ -72,11 +80,16 @@ key_of target request = codes "http://" ++ (unwrap_or (only_line (request.fields
 
 -- ---- the clock of a cache
 
--- A clock, and what it shows at a time. It runs as time does from when it was set; it may be wrong.
+-- A clock, and its ticks at a time. It runs as time does from when it was set; it may be wrong, and its seconds begin
+-- when they like.
 pub record Clock : Type 0 where
-  pub shows : ℕ → ℕ
+  pub ticks : ℕ → ℕ
   pub set : ℕ
-  pub runs : (time later : ℕ) → set ≤ time → time ≤ later → shows later ≡ shows time + (later - time)
+  pub runs : (time later : ℕ) → set ≤ time → time ≤ later → ticks later ≡ ticks time + (later - time)
+
+-- the second that it shows
+abbrev pub shown : Clock → ℕ → ℕ
+shown clock time = second_of (clock.ticks time)
 
 -- ---- what a cache does
 
@@ -109,18 +122,16 @@ pub record IsNoted (request : Request) (requested : ℕ) (reply : Reply) (receiv
   pub requested_at : came.requested ≡ requested
   pub received_at : came.received ≡ received
 
--- The response came from those behind the cache: they gave it after the cache sent the request on, and before it came.
+-- The response came from those behind the cache, after the cache sent the request on.
 pub record HasComeFrom (clock : Clock) (origin : Origin) (now : ℕ) (target : List ℕ) (request : Request)
     (came : StoredResponse) : Type 0 where
   pub sent : ℕ
-  pub time : ℕ
   pub received : ℕ
   pub reply : Reply
-  pub answered : origin time target request reply
-  pub noted : IsNoted request (clock.shows sent) reply (clock.shows received) came
+  pub answered : origin sent received target request reply
+  pub noted : IsNoted request (shown clock sent) reply (shown clock received) came
   pub set_before : clock.set ≤ sent
-  pub after : sent ≤ time
-  pub before : time ≤ received
+  pub after : sent ≤ received
   pub past : received ≤ now
 
 module _ (caching : Caching) (origin : Origin) (now : ℕ) where
@@ -167,24 +178,59 @@ ServesOnError (ServeAndRevalidate named age) number = ⊥
 ServesOnError Unavailable number = ⊥
 ServesOnError Forward number = ⊥
 
--- The reply is the stored response that a lookup of the cache's store serves to a plain request, at once or as the
--- servers behind it fail, with its age.
-pub record IsFromStore (caching : Caching) (origin : Origin) (now : ℕ) (target : List ℕ) (request : Request)
-    (reply : Reply) : Type 0 where
+-- After its acts the cache asks its store for the request: this is the answer, and this is stored.
+pub record HasSought (caching : Caching) (origin : Origin) (now : ℕ) (target : List ℕ) (request : Request)
+    (contents : Contents) (lookup : Lookup) : Type 0 where
   pub acts : List Act
   pub before : Contents
   pub has : HasAfter caching origin now acts before
+  pub sought : IsSought caching.policy caching.limits caching.most target request (shown caching.clock now) before
+      contents lookup
+
+-- the statuses of an error (RFC 5861, section 4)
+abbrev pub error_statuses : List ℕ
+error_statuses = 500 ∷ 502 ∷ 503 ∷ 504 ∷ []
+
+-- at some time between these no answer comes to what is sent
+abbrev pub IsSilent : (ℕ → Bool) → ℕ → ℕ → Type 0
+IsSilent silent start now = (time : ℕ) × (start ≤ time) × (time ≤ now) × (silent time ≡ true)
+
+-- Those who are asked fail: they answer by an error, or not at all.
+abbrev pub Fails : Origin → (ℕ → Bool) → ℕ → ℕ → List ℕ → Request → Type 0
+Fails origin silent start now target request =
+    IsSilent silent start now
+    ⊎ ((reply : Reply) × origin start now target request reply × Contains error_statuses reply.status)
+
+-- The reply to a request that was sent at the first time, and which is received at the second: in between the cache
+-- serves it a stored response, with its age. It does so at once, or as those behind it fail.
+pub record IsFromStore (caching : Caching) (origin : Origin) (silent : ℕ → Bool) (start now : ℕ) (target : List ℕ)
+    (request : Request) (reply : Reply) : Type 0 where
+  pub time : ℕ
+  pub after : start ≤ time
+  pub past : time ≤ now
   pub contents : Contents
   pub lookup : Lookup
-  pub sought : IsSought caching.policy caching.limits caching.most target request (caching.clock.shows now) before
-      contents lookup
+  pub found : HasSought caching origin time target request contents lookup
   pub number : ℕ
   pub age : Field
   pub stored : StoredResponse
   pub at : numbered number (responses_at (key_of target request) contents) ≡ Some stored
   pub serves : Serves lookup number age
-      ⊎ (ServesOnError lookup number × (age ≡ age_of_stored stored (caching.clock.shows now)))
+      ⊎ (ServesOnError lookup number × Fails origin silent start time target request
+      × (age ≡ age_of_stored stored (shown caching.clock time)))
   pub status : reply.status ≡ stored.status
   pub content : reply.content ≡ unless_head request.method stored.content
   pub fields : (name : List ℕ) → name ≢ codes "age" → reply.fields name ≡ fields_of_stored stored name
   pub has_age : reply.fields (codes "age") ≡ age.1
+
+-- nobody answers, which a gateway or a cache says by 502 or 504 (RFC 9110, sections 15.6.3 and 15.6.5)
+abbrev pub IsUnanswered : (ℕ → Bool) → ℕ → ℕ → ℕ → Type 0
+IsUnanswered silent start now status = IsSilent silent start now × ((status ≡ 502) ⊎ (status ≡ 504))
+
+-- Why a cache answers a request by itself, and with which status: the request forbids to ask anybody, and no stored
+-- response is good enough (`only-if-cached`; RFC 9111, section 5.2.1.7); or nobody behind the cache answers.
+abbrev pub CacheAnswers : Caching → Origin → (ℕ → Bool) → ℕ → ℕ → List ℕ → Request → ℕ → Type 0
+CacheAnswers caching origin silent start now target request status =
+    (((time : ℕ) × (contents : Contents) × (start ≤ time) × (time ≤ now)
+    × HasSought caching origin time target request contents Unavailable) × (status ≡ 504))
+    ⊎ IsUnanswered silent start now status

@@ -1,5 +1,6 @@
 pub mod Caches
 pub mod Chains
+pub mod Instances
 pub mod Responses
 pub mod Servers
 pub mod Serving

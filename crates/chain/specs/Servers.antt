@@ -2,8 +2,10 @@
 use Rattle.std.specs.Prelude.{◌≡◌, ◌≢◌, ℕ, Bool, true, false, List, [], ◌∷◌, All, Option, Some, codes}
 use Rattle.http_header.specs.Token.{lowercase}
 use Rattle.headers.{specs.LineMap.{LineMap, fields_of, set, set_all}, specs.Lines.Line}
-use Rattle.chain.specs.Caches.{Reply, unless_head}
+use Rattle.chain.specs.Caches.{Reply, second_of, unless_head}
 use Rattle.gateway_messages.{specs.Forwarding.own_names, specs.HopByHop.is_known, specs.Spellings.has_mark}
+use Rattle.gateway_messages.specs.{Framing.States, declared.framing.Framing.Framing}
+use Rattle.gateway_messages.specs.declared.protocol.Protocol.TheVariants.{Http11}
 use Rattle.decide_preconditions.{specs.Plans.parts_sent, specs.declared.part.Part.Part}
 use Rattle.decide_resource.{specs.Answers.IsAnswer, specs.Requests.Request, specs.declared.answer.Answer.Answer}
 use Rattle.decide_resource.specs.declared.answer.Sends.{Sends}
@@ -27,14 +29,16 @@ sent_of sends.Alternatives = Alternatives
 sent_of (sends.Planned place plan) = Representation place (parts_sent plan)
 sent_of sends.Perform = Outcome
 
--- A server of one target. At each time, in seconds since 1970, it has a resource, and an answer to each request. The
--- bytes that it sends are those of that time, of the status and of what goes out; and the fields that it has before it
--- sets those of the answer are those of that time and of the status.
+-- A server of one target. At each time it has a resource, and an answer to each request. The bytes that it sends are
+-- those of that time, of the status and of what goes out; and the fields that it has before it sets those of the answer
+-- are those of that time and of the status. It may be known that its fields frame each response (RFC 9112, section 6).
 pub record Server : Type 0 where
   pub resource : ℕ → Resource
-  pub answers : (time : ℕ) (request : Request) → (answer : Answer) × IsAnswer time (resource time) request answer
+  pub answers : (time : ℕ) (request : Request)
+      → (answer : Answer) × IsAnswer (second_of time) (resource time) request answer
   pub own : ℕ → ℕ → LineMap
   pub content : ℕ → ℕ → Sent → List ℕ
+  pub frames : Bool
 
 -- ---- what it says
 
@@ -51,7 +55,7 @@ pub record IsCarried (name : List ℕ) : Type 0 where
 -- goes with it, and each carried field as the server sends it.
 pub record IsSaid (server : Server) (time : ℕ) (request : Request) (reply : Reply) : Type 0 where
   pub answer : Answer
-  pub is : IsAnswer time (server.resource time) request answer
+  pub is : IsAnswer (second_of time) (server.resource time) request answer
   pub status : answer.status ≡ Some reply.status
   pub content : reply.content
       ≡ unless_head request.method (server.content time reply.status (sent_of answer.sends))
@@ -77,3 +81,4 @@ pub record IsSent (server : Server) (now : ℕ) (request : Request) (reply : Rep
   pub connection : reply.fields (codes "connection")
       ≡ set_all (set (server.own now reply.status) (codes "connection", connection_lines closes))
       (fields_of said.answer.fields.items) (codes "connection")
+  pub framed : server.frames ≡ true → (framing : Framing) × States Http11 reply.fields framing

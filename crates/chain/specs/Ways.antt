@@ -28,13 +28,18 @@ pub record IsPassedOn (request : Request) (sent : ForwardedRequest) (next : Requ
   pub denied : request.denied ≡ next.denied
   pub fields : (name : List ℕ) → next.fields name ≡ lines_under (fields_of sent.fields.items) name
 
+-- a gateway forwards a request, and this is what the next server gets
+pub record IsSentOn (gateway : Gateway) (request next : Request) : Type 0 where
+  pub sent : ForwardedRequest
+  pub forwarded : IsForwarded gateway (received request) sent
+  pub passed : IsPassedOn request sent next
+
 -- each gateway of the list forwards the request, the first one that of the client; the last request is what the
 -- server behind them gets
 abbrev pub Reaches : List Gateway → Request → Request → Type 0
 Reaches [] request last = request ≡ last
 Reaches (gateway ∷ gateways) request last =
-    (sent : ForwardedRequest) × (next : Request) × IsForwarded gateway (received request) sent
-    × IsPassedOn request sent next × Reaches gateways next last
+    (next : Request) × IsSentOn gateway request next × Reaches gateways next last
 
 -- the field lines of a request that are meant for the server behind a gateway: those of the connection to the gateway
 -- are left out, and Host is that of the target

@@ -1,11 +1,11 @@
 //! What follows from the definitions. A proof cites a law by calling it.
-ghost use Rattle.std.specs.Prelude.{◌≡◌, ◌≢◌, ◌↔◌, ◌⊎◌, ◌∷◌, [], ℕ, List, All, codes, false, true};
+ghost use Rattle.std.specs.Prelude.{◌≡◌, ◌≢◌, ◌↔◌, ◌⊎◌, ◌∷◌, [], ℕ, Bool, List, All, codes, false, true};
 ghost use Rattle.headers.specs.LineMap.{LineMap, fields_of, set_all};
 ghost use Rattle.cache_policy.specs.{Varying.Suits, Fields.IsPresent, Policies.tells, Storing.IsOpen};
 ghost use Rattle.cache_policy.specs.{declared.Kind.TheVariants.Shared};
 ghost use Rattle.chain.specs.Caches.{Caching, IsFromStore, IsPlain, Reply, asked, key_of, unless_head};
 ghost use Rattle.chain.specs.Chains.{Hop, IsForwardedBack, IsOwn, IsTold, behind, meant};
-ghost use Rattle.chain.specs.Servers.{IsSent, SaysCloseAtMost, Server};
+ghost use Rattle.chain.specs.{Instances.IsInstance, Servers.{IsSent, SaysCloseAtMost, Server}};
 ghost use Rattle.chain.specs.{Responses.HasNoOptions, Responses.Returns, Ways.Reaches, Ways.sent_directly};
 ghost use Rattle.decide_cors.specs.Browser.{CorsCheck, Request as Sent};
 ghost use Rattle.gateway_messages.specs.{Forwarding.IsHopByHop, Forwarding.own_names, Spellings.has_mark};
@@ -16,7 +16,8 @@ ghost use Rattle.decide_resource.specs.{declared.resource.Resource.Resource};
 
 use cache_store::laws::{calls_justify_what_is_stored, lookups_serve_what_calls_justify};
 use decide_resource::laws::{
-    head_is_answered_as_get, members_alone_select, other_fields_change_nothing, vary_is_sound,
+    head_is_answered_as_get, members_alone_select, other_fields_change_nothing,
+    request_has_one_reason, vary_is_sound,
 };
 
 /// Theorem: gateways are invisible to a resource. What any number of gateways forward gets exactly
@@ -85,15 +86,18 @@ pub fn stored_answer_is_the_answer()
 }
 
 /// Theorem: what a client gets through any gateways and caches is what the resource says about its
-/// request, or what one of them answers by itself. The resource says it now; or it said it no
-/// longer ago than Age tells, in whole seconds, and some policy and some Date make it fresh, or each
-/// directive allows it stale. They needn't be those of a cache on the way. The status, the content
-/// and each field that neither a gateway nor a cache writes are the server's. An answer of their own
-/// has no content, and no such field, and may have any reason.
+/// request, or what one of them answers by itself. It left the server when the resource said it, or
+/// later a cache on the way that finds it good enough for this request: by its policy, its bound of
+/// guesses and the Date that the client gets it is fresh, or each directive allows it stale, and
+/// `stale-if-error` only if those behind that cache fail. Age is short of the time between by at
+/// most a second for each cache. The status, the content and each field that neither a gateway nor a
+/// cache writes are the server's. An answer of their own has no content, no such field, and a reason:
+/// a rejected request or response, no stored response where the request wants one, or no answer.
 pub fn client_gets_what_the_resource_says()
-    ensures { (site : List ℕ → Server) (hops : List Hop) (now : ℕ) (target : List ℕ) (request : Request)
-        (reply : Reply) → behind site hops now target request reply
-        → IsTold (site target) now (meant hops request) reply ⊎ IsOwn reply }
+    ensures { (site : List ℕ → Server) (silent : List Hop → ℕ → Bool) (hops : List Hop) (start now : ℕ)
+        (target : List ℕ) (request : Request) (reply : Reply) → behind site silent hops start now target request reply
+        → IsTold site silent hops start now target (meant hops request) reply
+        ⊎ IsOwn site silent hops start now target request reply }
 {
     head_is_answered_as_get();
     calls_justify_what_is_stored();
@@ -101,6 +105,14 @@ pub fn client_gets_what_the_resource_says()
     vary_is_sound();
     members_alone_select();
     other_fields_change_nothing();
+}
+
+/// Theorem: such a chain exists. A gateway, a cache and the server of a resource that is gone give a client a response
+/// whose Age is a second or more, and not the server's: the cache has stored it.
+pub fn a_chain_serves_from_its_store()
+    ensures { IsInstance }
+{
+    request_has_one_reason();
 }
 
 /// A server says of its connection at most that it is closed: a resource sets no connection option (RFC 9110,
@@ -124,14 +136,16 @@ pub fn key_is_of_one_target()
 /// fields its Cache-Control. It is the content of an answer to some request without Authorization,
 /// or of one that allows that others get it (RFC 9111, sections 3.5 and 5.2.2.7).
 pub fn shared_caches_serve_nothing_private()
-    ensures private { (site : List ℕ → Server) (hops : List Hop) (caching : Caching) (now : ℕ) (target : List ℕ)
-        (request : Request) (reply : Reply) → caching.policy.kind ≡ Shared
-        → IsFromStore caching (behind site hops) now target request reply
+    ensures private { (site : List ℕ → Server) (silent : List Hop → ℕ → Bool) (hops : List Hop) (caching : Caching)
+        (start now : ℕ) (target : List ℕ) (request : Request) (reply : Reply) → caching.policy.kind ≡ Shared
+        → IsFromStore caching (behind site silent hops) (silent hops) start now target request reply
         → (tells caching.policy reply.fields).private ≡ false }
-    ensures credentials { (site : List ℕ → Server) (hops : List Hop) (caching : Caching) (now : ℕ)
-        (target : List ℕ) (request : Request) (reply : Reply) → caching.policy.kind ≡ Shared
-        → IsFromStore caching (behind site hops) now target request reply
-        → (time : ℕ) × (first : Request) × (came : Reply) × behind site hops time target first came
+    ensures credentials { (site : List ℕ → Server) (silent : List Hop → ℕ → Bool) (hops : List Hop)
+        (caching : Caching) (start now : ℕ) (target : List ℕ) (request : Request) (reply : Reply)
+        → caching.policy.kind ≡ Shared
+        → IsFromStore caching (behind site silent hops) (silent hops) start now target request reply
+        → (sent : ℕ) × (received : ℕ) × (first : Request) × (came : Reply)
+        × behind site silent hops sent received target first came
         × (reply.content ≡ unless_head request.method came.content)
         × (IsPresent (codes "authorization") first.fields → IsOpen (tells caching.policy reply.fields)) }
 {
@@ -143,14 +157,14 @@ pub fn shared_caches_serve_nothing_private()
 /// Transfer-Encoding, fields that Connection names included, and no field of RFC 9110, section 7.6.1,
 /// or of a proxy comes from a store.
 pub fn no_connection_field_crosses()
-    ensures forwarded { (site : List ℕ → Server) (hops : List Hop) (gateway : Gateway) (now : ℕ)
-        (target : List ℕ) (request : Request) (reply : Reply) (name : List ℕ)
-        → (f : IsForwardedBack gateway (behind site hops) now target request reply)
+    ensures forwarded { (site : List ℕ → Server) (silent : List Hop → ℕ → Bool) (hops : List Hop)
+        (gateway : Gateway) (start now : ℕ) (target : List ℕ) (request : Request) (reply : Reply) (name : List ℕ)
+        → (f : IsForwardedBack gateway (behind site silent hops) start now target request reply)
         → IsHopByHop gateway f.behind.fields name → name ≢ codes "transfer-encoding" → reply.fields name ≡ [] }
-    ensures stored { (site : List ℕ → Server) (hops : List Hop) (caching : Caching) (now : ℕ) (target : List ℕ)
-        (request : Request) (reply : Reply) (name : List ℕ)
-        → IsFromStore caching (behind site hops) now target request reply → is_known true name ≡ true
-        → reply.fields name ≡ [] }
+    ensures stored { (site : List ℕ → Server) (silent : List Hop → ℕ → Bool) (hops : List Hop) (caching : Caching)
+        (start now : ℕ) (target : List ℕ) (request : Request) (reply : Reply) (name : List ℕ)
+        → IsFromStore caching (behind site silent hops) (silent hops) start now target request reply
+        → is_known true name ≡ true → reply.fields name ≡ [] }
 {
     calls_justify_what_is_stored();
     lookups_serve_what_calls_justify();
