@@ -1,14 +1,13 @@
 -- What goes by the items of a value stays the same if its lines are joined or split.
 use Rattle.std.proofs.Common.{◌≡◌, ℕ, true, List, [], ◌∷◌, ◌++◌, refl, sym, ◌∙◌, ap, subst, filter, append-nil}
-use Rattle.std.{specs.List.{flat_map, list_all}, proofs.lemmas.Bool.and_parts}
+use Rattle.std.{specs.List.{flat_map}}
 use Rattle.std.proofs.lemmas.List.Elements.{filter-append}
-use Rattle.http_header.specs.Token.{is_visible_or_blank}
-use Rattle.headers_syntax.{specs.Lines.Line, specs.Text.is_text, proofs.TextLemmas.list_all-parts}
+use Rattle.headers_syntax.{specs.Lines.Line, specs.Text.is_text}
 use Rattle.headers_items.{specs.Answers.{SameAnswers, SurvivesCuts, GoesByItems}, specs.CutLaw.AreCuts}
 use Rattle.headers_items.{specs.Entries.{entries, line_entries}, specs.ItemsState.is_entry, specs.Merge.merge}
 use Rattle.headers_items.{specs.Places.{comma, semicolon, items, pieces}, specs.Separator.IsSeparator}
-use Rattle.headers_items.{specs.Separator.{comma_is_separator, semicolon_is_separator}, proofs.CutLemmas.IsCutInto}
-use Rattle.headers_items.proofs.CutLemmas.{items_apart, items_cut_at, IsCutInto-pieces, zero_even, HasItemsOf-merge}
+use Rattle.headers_items.{specs.Separator.{comma_is_separator, semicolon_is_separator}}
+use Rattle.headers_items.proofs.CutLemmas.{items_cut_at, items_of_pieces, HasItemsOf-merge}
 
 -- equal values have the same answers
 pub same_answers : {A R : Type 0} (answers : A → R → Type 0) (v w : A) → v ≡ w → SameAnswers answers v w
@@ -43,18 +42,6 @@ survives_semicolons answers =
     survives semicolon (λ value. answers (items semicolon value)) semicolon_is_separator
     (goes_by_items semicolon answers)
 
--- the items of a text are those of the lines that it was cut into, one line after the other
-items_of_parts : (separator : ℕ) (s : List ℕ) (lines : List Line) → IsSeparator separator → is_text s ≡ true
-    → IsCutInto separator s lines → flat_map (items separator) lines ≡ items separator s
-items_of_parts separator s [] f t h = absurd h
-items_of_parts separator s (x ∷ []) f t h = append-nil (items separator x) ∙ ap (items separator) (sym h)
-items_of_parts separator s (x ∷ y ∷ ys) f t h =
-    let t' : is_text (x ++ separator ∷ h.0) ≡ true = ap is_text (sym h.1) ∙ t in
-    let parts = list_all-parts is_visible_or_blank x (separator ∷ h.0) t' in
-    let tb = (and_parts (is_visible_or_blank separator) (list_all is_visible_or_blank h.0) parts.1).1 in
-    ap (λ r. items separator x ++ r) (items_of_parts separator h.0 (y ∷ ys) f tb h.3)
-    ∙ sym (ap (items separator) h.1 ∙ items_apart separator x h.0 f t' h.2)
-
 -- entries are items of the lines
 entries_items : (lines : List Line) → entries lines ≡ filter is_entry (flat_map (items comma) lines)
 entries_items [] = refl
@@ -70,10 +57,7 @@ entries_cut : (s places : List ℕ) → is_text s ≡ true → AreCuts comma s 0
     → entries (pieces s 0 places) ≡ entries (s ∷ [])
 entries_cut s places t cuts =
     entries_items (pieces s 0 places)
-    ∙ ap (filter is_entry)
-    (items_of_parts comma s (pieces s 0 places) comma_is_separator t
-    (IsCutInto-pieces comma s 0 places comma_is_separator.no_quote (zero_even s) cuts))
-    ∙ sym (entries_line s)
+    ∙ ap (filter is_entry) (items_of_pieces comma s places comma_is_separator t cuts).1 ∙ sym (entries_line s)
 
 entries_merged : (line : Line) (lines : List Line)
     → flat_map (items comma) (line ∷ lines) ≡ items comma (merge comma (line ∷ lines))

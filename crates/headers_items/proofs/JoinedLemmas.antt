@@ -1,7 +1,7 @@
 -- Pieces that are joined by comma and space have themselves as their entries.
-use Rattle.std.proofs.Common.{◌≡◌, ℕ, ◌+◌, true, not, nat_lt, cond, List, [], ◌∷◌, ◌++◌, length, filter, refl, ◌∙◌, ap}
+use Rattle.std.proofs.Common.{◌≡◌, ℕ, true, not, nat_lt, cond, List, [], ◌∷◌, ◌++◌, length, filter, refl, ◌∙◌, ap}
 use Rattle.std.{proofs.Common.arith, specs.List.{list_all, flat_map, count_by}, proofs.lemmas.Bool.and_parts}
-use Rattle.std.{proofs.lemmas.Bool.{and_from, ltb-true, ne_eqb}, proofs.lemmas.List.append-nil}
+use Rattle.std.{proofs.lemmas.Bool.{ltb-true, ne_eqb}, proofs.lemmas.List.append-nil}
 use Rattle.std.proofs.lemmas.List.Sums.{sum_by-cons}
 use Rattle.headers_syntax.{specs.Text.{is_text, is_quote}, proofs.PlainLemmas.{is_plain, is_piece, plain_bounds}}
 use Rattle.headers_syntax.proofs.PlainLemmas.{piece_at, trim_piece, text_piece, no_quote}
@@ -13,12 +13,7 @@ use Rattle.headers_items.{proofs.ItemsLemmas.items_last, proofs.PlacesLemmas.cou
 no_quotes : (p : List ℕ) → list_all is_plain p ≡ true → count_by is_quote p ≡ 0
 no_quotes [] h = refl
 no_quotes (b ∷ p) h =
-    let x = and_parts (is_plain b) (list_all is_plain p) h in
-    let q = no_quote b (plain_bounds b x.0).0 in
-    let rest = no_quotes p x.1 in
-    let one : count_by is_quote (b ∷ p) ≡ 0 + count_by is_quote p = sum_by-cons (λ y. cond (is_quote y) 1 0) b p
-    ∙ ap (λ v. cond v 1 0 + count_by is_quote p) q in
-    omega (arith, one, rest)
+    grind (arith, no_quotes p, sum_by-cons (λ y. cond (is_quote y) 1 0) b p, plain_bounds b, no_quote b)
 
 items_piece : (p : List ℕ) → list_all is_plain p ≡ true → items 44 p ≡ p ∷ []
 items_piece p h =
@@ -28,9 +23,7 @@ items_piece p h =
 -- pieces that are joined
 pieces_text : (xs : List (List ℕ)) → list_all is_piece xs ≡ true → list_all is_text xs ≡ true
 pieces_text [] h = refl
-pieces_text (x ∷ xs) h =
-    let p = and_parts (is_piece x) (list_all is_piece xs) h in
-    and_from _ _ (text_piece x (and_parts (nat_lt 0 (length x)) (list_all is_plain x) p.0).1) (pieces_text xs p.1)
+pieces_text (x ∷ xs) h = grind (arith, pieces_text xs, text_piece x)
 
 pieces_even : (xs : List (List ℕ)) → list_all is_piece xs ≡ true → EvenButLast xs
 pieces_even [] h = tt

@@ -1,20 +1,23 @@
 -- Facts on the next mark of a scan.
-use Rattle.std.proofs.Common.{◌≡◌, ◌≢◌, ℕ, ◌+◌, Bool, true, false, not, List, sym, ◌∙◌, ap, arith, cond, ⊎_elim}
-use Rattle.std.proofs.lemmas.Bool.{cases_Bool}
+use Rattle.std.proofs.Common.{◌≡◌, ◌≢◌, ℕ, ◌+◌, Bool, true, false, not, List, sym, ◌∙◌, ap, arith, cond}
 use Rattle.headers_syntax.specs.Text.{quote}
 use Rattle.headers_items.{specs.Places.{is_even, quotes_before, hits}, specs.ScanState.{IsNextMark, end_search}}
-use Rattle.headers_items.{specs.declared.scan.Mark.Mark, proofs.PlacesLemmas.{quotes_upto, hits_upto, hits_quote}}
-use Rattle.headers_items.proofs.PlacesLemmas.{hits_cut, counting_place_parts, parity_quote, parity_other}
+use Rattle.headers_items.{specs.declared.scan.Mark.Mark, proofs.PlacesLemmas.{quotes_upto, hits_upto, hits_more}}
+use Rattle.headers_items.proofs.PlacesLemmas.{counting_place_other, counting_place_parts, parity_quote, parity_other}
 
 -- a mark is one hit
 pub mark_hits : (sep : ℕ) (s : List ℕ) (i : ℕ) (m : Mark) → sep ≢ quote → IsNextMark sep s i m
     → hits sep s (m.place + 1) ≡ hits sep s i + 1
 mark_hits sep s i m ne f =
     let same = hits_upto sep s i m.place f.low (omega arith) f.before in
-    let one : hits sep s (m.place + 1) ≡ hits sep s m.place + 1 =
-    ⊎_elim (λ y. hits_quote sep s m.place ne f.high (f.a_quote y)) (λ n. hits_cut sep s m.place ne f.high (f.a_cut n))
-    (cases_Bool m.quote) in
-    omega (arith, same, one)
+    grind (
+      arith,
+      hits_more sep s m.place f.high,
+      f.a_quote,
+      f.a_cut,
+      counting_place_parts sep s m.place,
+      counting_place_other sep s m.place,
+    )
 
 -- a quote turns the parity, and a counting place leaves it
 pub mark_turns : (sep : ℕ) (s : List ℕ) (i : ℕ) (m : Mark) → IsNextMark sep s i m → m.quote ≡ true

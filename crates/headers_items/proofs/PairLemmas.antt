@@ -1,11 +1,11 @@
 -- The halves of an item, found by a search.
-use Rattle.std.proofs.Common.{◌≡◌, ℕ, ◌+◌, ◌-◌, ◌≤◌, true, false, List, [], ◌∷◌, length, take, Option, None, Some, refl}
-use Rattle.std.{proofs.Common.{sym, ◌∙◌, ap, arith, ltb}, specs.List.{slice_range, cons_option}, specs.Prelude.position}
-use Rattle.std.{specs.Prelude.option_map, proofs.lemmas.Bool.false_from_ne_true, proofs.lemmas.Bool.Decides.nat_tests}
+use Rattle.std.proofs.Common.{◌≡◌, ℕ, ◌+◌, ◌-◌, ◌≤◌, true, false, List, [], ◌∷◌, length, None, Some, refl}
+use Rattle.std.{proofs.Common.{arith, ltb}, specs.List.{slice_range}, specs.Prelude.position}
+use Rattle.std.{proofs.lemmas.Bool.false_from_ne_true, proofs.lemmas.Bool.Decides.nat_tests}
 use Rattle.std.{proofs.lemmas.List.take_rest, proofs.lemmas.List.Sums.position_or_len_is}
 use Rattle.memchr.specs.Find.{IsFirstByte, is_byte}
 use Rattle.headers_syntax.specs.Text.{trim}
-use Rattle.headers_items.specs.Pairs.{Pair, is_equals, halves_at, pair_of, pairs}
+use Rattle.headers_items.specs.Pairs.{is_equals, pair_of, pairs}
 
 position_none : (item : List ℕ) → IsFirstByte (is_byte 61) item None → position is_equals item ≡ None
 position_none item h =
@@ -25,7 +25,7 @@ position_some item k h =
 -- an item with no `=`
 pub pair_of-none : (item bytes : List ℕ) → bytes ≡ item → IsFirstByte (is_byte 61) bytes None → None ≡ pair_of item
 unfolding pair_of
-pair_of-none item bytes same h = ap (option_map (halves_at bytes)) (sym (position_none bytes h)) ∙ ap pair_of same
+pair_of-none item bytes same h = rw (← same, position_none bytes h) refl
 
 -- an item whose first `=` stands at place k, and its halves as they were cut
 pub pair_of-some : (item bytes name value : List ℕ) (k : ℕ) → bytes ≡ item → IsFirstByte (is_byte 61) bytes (Some k)
@@ -34,18 +34,9 @@ pub pair_of-some : (item bytes name value : List ℕ) (k : ℕ) → bytes ≡ it
 unfolding pair_of
 pair_of-some item bytes name value k same h front back =
     let z : k - 0 ≡ k = omega arith in
-    let pair : List ℕ → List ℕ → Option Pair = λ x y. Some (x, y) in
-    ap (λ (x : List ℕ). pair x value) front
-    ∙ ap (pair (trim (slice_range bytes 0 k))) back
-    ∙ ap (λ (n : ℕ). pair (trim (take n bytes)) (trim (slice_range bytes (k + 1) (length bytes)))) z
-    ∙ ap (λ (x : List ℕ). pair (trim (take k bytes)) (trim x)) (take_rest bytes (k + 1))
-    ∙ ap (option_map (halves_at bytes)) (sym (position_some bytes k h)) ∙ ap pair_of same
-
-length-cons_option : (r : Option Pair) (ps : List Pair) → length (cons_option r ps) ≤ length ps + 1
-length-cons_option None ps = omega arith
-length-cons_option (Some p) ps = omega arith
+    rw (← same, position_some bytes k h, front, back, z, take_rest bytes (k + 1)) refl
 
 -- there are no more pairs than items
 pub length-pairs : (items : List (List ℕ)) → length (pairs items) ≤ length items
 length-pairs [] = omega arith
-length-pairs (x ∷ xs) = let later = length-pairs xs in omega (arith, length-cons_option (pair_of x) (pairs xs))
+length-pairs (x ∷ xs) = grind (arith, length-pairs xs)

@@ -1,10 +1,10 @@
 -- An iterator that yields only some of the items, and passes over the others.
-use Rattle.std.proofs.Common.{◌≡◌, ℕ, ◌≤◌, ◌-◌, Bool, true, false, List, [], ◌∷◌, ◌++◌, length, drop, map, ◌≢◌, Some}
+use Rattle.std.proofs.Common.{◌≡◌, ℕ, ◌≤◌, Bool, true, false, List, [], ◌∷◌, ◌++◌, length, drop, map, ◌≢◌, Some}
 use Rattle.std.proofs.Common.{refl, sym, ◌∙◌, ap, arith, inl, inr, ⊎_elim, append_assoc}
 use denote.Ref.{Bor}
-use Rattle.headers_items.specs.Places.{items_from, pieces, counting_from, is_counting_place}
+use Rattle.headers_items.specs.Places.{items_from, pieces, counting_from}
 use Rattle.headers_items.specs.ItemsState.{ItemsState, items_left, BeginsPiece, NoCut, ScansPiece, GivesPiece}
-use Rattle.headers_items.{proofs.WalkLemmas.{items_left_open, items_left_done}, proofs.ItemsLemmas.filter_places_none}
+use Rattle.headers_items.{proofs.WalkLemmas.{items_left_open, items_left_done}, proofs.ItemsLemmas.counting_none}
 use Rattle.std.{specs.List.filter, proofs.lemmas.List.Elements.filter-append}
 use Rattle.headers_syntax.specs.Text.{trim}
 
@@ -33,11 +33,7 @@ PassesUnwanted-none wanted s =
 
 -- one that gave an item was not done
 gave_open : (s t : ItemsState) (item : List ℕ) → items_left s ≡ item ∷ items_left t → s.is_done ≡ false
-gave_open s t item e = by s.is_done refl
-  where
-    by : (b : Bool) → s.is_done ≡ b → s.is_done ≡ false
-    by true d = absurd (cc (e, items_left_done s d))
-    by false d = d
+gave_open s t item e = grind arith
 
 -- at a place a piece is always left
 some_piece : (s : List ℕ) (i : ℕ) (ps : List ℕ) → map trim (pieces s i ps) ≢ []
@@ -45,18 +41,12 @@ unfolding pieces
 some_piece s i [] e = cc e
 some_piece s i (p ∷ ps) e = cc e
 
-some_item : (sep : ℕ) (s : List ℕ) (i : ℕ) → items_from sep s i ≢ []
-some_item sep s i e = some_piece s i (counting_from sep s i) e
-
 -- after the last piece nothing is left
 last_item : (sep : ℕ) (s : List ℕ) (i : ℕ) (item : List ℕ) (rest : List (List ℕ)) → NoCut sep s i (length s)
     → items_from sep s i ≡ item ∷ rest → rest ≡ []
 unfolding pieces
 last_item sep s i item rest nocut e =
-    let none : counting_from sep s i ≡ [] =
-    filter_places_none (is_counting_place sep s) i (length s - i) (λ k a b. nocut k a (omega arith)) in
-    let one : trim (drop i s) ∷ [] ≡ item ∷ rest = ap (λ ps. map trim (pieces s i ps)) (sym none) ∙ e in
-    cc one
+    let one : trim (drop i s) ∷ [] ≡ item ∷ rest = rw (counting_none sep s i nocut) at e in cc one
 
 -- where a piece ended, the next begins
 begins_after : (sep : ℕ) (s : List ℕ) (i j p : ℕ) (item : List ℕ) (rest : List (List ℕ)) → BeginsPiece sep s i j
@@ -75,7 +65,8 @@ begins_next : (wanted : List ℕ → Bool) (s t u : ItemsState) (item : Bor (Lis
     → ScansPiece t (Some item) u → items_left t ≡ item.now ∷ items_left u → t.is_done ≡ false → u.is_done ≡ false
     → u.start ≡ u.place → BeginsPiece s.separator s.text s.start u.start
 begins_next wanted s t u item h f e opn opn' at =
-    let some : items_left u ≢ [] = λ z. some_item u.separator u.text u.start (sym (items_left_open u opn') ∙ z) in
+    let some : items_left u ≢ [] = λ z.
+    some_piece u.text u.start (counting_from u.separator u.text u.start) (sym (items_left_open u opn') ∙ z) in
     let left : items_from s.separator s.text t.start ≡ item.now ∷ items_left u =
     rw (← h.text, ← h.separator) (sym (items_left_open t opn) ∙ e) in
     let gives : GivesPiece s.separator s.text t.start item.now u.place = rw (← h.text, ← h.separator) f.place in

@@ -1,11 +1,14 @@
 -- Facts on quotes, counting places and hits.
-use Rattle.std.proofs.Common.{◌≡◌, ◌≢◌, ⊎_elim, ℕ, zero, suc, ◌+◌, ◌-◌, ◌<◌, ◌≤◌, Bool, true, false, not, cond, List}
-use Rattle.std.proofs.Common.{[], ◌∷◌, ◌++◌, length, get_or, refl, sym, ◌∙◌, ap, subst, arith, take, eqb}
-use Rattle.std.{specs.List.{count_by, sum_by}, proofs.lemmas.Bool.{or_parts, and_parts, and_left, and_right, and_from}}
-use Rattle.std.{proofs.lemmas.Bool.{eqb-true, eq-eqb, ne_eqb, cases_Bool}, proofs.lemmas.Bool.Decides.nat_tests}
+use Rattle.std.proofs.Common.{◌≡◌, ◌≢◌, ℕ, zero, suc, ◌+◌, ◌-◌, ◌<◌, ◌≤◌, Bool, true, false, not, cond, List}
+use Rattle.std.proofs.Common.{[], ◌∷◌, ◌++◌, length, get_or, refl, inl, inr, ◌∙◌, ap, subst, arith, take, eqb}
+use Rattle.std.{specs.List.{count_by}, proofs.lemmas.Bool.{or_parts, and_parts, and_left, and_right, and_from}}
+use Rattle.std.{proofs.lemmas.Bool.{eqb-true, eq-eqb, ne_eqb, cases_lt, cases_Bool}}
+use Rattle.std.{proofs.lemmas.Bool.Decides.nat_tests}
 use Rattle.std.proofs.lemmas.List.Sums.{count_by_more_yes, count_by_more_no, sum_by_push, sum_by-take-le, sum_by_more}
 use Rattle.headers_syntax.specs.Text.{is_text, quote, is_quote}
-use Rattle.headers_items.specs.Places.{items, is_even, quotes_before, is_counting_place, places, hits, marks, NoHit}
+use Rattle.headers_items.specs.Places.{items, is_even, quotes_before, is_counting_place, counting_from, places, hits}
+use Rattle.headers_items.specs.Places.{marks}
+use Rattle.headers_items.specs.Places.{NoHit}
 
 -- one more is odd where a number is even
 pub is_even-more : (n : ℕ) → is_even (n + 1) ≡ not (is_even n)
@@ -30,47 +33,41 @@ count_places_more f n =
 abbrev pub NoQuote : List ℕ → ℕ → ℕ → Type 0
 NoQuote s i j = (k : ℕ) → i ≤ k → k < j → is_quote (get_or s k 0) ≡ false
 
--- where no quote stands from i on, their number stays
-pub quotes_same : (s : List ℕ) (i n : ℕ) → i + n ≤ length s → NoQuote s i (i + n)
-    → quotes_before s (i + n) ≡ quotes_before s i
-quotes_same s i zero l h = ap (quotes_before s) (let e : i + 0 ≡ i = omega arith in e)
-quotes_same s i (suc n) l h =
-    let e : i + suc n ≡ (i + n) + 1 = omega arith in
-    let lt : i + n < length s = omega arith in
-    let no = h (i + n) (omega arith) (omega arith) in
-    ap (quotes_before s) e ∙ count_by_more_no is_quote s (i + n) 0 lt no
-    ∙ quotes_same s i n (omega arith) (λ k a b. h k a (omega arith))
+-- what no place from i up to j changes
+pub stays : {A : Type 0} (f : ℕ → A) (i j : ℕ) → i ≤ j → ((k : ℕ) → i ≤ k → k < j → f (k + 1) ≡ f k) → f j ≡ f i
+stays f i zero l h = ap f (omega arith)
+stays f i (suc j) l h =
+    elim (cases_lt j i) [
+      | inl lt ↦ ap f (omega arith)
+      | inr le ↦
+          let e : suc j ≡ j + 1 = omega arith in
+          ap f e ∙ h j le (omega arith) ∙ stays f i j le (λ k a b. h k a (omega arith))
+    ]
 
+-- where no quote stands, their number stays
 pub quotes_along : (s : List ℕ) (i j : ℕ) → i ≤ j → j ≤ length s → NoQuote s i j → quotes_before s j ≡ quotes_before s i
 quotes_along s i j le l h =
-    let e : i + (j - i) ≡ j = omega arith in
-    ap (quotes_before s) (sym e) ∙ quotes_same s i (j - i) (omega arith) (λ k a b. h k a (omega arith))
+    stays (quotes_before s) i j le (λ k a b. count_by_more_no is_quote s k 0 (omega arith) (h k a b))
 
--- and so do the hits
-pub hits_same : (sep : ℕ) (s : List ℕ) (i n : ℕ) → i + n ≤ length s → NoHit sep s i (i + n)
-    → hits sep s (i + n) ≡ hits sep s i
-unfolding hits
-hits_same sep s i zero l h = ap (hits sep s) (let e : i + 0 ≡ i = omega arith in e)
-hits_same sep s i (suc n) l h =
-    let e : i + suc n ≡ (i + n) + 1 = omega arith in
-    let lt : i + n < length s = omega arith in
-    let here = or_parts _ _ (h (i + n) (omega arith) (omega arith)) in
-    let q = count_by_more_no is_quote s (i + n) 0 lt here.0 in
-    let c : count_by (is_counting_place sep s) (places 0 ((i + n) + 1))
-    ≡ count_by (is_counting_place sep s) (places 0 (i + n)) = count_places_more (is_counting_place sep s) (i + n)
-    ∙ rw here.1 (omega arith) in
-    ap (hits sep s) e ∙ (let both : hits sep s ((i + n) + 1) ≡ hits sep s (i + n) = omega (arith, q, c) in both)
-    ∙ hits_same sep s i n (omega arith) (λ k a b. h k a (omega arith))
-
--- the same, from i up to j
 pub quotes_upto : (sep : ℕ) (s : List ℕ) (i j : ℕ) → i ≤ j → j ≤ length s → NoHit sep s i j
     → quotes_before s j ≡ quotes_before s i
 quotes_upto sep s i j le l h = quotes_along s i j le l (λ k a b. (or_parts _ _ (h k a b)).0)
 
+-- the hits before the next place
+pub hits_more : (sep : ℕ) (s : List ℕ) (p : ℕ) → p < length s
+    → hits sep s (p + 1) ≡ hits sep s p + (cond (is_quote (get_or s p 0)) 1 0 + cond (is_counting_place sep s p) 1 0)
+unfolding hits
+hits_more sep s p l =
+    let quotes = sum_by_more (λ b. cond (is_quote b) 1 0) s p 0 l in
+    omega (arith, quotes, count_places_more (is_counting_place sep s) p)
+
+-- where there is no hit, their number stays
 pub hits_upto : (sep : ℕ) (s : List ℕ) (i j : ℕ) → i ≤ j → j ≤ length s → NoHit sep s i j → hits sep s j ≡ hits sep s i
 hits_upto sep s i j le l h =
-    let e : i + (j - i) ≡ j = omega arith in
-    ap (hits sep s) (sym e) ∙ hits_same sep s i (j - i) (omega arith) (λ k a b. h k a (omega arith))
+    stays (hits sep s) i j le
+    (λ k a b.
+    let none : (is_quote (get_or s k 0) ≡ false) × (is_counting_place sep s k ≡ false) = or_parts _ _ (h k a b) in
+    rw (hits_more sep s k (omega arith), none.0, none.1) (omega arith))
 
 -- nothing stands before the first place
 pub hits_zero : (sep : ℕ) (s : List ℕ) → hits sep s 0 ≡ 0
@@ -98,28 +95,6 @@ pub counting_place_inside : (sep : ℕ) (s : List ℕ) (p : ℕ) → is_even (qu
 unfolding is_counting_place
 counting_place_inside sep s p a = and_right _ _ a
 
--- one hit more, at a quote and at a counting place
-pub hits_quote : (sep : ℕ) (s : List ℕ) (p : ℕ) → sep ≢ quote → p < length s → get_or s p 0 ≡ quote
-    → hits sep s (p + 1) ≡ hits sep s p + 1
-unfolding hits
-hits_quote sep s p ne l q =
-    let a = count_by_more_yes is_quote s p 0 l (eq-eqb _ _ q) in
-    let no : is_counting_place sep s p ≡ false = counting_place_other sep s p (λ e. ne (sym e ∙ q)) in
-    let c : count_by (is_counting_place sep s) (places 0 (p + 1)) ≡ count_by (is_counting_place sep s) (places 0 p) =
-    count_places_more (is_counting_place sep s) p ∙ rw no (omega arith) in
-    omega (arith, a, c)
-
-pub hits_cut : (sep : ℕ) (s : List ℕ) (p : ℕ) → sep ≢ quote → p < length s → is_counting_place sep s p ≡ true
-    → hits sep s (p + 1) ≡ hits sep s p + 1
-unfolding hits
-hits_cut sep s p ne l here =
-    let byte = (counting_place_parts sep s p here).0 in
-    let a = count_by_more_no is_quote s p 0 l (ne_eqb _ _ (λ e. ne (sym byte ∙ e))) in
-    let c : count_by (is_counting_place sep s) (places 0 (p + 1))
-    ≡ count_by (is_counting_place sep s) (places 0 p) + 1 = count_places_more (is_counting_place sep s) p
-    ∙ rw here refl in
-    omega (arith, a, c)
-
 -- the parity after a quote, and after a separator
 pub parity_quote : (s : List ℕ) (p : ℕ) → p < length s → get_or s p 0 ≡ quote
     → is_even (quotes_before s (p + 1)) ≡ not (is_even (quotes_before s p))
@@ -129,9 +104,6 @@ pub parity_other : (s : List ℕ) (p : ℕ) → p < length s → get_or s p 0 �
     → is_even (quotes_before s (p + 1)) ≡ is_even (quotes_before s p)
 parity_other s p l q = ap is_even (count_by_more_no is_quote s p 0 l (ne_eqb _ _ q))
 
-sum_by-take-le' : (f : ℕ → ℕ) (s : List ℕ) (p : ℕ) → p < length s → sum_by f (take p s) ≤ sum_by f (take (p + 1) s)
-sum_by-take-le' f s p l = omega (arith, sum_by_more f s p 0 l)
-
 -- no more places count than hold the separator
 count_counts : (sep : ℕ) (s : List ℕ) (p : ℕ) → p ≤ length s
     → count_by (is_counting_place sep s) (places 0 p) ≤ count_by (λ b. eqb b sep) (take p s)
@@ -139,22 +111,17 @@ unfolding places
 count_counts sep s zero l = omega arith
 count_counts sep s (suc p) l =
     let Q : ℕ → Type 0 = λ n. count_by (is_counting_place sep s) (places 0 n) ≤ count_by (λ b. eqb b sep) (take n s) in
-    let e : suc p ≡ p + 1 = omega arith in
-    let lt : p < length s = omega arith in
     let before = count_counts sep s p (omega arith) in
     let one = count_places_more (is_counting_place sep s) p in
-    ⊎_elim
-    (λ here.
-    let yes' = count_by_more_yes (λ b. eqb b sep) s p 0 lt (eq-eqb _ _ (counting_place_parts sep s p here).0) in
-    let one' : count_by (is_counting_place sep s) (places 0 (p + 1))
-    ≡ count_by (is_counting_place sep s) (places 0 p) + 1 = one ∙ rw here refl in
-    subst Q (sym e) (let h : Q (p + 1) = omega (arith, one', yes', before) in h))
-    (λ here.
-    let one' : count_by (is_counting_place sep s) (places 0 (p + 1))
-    ≡ count_by (is_counting_place sep s) (places 0 p) + 0 = one ∙ rw here refl in
-    let more = sum_by-take-le' (λ b. cond (eqb b sep) 1 0) s p lt in
-    subst Q (sym e) (let h : Q (p + 1) = omega (arith, one', more, before) in h))
-    (cases_Bool (is_counting_place sep s p))
+    let more = sum_by_more (λ b. cond (eqb b sep) 1 0) s p 0 (omega arith) in
+    let next : Q (p + 1) =
+    elim (cases_Bool (is_counting_place sep s p)) [
+      | inl here ↦
+          let byte : eqb (get_or s p 0) sep ≡ true = eq-eqb _ _ (counting_place_parts sep s p here).0 in
+          omega (arith, before, rw here at one, rw byte at more)
+      | inr other ↦ omega (arith, before, rw other at one, more)
+    ] in
+    subst Q (let e : p + 1 ≡ suc p = omega arith in e) next
 
 -- before a place there are at most as many hits as the text has marks
 pub hits-le-marks : (sep : ℕ) (s : List ℕ) (p : ℕ) → p ≤ length s → hits sep s p ≤ marks sep s
@@ -170,3 +137,11 @@ hits-le-marks sep s p l =
 -- a value that is no text has no item
 pub items-no_text : (sep : ℕ) (s : List ℕ) → is_text s ≡ false → items sep s ≡ []
 items-no_text sep s h = rw h refl
+
+-- one place of `counting_from`
+pub counting_step : (sep : ℕ) (s : List ℕ) (i : ℕ) → i < length s
+    → counting_from sep s i
+    ≡ cond (is_counting_place sep s i) (i ∷ counting_from sep s (i + 1)) (counting_from sep s (i + 1))
+unfolding places
+counting_step sep s i l =
+    let n : length s - i ≡ suc (length s - (i + 1)) = omega arith in rw n refl

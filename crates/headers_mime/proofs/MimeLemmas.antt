@@ -1,8 +1,8 @@
 -- Canonical texts are text, and what is read of a text.
-use Rattle.std.proofs.Common.{◌≡◌, ◌⊎◌, ℕ, Bool, true, false, List, [], ◌∷◌, ◌++◌, refl, sym, ◌∙◌, ap, subst, arith}
-use Rattle.std.{proofs.Common.{Option, Some, None, IsTrue, inl, inr}, specs.Prelude.{option_map, Err, MatchOption}}
-use Rattle.std.{specs.Prelude.{IsSome, bytes_eq}, specs.List.{All, list_any, flat_map}, proofs.lemmas.Bool.and_from}
-use Rattle.std.{proofs.lemmas.Bool.cases_Bool, proofs.lemmas.Bool.Decides.nat_tests}
+use Rattle.std.proofs.Common.{◌≡◌, ◌⊎◌, ℕ, true, List, [], ◌∷◌, ◌++◌, refl, sym, ◌∙◌, ap, subst, arith}
+use Rattle.std.{proofs.Common.{Some, None, IsTrue, inl, inr}, specs.Prelude.{Err}}
+use Rattle.std.{specs.Prelude.{bytes_eq}, specs.List.{All, list_any, flat_map}}
+use Rattle.std.{proofs.lemmas.Bool.Decides.nat_tests}
 use Rattle.std.proofs.lemmas.List.Elements.{All-head, All-tail, All-weaker}
 use Rattle.std.proofs.lemmas.List.Sums.{AllPass-from_list_all, list_all-from_AllPass}
 use Rattle.std.proofs.lemmas.Slice.Eq.{bytes_eq-Decides}
@@ -11,7 +11,7 @@ use Rattle.http_header.{specs.FieldValue.IsFieldValue, proofs.TokenLemmas.token_
 use Rattle.headers_syntax.{specs.Text.{quote, is_text}, specs.declared.error.Refused.Refused}
 use Rattle.headers_syntax.{specs.declared.error.Refused.TheVariants.{Invalid, Memory}, proofs.OptionLemmas.map_parts}
 use Rattle.headers_syntax.proofs.TextLemmas.{list_all-both}
-use Rattle.headers_mime.specs.MediaType.{slash, equals, Parameter, MediaType, IsParameter, QuotedPart, plain, escaped}
+use Rattle.headers_mime.specs.MediaType.{slash, equals, Parameter, MediaType, IsParameter, QuotedPart}
 use Rattle.headers_mime.specs.MediaType.{IsQuotedPart, quoted_part_text, IsQuotedString, parameter_text}
 use Rattle.headers_mime.specs.MediaType.{parameters_text, media_text, IsMediaType, canonical_parts, canonical}
 use Rattle.headers_mime.{specs.MediaType.IsCanonical, specs.MediaTypeReading.{read_media, canonical_of, GivesRead}}
@@ -34,12 +34,10 @@ token-text s token =
 quoted_parts-text : (parts : List QuotedPart) → All IsQuotedPart parts
     → is_text (flat_map quoted_part_text parts) ≡ true
 quoted_parts-text [] valid = refl
-quoted_parts-text (plain b ∷ parts) valid =
-    and_from _ _ (All-head IsQuotedPart (plain b) parts valid).0
-    (quoted_parts-text parts (All-tail IsQuotedPart (plain b) parts valid))
-quoted_parts-text (escaped b ∷ parts) valid =
-    and_from _ _ (All-head IsQuotedPart (escaped b) parts valid)
-    (quoted_parts-text parts (All-tail IsQuotedPart (escaped b) parts valid))
+quoted_parts-text (part ∷ parts) valid =
+    let here = All-head IsQuotedPart part parts valid in
+    let later = All-tail IsQuotedPart part parts valid in
+    grind (arith, quoted_parts-text parts)
 
 value-text : (s : List ℕ) → IsToken s ⊎ IsQuotedString s → is_text s ≡ true
 value-text s (inl token) = token-text s token
@@ -86,9 +84,7 @@ reading-from_canonical_of s t h =
     (m.0, media-from_read s m.0 m.1, sym m.2)
 
 no_reading : (s : List ℕ) → canonical_of s ≡ None → (m : MediaType) → ¬ (IsMediaType s m)
-no_reading s none m h =
-    let some = ap (option_map canonical) (read_media-media s m h) in
-    cc (some, none)
+no_reading s none m h = grind (arith, read_media-media s m h)
 
 -- what is refused has no reading
 pub refused_reading : {T E : Type 0} (shown : T → List ℕ) (s : List ℕ) (refused : Refused E)
@@ -101,11 +97,9 @@ among-canonical : (texts : List (List ℕ)) (s : List ℕ) → All IsCanonical t
     → list_any (λ (t : List ℕ). bytes_eq t s) texts ≡ true → IsCanonical s
 among-canonical [] s all h = absurd (cc h)
 among-canonical (t ∷ texts) s all h =
-    elim (cases_Bool (bytes_eq t s)) [
-      | inl e ↦ subst IsCanonical ((bytes_eq-Decides t s).0 e) (All-head IsCanonical t texts all)
-      | inr n ↦ let later : list_any (λ (t : List ℕ). bytes_eq t s) texts ≡ true = rw n at h in among-canonical texts
-          s (All-tail IsCanonical t texts all) later
-    ]
+    let here = All-head IsCanonical t texts all in
+    let later = All-tail IsCanonical t texts all in
+    grind (arith, bytes_eq-Decides t s, among-canonical texts s)
 
 pub known-canonical : (text : List ℕ) → IsTrue (is_known text) → IsCanonical text
 known-canonical text h = among-canonical known_texts text known_texts-canonical h
@@ -124,8 +118,3 @@ kept-canonical (Read value) t h e = subst IsCanonical e h
 
 pub kept-text : (text : Text) (t : List ℕ) → IsMimeText text → text_bytes text ≡ t → is_text t ≡ true
 kept-text text t h e = is_canonical-text t (kept-canonical text t h e)
-
-pub some_of_text : {A : Type 0} (o : Option A) (Q : A → Type 0) (b : Bool) → b ≡ true → MatchOption o (b ≡ false) Q
-    → IsSome o
-some_of_text None Q b t f = absurd (cc (t, f))
-some_of_text (Some x) Q b t q = refl

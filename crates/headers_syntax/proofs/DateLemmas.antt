@@ -1,10 +1,11 @@
 -- The calendar counted off from 1970, and that a printed date is read back.
-use Rattle.std.proofs.Common.{◌≡◌, ℕ, zero, suc, ◌+◌, ◌-◌, ◌*◌, ◌/◌, ◌%◌, ◌<◌, ◌≤◌, nat_lt, true, false, [], ◌∷◌, ◌++◌}
+use Rattle.std.proofs.Common.{◌≡◌, ℕ, zero, suc, ◌+◌, ◌-◌, ◌*◌, ◌/◌, ◌%◌, ◌<◌, ◌≤◌, true, false, [], ◌∷◌, ◌++◌}
 use Rattle.std.proofs.Common.{length, take, Some, None, codes, refl, sym, ◌∙◌, ap, subst, inl, inr, arith, append_assoc}
 use Rattle.std.{specs.Int.IsInRange, specs.List.{prefix_len, suffix_len}, proofs.lemmas.List.{reverse-append, take_all}}
 use Rattle.std.{proofs.lemmas.List.Elements.All-from_recursion, proofs.lemmas.List.Folds.list_all-append}
-use Rattle.std.{proofs.lemmas.List.Sums.AllPass-from_list_all, proofs.lemmas.Bool.{cases_Bool, and_from, le-ltb}}
-use Rattle.std.{proofs.lemmas.Bool.{lt-ltb, ltb-true, ltb-false}, proofs.lemmas.Bool.Decides.nat_tests}
+use Rattle.std.{proofs.lemmas.List.Sums.AllPass-from_list_all}
+use Rattle.std.{proofs.lemmas.Bool.{cases_Bool, cases_lt, and_from, le-ltb}}
+use Rattle.std.{proofs.lemmas.Bool.{lt-ltb}, proofs.lemmas.Bool.Decides.nat_tests}
 use Rattle.std.specs.Str.{all_ascii_digits}
 use Rattle.http_header.{specs.Token.is_visible_or_blank, specs.FieldValue.IsVisibleAscii}
 use Rattle.headers_syntax.{proofs.NumberLemmas.{visible, number-no_digits}, proofs.TextLemmas.visible-from_is_text}
@@ -38,15 +39,15 @@ module _ (length total : ℕ → ℕ) (first : ℕ) (next : (k : ℕ) → total 
       let left : days ≡ r = omega (arith, ap total same) in
       rw (same, left) refl
   unit_of-is (suc n) j k r days low high inside e =
-      elim (cases_Bool (nat_lt j k)) [
-        | inl t ↦ let less : j < k = ltb-true _ _ t in
+      elim (cases_lt j k) [
+        | inl less ↦
             let same : suc j + (k - suc j) ≡ k = omega arith in
             let up : total (suc j) ≤ total k = rw same at (total_more (suc j) (k - suc j)) in
             let past : length (first + j) ≤ days = omega (arith, next j) in
             let later : first + j + 1 ≡ first + suc j = omega arith in
             rw (le-ltb _ _ past) (rw later
             (unit_of-is n (suc j) k r (days - length (first + j)) less (omega arith) inside (omega (arith, next j))))
-        | inr f ↦ let not_less : k ≤ j = ltb-false _ _ f in
+        | inr not_less ↦
             let same : j ≡ k = omega arith in
             let left : days ≡ r = omega (arith, ap total same) in
             let here : days < length (first + j) = omega (arith, ap (λ u. length (first + u)) same) in
@@ -71,20 +72,12 @@ next_month y k = let same : 1 + k ≡ suc k = omega arith in rw same refl
 
 in_its_month : (p : Parts) → IsValid p → p.day - 1 < days_in_month p.year (1 + (p.mon - 1))
 in_its_month p valid =
-    let low : 1 ≤ p.mon = valid.0.1.0 in
-    let same : 1 + (p.mon - 1) ≡ p.mon = omega arith in
-    let first : 1 ≤ p.day = valid.0.2.0 in
-    let last : p.day ≤ days_in_month p.year p.mon = valid.0.2.1 in
-    rw same (omega arith)
+    let same : 1 + (p.mon - 1) ≡ p.mon = omega arith in rw same (omega arith)
 
 in_its_year : (p : Parts) → IsValid p → days_before p < days_in_year p.year
 unfolding days_before
 in_its_year p valid =
-    let low : 1 ≤ p.mon = valid.0.1.0 in
-    let high : p.mon ≤ 12 = valid.0.1.1 in
-    let first : 1 ≤ p.day = valid.0.2.0 in
-    let last : p.day ≤ days_in_month p.year p.mon = valid.0.2.1 in
-    let more = days_of_months_more p.year p.mon low in
+    let more = days_of_months_more p.year p.mon (omega arith) in
     let up = total_more (days_in_month p.year) (days_of_months p.year) 1 (next_month p.year) p.mon (12 - p.mon) in
     let same : p.mon + (12 - p.mon) ≡ 12 = omega arith in
     omega (arith, rw same at up, days_of_months_all p.year)
@@ -93,8 +86,6 @@ year_of-date : (p : Parts) → IsValid p
     → unit_of days_in_year 8029 1970 (days_from_civil p.year p.mon p.day) ≡ (p.year, days_before p)
 unfolding days_before days_of_years
 year_of-date p valid =
-    let low : 1970 ≤ p.year = valid.0.0.0 in
-    let high : p.year ≤ 9999 = valid.0.0.1 in
     let same : 1970 + (p.year - 1970) ≡ p.year = omega arith in
     let inside : days_before p < days_in_year (1970 + (p.year - 1970)) = rw same (in_its_year p valid) in
     unit_of-is days_in_year days_of_years 1970 (λ k. refl) 8029 0 (p.year - 1970) (days_before p)
@@ -105,8 +96,6 @@ month_of-date : (p : Parts) → IsValid p
     → unit_of (days_in_month p.year) 11 1 (days_before p) ≡ (p.mon, p.day - 1)
 unfolding days_before days_of_months
 month_of-date p valid =
-    let low : 1 ≤ p.mon = valid.0.1.0 in
-    let high : p.mon ≤ 12 = valid.0.1.1 in
     let same : 1 + (p.mon - 1) ≡ p.mon = omega arith in
     unit_of-is (days_in_month p.year) (days_of_months p.year) 1 (next_month p.year) 11 0 (p.mon - 1) (p.day - 1)
     (days_before p) (omega arith) (omega arith) (in_its_month p valid) (omega arith)
@@ -124,7 +113,6 @@ parts_at-is p valid =
     let time = split_secs d p.hour p.min p.sec valid.1.0 valid.1.1 valid.1.2 in
     let year = ap (unit_of days_in_year 8029 1970) time.0 ∙ year_of-date p valid in
     let month = ap (λ (y : ℕ × ℕ). unit_of (days_in_month y.0) 11 1 y.1) year ∙ month_of-date p valid in
-    let low : 1 ≤ p.day = valid.0.2.0 in
     let back : p.day - 1 + 1 ≡ p.day = omega arith in
     let wday = ap weekday time.0 ∙ sym valid.2 in
     λ i. record {
@@ -183,12 +171,7 @@ day_range y m = grind (arith, nat_tests)
 
 fixdate_text : (p : Parts) → IsValid p → is_text (imf_fixdate p) ≡ true
 fixdate_text p valid =
-    let day : p.day < 100 =
-    (let last : p.day ≤ days_in_month p.year p.mon = valid.0.2.1 in omega (arith, day_range p.year p.mon)) in
-    let year : p.year ≤ 9999 = valid.0.0.1 in
-    let hour : p.hour < 24 = valid.1.0 in
-    let min : p.min < 60 = valid.1.1 in
-    let sec : p.sec < 60 = valid.1.2 in
+    let day : p.day < 100 = omega (arith, day_range p.year p.mon) in
     let whole : IsText (day_name p.wday ++ after_day_name p (codes " GMT")) =
     name_text (day_name p.wday) _ (day_name_text p.wday (wday_range p valid))
     (byte_text _ _ refl (byte_text _ _ refl
@@ -271,10 +254,7 @@ date_bound line n e =
     let shown = date_parts line n e in
     let p = shown.0 in
     let days = days_from_civil_bound p.year p.mon p.day shown.1.0 in
-    let hour : p.hour < 24 = shown.1.1.0 in
-    let min : p.min < 60 = shown.1.1.1 in
-    let sec : p.sec < 60 = shown.1.1.2 in
-    omega (arith, shown.2, days, hour, min, sec)
+    omega (arith, shown.2, days, shown.1)
 
 pub date_back : (line : Line) (n : ℕ) → date line ≡ Some n → date (fixdate n) ≡ Some n
 date_back line n e =

@@ -1,11 +1,12 @@
 -- What `parse` reads of a line is its number, and a printed number is read back.
-use Rattle.std.proofs.Common.{if◌then◌else◌, ◌≡◌, ℕ, ◌<◌, ◌≤◌, ◌≢◌, ◌^◌, ◌&&◌, true, false, [], ◌∷◌, length, Some, None}
-use Rattle.std.proofs.Common.{Result, Ok, Err, refl, sym, ◌∙◌, ap, subst, inl, inr, arith, rules, nat_lt, nat_le}
+use Rattle.std.proofs.Common.{if◌then◌else◌, ◌≡◌, ℕ, ◌<◌, ◌≤◌, ◌≢◌, ◌^◌, true, false, [], ◌∷◌, length, Some, None}
+use Rattle.std.proofs.Common.{Result, Ok, Err, refl, sym, ap, subst, inl, inr, arith, rules}
 use Rattle.std.{proofs.Common.{get_or, ◌==◌}, specs.Str.all_ascii_digits, specs.Str.Parse.ParsesUnsigned}
 use Rattle.std.{specs.Result.{OkIff, result_ok}, proofs.lemmas.Str.Parse.{IsNumeralModel, numerals_by_weight}}
 use Rattle.std.proofs.lemmas.Str.Parse.{tells_all_ascii_digits, parse_plain, parse_plus, not_in_digits}
 use Rattle.std.{proofs.lemmas.Fmt.{digits_decimal, digits_value-decimal, decimal_nonempty}, specs.Fmt.decimal}
-use Rattle.std.proofs.lemmas.Bool.{cases_Bool, and_from, and_parts, or_right, le-leb, leb-true, lt-ltb, ltb-true}
+use Rattle.std.proofs.lemmas.Bool.{cases_Bool, and_parts}
+use Rattle.std.proofs.lemmas.Bool.Decides.{nat_tests}
 use Rattle.std.{proofs.lemmas.Bool.{false_from_ne_true, eqb-true, eqb-false}, specs.Char.is_ascii_digit}
 use Rattle.std.proofs.lemmas.List.Elements.{All-cons}
 use Rattle.http_header.{specs.Token.is_visible_or_blank, specs.FieldValue.IsVisibleAscii}
@@ -19,13 +20,10 @@ abbrev IsNumeral64 : Line → Type 0
 IsNumeral64 d = (all_ascii_digits d ≡ true) × (0 < length d) × (decimal_value d < 2 ^ 64)
 
 is_numeral-true : (d : Line) → IsNumeral64 d → is_numeral d ≡ true
-is_numeral-true d h = and_from _ _ (and_from _ _ (lt-ltb _ _ h.1) h.0) (lt-ltb _ _ h.2)
+is_numeral-true d h = grind (arith, nat_tests)
 
 is_numeral-parts : (d : Line) → is_numeral d ≡ true → IsNumeral64 d
-is_numeral-parts d e =
-    let p = and_parts (nat_lt 0 (length d) && all_ascii_digits d) (nat_lt (decimal_value d) (2 ^ 64)) e in
-    let q = and_parts (nat_lt 0 (length d)) (all_ascii_digits d) p.0 in
-    (q.1, ltb-true _ _ q.0, ltb-true _ _ p.1)
+is_numeral-parts d e = grind (arith, nat_tests)
 
 is_numeral-false : (d : Line) → ¬ (IsNumeral64 d) → is_numeral d ≡ false
 is_numeral-false d h = false_from_ne_true (is_numeral d) (λ e. h (is_numeral-parts d e))
@@ -68,25 +66,17 @@ number-decimal n h =
 
 pub number-lt : (line : Line) (n : ℕ) → number line ≡ Some n → n < 2 ^ 64
 unfolding number
-number-lt line n e =
-    elim (cases_Bool (is_numeral (after_plus line))) [
-      | inl t ↦ let same : Some (decimal_value (after_plus line)) ≡ Some n = rw t at e in
-          let value : decimal_value (after_plus line) ≡ n = cc same in
-          subst (λ (m : ℕ). m < 2 ^ 64) value (is_numeral-parts _ t).2
-      | inr f ↦ let no : None ≡ Some n = rw f at e in absurd (cc no)
-    ]
+number-lt line n e = grind (arith, is_numeral-parts (after_plus line))
 
 pub visible : (c : ℕ) → 32 ≤ c → c < 127 → is_visible_or_blank c ≡ true
-visible c low high = or_right (c == 9) (nat_le 32 c && nat_lt c 127) (and_from _ _ (le-leb _ _ low) (lt-ltb _ _ high))
+visible c low high = grind (arith, nat_tests)
 
 digits_visible : (ds : Line) → all_ascii_digits ds ≡ true → IsVisibleAscii ds
 digits_visible [] e = λ k d h. absurd (omega (arith, h))
 digits_visible (c ∷ cs) e =
     let p = and_parts (is_ascii_digit c) (all_ascii_digits cs) e in
-    let q = and_parts (nat_le 48 c) (nat_le c 57) p.0 in
-    let low : 48 ≤ c = leb-true _ _ q.0 in
-    let high : c ≤ 57 = leb-true _ _ q.1 in
-    All-cons (λ b. is_visible_or_blank b ≡ true) c cs (visible c (omega arith) (omega arith)) (digits_visible cs p.1)
+    let here : is_visible_or_blank c ≡ true = grind (arith, nat_tests) in
+    All-cons (λ b. is_visible_or_blank b ≡ true) c cs here (digits_visible cs p.1)
 
 visible_from_digits : (line : Line) → all_ascii_digits (after_plus line) ≡ true → IsVisibleAscii line
 visible_from_digits [] e = digits_visible [] refl
@@ -107,4 +97,4 @@ number-none line h =
 pub number-no_digits : (line : Line) → all_ascii_digits (after_plus line) ≡ false → number line ≡ None
 unfolding number
 number-no_digits line h =
-    rw (is_numeral-false (after_plus line) (λ n. let both : true ≡ false = sym n.0 ∙ h in cc both)) refl
+    rw (is_numeral-false (after_plus line) (λ n. cc (n.0, h)))

@@ -1,9 +1,9 @@
 -- How `OfLines` is built call by call, and what a caller reads of it.
-use Rattle.std.proofs.Common.{◌≡◌, Bool, true, false, IsTrue, List, [], ◌∷◌, ◌++◌, map, length, Option, Some, None}
-use Rattle.std.{proofs.Common.{refl, sym, ◌∙◌, ap, subst, arith}, specs.Iterator.{Yields, YieldsThen, YieldsFirstBy}}
+use Rattle.std.proofs.Common.{◌≡◌, Bool, true, false, IsTrue, List, [], ◌∷◌, ◌++◌, map, Option, Some, None}
+use Rattle.std.{proofs.Common.{refl, sym, ◌∙◌, ap, subst}, specs.Iterator.{Yields, YieldsThen, YieldsFirstBy}}
 use Rattle.std.{specs.Slice.Iter.{iter_rest, iter_steps}, specs.declared.slice.Iter.Iter}
 use denote.Ref.{Bor}
-use Rattle.std.{proofs.lemmas.List.{append-nil, append_assoc, map-append}, specs.Bool.MatchBool}
+use Rattle.std.{proofs.lemmas.List.{append-nil, append_assoc, map-append, nil_from_length}, specs.Bool.MatchBool}
 use Rattle.http_header.specs.FieldValue.{FieldValue}
 use Rattle.headers_syntax.{specs.Lines.{Line, lines_of}, specs.OfLines.OfLines}
 
@@ -118,15 +118,11 @@ module _ {S A : Type 0} (shown : A → FieldValue) (steps : S → Option A → S
 abbrev pub shown_value : Bor FieldValue → FieldValue
 shown_value item = item.now
 
-empty_values : (vs : List FieldValue) → length vs ≡ 0 → vs ≡ []
-empty_values [] e = refl
-empty_values (v ∷ vs) e = absurd (omega (arith, e))
-
 -- the iterator of a slice shows what is left
 slice_shows : (s : Iter FieldValue) (r : Option (Bor FieldValue)) (t : Iter FieldValue) → iter_steps s r t
     → YieldsFirstBy shown_value iter_rest s r t
 slice_shows s None t call =
-    let none = empty_values (iter_rest s) call.0 in
+    let none = nil_from_length (iter_rest s) call.0 in
     (none, ap (λ (it : Iter FieldValue). iter_rest it) call.1 ∙ none)
 slice_shows s (Some x) t call = call
 

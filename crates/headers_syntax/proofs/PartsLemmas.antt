@@ -1,5 +1,5 @@
 -- The last of what the parts of a line give, part by part.
-use Rattle.std.proofs.Common.{◌≡◌, ℕ, List, [], ◌∷◌, ◌++◌, Option, Some, None, refl, sym, ◌∙◌, ap}
+use Rattle.std.proofs.Common.{◌≡◌, ℕ, List, [], ◌∷◌, ◌++◌, Option, Some, None, refl}
 use Rattle.std.{specs.List.{filter_map, last_or}, proofs.lemmas.List.Elements.filter_map-append}
 use Rattle.std.{proofs.lemmas.List.append-nil, proofs.lemmas.Grind.flat_map-append}
 use Rattle.headers_syntax.{specs.Lines.Line, specs.Parts.{parts, parts_of_lines}}
@@ -9,17 +9,9 @@ last_or-append o [] ys = refl
 last_or-append o (x ∷ xs) ys = last_or-append (Some x) xs ys
 
 -- a line more
-parts-more : (c : ℕ) (lines : List Line) (line : Line)
-    → parts_of_lines c (lines ++ line ∷ []) ≡ parts_of_lines c lines ++ parts c line
-parts-more c lines line =
-    flat_map-append (parts c) lines (line ∷ []) ∙ ap (λ r. parts_of_lines c lines ++ r) (append-nil (parts c line))
-
 pub last_more : {A : Type 0} (f : List ℕ → Option A) (c : ℕ) (last next : Option A) (lines : List Line) (line : Line)
     → next ≡ last_or last (filter_map f (parts c line))
     → last ≡ last_or None (filter_map f (parts_of_lines c lines))
     → next ≡ last_or None (filter_map f (parts_of_lines c (lines ++ line ∷ [])))
 last_more f c last next lines line e h =
-    e ∙ ap (λ o. last_or o (filter_map f (parts c line))) h
-    ∙ sym (last_or-append None (filter_map f (parts_of_lines c lines)) (filter_map f (parts c line)))
-    ∙ ap (last_or None) (sym (filter_map-append f (parts_of_lines c lines) (parts c line)))
-    ∙ ap (λ ps. last_or None (filter_map f ps)) (sym (parts-more c lines line))
+    simp (e, h, flat_map-append, append-nil, filter_map-append, last_or-append)

@@ -1,14 +1,14 @@
 -- What `trim_start_matches` and `trim_end_matches` leave of a text, where the characters that go are ASCII.
 use Rattle.std.proofs.Common.{◌≡◌, ℕ, suc, ◌+◌, ◌-◌, ◌<◌, Bool, true, false, List, [], ◌∷◌, ◌++◌, length, take, drop}
 use Rattle.std.proofs.Common.{get_or, Option, Some, None, IfSome, refl, sym, ◌∙◌, ap, arith, inl, inr, take-append-drop}
-use Rattle.std.{proofs.Common.{length-append, ⊎_elim, ◌==◌}, specs.List.{prefix_len, suffix_len}}
-use Rattle.std.{specs.Char.char_set_contains, proofs.lemmas.Bool.{eqb-true, or_cases}}
+use Rattle.std.{proofs.Common.{length-append}, specs.List.{prefix_len, suffix_len}}
+use Rattle.std.{specs.Char.char_set_contains}
 use Rattle.std.proofs.lemmas.Bool.Decides.{nat_tests}
 use Rattle.headers_syntax.specs.Text.{is_blank, is_quote}
 use lib.Utf8.{low_scalar}
 use Rattle.std.specs.Str.Pattern.{FindsPrefixBy, FindsSuffixBy, IsTrimStartMatches, IsTrimEndMatches, CutsPrefixes}
 use Rattle.std.{specs.Str.Pattern.CutsSuffixes, proofs.lemmas.Bool.cases_Bool, proofs.lemmas.List.reverse-append}
-use Rattle.std.proofs.lemmas.List.{take-append-le, drop_all, take_all, take_more}
+use Rattle.std.proofs.lemmas.List.{take-append-le, drop_all, take_all, take_more, length-drop, length-take}
 use Rattle.std.{proofs.lemmas.List.Sums.suffix_len_is, proofs.lemmas.Str.encode_ascii}
 use Rattle.std.proofs.lemmas.Str.Pattern.{drop_at_char}
 
@@ -59,37 +59,34 @@ cut_last test ascii s n h =
     )
 
 -- where no such character is left, nothing goes
+passes_none : (test : ℕ → Bool) → OnAscii test → (b : ℕ) → (b < 128 → test b ≡ false) → test b ≡ false
+passes_none test ascii b none = elim (cases_Bool (test b)) [ inl y ↦ none (ascii b y) | inr n ↦ n ]
+
 none_first : (test : ℕ → Bool) → OnAscii test → (s : List ℕ) → FindsPrefixBy test s None → strip_front test s ≡ s
 none_first test ascii [] h = refl
 none_first test ascii (b ∷ t) h =
-    elim (cases_Bool (test b)) [
-      | inl y ↦ let small = ascii b y in
-          let no : test b ≡ false = h b t (low_scalar b (omega arith)) (ap (λ r. r ++ t) (sym (encode_ascii b small)))
-          in
-          absurd (cc (y, no))
-      | inr n ↦ rw n refl
-    ]
+    let no = passes_none test ascii b
+    (λ small. h b t (low_scalar b (omega arith)) (ap (λ r. r ++ t) (sym (encode_ascii b small)))) in
+    rw no refl
+
+pub strip_end-none : (test : ℕ → Bool) (s : List ℕ) → (0 < length s → test (get_or s (length s - 1) 0) ≡ false)
+    → strip_end test s ≡ s
+strip_end-none test s last =
+    let none : suffix_len test s ≡ length s - length s =
+    suffix_len_is test s (length s) 0 (omega arith) (λ k a b. absurd (omega arith)) last in
+    rw none (take_all (length s - (length s - length s)) s (omega arith))
 
 none_last : (test : ℕ → Bool) → OnAscii test → (s : List ℕ) → FindsSuffixBy test s None → strip_end test s ≡ s
 none_last test ascii s h =
-    let last : 0 < length s → test (get_or s (length s - 1) 0) ≡ false =
-    λ some.
+    let front = take (length s - 1) s in
     let b = get_or s (length s - 1) 0 in
-    elim (cases_Bool (test b)) [
-      | inl y ↦ let small = ascii b y in
-          let n : (length s - 1) + 1 ≡ length s = omega arith in
-          let lt : length s - 1 < length s = omega arith in
-          let split : s ≡ take (length s - 1) s ++ b ∷ [] = sym (take_all (length s) s (omega arith))
-          ∙ ap (λ k. take k s) (sym n) ∙ take_more s (length s - 1) 0 lt in
-          let no : test b ≡ false =
-          h b (take (length s - 1) s) (low_scalar b (omega arith)) (split
-          ∙ ap (λ r. take (length s - 1) s ++ r) (sym (encode_ascii b small))) in
-          absurd (cc (y, no))
-      | inr n ↦ n
-    ] in
-    let none : suffix_len test s ≡ length s - length s =
-    suffix_len_is test s (length s) 0 (omega arith) (λ k a b. absurd (omega arith)) last in
-    ap (λ k. take (length s - k) s) none ∙ take_all (length s - (length s - length s)) s (omega arith)
+    strip_end-none test s
+    (λ some.
+    let n : (length s - 1) + 1 ≡ length s = omega arith in
+    let split : s ≡ front ++ b ∷ [] = sym (take_all (length s) s (omega arith))
+    ∙ ap (λ k. take k s) (sym n) ∙ take_more s (length s - 1) 0 (omega arith) in
+    passes_none test ascii b
+    (λ small. h b front (low_scalar b (omega arith)) (split ∙ ap (λ r. front ++ r) (sym (encode_ascii b small)))))
 
 module _ (test : ℕ → Bool) (ascii : OnAscii test) (R : List ℕ → Option ℕ → Type 0) where
   front_kept : ((s : List ℕ) (o : Option ℕ) → R s o → FindsPrefixBy test s o)
@@ -116,8 +113,7 @@ module _ (test : ℕ → Bool) (ascii : OnAscii test) (R : List ℕ → Option �
       done None f z = none_first test ascii r (by r None f)
       done (Some n) f z =
           let cut = cut_first test ascii r n (by r (Some n) f) in
-          absurd (let same : r ≡ cut.1 = ap (λ k. drop k r) (sym z) ∙ cut.4 in let long = ap length (sym cut.2 ∙ same)
-          in omega (arith, long))
+          absurd (omega (arith, z, ap length cut.2, ap length cut.4, length-drop n r))
 
   trim_end_is : ((s : List ℕ) (o : Option ℕ) → R s o → FindsSuffixBy test s o) → (s r : List ℕ)
       → IsTrimEndMatches R s r → r ≡ strip_end test s
@@ -127,19 +123,15 @@ module _ (test : ℕ → Bool) (ascii : OnAscii test) (R : List ℕ → Option �
       done None f z = none_last test ascii r (by r None f)
       done (Some n) f z =
           let cut = cut_last test ascii r n (by r (Some n) f) in
-          absurd (let whole : take (length r - 0) r ≡ r = take_all (length r - 0) r (omega arith) in
-          let same : r ≡ cut.1 = sym whole ∙ ap (λ k. take (length r - k) r) (sym z) ∙ cut.4 in
-          let long = ap length (sym cut.2 ∙ same) in
-          let more = length-append cut.1 (cut.0 ∷ []) in omega (arith, long, more))
+          let kept = length-take (length r - n) r in
+          absurd (omega (arith, z, ap length cut.2, ap length cut.4, kept, length-append cut.1 (cut.0 ∷ [])))
 
 -- quotes, spaces and tabs are ASCII, and are these lists of characters
 pub quote_ascii : OnAscii is_quote
-quote_ascii c h = let e = eqb-true c 34 h in omega (arith, e)
+quote_ascii c h = grind (arith, nat_tests)
 
 pub blank_ascii : OnAscii is_blank
-blank_ascii c h =
-    ⊎_elim (λ a. let e = eqb-true c 9 a in omega (arith, e)) (λ a. let e = eqb-true c 32 a in omega (arith, e))
-    (or_cases (c == 9) (c == 32) h)
+blank_ascii c h = grind (arith, nat_tests)
 
 pub is_quote_set : (c : ℕ) → char_set_contains (34 ∷ []) c ≡ is_quote c
 is_quote_set c = grind (arith, nat_tests)

@@ -1,8 +1,8 @@
-use Rattle.std.{proofs.Common.{◌≡◌, ◌<◌, ◌++◌, ℕ, List, length, sym, ◌∙◌, ap, arith}, specs.Prelude.option_map}
+use Rattle.std.{proofs.Common.{◌≡◌, ◌<◌, length, append_assoc, sym, ◌∙◌, arith}}
 use Rattle.std.proofs.lemmas.Bool.Decides.{nat_tests}
-use Rattle.headers_mime.specs.MediaTypeReading.{canonical_rest, optional_canonical}
+use Rattle.headers_mime.specs.MediaTypeReading.{canonical_rest}
 use Rattle.headers_mime.proofs.WritingLemmas.{segment-shrinks, canonical_rest-none, canonical_rest-some}
-use Rattle.headers_mime.proofs.WritingLemmas.{canonical_rest-end, written_more, none_behind}
+use Rattle.headers_mime.proofs.WritingLemmas.{canonical_rest-end, option_map-option_map, none_behind}
 use Rattle.headers_mime.proofs.writing.push_parameters.Goals as goal
 
 pub returns-in_default : goal.returns-in_default
@@ -19,14 +19,9 @@ loop-rest-smaller c = segment-shrinks c.loop-rest.rest.now (c.in-Some.parameter,
 pub loop-rest-preserved : goal.loop-rest-preserved
 loop-rest-preserved c =
     let long : 0 < length c.loop-rest.rest.now = grind (arith, nat_tests) in
-    let old = c.loop-rest.text.items in
-    let later = canonical_rest c.in-Some.left.now in
-    c.loop-rest.invariant
-    ∙ ap (option_map (λ (t : List ℕ). old ++ t))
-    (canonical_rest-some c.loop-rest.rest.now (c.in-Some.parameter, c.in-Some.left.now) long
-    (sym c.in-Some.ensures))
-    ∙ written_more old (optional_canonical c.in-Some.parameter) later
-    ∙ ap (λ (new : List ℕ). option_map (λ (t : List ℕ). new ++ t) later) (sym c.in_ok-push_parameter.ensures)
+    let some = canonical_rest-some c.loop-rest.rest.now (c.in-Some.parameter, c.in-Some.left.now) long
+    (sym c.in-Some.ensures) in
+    c.loop-rest.invariant ∙ rw (some, c.in_ok-push_parameter.ensures) (simp (option_map-option_map, append_assoc))
 
 pub returns : goal.returns
 returns c =

@@ -40,9 +40,7 @@ returns-then-mark-clause-searches c = let s = c.self.inside in
 
 pub returns-else-mark-clause-searches : goal.returns-else-mark-clause-searches
 returns-else-mark-clause-searches c = let s = c.self.inside in
-    search_more _ _ s.is_ended _ _
-    (mark_hits s.separator s.bytes.now s.place c.in-Some.mark c.self.invariant.0 c.in-Some.ensures) c.if-self.false
-    (ap (λ (v : ScanState). v.searches) c.self.view_is) (ap (λ (v : ScanState). v.is_ended) c.self.view_is)
+    grind (arith, mark_hits s.separator s.bytes.now s.place c.in-Some.mark c.self.invariant.0 c.in-Some.ensures)
 
 pub returns-in-None-clause-searches : goal.returns-in-None-clause-searches
 returns-in-None-clause-searches c = let s = c.self.inside in
