@@ -101,7 +101,7 @@ pub record HasBeenGiven (origin : Origin) (now : ℕ) (target : List ℕ) (reply
 -- behind it: a server or a gateway is down, or the network is.
 module _ (site : List ℕ → Server) (silent : List Hop → ℕ → Bool) where
   -- What those behind a list of hops give, the hop nearest to the client first, to a request that is sent at the first
-  -- time, by the second. The last one passes on to the server of the target.
+  -- time, by the second. The last one forwards to the server of the target.
   abbrev pub behind : List Hop → Origin
   behind [] start now target request reply =
       (time : ℕ) × (start ≤ time) × (time ≤ now) × IsSent (site target) time request reply
