@@ -6,7 +6,7 @@ use Rattle.std.{specs.Prelude.{All, bytes_eq, codes}, specs.List.list_any}
 use Rattle.http_header.specs.Token.{lowercase}
 use Rattle.headers.specs.{Date.fixdate, LineMap.{fields_of, set_all}, Lines.Line, Typed.HasLine}
 use Rattle.decide_preconditions.specs.Preconditions.{IsGetOrHead}
-use Rattle.cache_policy.{specs.Fields.{age_of, age_value, capped}, specs.Requests.AllowsMethod}
+use Rattle.cache_policy.{specs.Fields.{age_of, age_value}, specs.Requests.AllowsMethod}
 use Rattle.chain.specs.Caches.{Caching, HasComeFrom, IsFromStore, IsPlain, Origin, Reply, second_of, unless_head}
 use Rattle.chain.specs.Chains.{Counts, Hop, IsBlank, IsForwardedBack, IsOwn, IsSentBack, IsTold, behind, caches, meant}
 use Rattle.chain.{specs.Chains.Hop.{Forwards, Stores}, specs.Ways.sent_directly, specs.Servers.IsCarried}

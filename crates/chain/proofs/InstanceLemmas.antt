@@ -6,18 +6,18 @@ use Rattle.std.proofs.lemmas.{List.Elements.All-nil, Option.same_Some}
 use Rattle.std.specs.Prelude.{All, bytes_eq, codes, decimal, slice_get, ⊤}
 use denote.RawPtr.{null_ptr}
 use Rattle.http_header.specs.{FieldValue.{FieldValue, plain_value}, HeaderMap.Entries, Token.is_token_byte}
-use Rattle.headers.{specs.LineMap.{Field, LineMap, fields_of, lines_at}, specs.Lines.Line, specs.Merge.merge}
+use Rattle.headers.{specs.LineMap.{LineMap, fields_of, lines_at}, specs.Lines.Line, specs.Merge.merge}
 use Rattle.headers.specs.{Places.comma, declared.Encoded.Encoded}
 use Rattle.rfc_fields.specs.{Directives.directive_in, Scan.{pieces, push}, Values.{is_quoted_text, octets_from}}
 use Rattle.cache_store.specs.{Changes.{IsInserted, IsStoredAs, IsToStore}, Contents.{Contents, size_at}}
-use Rattle.cache_store.specs.{Lookups.IsAnswer as IsLookup, declared.lookup.Lookup.{Lookup, TheVariants.Serve}}
+use Rattle.cache_store.specs.{Lookups.IsAnswer as IsLookup, declared.lookup.Lookup.{TheVariants.Serve}}
 use Rattle.cache_policy.specs.{Age.age_at, Fields.capped, Policies.plain, declared.Kind.TheVariants.Private}
 use Rattle.cache_rules.specs.{Selection.{IsCandidate, IsVarying}, Stored.{fields_of_stored, made_at, times_of}}
 use Rattle.cache_rules.specs.declared.{storing.Reception.TheVariants.Complete, stored.StoredResponse.StoredResponse}
 use Rattle.gateway_messages.specs.{FieldLines.{fields_of as sent_fields, lines_under}, Forwarding.IsEndToEnd}
-use Rattle.gateway_messages.specs.{Forwarding.{IsHopByHop, Message, own_names}, HopByHop.{connection_options}}
-use Rattle.gateway_messages.specs.{HopByHop.is_hop_by_hop, HostTests.is_reg_name, Requests.message_of}
-use Rattle.gateway_messages.specs.{Responses.{Response, content_of, response_message}, Spellings.is_misspelt}
+use Rattle.gateway_messages.specs.{Forwarding.{IsHopByHop, own_names}}
+use Rattle.gateway_messages.specs.{HostTests.is_reg_name}
+use Rattle.gateway_messages.specs.{Responses.{content_of}, Spellings.is_misspelt}
 use Rattle.gateway_messages.specs.declared.{field_line.FieldLine.FieldLine, gateway.Gateway.Gateway}
 use Rattle.gateway_messages.specs.declared.{framing.Framing.TheVariants.Unstated, protocol.Protocol.TheVariants.Http11}
 use Rattle.decide_resource.specs.{Answers.{GivesIf, IsAnswer, is_admitted, sent_for}, Applies.{applies, methods}}
@@ -28,7 +28,7 @@ use Rattle.decide_resource.specs.declared.{denied.Denied.Denied as Denial, reaso
 use Rattle.decide_resource.specs.declared.{request.RequestContent.TheVariants.Absent, resource.Resource.Resource}
 use Rattle.chain.specs.Caches.{Caching, HasComeFrom, IsFromStore, IsPlain, Origin, Reply, Act.Takes, asked, key_of}
 use Rattle.chain.specs.{Caches.{per_second, second_of}, Chains.{IsSentBack, behind}, Instances.IsInstance}
-use Rattle.chain.{specs.{Servers.{IsSaid, IsSent, Server}, Ways.{IsSentOn, received}}, proofs.AgeLemmas.age_of-decimal}
+use Rattle.chain.{specs.{Servers.{IsSaid, IsSent, Server}, Ways.{IsSentOn}}, proofs.AgeLemmas.age_of-decimal}
 use Rattle.chain.proofs.ServingLemmas.{without_special}
 use Rattle.decide_resource.specs.declared.answer.Sends.TheVariants as sends
 use Rattle.decide_resource.specs.declared.denied.Denied.TheVariants as denied
