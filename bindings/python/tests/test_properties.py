@@ -22,7 +22,7 @@ from random import Random
 from typing import Any, Callable, Dict, List, NamedTuple, Tuple, cast
 
 import typed_headers as it
-from typed_headers import asgi, audit, inspection, wsgi
+from typed_headers import asgi, audit, connection, inspection, wsgi
 from typed_headers._names import FIELDS
 
 # (it keeps tables in the present folder otherwise)
@@ -209,6 +209,43 @@ def take_steps(options: Any, steps: Any) -> None:
                 pass
 
 
+def converse(pieces: Any, status: Any, fields: Any, content: Any) -> None:
+    """One connection, whose input comes in pieces, and whose requests get the same response."""
+    one = it.Connection(most_content=100)
+    try:
+        for piece in pieces:
+            one.receive_data(piece)
+            event = one.next_event()
+            while not isinstance(event, (connection.Waiting, connection.ConnectionClosed)):
+                event = one.next_event()
+            if event is connection.PAUSED:
+                for part in (connection.Response(status, fields), connection.Data(content), connection.EndOfMessage()):
+                    one.send(part)
+            one.data_to_send()
+    except (it.HeaderError, connection.LocalProtocolError):
+        pass
+    finally:
+        one.close()
+
+
+CONNECTION = some.tuples(
+    some.lists(
+        some.sampled_from(
+            [
+                b"GET / HTTP/1.1\r\nHost: a.example\r\n\r\n",
+                b"POST / HTTP/1.1\r\nHost: a.example\r\nContent-Length: 5\r\n\r\nhello",
+                b"POST / HTTP/1.1\r\nHost: a.example\r\nContent-Length: 500\r\n\r\n",
+                b"\r\n",
+                b"G",
+                b"",
+            ]
+        ),
+        max_size=5,
+    ),
+    STATUS,
+    some.sampled_from([(), ((b"content-length", b"5"),), ((b"a b", b""),), ((b"connection", b"close"),)]),
+    some.sampled_from([b"", b"hello"]),
+).map(lambda drawn: partial(converse, *drawn))
 PASSES = some.tuples(
     named({"shared": BOOL}, {"wait": some.just(5), "responses": some.integers(0, 3), "guess": NUMBER}),
     some.lists(
@@ -392,6 +429,7 @@ FUNCTIONS: Dict[str, Any] = {
     "Gateway.forward_response": call(
         it.Gateway("gw").forward_response, METHOD, STATUS, SECTION, VERSION, VERSION, SOMETIMES_TIME
     ),
+    "Connection": CONNECTION,
     "Headers": call(lambda given: use(it.Headers(given)), SECTION),
     "Resource": RESOURCE,
     "Section": call(lambda given: use(it.Section(given)), SECTION),
@@ -434,8 +472,8 @@ FUNCTIONS: Dict[str, Any] = {
 #: What has no code of its own: its values are those that calls give or take.
 DATA = set(
     "CORS_FIELDS Action Answer Ask ByteRange Content CorsAnswer CorsKind Decision Element Fault Flaw Framing "
-    "FramingKind FramingOutcome Handshake HeaderError HeadersLike Hop InvalidField InvalidSection Method OutOfOrder Pass PassOn "
-    "Precondition Quality Reason Rejection Reply Representation RequestOutcome Response ResponseOutcome Selection "
+    "FramingKind FramingOutcome Handshake HeaderError HeadersLike Hop InvalidField InvalidSection Method OutOfOrder Pass "
+    "PassOn Precondition Quality Reason Rejection Reply Representation RequestOutcome Response ResponseOutcome Selection "
     "Sends State Target Times TooLarge Wait __version__".split()
 )
 CALL = some.sampled_from(sorted(FUNCTIONS)).flatmap(lambda name: some.tuples(some.just(name), FUNCTIONS[name]))
