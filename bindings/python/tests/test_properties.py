@@ -472,9 +472,9 @@ FUNCTIONS: Dict[str, Any] = {
 #: What has no code of its own: its values are those that calls give or take.
 DATA = set(
     "CORS_FIELDS Action Answer Ask ByteRange Content CorsAnswer CorsKind Decision Element Fault Flaw Framing "
-    "FramingKind FramingOutcome Handshake HeaderError HeadersLike Hop InvalidField InvalidSection Method OutOfOrder Pass "
-    "PassOn Precondition Quality Reason Rejection Reply Representation RequestOutcome Response ResponseOutcome Selection "
-    "Sends State Target Times TooLarge Wait __version__".split()
+    "FramingKind FramingOutcome Handshake HeaderError HeadersLike Hop InvalidField InvalidSection Method OutOfOrder "
+    "Pass PassOn Precondition Quality Reason Rejection Reply Representation RequestOutcome Response ResponseOutcome "
+    "Selection Sends State Target Times TooLarge Wait __version__".split()
 )
 CALL = some.sampled_from(sorted(FUNCTIONS)).flatmap(lambda name: some.tuples(some.just(name), FUNCTIONS[name]))
 
