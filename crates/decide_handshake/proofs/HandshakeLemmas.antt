@@ -5,7 +5,7 @@ use Rattle.http.{specs.declared.version.Version.Version, specs.declared.version.
 use Rattle.http_header.specs.FieldValue.{FieldValue}
 use Rattle.websocket.specs.Handshake.{IsValidKey, accept_key_of}
 use Rattle.headers.{specs.LineMap.LineMap, specs.Lines.{Line, only_line}}
-use Rattle.decide_handshake.{specs.Client.{IsOpened, SendsKey}, specs.Extensions.HasExtensions}
+use Rattle.decide_handshake.{specs.Client.{AcceptsKey, IsOpened, SendsKey}, specs.Extensions.HasExtensions}
 use Rattle.decide_handshake.{specs.Origins.OriginList, specs.declared.server.HandshakeAnswer.HandshakeAnswer}
 use Rattle.decide_handshake.specs.Messages.{Carries, CarriesButOffers, FitsProtocol, answer_fields, request_fields}
 use Rattle.decide_handshake.{specs.Messages.status_of, specs.Protocols.{AsksFor, OffersProtocols, UsesAskedProtocol}}
@@ -62,12 +62,15 @@ module _ (accept : Line) (sent response : LineMap) (key : Line) (Fits : Type 0) 
             let bytes : accept ≡ accept_key_of wanted.key = cc calls in
             (bytes ∙ ap accept_key_of same, fits (opens UnaskedProtocol))),
         (λ both.
-            opened sent 101 response refl
-            (rw upgrade refl)
-            (lists_upgrade response connection)
-            (record { key = key; sends = sends; accepts = found ∙ ap (λ (line : Line). Some line) both.0 })
-            (inl extensions) (inl extensions)
-            (uses both.1)),
+            let accepts : AcceptsKey sent response =
+            record { key = key; sends = sends; accepts = found ∙ ap (λ (line : Line). Some line) both.0 } in
+            opened sent 101 response (
+              (
+                (((((tt, refl), rw upgrade refl), lists_upgrade response connection), accepts), inl extensions),
+                inl extensions,
+              ),
+              uses both.1,
+            )),
       )
 
 opens_by_value : (accept : FieldValue) (protocol : Option FieldValue) (map response sent : LineMap) (key : Line)

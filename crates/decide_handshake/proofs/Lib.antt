@@ -1,5 +1,7 @@
 pub mod ClientLemmas
+pub mod DecisionLemmas
 pub mod ExtensionLemmas
+pub mod FactLemmas
 pub mod FieldLemmas
 pub mod HandshakeLemmas
 pub mod ProtocolLemmas

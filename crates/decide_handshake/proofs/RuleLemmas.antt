@@ -1,11 +1,11 @@
 -- What holds of the first rule that is broken, in any order of rules.
 use Rattle.std.proofs.Common.{◌≡◌, ◌⊎◌, ℕ, zero, suc, ◌+◌, ◌≤◌, inl, inr, sym, ◌∙◌, ap, subst, arith}
 use Rattle.std.proofs.lemmas.Bool.{cases_order}
-use Rattle.decide_handshake.specs.Rules.{IsFirstBroken, KeepsBelow}
+use Rattle.decide_handshake.{specs.Rules.{IsFirstBroken, KeepsBelow}, proofs.DecisionLemmas.{Decided, cases_Decided}}
 
 module _ {F : Type 0} (number : F → ℕ) (at : ℕ → F) (back : (f : F) → at (number f) ≡ f) (rule : F → Type 0) where
   -- one more rule is kept
-  pub keeps_next : (n : ℕ) → KeepsBelow number rule n → rule (at n) → KeepsBelow number rule (n + 1)
+  keeps_next : (n : ℕ) → KeepsBelow number rule n → rule (at n) → KeepsBelow number rule (n + 1)
   keeps_next n before kept f low =
       elim (cases_order (number f) n) [
         | inl same ↦ subst rule (ap at (sym same) ∙ back f) kept
@@ -15,6 +15,18 @@ module _ {F : Type 0} (number : F → ℕ) (at : ℕ → F) (back : (f : F) → 
               | inr higher ↦ absurd (omega (arith, low, higher))
             ]
       ]
+
+  -- the rules before a number are kept, each by itself
+  abbrev pub KeptTo : ℕ → Type 0
+  KeptTo zero = Unit {0}
+  KeptTo (suc n) = KeptTo n × rule (at n)
+
+  pub kept_below : (n : ℕ) → KeptTo n → KeepsBelow number rule n
+  kept_below zero kept f low = absurd (omega (arith, low))
+  kept_below (suc n) kept f low = keeps_next n (kept_below n kept.0) kept.1 f (omega (arith, low))
+
+  pub first_broken : (f : F) → ¬ (rule f) → KeptTo (number f) → IsFirstBroken number rule f
+  first_broken f broken kept = record { broken = broken; before = kept_below (number f) kept }
 
   -- one rule at most is the first that is broken
   pub one_first : (f g : F) → IsFirstBroken number rule f → IsFirstBroken number rule g → f ≡ g
@@ -28,20 +40,23 @@ module _ {F : Type 0} (number : F → ℕ) (at : ℕ → F) (back : (f : F) → 
             ]
       ]
 
-  -- it can't be that some rule below a number is broken, and none first
-  pub some_first : ((n : ℕ) → number (at n) ≤ n) → (n : ℕ)
-      → ¬ (¬ (KeepsBelow number rule n ⊎ ((f : F) × IsFirstBroken number rule f)))
-  some_first low zero never = never (inl (λ f small. absurd (omega (arith, small))))
-  some_first low (suc n) never =
-      some_first low n (λ found.
-      elim found [
+  -- where each rule has a test, those below a number are kept, or one is the first that is broken
+  pub some_first : ((n : ℕ) → number (at n) ≤ n) → ((f : F) → Decided (rule f)) → (n : ℕ)
+      → KeepsBelow number rule n ⊎ ((f : F) × IsFirstBroken number rule f)
+  some_first low decide zero = inl (λ f small. absurd (omega (arith, small)))
+  some_first low decide (suc n) =
+      elim (some_first low decide n) [
+        | inr first ↦ inr first
         | inl before ↦
-            never (inr (
-              at n,
-              record {
-                broken = λ kept. never (inl (λ f small. keeps_next n before kept f (omega (arith, small))));
-                before = λ f small. let last = low n in before f (omega (arith, small, last));
-              },
-            ))
-        | inr first ↦ never (inr first)
-      ])
+            elim (cases_Decided (decide (at n))) [
+              | inl kept ↦ inl (λ f small. keeps_next n before kept f (omega (arith, small)))
+              | inr broken ↦
+                  inr (
+                    at n,
+                    record {
+                      broken = broken;
+                      before = λ f small. let last = low n in before f (omega (arith, small, last));
+                    },
+                  )
+            ]
+      ]

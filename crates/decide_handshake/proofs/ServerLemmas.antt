@@ -1,6 +1,6 @@
 -- What follows from the rules of the server, and which of them each return of `judge` has seen.
-use Rattle.std.proofs.Common.{◌≡◌, ℕ, zero, suc, ◌+◌, ◌<◌, ◌≤◌, List, Option, refl, sym, ◌∙◌, ap, arith, inl, inr}
-use Rattle.http.specs.declared.version.Version.{Version}
+use Rattle.std.proofs.Common.{◌≡◌, ◌⊎◌, ℕ, zero, suc, ◌+◌, ◌<◌, ◌≤◌, List, Option, refl, sym, ◌∙◌, ap, arith, inl, inr}
+use Rattle.http.specs.declared.version.{Http.{Http, TheVariants.{Http11, H2, H3}}, Version.Version}
 use Rattle.http_header.specs.FieldValue.{FieldValue, plain_value}
 use Rattle.websocket.specs.Handshake.{accept_key_of}
 use Rattle.headers.specs.{LineMap.LineMap, Lines.Line}
@@ -16,7 +16,15 @@ use Rattle.decide_handshake.specs.declared.server.Fault.TheVariants.{NotGet, Old
 use Rattle.decide_handshake.specs.declared.server.Fault.TheVariants.{NoConnection, NoKey, MalformedProtocols}
 use Rattle.decide_handshake.specs.declared.server.Fault.TheVariants.{MalformedExtensions}
 use Rattle.decide_handshake.specs.declared.server.Refusal.TheVariants.{Faulty, OtherVersion, OtherOrigin}
-use Rattle.decide_handshake.proofs.RuleLemmas.{keeps_next, one_first, some_first}
+use Rattle.decide_handshake.proofs.{DecisionLemmas.{Decided, alike, always, by_test, either, is_empty, is_some_of}}
+use Rattle.decide_handshake.proofs.DecisionLemmas.{never, same_bytes, some_with, valid_key}
+use Rattle.decide_handshake.proofs.FactLemmas.{extensions_decided, lists_upgrade_decided, lists_websocket_decided}
+use Rattle.decide_handshake.proofs.FactLemmas.{offers_decided}
+use Rattle.decide_handshake.proofs.RuleLemmas.{KeptTo, first_broken, one_first, some_first}
+use Rattle.std.{proofs.Common.{IsTrue, Some, None, subst, codes}, specs.Prelude.is_some}
+use Rattle.headers.specs.Lines.{only_line}
+use Rattle.websocket.specs.Handshake.{IsValidKey}
+use Rattle.decide_handshake.specs.Origins.{lists_origin}
 
 -- the refusal of a number
 abbrev refusal_at : ℕ → Refusal
@@ -32,31 +40,11 @@ refusal_at (suc (suc (suc (suc (suc (suc (suc (suc zero)))))))) = Faulty Malform
 refusal_at (suc (suc (suc (suc (suc (suc (suc (suc (suc zero))))))))) = Faulty MalformedExtensions
 refusal_at n = OtherOrigin
 
-refusal_back : (refusal : Refusal) → refusal_at (refusal_number refusal) ≡ refusal
-refusal_back (Faulty NotGet) = refl
-refusal_back (Faulty OldHttp) = refl
-refusal_back (Faulty NotHttp11) = refl
-refusal_back (Faulty NoHost) = refl
-refusal_back (Faulty NoUpgrade) = refl
-refusal_back (Faulty NoConnection) = refl
-refusal_back (Faulty NoKey) = refl
-refusal_back OtherVersion = refl
-refusal_back (Faulty MalformedProtocols) = refl
-refusal_back (Faulty MalformedExtensions) = refl
-refusal_back OtherOrigin = refl
+pub refusal_back : (refusal : Refusal) → refusal_at (refusal_number refusal) ≡ refusal
+refusal_back refusal = grind arith
 
 refusal_low : (refusal : Refusal) → refusal_number refusal < 11
-refusal_low (Faulty NotGet) = omega arith
-refusal_low (Faulty OldHttp) = omega arith
-refusal_low (Faulty NotHttp11) = omega arith
-refusal_low (Faulty NoHost) = omega arith
-refusal_low (Faulty NoUpgrade) = omega arith
-refusal_low (Faulty NoConnection) = omega arith
-refusal_low (Faulty NoKey) = omega arith
-refusal_low OtherVersion = omega arith
-refusal_low (Faulty MalformedProtocols) = omega arith
-refusal_low (Faulty MalformedExtensions) = omega arith
-refusal_low OtherOrigin = omega arith
+refusal_low refusal = grind arith
 
 at_low : (n : ℕ) → refusal_number (refusal_at n) ≤ n
 at_low zero = omega arith
@@ -71,6 +59,28 @@ at_low (suc (suc (suc (suc (suc (suc (suc (suc zero)))))))) = omega arith
 at_low (suc (suc (suc (suc (suc (suc (suc (suc (suc zero))))))))) = omega arith
 at_low (suc (suc (suc (suc (suc (suc (suc (suc (suc (suc n)))))))))) = omega arith
 
+other_version : (h k : Http) → ¬ (h ≡ k) → (v w : Version) → v.0 ≡ h → w.0 ≡ k → ¬ (v ≡ w)
+other_version h k other v w e f same = let both = ap (λ (x : Version). x.0) same in other (sym e ∙ both ∙ f)
+
+http11_by : (h : Http) → Decided (IsHttp11 (record { 0 = h }))
+http11_by Http11 = always refl
+http11_by h = never (other_version h Http11 (λ e. cc e) _ _ refl refl)
+
+recent_by : (h : Http) → Decided (IsRecent (record { 0 = h }))
+recent_by Http11 = always (inl refl)
+recent_by H2 = always (inr (inl refl))
+recent_by H3 = always (inr (inr refl))
+recent_by h =
+    never (λ r.
+    elim r [
+      | inl same ↦ other_version h Http11 (λ e. cc e) _ _ refl refl same
+      | inr newer ↦
+          elim newer [
+            | inl same ↦ other_version h H2 (λ e. cc e) _ _ refl refl same
+            | inr same ↦ other_version h H3 (λ e. cc e) _ _ refl refl same
+          ]
+    ])
+
 module _ (method : List ℕ) (version : Version) (request : LineMap) (origins : OriginList) where
   -- the rules of this request, and those before a number
   abbrev R : Refusal → Type 0
@@ -82,103 +92,10 @@ module _ (method : List ℕ) (version : Version) (request : LineMap) (origins : 
   abbrev Below : ℕ → Type 0
   Below n = KeepsBelow refusal_number R n
 
-  next : (n : ℕ) → Below n → R (refusal_at n) → Below (n + 1)
-  next = keeps_next refusal_number refusal_at refusal_back R
-
-  below_1 : IsGet method → Below 1
-  below_1 get = next 0 (λ f low. absurd (omega (arith, low))) get
-
-  below_2 : IsGet method → IsRecent version → Below 2
-  below_2 get recent = next 1 (below_1 get) recent
-
-  below_3 : IsGet method → IsRecent version → IsHttp11 version → Below 3
-  below_3 get recent http11 = next 2 (below_2 get recent) http11
-
-  below_4 : IsGet method → IsRecent version → IsHttp11 version → HasHost request → Below 4
-  below_4 get recent http11 host = next 3 (below_3 get recent http11) host
-
-  below_5 : IsGet method → IsRecent version → IsHttp11 version → HasHost request → ListsWebsocket request
-      → Below 5
-  below_5 get recent http11 host upgrade = next 4 (below_4 get recent http11 host) upgrade
-
-  below_6 : IsGet method → IsRecent version → IsHttp11 version → HasHost request → ListsWebsocket request
-      → ListsUpgrade request → Below 6
-  below_6 get recent http11 host upgrade connection = next 5 (below_5 get recent http11 host upgrade) connection
-
-  below_7 : IsGet method → IsRecent version → IsHttp11 version → HasHost request → ListsWebsocket request
-      → ListsUpgrade request → ((key : Line) × HasKey request key) → Below 7
-  below_7 get recent http11 host upgrade connection key =
-      next 6 (below_6 get recent http11 host upgrade connection) key
-
-  below_8 : IsGet method → IsRecent version → IsHttp11 version → HasHost request → ListsWebsocket request
-      → ListsUpgrade request → ((key : Line) × HasKey request key) → HasVersion13 request → Below 8
-  below_8 get recent http11 host upgrade connection key version_13 =
-      next 7 (below_7 get recent http11 host upgrade connection key) version_13
-
-  below_9 : IsGet method → IsRecent version → IsHttp11 version → HasHost request → ListsWebsocket request
-      → ListsUpgrade request → ((key : Line) × HasKey request key) → HasVersion13 request → OffersProtocols request
-      → Below 9
-  below_9 get recent http11 host upgrade connection key version_13 protocols =
-      next 8 (below_8 get recent http11 host upgrade connection key version_13) protocols
-
-  below_10 : IsGet method → IsRecent version → IsHttp11 version → HasHost request → ListsWebsocket request
-      → ListsUpgrade request → ((key : Line) × HasKey request key) → HasVersion13 request → OffersProtocols request
-      → HasExtensions request → Below 10
-  below_10 get recent http11 host upgrade connection key version_13 protocols extensions =
-      next 9 (below_9 get recent http11 host upgrade connection key version_13 protocols) extensions
-
-  pub first_get : ¬ (IsGet method) → First (Faulty NotGet)
-  first_get fails = record { broken = fails; before = λ f low. absurd (omega (arith, low)) }
-
-  pub first_recent : IsGet method → ¬ (IsRecent version) → First (Faulty OldHttp)
-  first_recent get fails = record { broken = fails; before = below_1 get }
-
-  pub first_http11 : IsGet method → IsRecent version → ¬ (IsHttp11 version) → First (Faulty NotHttp11)
-  first_http11 get recent fails = record { broken = fails; before = below_2 get recent }
-
-  pub first_host : IsGet method → IsRecent version → IsHttp11 version → ¬ (HasHost request) → First (Faulty NoHost)
-  first_host get recent http11 fails = record { broken = fails; before = below_3 get recent http11 }
-
-  pub first_upgrade : IsGet method → IsRecent version → IsHttp11 version → HasHost request
-      → ¬ (ListsWebsocket request) → First (Faulty NoUpgrade)
-  first_upgrade get recent http11 host fails = record { broken = fails; before = below_4 get recent http11 host }
-
-  pub first_connection : IsGet method → IsRecent version → IsHttp11 version → HasHost request
-      → ListsWebsocket request → ¬ (ListsUpgrade request) → First (Faulty NoConnection)
-  first_connection get recent http11 host upgrade fails =
-      record { broken = fails; before = below_5 get recent http11 host upgrade }
-
-  pub first_key : IsGet method → IsRecent version → IsHttp11 version → HasHost request → ListsWebsocket request
-      → ListsUpgrade request → ((key : Line) → ¬ (HasKey request key)) → First (Faulty NoKey)
-  first_key get recent http11 host upgrade connection fails =
-      record { broken = λ some. fails some.0 some.1; before = below_6 get recent http11 host upgrade connection }
-
-  pub first_version_13 : IsGet method → IsRecent version → IsHttp11 version → HasHost request
-      → ListsWebsocket request → ListsUpgrade request → ((key : Line) × HasKey request key) → ¬ (HasVersion13 request)
-      → First OtherVersion
-  first_version_13 get recent http11 host upgrade connection key fails =
-      record { broken = fails; before = below_7 get recent http11 host upgrade connection key }
-
-  pub first_protocols : IsGet method → IsRecent version → IsHttp11 version → HasHost request
-      → ListsWebsocket request → ListsUpgrade request → ((key : Line) × HasKey request key) → HasVersion13 request
-      → ¬ (OffersProtocols request) → First (Faulty MalformedProtocols)
-  first_protocols get recent http11 host upgrade connection key version_13 fails =
-      record { broken = fails; before = below_8 get recent http11 host upgrade connection key version_13 }
-
-  pub first_extensions : IsGet method → IsRecent version → IsHttp11 version → HasHost request
-      → ListsWebsocket request → ListsUpgrade request → ((key : Line) × HasKey request key) → HasVersion13 request
-      → OffersProtocols request → ¬ (HasExtensions request) → First (Faulty MalformedExtensions)
-  first_extensions get recent http11 host upgrade connection key version_13 protocols fails =
-      record { broken = fails; before = below_9 get recent http11 host upgrade connection key version_13 protocols }
-
-  pub first_origin : IsGet method → IsRecent version → IsHttp11 version → HasHost request → ListsWebsocket request
-      → ListsUpgrade request → ((key : Line) × HasKey request key) → HasVersion13 request → OffersProtocols request
-      → HasExtensions request → ¬ (AllowsOrigin origins request) → First OtherOrigin
-  first_origin get recent http11 host upgrade connection key version_13 protocols extensions fails =
-      record {
-        broken = fails;
-        before = below_10 get recent http11 host upgrade connection key version_13 protocols extensions;
-      }
+  -- a refusal is the first whose rule is broken
+  pub first : (refusal : Refusal) → ¬ (R refusal)
+      → KeptTo refusal_number refusal_at refusal_back R (refusal_number refusal) → First refusal
+  first = first_broken refusal_number refusal_at refusal_back R
 
   pub accepted : IsGet method → IsHttp11 version → HasHost request → ListsWebsocket request → ListsUpgrade request
       → (key : Line) → HasKey request key → HasVersion13 request → OffersProtocols request → HasExtensions request
@@ -232,61 +149,83 @@ module _ (method : List ℕ) (version : Version) (request : LineMap) (origins : 
   same_refusal : (f g : Refusal) → First f → First g → f ≡ g
   same_refusal = one_first refusal_number refusal_at refusal_back R
 
+  -- ---- each rule has a test
+
+  has_key : (found : Option Line) → only_line (request (codes "sec-websocket-key")) ≡ found
+      → Decided ((key : Line) × HasKey request key)
+  has_key None e = never (λ h. let only = h.1.only in cc (only, e))
+  has_key (Some key) e =
+      alike (valid_key key) (λ valid. (key, record { only = e; is_key = valid }))
+      (λ h. let same : h.0 ≡ key = cc (h.1.only, e) in subst IsValidKey same h.1.is_key)
+
+  origin_decided : (listed : OriginList) → Decided (AllowsOrigin listed request)
+  origin_decided None = always tt
+  origin_decided (Some origins) =
+      either (is_empty (request (codes "origin")))
+      (some_with (λ (text : Line). IsTrue (lists_origin origins text)) (λ text. by_test (lists_origin origins text))
+      (only_line (request (codes "origin"))))
+
+  decided : (refusal : Refusal) → Decided (R refusal)
+  decided (Faulty NotGet) = same_bytes method (codes "GET")
+  decided (Faulty OldHttp) = recent_by version.0
+  decided (Faulty NotHttp11) = http11_by version.0
+  decided (Faulty NoHost) = by_test (is_some (only_line (request (codes "host"))))
+  decided (Faulty NoUpgrade) = lists_websocket_decided request
+  decided (Faulty NoConnection) = lists_upgrade_decided request
+  decided (Faulty NoKey) = has_key (only_line (request (codes "sec-websocket-key"))) refl
+  decided OtherVersion = is_some_of (only_line (request (codes "sec-websocket-version"))) (codes "13")
+  decided (Faulty MalformedProtocols) = offers_decided request
+  decided (Faulty MalformedExtensions) = extensions_decided request
+  decided OtherOrigin = origin_decided origins
+
   module _ (own : List FieldValue) where
     abbrev A : HandshakeAnswer → Type 0
     A = Answers method version request origins own
 
-    same_switch : (v w : FieldValue) (p q : Option FieldValue) → A (Switch v p) → A (Switch w q)
-        → Switch v p ≡ Switch w q
-    same_switch v w p q h k =
-        let key = one_key h.key k.key h.accepted.handshake.has_key k.accepted.handshake.has_key in
-        let same = h.value ∙ (ap (λ (line : Line). plain_value (accept_key_of line)) key ∙ sym k.value) in
-        let picked : p ≡ q = h.picked ∙ sym k.picked in
-        rw (same, picked) refl
+    abbrev refused : Refusal → HandshakeAnswer
+    refused (Faulty fault) = BadRequest fault
+    refused OtherVersion = UpgradeRequired
+    refused OtherOrigin = Forbidden
+
+    abbrev switched : Line → HandshakeAnswer
+    switched key = Switch (plain_value (accept_key_of key)) (taken request own)
+
+    -- an answer has the first rule that is broken, or it switches
+    abbrev IsRefused : HandshakeAnswer → Type 0
+    IsRefused a = (refusal : Refusal) × First refusal × (a ≡ refused refusal)
+
+    abbrev IsSwitched : HandshakeAnswer → Type 0
+    IsSwitched a = (key : Line) × IsAccepted method version request origins key × (a ≡ switched key)
+
+    parts : (a : HandshakeAnswer) → A a → IsRefused a ⊎ IsSwitched a
+    parts (Switch v p) h = inr (h.key, h.accepted, rw (h.value, h.picked) refl)
+    parts (BadRequest f) h = inl (Faulty f, h, refl)
+    parts UpgradeRequired h = inl (OtherVersion, h, refl)
+    parts Forbidden h = inl (OtherOrigin, h, refl)
 
     pub one_answer : (a b : HandshakeAnswer) → A a → A b → a ≡ b
-    one_answer (Switch v p) (Switch w q) h k = same_switch v w p q h k
-    one_answer (Switch v p) (BadRequest g) h k = absurd (k.broken (keeps h.key h.accepted (Faulty g)))
-    one_answer (Switch v p) UpgradeRequired h k = absurd (k.broken (keeps h.key h.accepted OtherVersion))
-    one_answer (Switch v p) Forbidden h k = absurd (k.broken (keeps h.key h.accepted OtherOrigin))
-    one_answer (BadRequest f) (Switch w q) h k = absurd (h.broken (keeps k.key k.accepted (Faulty f)))
-    one_answer (BadRequest f) (BadRequest g) h k =
-        let same : Faulty f ≡ Faulty g = same_refusal (Faulty f) (Faulty g) h k in cc same
-    one_answer (BadRequest f) UpgradeRequired h k =
-        let same : Faulty f ≡ OtherVersion = same_refusal (Faulty f) OtherVersion h k in absurd (cc same)
-    one_answer (BadRequest f) Forbidden h k =
-        let same : Faulty f ≡ OtherOrigin = same_refusal (Faulty f) OtherOrigin h k in absurd (cc same)
-    one_answer UpgradeRequired (Switch w q) h k = absurd (h.broken (keeps k.key k.accepted OtherVersion))
-    one_answer UpgradeRequired (BadRequest g) h k =
-        let same : OtherVersion ≡ Faulty g = same_refusal OtherVersion (Faulty g) h k in absurd (cc same)
-    one_answer UpgradeRequired UpgradeRequired h k = refl
-    one_answer UpgradeRequired Forbidden h k =
-        let same : OtherVersion ≡ OtherOrigin = same_refusal OtherVersion OtherOrigin h k in absurd (cc same)
-    one_answer Forbidden (Switch w q) h k = absurd (h.broken (keeps k.key k.accepted OtherOrigin))
-    one_answer Forbidden (BadRequest g) h k =
-        let same : OtherOrigin ≡ Faulty g = same_refusal OtherOrigin (Faulty g) h k in absurd (cc same)
-    one_answer Forbidden UpgradeRequired h k =
-        let same : OtherOrigin ≡ OtherVersion = same_refusal OtherOrigin OtherVersion h k in absurd (cc same)
-    one_answer Forbidden Forbidden h k = refl
+    one_answer a b h k = by (parts a h) (parts b k)
+      where
+        by : IsRefused a ⊎ IsSwitched a → IsRefused b ⊎ IsSwitched b → a ≡ b
+        by (inl r) (inl s) = r.2 ∙ ap (λ f. refused f) (same_refusal r.0 s.0 r.1 s.1) ∙ sym s.2
+        by (inl r) (inr s) = absurd (r.1.broken (keeps s.0 s.1 r.0))
+        by (inr r) (inl s) = absurd (s.1.broken (keeps r.0 r.1 s.0))
+        by (inr r) (inr s) =
+            r.2 ∙ ap (λ key. switched key) (one_key r.0 s.0 r.1.handshake.has_key s.1.handshake.has_key) ∙ sym s.2
 
-    refuses : (refusal : Refusal) → First refusal → (a : HandshakeAnswer) × A a
-    refuses (Faulty fault) first = (BadRequest fault, first)
-    refuses OtherVersion first = (UpgradeRequired, first)
-    refuses OtherOrigin first = (Forbidden, first)
+    refuses : (refusal : Refusal) → First refusal → A (refused refusal)
+    refuses (Faulty fault) first = first
+    refuses OtherVersion first = first
+    refuses OtherOrigin first = first
 
-    switches : (key : Line) → IsAccepted method version request origins key → (a : HandshakeAnswer) × A a
-    switches key a = (
-      Switch (plain_value (accept_key_of key)) (taken request own),
-      record { key = key; accepted = a; value = refl; picked = refl },
-    )
-
-    pub some_answer : ¬ (¬ ((a : HandshakeAnswer) × A a))
-    some_answer never =
-        some_first refusal_number refusal_at refusal_back R at_low 11 (λ found.
-        elim found [
-          | inl all ↦ let a = accepts_all all in never (switches a.0 a.1)
-          | inr first ↦ never (refuses first.0 first.1)
-        ])
+    pub some_answer : (a : HandshakeAnswer) × A a
+    some_answer =
+        elim (some_first refusal_number refusal_at refusal_back R at_low decided 11) [
+          | inl all ↦
+              let a = accepts_all all in
+              (switched a.0, record { key = a.0; accepted = a.1; value = refl; picked = refl })
+          | inr first ↦ (refused first.0, refuses first.0 first.1)
+        ]
 
     -- an answer switches only if the request is accepted
     pub switch_only : (a : HandshakeAnswer) → A a → IsSwitch a

@@ -11,12 +11,11 @@ ghost use Rattle.decide_handshake.specs.Messages.{Carries, CarriesButOffers, Fit
 ghost use Rattle.decide_handshake.specs.Messages.{request_fields, status_of};
 ghost use Rattle.decide_handshake.specs.Server.{Answers, HasHost, HasKey, IsAccepted, IsHandshake, IsSwitch};
 
-/// Theorem: a request has exactly one answer. That it has one is stated by a double negation, since
-/// the definitions have no test of a key's base64.
+/// Theorem: every request has exactly one answer.
 pub fn request_has_one_answer()
     ensures some { (method : List ℕ) (version : Version) (request : LineMap) (origins : OriginList)
         (own : List FieldValue)
-        → ¬ (¬ ((answer : HandshakeAnswer) × Answers method version request origins own answer)) }
+        → (answer : HandshakeAnswer) × Answers method version request origins own answer }
     ensures one { (method : List ℕ) (version : Version) (request : LineMap) (origins : OriginList)
         (own : List FieldValue) (a b : HandshakeAnswer) → Answers method version request origins own a
         → Answers method version request origins own b → a ≡ b }
@@ -44,10 +43,10 @@ pub fn requests_are_handshakes()
         → IsHandshake (codes "GET") HTTP_11 request key }
 {}
 
-/// Theorem: a response has exactly one result. That it has one is stated by a double negation.
+/// Theorem: every response has exactly one result.
 pub fn response_has_one_result()
     ensures some { (sent : LineMap) (status : ℕ) (response : LineMap)
-        → ¬ (¬ ((result : Checked) × Checks sent status response result)) }
+        → (result : Checked) × Checks sent status response result }
     ensures one { (sent : LineMap) (status : ℕ) (response : LineMap) (a b : Checked)
         → Checks sent status response a → Checks sent status response b → a ≡ b }
 {}
