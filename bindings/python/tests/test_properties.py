@@ -219,8 +219,9 @@ def converse(pieces: Any, status: Any, fields: Any, content: Any) -> None:
             while not isinstance(event, (connection.Waiting, connection.ConnectionClosed)):
                 event = one.next_event()
             if event is connection.PAUSED:
-                for part in (connection.Response(status, fields), connection.Data(content), connection.EndOfMessage()):
-                    one.send(part)
+                one.send(connection.Response(status, fields))
+                one.send(connection.Data(content))
+                one.send(connection.EndOfMessage())
             one.data_to_send()
     except (it.HeaderError, connection.LocalProtocolError):
         pass
