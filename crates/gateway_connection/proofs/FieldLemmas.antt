@@ -4,7 +4,6 @@ use Rattle.http.specs.declared.error.Error.{Error}
 use Rattle.http1.specs.Fields.{Header}
 use Rattle.gateway_relay.specs.Failures.{IsMapFailure, map_failure}
 use Rattle.gateway_connection.specs.Responses.{IsFieldsFault, map_fault}
-use Rattle.gateway_connection.specs.declared.event.OriginFault.{OriginFault}
 use Rattle.http.specs.declared.error.Error.TheVariants as Mapped
 
 -- the reason is the one of a relay

@@ -33,7 +33,7 @@ use Rattle.server_stream.specs.Exchanges.{exchange_text, final_text, head_text, 
 use Rattle.server_stream.specs.{Heads.told_of, declared.connection.StreamConnection.StreamConnection}
 use Rattle.server_stream.specs.{declared.event.RequestHead.RequestHead, declared.event.StreamEvent.StreamEvent}
 use Rattle.server_stream.specs.declared.rejection.Rejection.{Rejection}
-use Rattle.server_stream.specs.History.{Exchanged, Heard, IsReached, IsTold, IsWhole, Past, answers, begins, change}
+use Rattle.server_stream.specs.History.{Exchanged, Heard, IsReached, IsTold, IsWhole, MayPut, Past, answers, begins, change}
 use Rattle.server_stream.specs.History.{informs, no_past, over, reject_at, tell, texts, with_content, with_end}
 use Rattle.server_stream.specs.History.{with_piece, with_trailers, Nothing, Part, Whole, Opened, Received, Finished}
 use Rattle.server_stream.specs.History.{Informed, Responded, Handed, Put, Ended, Refused, Written, Said}
@@ -88,6 +88,18 @@ WritesAt s Due = (s.writing ≡ Writes.Head) ⊎ (s.writing ≡ Writes.Closed)
 WritesAt s (Begun r) = WritesResponse r.trailers s r
 WritesAt s (Switched b) = s.writing ≡ Writes.Upgraded
 
+closed_mute : (s : Server) → s.writing ≡ Writes.Closed → may_respond s ≡ false
+closed_mute s is = rw is refl
+
+upgraded_mute : (s : Server) → s.writing ≡ Writes.Upgraded → may_respond s ≡ false
+upgraded_mute s is = rw is refl
+
+done_mute : (s : Server) → s.writing ≡ Writes.Done → may_respond s ≡ false
+done_mute s is = rw is refl
+
+body_mute : (s : Server) (e : Encoder) → s.writing ≡ Writes.Body e → may_respond s ≡ false
+body_mute s e is = rw is refl
+
 -- where a stream is
 record Place : Type 0 where
   limits : Limits
@@ -103,6 +115,31 @@ abbrev AskedAt : (w : Place) (s : Server) (heard : Heard) → ToldAt w heard →
 AskedAt w s Nothing x = ⊤
 AskedAt w s (Part head content) x = may_respond s ≡ true → IsOf s.request x.head x.framing
 AskedAt w s (Whole head content trailers) x = may_respond s ≡ true → IsOf s.request x.head x.framing
+
+-- a response may begin if one is due
+abbrev DueAt : Server → Final → Heard → Type 0
+DueAt s Due Nothing = ⊤
+DueAt s Due heard = may_respond s ≡ true
+DueAt s final heard = ⊤
+
+due_on : (s next : Server) (f : Final) (told : RequestHead) (content content_on : List ℕ)
+    → (may_respond s ≡ true → may_respond next ≡ true) → DueAt s f (Part told content)
+    → DueAt next f (Part told content_on)
+due_on s next Due told content content_on goes due = goes due
+due_on s next (Begun r) told content content_on goes due = tt
+due_on s next (Switched b) told content content_on goes due = tt
+
+due_over : (s next : Server) (f : Final) (told : RequestHead) (content : List ℕ) (trailers : Entries FieldValue)
+    → (may_respond s ≡ true → may_respond next ≡ true) → DueAt s f (Part told content)
+    → DueAt next f (Whole told content trailers)
+due_over s next Due told content trailers goes due = goes due
+due_over s next (Begun r) told content trailers goes due = tt
+due_over s next (Switched b) told content trailers goes due = tt
+
+due_may : (s : Server) (heard : Heard) → may_respond s ≡ true → DueAt s Due heard
+due_may s Nothing may = tt
+due_may s (Part head content) may = may
+due_may s (Whole head content trailers) may = may
 
 -- the final response is ended, and keeps the connection
 abbrev IsKept : Final → Type 0
@@ -141,6 +178,7 @@ record Goes (k : Frame) (s : Server) (unread : List ℕ) (heard : Heard) (a : An
   told : IsTold k.limits since.start heard a.final unread
   writes : WritesAt s a.final
   asked : AskedAt (place k since.start a unread) s heard told
+  due : DueAt s a.final heard
 
 -- a connection that isn't rejected
 record Going (k : Frame) (s : Server) (input : List ℕ) (heard : Heard) (a : Answer) : Type 0 where
@@ -237,6 +275,18 @@ asked_turned s new d next waits h framing is before (inl goes) asked may =
 asked_turned s new d next waits h framing is before (inr (inl closes)) asked may = absurd (cc (rw closes.1 at may))
 asked_turned s new d next waits h framing is before (inr (inr anew)) asked may = absurd (cc (rw anew.3 at may))
 
+content_asks : (r : Reading) → IsOfContent r → has_request r ≡ true
+content_asks (Reads.Body d) is = refl
+content_asks Reads.Done is = refl
+content_asks r is = absurd is
+
+may_turned : (s new : Server) (next : Reading) (waits : Bool) → has_request next ≡ true → Turns s next waits new
+    → may_respond s ≡ true → may_respond new ≡ true
+may_turned s new next waits asks (inl goes) may =
+    rw goes (rw ((and_parts (awaits_head s.writing) (has_request s.reading) may).0, asks) refl)
+may_turned s new next waits asks (inr (inl closes)) may = absurd (cc (may, done_mute s closes.0))
+may_turned s new next waits asks (inr (inr anew)) may = absurd (cc (may, done_mute s anew.0))
+
 -- ---- the input goes on
 
 grows : (bytes : List ℕ) (P : List ℕ → List ℕ → Type 0) (a b : List ℕ)
@@ -298,6 +348,7 @@ goes_grows {k} {s} {unread} {a} bytes heard g =
       told = y.0;
       writes = g.writes;
       asked = y.1 s g.asked;
+      due = g.due;
     }
 
 -- ---- content
@@ -328,6 +379,8 @@ module _ {k : Frame} {s : Server} {input : List ℕ} {a : Answer} where
           };
           writes = writes_turned s _ d _ waits a.final is t g.writes;
           asked = asked_turned s _ d _ waits x.head x.framing is (waits_before s input (Reads.Body after)) t g.asked;
+          due = due_on s (after_piece s input (Reads.Body after)) a.final head content (content ++ piece)
+              (may_turned s _ (Reads.Body after) waits refl t) g.due;
         };
         at = reads_turned t;
       })
@@ -410,6 +463,8 @@ module _ {k : Frame} {s : Server} {input : List ℕ} {a : Answer} where
           };
           writes = writes_turned s _ d _ waits a.final is t g.goes.writes;
           asked = asked_turned s _ d _ waits x.head x.framing is (waits_before s input Reads.Done) t g.goes.asked;
+          due = due_over s (after_piece s input Reads.Done) a.final head content trailers
+              (may_turned s _ Reads.Done waits refl t) g.goes.due;
         };
         at = ends_turned a.final g.goes.writes t;
       }))
@@ -533,6 +588,7 @@ module _ {k : Frame} {s : Server} {input : List ℕ} (is : s.reading ≡ Reads.H
           };
           writes = inl b.writing;
           asked = λ may. record { method = refl; minor = refl; keeps = λ yes. yes; waits = λ yes. yes };
+          due = rw b.writing refl;
         };
         at = inl (ap (λ (l : Limits). Reads.Body (decoder_for l framing)) g.goes.limited);
       }
@@ -548,6 +604,7 @@ module _ {k : Frame} {s : Server} {input : List ℕ} (is : s.reading ≡ Reads.H
         told = refl;
         writes = inl (writing ∙ b.writing);
         asked = tt;
+        due = tt;
       }
 
 -- ---- rejections
@@ -586,6 +643,7 @@ module _ {k : Frame} {s : Server} {input : List ℕ} {a : Answer} where
     told = g.goes.told;
     writes = rw g.at.0 (inl (writing ∙ (next_begins is Nothing a g).writing));
     asked = tt;
+    due = rw g.at.0 tt;
   }
   head_fails next is limited writing (Part head content) g = absurd (part g.at)
     where
@@ -604,11 +662,13 @@ module _ {k : Frame} {s : Server} {input : List ℕ} {a : Answer} where
         told = g.goes.told;
         writes = failed_writes s d e a.final is g.goes.writes;
         asked = failed_asked s d e g.goes.told.head g.goes.told.framing is g.goes.asked;
+        due = due_on s (failed_server s e) a.final head content content
+            (λ may. rw (and_parts (awaits_head s.writing) (has_request s.reading) may).0 refl) g.goes.due;
       })
 
-  piece_fails : (d : Decoder) (reading : Reading) → s.reading ≡ Reads.Body d → (heard_now : Heard)
+  piece_fails : (d : Decoder) (reading : Reading) → s.reading ≡ Reads.Body d → IsOfContent reading → (heard_now : Heard)
       → Going k s input heard_now a → RejectedAt k (after_piece s input reading) input heard_now a
-  piece_fails d reading is = in_part (λ heard_now. RejectedAt k (after_piece s input reading) input heard_now a) is
+  piece_fails d reading is within = in_part (λ heard_now. RejectedAt k (after_piece s input reading) input heard_now a) is
       (λ head content g same.
       let x = g.goes.told in
       let waits = still_waits s input reading in
@@ -619,6 +679,8 @@ module _ {k : Frame} {s : Server} {input : List ℕ} {a : Answer} where
         told = x;
         writes = writes_turned s _ d reading waits a.final is t g.goes.writes;
         asked = asked_turned s _ d reading waits x.head x.framing is (waits_before s input reading) t g.goes.asked;
+        due = due_on s (after_piece s input reading) a.final head content content
+            (may_turned s _ reading waits (content_asks reading within) t) g.goes.due;
       })
 
   -- a connection that isn't rejected can be read
@@ -652,7 +714,7 @@ module _ {k : Frame} {s : Server} {input : List ℕ} {a : Answer} where
   fails next (inl wrong) heard_now g =
       rw wrong.2 (malformed s.reading _ wrong.0 refl wrong.1 heard_now g)
   fails next (inr (inl head)) heard_now g = rw head.5 (head_fails _ head.0 refl refl heard_now g)
-  fails next (inr (inr piece)) heard_now g = rw piece.4 (piece_fails piece.0 piece.1 piece.2 heard_now g)
+  fails next (inr (inr piece)) heard_now g = rw piece.4 (piece_fails piece.0 piece.1 piece.2 piece.3 heard_now g)
 
   cut_off : (r : Reading) → s.reading ≡ r → IsWithin r input → (heard_now : Heard) → Going k s input heard_now a
       → RejectedAt k (failed_server s UnexpectedEof) input heard_now a
@@ -670,6 +732,7 @@ module _ {k : Frame} {s : Server} {input : List ℕ} {a : Answer} where
       told = g.goes.told;
       writes = rw g.at.0 (inr refl);
       asked = tt;
+      due = rw g.at.0 tt;
     };
     at = (g.at.0, inr (inl (refl, refl)));
   }
@@ -685,6 +748,7 @@ module _ {k : Frame} {s : Server} {input : List ℕ} {a : Answer} where
       told = g.goes.told;
       writes = closes a.final (whole g.at);
       asked = λ may. absurd (cc may);
+      due = ended a.final (whole g.at);
     };
     at = inr (inl (inl (refl, refl)));
   }
@@ -693,6 +757,11 @@ module _ {k : Frame} {s : Server} {input : List ℕ} {a : Answer} where
       whole (inl done) = absurd (cc (is, done))
       whole (inr (inl shut)) = absurd (shut_head s is shut)
       whole (inr (inr new)) = new.1
+
+      ended : (f : Final) → IsKept f → DueAt (closed_server s) f (Whole head content trailers)
+      ended Due kept = absurd kept
+      ended (Begun r) kept = tt
+      ended (Switched b) kept = tt
 
       closes : (f : Final) → IsKept f → WritesAt (closed_server s) f
       closes Due kept = absurd kept
@@ -801,12 +870,13 @@ framed_as w (Whole head content trailers) x = x.framed
 puts : {k : Frame} {s : Server} {unread : List ℕ} {heard : Heard} {a : Answer} (g : Goes k s unread heard a)
     (next : Server) (text : List ℕ) (b : Answer) → answer_text b ≡ answer_text a ++ text → next.limits ≡ s.limits
     → FramedAt (place k g.since.start a unread) b.final heard g.told → WritesAt next b.final
-    → AskedAt (place k g.since.start a unread) next heard g.told → ¬ (s ≡ new_server s.limits) → ¬ (IsShut s)
+    → AskedAt (place k g.since.start a unread) next heard g.told → DueAt next b.final heard
+    → ¬ (s ≡ new_server s.limits) → ¬ (IsShut s)
     → ((y : ToldAt (place k g.since.start b unread) heard) → InRequest (place k g.since.start b unread) s heard y
     → IsAt (place k g.since.start b unread) next b heard y)
     → PutIn g next text b
 unfolding longer
-puts {k} {s} {unread} {heard} {a} g next text b said limited framed writes asked old running at =
+puts {k} {s} {unread} {heard} {a} g next text b said limited framed writes asked due old running at =
     let w = place k g.since.start a unread in
     let y = reframed w b.final heard g.told framed in
     record {
@@ -816,6 +886,7 @@ puts {k} {s} {unread} {heard} {a} g next text b said limited framed writes asked
         told = y.0;
         writes = writes;
         asked = y.1 next asked;
+        due = due;
       };
       at = λ is. at y.0 (y.2 s (in_request w s a old running heard g.told is));
     }
@@ -825,18 +896,6 @@ puts {k} {s} {unread} {heard} {a} g next text b said limited framed writes asked
 begun_old : (s : Server) → may_respond s ≡ true → ¬ (s ≡ new_server s.limits)
 begun_old s may new =
     let mute : may_respond s ≡ false = ap (λ (x : Server). may_respond x) new in absurd (cc (may, mute))
-
-closed_mute : (s : Server) → s.writing ≡ Writes.Closed → may_respond s ≡ false
-closed_mute s is = rw is refl
-
-upgraded_mute : (s : Server) → s.writing ≡ Writes.Upgraded → may_respond s ≡ false
-upgraded_mute s is = rw is refl
-
-done_mute : (s : Server) → s.writing ≡ Writes.Done → may_respond s ≡ false
-done_mute s is = rw is refl
-
-body_mute : (s : Server) (e : Encoder) → s.writing ≡ Writes.Body e → may_respond s ≡ false
-body_mute s e is = rw is refl
 
 begun_running : (s : Server) → may_respond s ≡ true → ¬ (IsShut s)
 begun_running s may (inl shut) = absurd (cc (may, closed_mute s shut.1))
@@ -882,7 +941,8 @@ module _ {k : Frame} {s : Server} {unread : List ℕ} (heard : Heard) (a : Answe
   inform_now status reason headers none =
       puts g (after_informational s status) (response_text 1 status reason headers)
       (record a { interim = a.interim ++ bare 1 status reason headers ∷ [] }) said refl
-      (framed_as here heard g.told) writes (asks here heard g.told g.asked) (begun_old s may) (begun_running s may)
+      (framed_as here heard g.told) writes (asks here heard g.told g.asked)
+      (rw due (due_may (after_informational s status) heard may)) (begun_old s may) (begun_running s may)
       (stays_at here s (after_informational s status)
       (record a { interim = a.interim ++ bare 1 status reason headers ∷ [] }) refl heard)
     where
@@ -918,8 +978,7 @@ module _ {k : Frame} {s : Server} {unread : List ℕ} (heard : Heard) (a : Answe
       (record a { final = Begun (begins s status reason headers size) }) said stays.0
       (framed here heard g.told g.asked) writes
       (not_asked here (after_response s status size headers)
-      (body_mute (after_response s status size headers) _ stays.2) heard g.told)
-      (begun_old s may) (begun_running s may)
+      (body_mute (after_response s status size headers) _ stays.2) heard g.told) tt (begun_old s may) (begun_running s may)
       (stays_at (record here { final = Begun (begins s status reason headers size) }) s
       (after_response s status size headers) (record a { final = Begun (begins s status reason headers size) }) stays.1
       heard)
@@ -993,7 +1052,7 @@ module _ {k : Frame} {s : Server} {unread : List ℕ} (heard : Heard) (a : Answe
   switch_now status reason headers none =
       puts g (upgraded_server s) (response_text s.request.minor status reason headers)
       (record a { final = Switched (bare s.request.minor status reason headers) }) said refl
-      (framed here heard g.told g.asked) refl (not_asked here (upgraded_server s) refl heard g.told)
+      (framed here heard g.told g.asked) refl (not_asked here (upgraded_server s) refl heard g.told) tt
       (begun_old s may) (begun_running s may)
       (at (record here { final = Switched (bare s.request.minor status reason headers) }) heard)
     where
@@ -1121,7 +1180,8 @@ module _ {k : Frame} {s : Server} {unread : List ℕ} (heard : Heard) (interim :
       puts g next (data_text s.writing piece) (answer interim (Begun (with_piece piece r)))
       (more_said interim r (with_piece piece r) (data_text s.writing piece) p.1) refl
       (framed_change here r (with_piece piece r) refl refl heard g.told) (rw x.0 (goes_on, x.2))
-      (not_asked here next (body_mute next _ goes_on) heard g.told) (writing_old s e is) (writing_running s e is)
+      (not_asked here next (body_mute next _ goes_on) heard g.told) tt
+      (writing_old s e is) (writing_running s e is)
       (stays_at there s next (answer interim (Begun (with_piece piece r))) refl heard)
     where
       x : (r.trailers ≡ None) × (s.writing ≡ Writes.Body (after_pieces r.pieces (encoder_in (plan_of r)))) × Keeps s r
@@ -1152,7 +1212,7 @@ module _ {k : Frame} {s : Server} {unread : List ℕ} (heard : Heard) (interim :
       puts g (after_end s) (finish_text s.writing trailers) (answer interim (Begun (with_trailers trailers r)))
       (more_said interim r (with_trailers trailers r) (finish_text s.writing trailers) text)
       (limits_ended s _ turn) (framed_change here r (with_trailers trailers r) refl refl heard g.told)
-      (writes (after_end s) turn) (not_asked here (after_end s) (mute_ended s _ turn) heard g.told)
+      (writes (after_end s) turn) (not_asked here (after_end s) (mute_ended s _ turn) heard g.told) tt
       (writing_old s e is) (writing_running s e is) (at there (after_end s) turn heard)
     where
       x : (r.trailers ≡ None) × (s.writing ≡ Writes.Body (after_pieces r.pieces (encoder_in (plan_of r)))) × Keeps s r
@@ -1342,6 +1402,7 @@ new_run {limits} is_new no_input no_output is_whole =
         told = refl;
         writes = inl refl;
         asked = tt;
+        due = tt;
       };
       at = (refl, inl refl);
     }) in rw (is_new, no_input, no_output, is_whole) new
@@ -1418,6 +1479,7 @@ written {limits} {p} old new count out run =
         told = g.told;
         writes = g.writes;
         asked = g.asked;
+        due = g.due;
       };
       broken = run.broken;
       going = run.going;
@@ -1437,8 +1499,20 @@ runs (Refused old new p before kept) = refused kept (runs before)
 runs (Written old new p count before within out) = written old new count out (runs before)
 runs (Said old new p event before says) = said old new event old.fault refl says (runs before)
 
+may_put : (s : Server) (f : Final) (heard : Heard) → WritesAt s f → DueAt s f heard → MayPut s f heard
+may_put s Due Nothing w due = tt
+may_put s Due (Part head content) w due = due
+may_put s Due (Whole head content trailers) w due = due
+may_put s (Begun r) heard w due = response r.trailers refl w
+  where
+    response : (t : Option (List Header)) → r.trailers ≡ t → WritesResponse t s r → r.trailers ≡ None
+        → s.writing ≡ Writes.Body (after_pieces r.pieces (encoder_in (plan_of r)))
+    response None is w none = w.0
+    response (Some trailers) is w none = absurd (cc (is, none))
+may_put s (Switched b) heard w due = tt
+
 pub exchanged : {limits : Limits} {m : StreamConnection} {p : Past} → IsReached limits m p → Exchanged limits m p
-exchanged reached =
+exchanged {limits} {m} {p} reached =
     let r = runs reached in
     record {
       written = r.goes.since.written;
@@ -1447,4 +1521,5 @@ exchanged reached =
       unread = r.unread;
       now = r.goes.told;
       left = λ none. (r.going none).0;
+      puts = may_put m.server p.answer.final p.heard r.goes.writes r.goes.due;
     }
