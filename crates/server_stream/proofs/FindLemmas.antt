@@ -11,7 +11,8 @@ use Rattle.httparse.{specs.declared.spans.Span.Span, proofs.RunLemmas.length-sli
 use Rattle.http1.specs.{Body.body_of, Fields.Header, ServerTrace.headers_at}
 use Rattle.http1.specs.Conn.{ReadsPiece, is_read, unread_size}
 use Rattle.http1.specs.Decoder.{Completes, Continues, Ends, decoder_for}
-use Rattle.http1.specs.Server.{ReadsAt, ReadsHead, ServerReads, after_piece, closed_server, cycle, new_server, request_of, server_eof}
+use Rattle.http1.specs.Server.{ReadsAt, ReadsHead, ServerReads, after_piece, closed_server, cycle, new_server}
+use Rattle.http1.specs.Server.{request_of, server_eof}
 use Rattle.http1.specs.{declared.conn.BodySize.BodySize, declared.conn.Event.Event, declared.conn.Limits.Limits}
 use Rattle.http1.specs.{declared.conn.Progress.Progress, declared.conn.Reading.Reading}
 use Rattle.http1.specs.declared.error.ReadError.TheVariants.{UnexpectedEof}
@@ -168,8 +169,16 @@ rejects_head old new s spans len r seen why same due head is rest =
     let codings = ap (λ (x : Server). x.request.has_codings) t.next in
     let server : new.server ≡ (server_eof s 0).1 = ap (λ (m : StreamConnection). m.server) rest in
     inl (record {
-      because = wrong t why (subst (λ (b : Bool). IsHeadRejection b (headers_at old.input.items spans r.headers) why) codings is);
-      server = inr (inl (due, t.head, t.framing, _, t.accepts, server ∙ ap (λ (x : Server). (server_eof x 0).1) t.next));
+      because = wrong t why
+          (subst (λ (b : Bool). IsHeadRejection b (headers_at old.input.items spans r.headers) why) codings is);
+      server = inr (inl (
+        due,
+        t.head,
+        t.framing,
+        _,
+        t.accepts,
+        server ∙ ap (λ (x : Server). (server_eof x 0).1) t.next,
+      ));
       rest = rest ∙ ap (λ (x : Server). record old { server = x; input = new.input }) (sym server);
     })
   where

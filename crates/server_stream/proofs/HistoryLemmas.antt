@@ -9,13 +9,13 @@ use Rattle.httparse.proofs.GrammarLemmas.{ReadsRequest-append}
 use Rattle.http_header.{specs.FieldValue.FieldValue, specs.HeaderMap.Entries}
 use Rattle.http1.specs.{Body.{Body, ReadsBody, body_of}, Decoder.{Completes, Continues}}
 use Rattle.http1.specs.{Decoder.{decoder_for, with_front}, Fields.Header}
-use Rattle.http1.specs.Conn.{Plan, after_data, awaits_head, data_refusal, data_text, finish_refusal, finish_text, is_read}
-use Rattle.http1.specs.{Conn.{is_connect, plan_refusal, planned_headers}, Fields.known_fields}
+use Rattle.http1.specs.Conn.{Plan, after_data, awaits_head, data_refusal, data_text, finish_refusal, finish_text}
+use Rattle.http1.specs.{Conn.{is_connect, is_read, plan_refusal, planned_headers}, Fields.known_fields}
 use Rattle.http1.specs.{Head.{is_status_line, response_text}, Message.{AcceptsRequest}}
 use Rattle.http1.specs.Server.{RefusesAt, after_end, after_informational, after_piece, after_response, bodiless_refusal}
-use Rattle.http1.specs.Server.{closed_server, failed_server, has_request, informational_refusal, may_respond, new_server}
-use Rattle.http1.specs.Server.{planned_response, responding, response_plan, response_refusal, upgrade_refusal}
-use Rattle.http1.specs.Server.{states_upgrade, upgraded_server, with_writing}
+use Rattle.http1.specs.Server.{closed_server, failed_server, has_request, informational_refusal, may_respond}
+use Rattle.http1.specs.Server.{new_server, planned_response, responding, response_plan, response_refusal}
+use Rattle.http1.specs.Server.{upgrade_refusal, states_upgrade, upgraded_server, with_writing}
 use Rattle.http1.specs.{declared.conn.BodySize.BodySize, declared.conn.Limits.Limits}
 use Rattle.http1.specs.{declared.conn.Reading.Reading, declared.decode.Decoder.Decoder}
 use Rattle.http1.specs.{declared.encode.Encoder.Encoder, declared.error.WriteError.WriteError}
@@ -33,8 +33,8 @@ use Rattle.server_stream.specs.Exchanges.{exchange_text, final_text, head_text, 
 use Rattle.server_stream.specs.{Heads.told_of, declared.connection.StreamConnection.StreamConnection}
 use Rattle.server_stream.specs.{declared.event.RequestHead.RequestHead, declared.event.StreamEvent.StreamEvent}
 use Rattle.server_stream.specs.declared.rejection.Rejection.{Rejection}
-use Rattle.server_stream.specs.History.{Exchanged, Heard, IsReached, IsTold, IsWhole, MayPut, Past, answers, begins, change}
-use Rattle.server_stream.specs.History.{informs, no_past, over, reject_at, tell, texts, with_content, with_end}
+use Rattle.server_stream.specs.History.{Exchanged, Heard, IsReached, IsTold, IsWhole, MayPut, Past, answers, begins}
+use Rattle.server_stream.specs.History.{change, informs, no_past, over, reject_at, tell, texts, with_content, with_end}
 use Rattle.server_stream.specs.History.{with_piece, with_trailers, Nothing, Part, Whole, Opened, Received, Finished}
 use Rattle.server_stream.specs.History.{Informed, Responded, Handed, Put, Ended, Refused, Written, Said}
 use Rattle.server_stream.specs.Steps.{Ends, EndsBetween, Fails, Finds, HandsOut, Informs, IsOfContent, IsWithin, Puts}
@@ -668,7 +668,8 @@ module _ {k : Frame} {s : Server} {input : List ℕ} {a : Answer} where
 
   piece_fails : (d : Decoder) (reading : Reading) → s.reading ≡ Reads.Body d → IsOfContent reading → (heard_now : Heard)
       → Going k s input heard_now a → RejectedAt k (after_piece s input reading) input heard_now a
-  piece_fails d reading is within = in_part (λ heard_now. RejectedAt k (after_piece s input reading) input heard_now a) is
+  piece_fails d reading is within =
+      in_part (λ heard_now. RejectedAt k (after_piece s input reading) input heard_now a) is
       (λ head content g same.
       let x = g.goes.told in
       let waits = still_waits s input reading in
@@ -978,7 +979,8 @@ module _ {k : Frame} {s : Server} {unread : List ℕ} (heard : Heard) (a : Answe
       (record a { final = Begun (begins s status reason headers size) }) said stays.0
       (framed here heard g.told g.asked) writes
       (not_asked here (after_response s status size headers)
-      (body_mute (after_response s status size headers) _ stays.2) heard g.told) tt (begun_old s may) (begun_running s may)
+      (body_mute (after_response s status size headers) _ stays.2) heard g.told) tt (begun_old s may)
+      (begun_running s may)
       (stays_at (record here { final = Begun (begins s status reason headers size) }) s
       (after_response s status size headers) (record a { final = Begun (begins s status reason headers size) }) stays.1
       heard)
@@ -1319,12 +1321,13 @@ find_goes {limits} {p} old new Is.Waits found g = rw found.1 g
 find_goes {limits} {p} old new Is.Switched found g = rw found.1 g
 find_goes {limits} {p} old new Is.Closed (inl found) g = rw found.1 g
 find_goes {limits} {p} old new Is.Closed (inr found) g =
-    ends_between {limits = limits} {p = p} found.1 new found.3 (runs_out_at {limits = limits} {p = p} old found.1 found.2 g)
+    ends_between {limits = limits} {p = p} found.1 new found.3
+    (runs_out_at {limits = limits} {p = p} old found.1 found.2 g)
 find_goes old new (Is.Rejected why) found g = absurd found
 
 -- a rejection is told: what follows the exchange now is rejected, or what is of its request
-rejected_run : {limits : Limits} {next : Server} {i o : List ℕ} (unread : List ℕ) (why : Rejection) (p : Past) (h : Heard)
-    → RejectedAt (frame limits o p) next unread h p.answer
+rejected_run : {limits : Limits} {next : Server} {i o : List ℕ} (unread : List ℕ) (why : Rejection) (p : Past)
+    (h : Heard) → RejectedAt (frame limits o p) next unread h p.answer
     → Run limits next i o (Some why) (reject_at h (record p { heard = h }))
 rejected_run {limits} {next} unread why p Nothing g = record {
   unread = unread;
@@ -1361,7 +1364,8 @@ rejects_run {limits} {p} old new why (inr cut) g =
     let between = ends.1 in
     let off = ends.3 in
     rw off.rest (rejected_run between.input.items why p p.heard
-    (cut_off between.server.reading refl off.within p.heard (runs_out_at {limits = limits} {p = p} old between ends.2 g)))
+    (cut_off between.server.reading refl off.within p.heard
+    (runs_out_at {limits = limits} {p = p} old between ends.2 g)))
 
 said : {limits : Limits} {p : Past} (old new : StreamConnection) (event : StreamEvent) (f : Option Rejection)
     → old.fault ≡ f → SaysAt f old event new → RunAt limits old p → RunAt limits new (tell event p)

@@ -186,8 +186,8 @@ IsTold limits start (Part head content) final unread = IsPart limits start head 
 IsTold limits start (Whole head content trailers) final unread =
     IsWhole limits start head content trailers unread final
 
--- what may be put: a final response if the request was told and none was begun, and content as the encoder of a response
--- takes it that isn't ended
+-- what may be put: a final response if a request was told and none was begun, and content as the encoder of a
+-- response that isn't ended takes it
 abbrev pub MayPut : Server → Final → Heard → Type 0
 MayPut s Due Nothing = ⊤
 MayPut s Due heard = may_respond s ≡ true

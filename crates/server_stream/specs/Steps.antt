@@ -7,14 +7,14 @@ use Rattle.http_header.{specs.FieldValue.FieldValue, specs.HeaderMap.Entries}
 use Rattle.http1.specs.{Body.{Body, body_of}, Decoder.{Completes, Continues, Starves, decoder_for}, Fields.Header}
 use Rattle.http1.specs.Conn.{after_data, data_refusal, data_text, finish_refusal, finish_text}
 use Rattle.http1.specs.{Head.response_text, Message.AcceptsRequest}
-use Rattle.http1.specs.Server.{ServerRefuses, after_end, after_informational, after_piece, after_response, closed_server}
-use Rattle.http1.specs.Server.{failed_server, informational_refusal, new_server, peer_minor, planned_response}
-use Rattle.http1.specs.Server.{request_of, response_refusal, upgrade_refusal, upgraded_server, with_writing}
+use Rattle.http1.specs.Server.{ServerRefuses, after_end, after_informational, after_piece, after_response}
+use Rattle.http1.specs.Server.{closed_server, failed_server, informational_refusal, new_server, peer_minor}
+use Rattle.http1.specs.Server.{planned_response, request_of, response_refusal, upgrade_refusal, upgraded_server}
+use Rattle.http1.specs.{Server.with_writing, declared.server.Server.Server}
 use Rattle.http1.specs.{declared.conn.BodySize.BodySize, declared.conn.Limits.Limits, declared.conn.Reading.Reading}
 use Rattle.http1.specs.{declared.decode.Decoder.Decoder, declared.error.ReadError.ReadError}
 use Rattle.http1.specs.declared.error.ReadError.TheVariants.{UnexpectedEof}
 use Rattle.http1.specs.{declared.error.WriteError.WriteError, declared.framing.Framing.Framing}
-use Rattle.http1.specs.{declared.server.Server.Server}
 use Rattle.gateway_relay.specs.{Content.map_of, Failures.HasNoMap}
 use Rattle.gateway_connection.specs.declared.head.TheConstants.{MAX_FIELDS}
 use Rattle.server_stream.specs.{Heads.told_of, declared.connection.StreamConnection.StreamConnection}

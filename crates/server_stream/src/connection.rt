@@ -7,8 +7,9 @@ ghost use Rattle.http1.specs.Server.{informational_refusal, response_refusal, se
 ghost use Rattle.http1.specs.{declared.conn.Limits.Limits};
 ghost use Rattle.server_stream.specs.Heads.{IsHeadRejection, IsUnder};
 ghost use Rattle.server_stream.specs.History.{Exchanged, IsReached, Past};
-ghost use Rattle.server_stream.specs.Steps.{CutsOff, Ends, EndsBetween, Finds, Finishes, GoesOn, HandsOut, Informs, IsNew};
-ghost use Rattle.server_stream.specs.Steps.{IsStarved, Puts, Receives, RefusesWrite, Rejects, Responds, Says, Switches};
+ghost use Rattle.server_stream.specs.Steps.{CutsOff, Ends, EndsBetween, Finds, Finishes, GoesOn, HandsOut, Informs};
+ghost use Rattle.server_stream.specs.Steps.{IsNew, IsStarved, Puts, Receives, RefusesWrite, Rejects, Responds};
+ghost use Rattle.server_stream.specs.Steps.{Says, Switches};
 
 use crate::event::{RequestHead, StreamEvent};
 use crate::rejection::Rejection;

@@ -9,5 +9,5 @@ returns c =
     let headers = pairs c.args.headers.now in
     rw (← c.as_u16.ensures.value) (writes old w.new.self w.new.output
     (upgrade_refusal old.server c.as_u16.result c.args.reason.now headers)
-    (response_text (peer_minor old.server) c.as_u16.result c.args.reason.now headers) (upgraded_server old.server) _ _ w.result w.ensures.ok
-    w.ensures.next w.ensures.err w.ensures.kept w.ensures.outcome)
+    (response_text (peer_minor old.server) c.as_u16.result c.args.reason.now headers) (upgraded_server old.server) _ _
+    w.result w.ensures.ok w.ensures.next w.ensures.err w.ensures.kept w.ensures.outcome)
