@@ -1,10 +1,9 @@
 -- What a read of `http1` finds.
-use Rattle.std.proofs.Common.{◌≡◌, ◌≢◌, ℕ, ◌<◌, ◌≤◌, ◌⊎◌, inl, inr, Bool, true, false, List}
-use Rattle.std.proofs.Common.{[], ◌∷◌, ◌++◌, length, ◌-◌}
+use Rattle.std.proofs.Common.{◌≡◌, ℕ, ◌<◌, ◌≤◌, ◌⊎◌, inl, inr, Bool, true, false, List}
+use Rattle.std.proofs.Common.{[], ◌++◌, length, ◌-◌}
 use Rattle.std.proofs.Common.{◌&&◌, ◌==◌, not}
 use Rattle.std.proofs.lemmas.Bool.{and_parts}
 use Rattle.std.proofs.Common.{drop, sym, refl, ap, ◌∙◌, subst, append-nil, arith}
-use Rattle.bytes.specs.Filled.{Filled}
 use Rattle.httparse.{specs.Spans.{span_bytes}}
 use Rattle.httparse.specs.{declared.spans.HeaderSpan.HeaderSpan, declared.spans.RequestSpans.RequestSpans}
 use Rattle.httparse.{specs.declared.spans.Span.Span, proofs.RunLemmas.length-slice_range}
@@ -13,17 +12,16 @@ use Rattle.http1.specs.Conn.{ReadsPiece, is_read, unread_size}
 use Rattle.http1.specs.Decoder.{Completes, Continues, Ends, decoder_for}
 use Rattle.http1.specs.Server.{ReadsAt, ReadsHead, ServerReads, after_piece, closed_server, cycle, new_server}
 use Rattle.http1.specs.Server.{request_of, server_eof}
-use Rattle.http1.specs.{declared.conn.BodySize.BodySize, declared.conn.Event.Event, declared.conn.Limits.Limits}
+use Rattle.http1.specs.{declared.conn.Event.Event, declared.conn.Limits.Limits}
 use Rattle.http1.specs.{declared.conn.Progress.Progress, declared.conn.Reading.Reading}
-use Rattle.http1.specs.declared.error.ReadError.TheVariants.{UnexpectedEof}
 use Rattle.http1.specs.{declared.decode.Decoder.Decoder, declared.framing.Framing.Framing}
 use Rattle.http1.specs.declared.server.Server.{Server}
 use Rattle.gateway_relay.specs.{Content.map_of, Failures.HasNoMap}
-use Rattle.server_stream.specs.Heads.{IsFieldsRejection, IsHeadRejection, IsUnder, content_size, told_of}
+use Rattle.server_stream.specs.Heads.{IsFieldsRejection, IsHeadRejection, IsUnder, content_size}
 use Rattle.server_stream.specs.{declared.connection.StreamConnection.StreamConnection}
 use Rattle.server_stream.specs.declared.event.RequestHead.{RequestHead}
 use Rattle.server_stream.specs.{declared.rejection.Rejection.Rejection}
-use Rattle.server_stream.specs.Steps.{CutsOff, EndsBetween, Finds, HasInvalidFields, IsStarved, IsWrong, Rejects}
+use Rattle.server_stream.specs.Steps.{HasInvalidFields, IsStarved, IsWrong, Rejects}
 use Rattle.server_stream.specs.Steps.{RunsOut, RunsOutAt, TakesHead, TakesPiece}
 use Rattle.http1.specs.Server as Serving
 use Rattle.http1.specs.declared.conn.Event.TheVariants as Found
@@ -31,8 +29,6 @@ use Rattle.http1.specs.declared.conn.Reading.TheVariants as Reads
 use Rattle.http1.specs.declared.conn.Writing.{Writing}
 use Rattle.http1.specs.declared.conn.Writing.TheVariants as Writes
 use Rattle.http1.specs.declared.framing.Framing.TheVariants as Framed
-use Rattle.server_stream.specs.declared.event.StreamEvent.TheVariants as Is
-use Rattle.server_stream.specs.declared.event.StreamEvent as Saying
 use Rattle.server_stream.specs.declared.rejection.Rejection.TheVariants as Because
 
 abbrev pub Spans : Type 0

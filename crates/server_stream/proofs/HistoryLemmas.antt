@@ -7,7 +7,7 @@ use Rattle.std.{proofs.lemmas.Bool.{and_parts}, proofs.lemmas.List.{take-append-
 use Rattle.httparse.{specs.Grammar.{Field}, specs.Spans.name_and_value}
 use Rattle.httparse.proofs.GrammarLemmas.{ReadsRequest-append}
 use Rattle.http_header.{specs.FieldValue.FieldValue, specs.HeaderMap.Entries}
-use Rattle.http1.specs.{Body.{Body, ReadsBody, body_of}, Decoder.{Completes, Continues}}
+use Rattle.http1.specs.{Body.{ReadsBody, body_of}, Decoder.{Completes, Continues}}
 use Rattle.http1.specs.{Decoder.{decoder_for, with_front}, Fields.Header}
 use Rattle.http1.specs.Conn.{Plan, after_data, awaits_head, data_refusal, data_text, finish_refusal, finish_text}
 use Rattle.http1.specs.{Conn.{is_connect, is_read, plan_refusal, planned_headers}, Fields.known_fields}

@@ -1,5 +1,5 @@
 -- What a call that writes puts.
-use Rattle.std.proofs.Common.{◌≡◌, ℕ, ◌⊎◌, inl, inr, List, ◌++◌, Option, Some, None, Result, Ok, Err, refl, ap, sym}
+use Rattle.std.proofs.Common.{◌≡◌, ℕ, ◌⊎◌, inl, inr, List, ◌++◌, Option, Some, None, Result, Ok, Err, refl, ap}
 use Rattle.std.specs.Prelude.{MatchResult, OnErr, OnOk}
 use Rattle.bytes.specs.Filled.{Filled}
 use Rattle.http1.specs.{Output.GivesOrRefuses, declared.error.WriteError.WriteError, declared.server.Server.Server}

@@ -1,5 +1,5 @@
 -- Every history of calls on a connection, and what is true after it.
-use Rattle.std.specs.Prelude.{◌≡◌, ⊤, ℕ, ◌≤◌, true, false, List, [], ◌∷◌, ◌++◌, length, map, take, Option, Some, None}
+use Rattle.std.specs.Prelude.{◌≡◌, ⊤, ℕ, ◌≤◌, true, false, List, [], ◌∷◌, ◌++◌, length, map, take, Some, None}
 use Rattle.httparse.specs.{Spans.name_and_value}
 use Rattle.http_header.{specs.FieldValue.FieldValue, specs.HeaderMap.Entries}
 use Rattle.http1.specs.{Body.{Body, ReadsBody}, Decoder.decoder_for, Fields.Header, Message.AcceptsRequest}

@@ -1,4 +1,4 @@
-use Rattle.std.proofs.Common.{inl, inr, refl}
+use Rattle.std.proofs.Common.{inr, refl}
 use Rattle.std.proofs.lemmas.Result.{IfErr-weaker, IfOk-weaker, err_from_is_err_and}
 use Rattle.http1.specs.declared.conn.Event.TheVariants as Found
 use Rattle.gateway_connection.proofs.FieldLemmas.{fails_as}
