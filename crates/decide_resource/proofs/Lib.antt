@@ -3,6 +3,7 @@ pub mod AnswerLemmas
 mod ChosenLemmas
 mod ConditionLemmas
 mod DeniedLemmas
+pub mod ExistenceLemmas
 mod GuardLemmas
 mod HeadLemmas
 pub mod ItemLemmas
