@@ -80,7 +80,8 @@ struct exchange {
     char *line;                  /* of the log, NULL if there is none */
     size_t line_length, line_rest;
     int unsent;      /* bytes that the system had to send when the wait began */
-    uint16_t status; /* of the response, or 0 */
+    uint16_t status;  /* of the response, or 0 */
+    uint16_t failure; /* what is answered if no origin can be connected to */
     uint8_t phase;
     enum cache_word cached;
     bool is_own;        /* nobody asked: what is stored is validated */
@@ -391,7 +392,7 @@ static void ask_origin(struct exchange *exchange) {
             return;
         note_failure(exchange, origin, strerror(errno));
     }
-    fail(exchange, 502);
+    fail(exchange, exchange->failure);
 }
 
 static void fail_upstream(struct upstream *upstream, const char *why) {
@@ -402,7 +403,11 @@ static void fail_upstream(struct upstream *upstream, const char *why) {
     drive(exchange);
 }
 
-static void connect_late(struct source *source) { fail_upstream((struct upstream *)source, "no connection in time"); }
+static void connect_late(struct source *source) {
+    struct upstream *upstream = (struct upstream *)source;
+    upstream->exchange->failure = 504;
+    fail_upstream(upstream, "no connection in time");
+}
 
 /* Goes on with a connection that begins. */
 static void connect_on(struct upstream *upstream) {
@@ -731,6 +736,7 @@ static void begin_request(struct exchange *exchange) {
     exchange->begun = worker.now;
     exchange->tried = exchange->passed = 0;
     exchange->status = 0;
+    exchange->failure = 502;
     exchange->cached = NO_CACHE;
     exchange->repeats = false;
     exchange->is_asked = true;
@@ -841,7 +847,8 @@ static void take_turn(struct exchange *exchange) {
             continue;
         case TYPED_HEADERS_GATE_TUNNEL: begin_tunnel(exchange); continue;
         case TYPED_HEADERS_GATE_ABORTED: close_exchange(exchange, true); return;
-        case TYPED_HEADERS_GATE_CLOSED:
+        case TYPED_HEADERS_GATE_CLOSED: /* nothing is read any more */
+            facts.client_input = facts.origin_input = facts.origin_output = false;
             if (facts.client_output && move(exchange, &facts))
                 continue;
             if (facts.client_output && !exchange->is_over)

@@ -73,7 +73,7 @@ pub fn closes_after(alloc: Global, handle: &mut Handle) -> Result<(), Failure> {
         alloc,
         handle,
         |held| {
-            held.connection.close_after();
+            let _ = held;
             Ok(())
         },
     )
