@@ -49,12 +49,16 @@ pub record IsNew (limits : Limits) (peer : Peer) (m : GatewayConnection) : Type 
 
 -- ---- bytes
 
--- bytes of the client: none are received after the end of its input
+-- bytes of the client are received
+abbrev pub TakesClient : GatewayConnection → List ℕ → GatewayConnection → Type 0
+TakesClient old bytes new =
+    Stream.Receives old.client bytes new.client
+    × (new ≡ record old { client = new.client; client_hungry = new.client_hungry; begun = new.begun })
+
+-- and none after the end of its input
 abbrev pub ReceivesClient : GatewayConnection → List ℕ → GatewayConnection → Type 0
 ReceivesClient old bytes new =
-    (((old.client.ended ≡ true) ⊎ (bytes ≡ [])) × (new ≡ old))
-    ⊎ (Stream.Receives old.client bytes new.client
-    × (new ≡ record old { client = new.client; client_hungry = false; begun = true }))
+    ((old.client.ended ≡ true) × (new ≡ old)) ⊎ ((old.client.ended ≡ false) × TakesClient old bytes new)
 
 -- a change of the client's connection alone
 abbrev pub ChangesClient : (StreamConnection → StreamConnection → Type 0) → GatewayConnection → GatewayConnection
@@ -74,7 +78,8 @@ OnOrigin P old new = ⊥
 
 -- bytes of the origin: none are received after the end of its input
 abbrev pub ReceivesOrigin : List ℕ → OriginConnection → OriginConnection → Type 0
-ReceivesOrigin bytes old new = ((old.ended ≡ true) × (new ≡ old)) ⊎ Origin.Receives old bytes new
+ReceivesOrigin bytes old new =
+    ((old.ended ≡ true) × (new ≡ old)) ⊎ ((old.ended ≡ false) × Origin.Receives old bytes new)
 
 abbrev pub HandsOutOrigin : ℕ → OriginConnection → OriginConnection → Type 0
 HandsOutOrigin count old new = Origin.HandsOut old (min count (length old.output.items)) new

@@ -1,10 +1,11 @@
 //! A gateway's connection.
-ghost use Rattle.std.specs.Prelude.{◌≡◌, ◌≢◌, ◌↔◌, ◌≤◌, [], length, IsTrue, MatchResult, OnErr, OnOk};
+ghost use Rattle.std.specs.Prelude.{◌≡◌, ◌≢◌, ◌↔◌, ◌≤◌, [], length, IfOk, IsTrue, MatchResult, OnErr, OnOk};
 ghost use Rattle.http1.specs.{Conn.{data_refusal, finish_refusal}, Head.pairs, Server.response_refusal};
 ghost use Rattle.http1.specs.{declared.conn.Limits.Limits};
 ghost use Rattle.gateway_messages.specs.FieldLines.{fields_of};
 ghost use Rattle.gateway_connection.specs.Steps as Origin;
 ghost use Rattle.server_stream.specs.Steps as Stream;
+ghost use Rattle.gateway_exchange.specs.{History.{Exchanged, IsReached, Past}, Tunnels.Begins};
 ghost use Rattle.gateway_exchange.specs.Steps.{AsksAgain, Conditions, Connects, EndsGiving, RefusesGiving, RefusesInGiving};
 ghost use Rattle.gateway_exchange.specs.Steps.{TakesOrigin, asks, is_answered};
 ghost use Rattle.gateway_exchange.specs.Steps.{Answers, AwaitsRequest, BeginsAt, ChangesClient, ChangesOrigin, Considers};
@@ -140,9 +141,9 @@ impl GatewayConnection {
     /// nothing changes.
     pub fn client_receive(&mut self, bytes: &[u8]) -> Result<(), AllocError>
         ensures ok { OnOk result (ReceivesClient self.old bytes.now self.new) }
-        ensures err { OnErr result (ChangesClient (λ old new. Stream.Receives old [] new) self.old self.new) }
+        ensures err { OnErr result (ReceivesClient self.old [] self.new) }
     {
-        if self.client.is_ended() || bytes.is_empty() {
+        if self.client.is_ended() {
             return Ok(());
         }
         self.client.receive(bytes)?;
@@ -160,8 +161,12 @@ impl GatewayConnection {
     }
 
     /// What waits to be written to the client.
+    ///
+    /// This is the theorem of the crate, whatever the history of calls.
     pub fn client_output(&self) -> &[u8]
-        ensures { result.now ≡ self.now.client.output.items }
+        ensures value { result.now ≡ self.now.client.output.items }
+        ensures theorem { (limits : Limits) (past : Past) → IsReached limits self.now past
+            → Exchanged limits self.now past }
     {
         self.client.output()
     }
@@ -178,7 +183,7 @@ impl GatewayConnection {
     /// if an allocation fails. Then nothing changes.
     pub fn origin_receive(&mut self, bytes: &[u8]) -> Result<(), AllocError>
         ensures ok { OnOk result (ChangesOrigin (ReceivesOrigin bytes.now) self.old self.new) }
-        ensures err { OnErr result (ChangesOrigin (λ old new. Origin.Receives old [] new) self.old self.new) }
+        ensures err { OnErr result (ChangesOrigin (ReceivesOrigin []) self.old self.new) }
     {
         let Some(origin) = &mut self.origin else {
             return Ok(());
@@ -902,7 +907,9 @@ impl GatewayConnection {
     }
 
     /// Goes on with the bytes of the other protocol, after `Tunnel`. Fails if an allocation fails.
-    pub fn into_tunnel(self) -> Result<Tunnel, AllocError> {
+    pub fn into_tunnel(self) -> Result<Tunnel, AllocError>
+        ensures { IfOk result (Begins self) }
+    {
         let mut to_client = BytesMut::copy_from_slice(self.alloc, self.client.output())?;
         let mut to_origin = BytesMut::new(self.alloc);
         let mut origin_ended = false;
