@@ -1,11 +1,26 @@
 //! A gateway's connection.
-ghost use Rattle.std.specs.Prelude.{◌≤◌, length};
+ghost use Rattle.std.specs.Prelude.{◌≡◌, ◌≢◌, ◌↔◌, ◌≤◌, [], length, IfOk, IsTrue, MatchResult, OnErr, OnOk};
+ghost use Rattle.http1.specs.{Conn.{data_refusal, finish_refusal}, Head.pairs, Server.response_refusal};
+ghost use Rattle.http1.specs.{declared.conn.Limits.Limits};
+ghost use Rattle.gateway_messages.specs.FieldLines.{fields_of};
+ghost use Rattle.gateway_connection.specs.Steps as Origin;
+ghost use Rattle.server_stream.specs.Steps as Stream;
+ghost use Rattle.gateway_exchange.specs.{History.{Exchanged, IsReached, Past}, Tunnels.Begins};
+ghost use Rattle.gateway_exchange.specs.Steps.{AsksAgain, Conditions, Connects, EndsGiving, RefusesGiving, RefusesInGiving};
+ghost use Rattle.gateway_exchange.specs.Steps.{TakesOrigin, asks, is_answered};
+ghost use Rattle.gateway_exchange.specs.Steps.{Answers, AwaitsRequest, BeginsAt, ChangesClient, ChangesOrigin, Considers};
+ghost use Rattle.gateway_exchange.specs.Steps.{ContinuesIf, EndsIdle, Fails, Faulted, FinishesClient, Gives, HandsOutOrigin};
+ghost use Rattle.gateway_exchange.specs.Steps.{HearsClient, HearsOrigin, IsAsking, IsNew, IsNext, MayRepeat, OfAsked};
+ghost use Rattle.gateway_exchange.specs.Steps.{Passes, PassesEnd, PassesHead, PassesInterim, PassesPiece, PassesSwitch};
+ghost use Rattle.gateway_exchange.specs.Steps.{PutsContent, PutsHead, PutsRequestEnd, ReceivesClient, ReceivesOrigin};
+ghost use Rattle.gateway_exchange.specs.Steps.{RefusesBeginAt, RefusesContent, RefusesEnd, Says, SaysIn, Sends, Settles};
+ghost use Rattle.gateway_exchange.specs.Steps.{Steps, SwitchesTo, TellsHead, TimesOut, Transfers, output_of, phase_of};
 
 use crate::decision::{AskedRequest, RequestDecision, decide};
 use crate::event::{GatewayEvent, Phase, Wants};
-use crate::own::{CLOSE, Own};
+use crate::own::{Own, put_own};
 use crate::pass::{
-    Heard, end_request, end_response, judge, put_interim, put_request, put_response, put_switch,
+    Heard, begin_request, end_request, end_response, judge, put_interim, put_response, put_switch,
     switched_fields, with_conditions,
 };
 use crate::rules::{Peer, Rules};
@@ -66,13 +81,13 @@ pub struct GatewayConnection {
     pub(crate) own: Option<Own>,
     /// The last piece of a watched response.
     pub(crate) piece: Bytes,
-    /// Whether a part of a head came.
+    /// Whether bytes came since the last head or end of a request.
     pub(crate) begun: bool,
     /// Whether the request was read to its end.
     pub(crate) whole: bool,
     /// Whether content or trailer fields of the request were passed on.
     pub(crate) touched: bool,
-    /// Whether an origin ended its connection before a byte of the response.
+    /// Whether the request was sent before.
     pub(crate) repeats: bool,
     /// Whether the caller watches the response.
     pub(crate) watches: bool,
@@ -82,10 +97,22 @@ pub struct GatewayConnection {
     pub(crate) origin_hungry: bool,
 }
 
+// What comes next on the origin's connection, if there is one.
+fn next_of(origin: &mut Option<OriginConnection>) -> OriginEvent
+    ensures { SaysIn origin.old result origin.new }
+{
+    match origin {
+        Some(origin) => origin.next(),
+        None => OriginEvent::Closed,
+    }
+}
+
 impl GatewayConnection {
     /// A new connection of this client. It allocates nothing. Both sides choose the names of fields, so
     /// their maps take secret keys.
-    pub fn new(alloc: Global, keys: RandomState, limits: Limits, peer: Peer) -> GatewayConnection {
+    pub fn new(alloc: Global, keys: RandomState, limits: Limits, peer: Peer) -> GatewayConnection
+        ensures { IsNew limits peer result }
+    {
         GatewayConnection {
             alloc,
             keys,
@@ -112,8 +139,11 @@ impl GatewayConnection {
 
     /// Receives bytes of the client; none after its input has ended. Fails if an allocation fails. Then
     /// nothing changes.
-    pub fn client_receive(&mut self, bytes: &[u8]) -> Result<(), AllocError> {
-        if self.client.is_ended() || bytes.is_empty() {
+    pub fn client_receive(&mut self, bytes: &[u8]) -> Result<(), AllocError>
+        ensures ok { OnOk result (ReceivesClient self.old bytes.now self.new) }
+        ensures err { OnErr result (ReceivesClient self.old [] self.new) }
+    {
+        if self.client.is_ended() {
             return Ok(());
         }
         self.client.receive(bytes)?;
@@ -123,26 +153,38 @@ impl GatewayConnection {
     }
 
     /// Says that the client's input ends here.
-    pub fn client_finish(&mut self) {
+    pub fn client_finish(&mut self)
+        ensures { FinishesClient self.old self.new }
+    {
         self.client.finish_input();
         self.client_hungry = false;
     }
 
     /// What waits to be written to the client.
-    pub fn client_output(&self) -> &[u8] {
+    ///
+    /// This is the theorem of the crate, whatever the history of calls.
+    pub fn client_output(&self) -> &[u8]
+        ensures value { result.now ≡ self.now.client.output.items }
+        ensures theorem { (limits : Limits) (past : Past) → IsReached limits self.now past
+            → Exchanged limits self.now past }
+    {
         self.client.output()
     }
 
     /// Says that the first bytes of the client's output were written, and how many.
     pub fn client_sent(&mut self, count: usize)
         requires { count ≤ length self.old.client.output.items }
+        ensures { ChangesClient (λ old new. Stream.HandsOut old count new) self.old self.new }
     {
         self.client.sent(count);
     }
 
     /// Receives bytes of the origin; none if there is no connection to one or its input has ended. Fails
     /// if an allocation fails. Then nothing changes.
-    pub fn origin_receive(&mut self, bytes: &[u8]) -> Result<(), AllocError> {
+    pub fn origin_receive(&mut self, bytes: &[u8]) -> Result<(), AllocError>
+        ensures ok { OnOk result (ChangesOrigin (ReceivesOrigin bytes.now) self.old self.new) }
+        ensures err { OnErr result (ChangesOrigin (ReceivesOrigin []) self.old self.new) }
+    {
         let Some(origin) = &mut self.origin else {
             return Ok(());
         };
@@ -155,7 +197,9 @@ impl GatewayConnection {
     }
 
     /// Says that the origin's input ends here.
-    pub fn origin_finish(&mut self) {
+    pub fn origin_finish(&mut self)
+        ensures { ChangesOrigin Origin.Finishes self.old self.new }
+    {
         if let Some(origin) = &mut self.origin {
             origin.finish_input();
             self.origin_hungry = false;
@@ -163,15 +207,19 @@ impl GatewayConnection {
     }
 
     /// What waits to be written to the origin.
-    pub fn origin_output(&self) -> &[u8] {
+    pub fn origin_output(&self) -> &[u8]
+        ensures { result.now ≡ output_of self.now.origin }
+    {
         match &self.origin {
             Some(origin) => origin.output(),
-            None => b"",
+            None => &[],
         }
     }
 
     /// Says that the first bytes of the origin's output were written, and how many: at most all.
-    pub fn origin_sent(&mut self, count: usize) {
+    pub fn origin_sent(&mut self, count: usize)
+        ensures { ChangesOrigin (HandsOutOrigin count) self.old self.new }
+    {
         if let Some(origin) = &mut self.origin {
             let count = count.min(origin.output().len());
             origin.sent(count);
@@ -182,10 +230,11 @@ impl GatewayConnection {
 
     /// What to wait for. A side isn't read while 64 KiB or more wait for the other.
     pub fn wants(&self) -> Wants {
+        let is_over = self.phase() == Phase::Over;
         Wants {
-            client_input: self.client_hungry && !self.client.is_ended(),
+            client_input: self.client_hungry && !self.client.is_ended() && !is_over,
             client_output: !self.client.output().is_empty(),
-            origin_input: self.origin_hungry && self.is_origin_open(),
+            origin_input: self.origin_hungry && self.is_origin_open() && !is_over,
             origin_output: !self.origin_output().is_empty(),
         }
     }
@@ -198,22 +247,25 @@ impl GatewayConnection {
     }
 
     /// What the connection is doing.
-    pub fn phase(&self) -> Phase {
-        match self.stage {
-            Stage::Idle if !self.whole => Phase::Draining,
-            Stage::Idle if self.begun => Phase::Head,
-            Stage::Idle => Phase::Idle,
-            Stage::Asking | Stage::Repeating => Phase::Asking,
-            Stage::Forwarding | Stage::Judging if self.whole => Phase::Response,
-            Stage::Forwarding | Stage::Judging => Phase::Content,
-            Stage::Passing | Stage::Ended => Phase::Passing,
-            Stage::Giving => Phase::Giving,
-            Stage::Switched | Stage::Closed | Stage::Aborted => Phase::Over,
+    pub fn phase(&self) -> Phase
+        ensures { result ≡ phase_of self.now }
+    {
+        match (self.stage, self.whole) {
+            (Stage::Idle, false) => Phase::Draining,
+            (Stage::Idle, true) => if self.begun { Phase::Head } else { Phase::Idle },
+            (Stage::Asking | Stage::Repeating, _) => Phase::Asking,
+            (Stage::Forwarding | Stage::Judging, true) => Phase::Response,
+            (Stage::Forwarding | Stage::Judging, false) => Phase::Content,
+            (Stage::Passing | Stage::Ended, _) => Phase::Passing,
+            (Stage::Giving, _) => Phase::Giving,
+            (Stage::Switched | Stage::Closed | Stage::Aborted, _) => Phase::Over,
         }
     }
 
     /// Says that the time limit of the phase is over.
-    pub fn timed_out(&mut self) {
+    pub fn timed_out(&mut self)
+        ensures { TimesOut self.old self.new }
+    {
         match self.phase() {
             Phase::Idle | Phase::Head => self.end_idle(),
             Phase::Draining => self.stage = Stage::Closed,
@@ -225,7 +277,9 @@ impl GatewayConnection {
     }
 
     // A first part of a head that came too late is answered.
-    fn end_idle(&mut self) {
+    fn end_idle(&mut self)
+        ensures { EndsIdle self.old self.new }
+    {
         self.client.finish_input();
         match self.client.next() {
             StreamEvent::Rejected(_) => self.answer_own(Own::LateRequest),
@@ -234,26 +288,29 @@ impl GatewayConnection {
     }
 
     /// Says what comes next.
-    pub fn next(&mut self, rules: &Rules, now: Date) -> GatewayEvent {
-        for _ in 0..u64::MAX {
+    pub fn next(&mut self, rules: &Rules, now: Date) -> GatewayEvent
+        ensures { Says rules.now now self.old result self.new }
+    {
+        for _turn in 0..u64::MAX {
             if let Some(event) = self.step(rules, now) {
                 return event;
             }
         }
-        GatewayEvent::Aborted
+        GatewayEvent::Waits
     }
 
     // Goes on by one step. `None` if more may follow at once.
-    fn step(&mut self, rules: &Rules, now: Date) -> Option<GatewayEvent> {
+    fn step(&mut self, rules: &Rules, now: Date) -> Option<GatewayEvent>
+        ensures { Steps rules.now now self.old result self.new }
+    {
         match self.stage {
             Stage::Idle => self.await_request(rules),
-            Stage::Asking if self.repeats => Some(GatewayEvent::Again),
-            Stage::Asking => Some(GatewayEvent::Request),
+            Stage::Asking => Some(self.asking()),
             Stage::Forwarding | Stage::Passing => self.transfer(rules, now),
             Stage::Judging => Some(GatewayEvent::Response),
             Stage::Giving => Some(GatewayEvent::Waits),
             Stage::Ended => {
-                self.stage = Stage::Idle;
+                self.stage = self.next_stage();
                 Some(GatewayEvent::Exchanged)
             }
             Stage::Repeating => {
@@ -266,10 +323,33 @@ impl GatewayConnection {
         }
     }
 
+    fn asking(&self) -> GatewayEvent
+        ensures { result ≡ asks self.now.repeats }
+    {
+        if self.repeats {
+            GatewayEvent::Again
+        } else {
+            GatewayEvent::Request
+        }
+    }
+
+    // Where it goes on after a response.
+    fn next_stage(&self) -> Stage
+        ensures { IsNext self.now result }
+    {
+        if self.client.goes_on() {
+            Stage::Idle
+        } else {
+            Stage::Closed
+        }
+    }
+
     // ---- requests
 
     // Reads the head of a request. What is left of the request before is dropped.
-    fn await_request(&mut self, rules: &Rules) -> Option<GatewayEvent> {
+    fn await_request(&mut self, rules: &Rules) -> Option<GatewayEvent>
+        ensures { AwaitsRequest rules.now self.old result self.new }
+    {
         match self.client.next() {
             StreamEvent::NeedsInput => {
                 self.client_hungry = true;
@@ -297,14 +377,17 @@ impl GatewayConnection {
     }
 
     // Decides what is done with a request.
-    fn consider(&mut self, rules: &Rules, head: RequestHead) {
+    fn consider(&mut self, rules: &Rules, head: RequestHead)
+        ensures { Considers rules.now self.old head self.new }
+    {
         self.begun = false;
         self.whole = false;
         self.touched = false;
         self.repeats = false;
         self.watches = false;
-        self.heard = None;
         self.conditional = None;
+        self.heard = None;
+        self.own = None;
         match decide(self.alloc, self.keys, rules, &self.peer, &head) {
             Ok(RequestDecision::Send(outgoing)) => {
                 self.asked = Some(AskedRequest { head, outgoing });
@@ -320,14 +403,17 @@ impl GatewayConnection {
         self.asked.as_ref()
     }
 
-    /// Puts these conditions, with which a cache validates what it has stored, in place of those of the request that
-    /// waits, If-None-Match and If-Modified-Since (RFC 9111, section 4.3.1). Fails if an allocation fails. Then
-    /// nothing changes.
+    /// Puts these conditions, with which a cache validates what it has stored, in place of those of the
+    /// request that waits, If-None-Match and If-Modified-Since (RFC 9111, section 4.3.1). Fails if an
+    /// allocation fails. Then nothing changes.
     pub fn set_conditions(
         &mut self,
         etags: Option<HeaderValue>,
         since: Option<HeaderValue>,
-    ) -> Result<(), AllocError> {
+    ) -> Result<(), AllocError>
+        ensures ok { OnOk result (Conditions etags since self.old self.new) }
+        ensures err { OnErr result (self.new ≡ self.old) }
+    {
         let Some(asked) = &self.asked else {
             return Ok(());
         };
@@ -336,9 +422,11 @@ impl GatewayConnection {
         Ok(())
     }
 
-    /// Drops the response that waits, and asks again without conditions: `Exchanged` and then `Again` are told. A
-    /// request of which content was passed on is answered by 502.
-    pub fn again(&mut self) {
+    /// Drops the response that waits, and asks again without conditions: `Exchanged` and then `Again` are
+    /// told. A request of which content was passed on is answered by 502.
+    pub fn again(&mut self)
+        ensures { AsksAgain self.old self.new }
+    {
         if self.stage != Stage::Judging {
             return;
         }
@@ -355,90 +443,117 @@ impl GatewayConnection {
 
     /// Sends the request that waits over this connection, which has to be fit: otherwise it is answered by
     /// 502. `watches` says whether `Response` and `Piece` are told of the response.
-    pub fn forward(&mut self, origin: OriginConnection, watches: bool) {
+    pub fn forward(&mut self, origin: OriginConnection, watches: bool)
+        ensures other { self.old.stage ≢ Stage.Asking → self.new ≡ self.old }
+        ensures asked { self.old.stage ≡ Stage.Asking → Sends self.old origin watches self.new }
+    {
         if self.stage != Stage::Asking {
             return;
         }
+        let mut origin = origin;
+        let begun = self.begin(&mut origin);
         self.origin = Some(origin);
         self.origin_hungry = false;
         self.watches = watches;
-        match self.begin() {
-            Ok(()) => self.stage = Stage::Forwarding,
+        match begun {
+            Ok(continues) => {
+                self.stage = Stage::Forwarding;
+                self.continue_if(continues);
+            }
             Err(error) => self.answer_own(Own::Unsent(error)),
         }
     }
 
-    // Puts the head of the request, and its end if it was read whole before.
-    fn begin(&mut self) -> Result<(), WriteError> {
-        let (Some(asked), Some(origin)) = (&self.asked, &mut self.origin) else {
+    // Puts the request to the origin, as far as it was read. Says whether the gateway sends the 100 (Continue).
+    fn begin(&self, origin: &mut OriginConnection) -> Result<bool, WriteError>
+        ensures { MatchResult result (BeginsAt self.now.asked self.now origin.old origin.new)
+            (λ error. RefusesBeginAt self.now.asked self.now origin.old error origin.new) }
+    {
+        let Some(asked) = &self.asked else {
             return Err(WriteError::State);
         };
         let fields = match &self.conditional {
-            Some(fields) => fields,
-            None => &asked.outgoing.fields,
+            Some(fields) => fields.as_slice(),
+            None => asked.outgoing.fields.as_slice(),
         };
-        put_request(self.alloc, asked, fields, origin)?;
-        if self.whole {
-            origin.end(&[])?;
+        begin_request(self.alloc, asked, fields, self.whole, origin)?;
+        Ok(is_answered(asked.outgoing.expectation) && !self.repeats)
+    }
+
+    // Sends the 100 (Continue), if the gateway sends it.
+    fn continue_if(&mut self, continues: bool)
+        ensures { ContinuesIf continues self.old self.new }
+    {
+        if !continues {
+            return;
         }
-        if asked.outgoing.expectation == Expectation::Answered && !self.repeats {
-            self.client.interim(StatusCode::CONTINUE, b"Continue", &[])?;
+        if let Err(error) = self.client.interim(StatusCode::CONTINUE, b"Continue", &[]) {
+            self.answer_own(Own::Unsendable(error));
         }
-        Ok(())
     }
 
     /// Answers the request that waits, or in the place of the origin's response that does, without content.
-    pub fn answer(&mut self, status: StatusCode) {
+    pub fn answer(&mut self, status: StatusCode)
+        ensures other { ¬ (IsAsking self.old) → self.new ≡ self.old }
+        ensures asked { IsAsking self.old → (between : GatewayConnection) × Settles self.old between
+            × Answers between (Own.Chosen status) self.new }
+    {
         if self.is_asking() {
             self.settle();
             self.answer_own(Own::Chosen(status));
         }
     }
 
-    fn is_asking(&self) -> bool {
+    fn is_asking(&self) -> bool
+        ensures { IsTrue result ↔ IsAsking self.now }
+    {
         self.stage == Stage::Asking || self.stage == Stage::Judging
     }
 
     // Reads the end of a response that has no content, and that isn't passed on.
-    fn settle(&mut self) {
-        if let (Some(heard), Some(origin)) = (&self.heard, &mut self.origin) {
-            if heard.sent.content == ContentFraming::Absent {
-                let _ = origin.next();
-            }
+    fn settle(&mut self)
+        ensures { Settles self.old self.new }
+    {
+        if self.is_absent() {
+            let _event = next_of(&mut self.origin);
+        }
+    }
+
+    // Whether the response that waits has no content.
+    fn is_absent(&self) -> bool {
+        match &self.heard {
+            Some(heard) => heard.sent.content == ContentFraming::Absent,
+            None => false,
         }
     }
 
     // Answers in the place of an origin, without content.
-    fn answer_own(&mut self, own: Own) {
+    fn answer_own(&mut self, own: Own)
+        ensures { Answers self.old own self.new }
+    {
         self.own = Some(own);
-        self.stage = match self.put_own(own) {
-            Ok(()) => Stage::Ended,
-            Err(_) => Stage::Aborted,
-        };
-    }
-
-    fn put_own(&mut self, own: Own) -> Result<(), WriteError> {
-        let status = own.status();
-        let close = [CLOSE];
-        let headers = if own.closes() { &close[..] } else { &[] };
-        let reason = status.canonical_reason().unwrap_or("").as_bytes();
-        self.client
-            .respond(status, reason, headers, BodySize::Known(0))?;
-        self.client.end(&[])
+        match put_own(own, &mut self.client) {
+            Ok(()) => self.stage = Stage::Ended,
+            Err(_) => self.stage = Stage::Aborted,
+        }
     }
 
     /// Why the last answer was the gateway's own, if it was.
-    pub fn own(&self) -> Option<Own> {
+    pub fn own(&self) -> Option<Own>
+        ensures { result ≡ self.now.own }
+    {
         self.own
     }
 
     /// Answers a CONNECT that waits by 200: the caller has connected to the authority.
-    pub fn connected(&mut self) {
+    pub fn connected(&mut self)
+        ensures { Connects self.old self.new }
+    {
         if self.stage != Stage::Asking {
             return;
         }
         // The request ends with its head.
-        let _ = self.client.next();
+        let _end = self.client.next();
         match self.client.switch(StatusCode::OK, b"OK", &[]) {
             Ok(()) => self.stage = Stage::Switched,
             Err(error) => self.answer_own(Own::Unsendable(error)),
@@ -455,7 +570,11 @@ impl GatewayConnection {
         reason: &[u8],
         fields: &[Header<'_>],
         size: BodySize,
-    ) -> Result<(), WriteError> {
+    ) -> Result<(), WriteError>
+        ensures { MatchResult result
+            (λ _. Gives self.old status reason.now (pairs fields.now) size self.new)
+            (λ error. RefusesGiving self.old status reason.now (pairs fields.now) size error self.new) }
+    {
         if !self.is_asking() {
             return Err(WriteError::State);
         }
@@ -466,7 +585,13 @@ impl GatewayConnection {
     }
 
     /// Puts a piece of the content of the response that the caller gives. Fails as `StreamConnection::push`.
-    pub fn push(&mut self, piece: &[u8]) -> Result<(), WriteError> {
+    pub fn push(&mut self, piece: &[u8]) -> Result<(), WriteError>
+        ensures { MatchResult result
+            (λ _. (self.old.stage ≡ Stage.Giving)
+            × ChangesClient (λ old new. Stream.Puts old piece.now new) self.old self.new)
+            (λ error. RefusesInGiving (data_refusal self.old.client.server.writing (length piece.now)) self.old error
+            self.new) }
+    {
         if self.stage != Stage::Giving {
             return Err(WriteError::State);
         }
@@ -474,7 +599,11 @@ impl GatewayConnection {
     }
 
     /// Puts the end of the response that the caller gives. Fails as `StreamConnection::end`.
-    pub fn end(&mut self, trailers: &[Header<'_>]) -> Result<(), WriteError> {
+    pub fn end(&mut self, trailers: &[Header<'_>]) -> Result<(), WriteError>
+        ensures { MatchResult result (λ _. EndsGiving self.old (pairs trailers.now) self.new)
+            (λ error. RefusesInGiving (finish_refusal self.old.client.server.writing (pairs trailers.now)) self.old
+            error self.new) }
+    {
         if self.stage != Stage::Giving {
             return Err(WriteError::State);
         }
@@ -486,7 +615,9 @@ impl GatewayConnection {
     // ---- both directions
 
     // Passes on what came of the origin, or else of the client.
-    fn transfer(&mut self, rules: &Rules, now: Date) -> Option<GatewayEvent> {
+    fn transfer(&mut self, rules: &Rules, now: Date) -> Option<GatewayEvent>
+        ensures { Transfers rules.now now self.old result self.new }
+    {
         if !self.origin_hungry && self.client.output().len() < MOST_WAITING {
             return self.hear_origin(rules, now);
         }
@@ -498,7 +629,9 @@ impl GatewayConnection {
     }
 
     // Passes on what comes next of the client's request.
-    fn hear_client(&mut self, rules: &Rules) {
+    fn hear_client(&mut self, rules: &Rules)
+        ensures { HearsClient rules.now self.old self.new }
+    {
         match self.client.next() {
             StreamEvent::NeedsInput => self.client_hungry = true,
             StreamEvent::Content(piece) => {
@@ -516,7 +649,10 @@ impl GatewayConnection {
         }
     }
 
-    fn pass_content(&mut self, piece: &[u8]) -> Result<(), WriteError> {
+    fn pass_content(&mut self, piece: &[u8]) -> Result<(), WriteError>
+        ensures { MatchResult result (λ _. PutsContent self.old piece.now self.new)
+            (λ error. RefusesContent self.old piece.now error self.new) }
+    {
         let Some(origin) = &mut self.origin else {
             return Err(WriteError::State);
         };
@@ -525,18 +661,27 @@ impl GatewayConnection {
         Ok(())
     }
 
-    fn pass_request_end(&mut self, rules: &Rules, trailers: &HeaderMap) -> Result<(), WriteError> {
-        let (Some(asked), Some(origin)) = (&self.asked, &mut self.origin) else {
+    fn pass_request_end(&mut self, rules: &Rules, trailers: &HeaderMap) -> Result<(), WriteError>
+        ensures { MatchResult result (λ _. PutsRequestEnd rules.now self.old trailers.now self.new)
+            (λ error. RefusesEnd rules.now self.old trailers.now error self.new) }
+    {
+        let Some(asked) = &self.asked else {
+            return Err(WriteError::State);
+        };
+        let Some(origin) = &mut self.origin else {
             return Err(WriteError::State);
         };
         end_request(self.alloc, &rules.gateway, asked, trailers, origin)?;
         self.whole = true;
+        self.begun = false;
         self.touched = self.touched || !trailers.is_empty();
         Ok(())
     }
 
     // Answers in the place of the origin, unless the head of its response was put.
-    fn fail(&mut self, own: Own) {
+    fn fail(&mut self, own: Own)
+        ensures { Fails self.old own self.new }
+    {
         if self.stage == Stage::Passing {
             self.stage = Stage::Aborted;
         } else {
@@ -545,12 +690,10 @@ impl GatewayConnection {
     }
 
     // Passes on what comes next of the origin's response.
-    fn hear_origin(&mut self, rules: &Rules, now: Date) -> Option<GatewayEvent> {
-        let event = match &mut self.origin {
-            Some(origin) => origin.next(),
-            None => OriginEvent::Closed,
-        };
-        match event {
+    fn hear_origin(&mut self, rules: &Rules, now: Date) -> Option<GatewayEvent>
+        ensures { HearsOrigin rules.now now self.old result self.new }
+    {
+        match next_of(&mut self.origin) {
             OriginEvent::NeedsInput => self.origin_hungry = true,
             OriginEvent::Interim(response) => self.hear_interim(rules, now, &response),
             OriginEvent::Head(response) => self.hear_head(rules, now, response),
@@ -563,7 +706,10 @@ impl GatewayConnection {
         None
     }
 
-    fn hear_interim(&mut self, rules: &Rules, now: Date, response: &OriginResponse) {
+    fn hear_interim(&mut self, rules: &Rules, now: Date, response: &OriginResponse)
+        ensures { OfAsked self.old
+            (λ asked. PassesInterim rules.now now self.old asked response.now self.new) self.new }
+    {
         let Some(asked) = &self.asked else {
             return self.stage = Stage::Aborted;
         };
@@ -586,7 +732,9 @@ impl GatewayConnection {
         }
     }
 
-    fn hear_head(&mut self, rules: &Rules, now: Date, response: OriginResponse) {
+    fn hear_head(&mut self, rules: &Rules, now: Date, response: OriginResponse)
+        ensures { OfAsked self.old (λ asked. PassesHead rules.now now self.old asked response self.new) self.new }
+    {
         let Some(asked) = &self.asked else {
             return self.stage = Stage::Aborted;
         };
@@ -598,26 +746,30 @@ impl GatewayConnection {
             &response,
             now,
         ) {
-            Ok(ResponseOutcome::Forward(sent)) => {
-                self.heard = Some(Heard { response, sent });
-                if self.watches {
-                    self.stage = Stage::Judging;
-                } else {
-                    self.put_head();
-                }
-            }
+            Ok(ResponseOutcome::Forward(sent)) => self.tell_head(Heard { response, sent }),
             Ok(ResponseOutcome::Discard) => {}
             Ok(ResponseOutcome::Reject(rejection)) => self.fail(Own::Response(rejection)),
             Err(_) => self.fail(Own::OutOfMemory),
         }
     }
 
-    fn put_head(&mut self) {
-        let put = match &self.heard {
-            Some(heard) => put_response(self.alloc, heard, &mut self.client),
-            None => Err(WriteError::State),
-        };
-        match put {
+    // Puts the head of the final response, unless the caller watches.
+    fn tell_head(&mut self, heard: Heard)
+        ensures { TellsHead self.old.watches self.old heard self.new }
+    {
+        if self.watches {
+            self.stage = Stage::Judging;
+        } else {
+            self.put_head(&heard);
+        }
+        self.heard = Some(heard);
+    }
+
+    // Puts the head of the final response to the client, or answers.
+    fn put_head(&mut self, heard: &Heard)
+        ensures { PutsHead self.old heard.now self.new }
+    {
+        match put_response(self.alloc, heard, &mut self.client) {
             Ok(()) => self.stage = Stage::Passing,
             Err(error) => self.answer_own(Own::Unsendable(error)),
         }
@@ -632,13 +784,21 @@ impl GatewayConnection {
     }
 
     /// Passes on the origin's response that waits.
-    pub fn pass(&mut self) {
-        if self.stage == Stage::Judging {
-            self.put_head();
+    pub fn pass(&mut self)
+        ensures { Passes self.old self.new }
+    {
+        if self.stage != Stage::Judging {
+            return;
+        }
+        if let Some(heard) = self.heard.take() {
+            self.put_head(&heard);
+            self.heard = Some(heard);
         }
     }
 
-    fn pass_piece(&mut self, piece: Bytes) -> Option<GatewayEvent> {
+    fn pass_piece(&mut self, piece: Bytes) -> Option<GatewayEvent>
+        ensures { PassesPiece self.old piece result self.new }
+    {
         if self.client.push(piece.as_slice()).is_err() {
             self.stage = Stage::Aborted;
             return None;
@@ -651,36 +811,35 @@ impl GatewayConnection {
     }
 
     /// The piece of the response that was passed on last, after `Piece`.
-    pub fn piece(&self) -> &[u8] {
+    pub fn piece(&self) -> &[u8]
+        ensures { result.now ≡ self.now.piece }
+    {
         self.piece.as_slice()
     }
 
-    fn pass_end(&mut self, rules: &Rules, trailers: &HeaderMap) {
-        let ended = match &self.heard {
-            Some(heard) => {
-                end_response(
-                    self.alloc,
-                    &rules.gateway,
-                    heard,
-                    trailers,
-                    &mut self.client,
-                )
-            }
-            None => Err(WriteError::State),
+    fn pass_end(&mut self, rules: &Rules, trailers: &HeaderMap)
+        ensures { PassesEnd rules.now self.old trailers.now self.new }
+    {
+        let Some(heard) = &self.heard else {
+            return self.stage = Stage::Aborted;
         };
-        self.stage = match ended {
-            Ok(()) => Stage::Ended,
-            Err(_) => Stage::Aborted,
-        };
+        match end_response(
+            self.alloc,
+            &rules.gateway,
+            heard,
+            trailers,
+            &mut self.client,
+        ) {
+            Ok(()) => self.stage = Stage::Ended,
+            Err(_) => self.stage = Stage::Aborted,
+        }
     }
 
     // A request of which nothing but the head was passed on may be repeated.
-    fn hear_fault(&mut self, fault: OriginFault) {
-        let may_repeat = match &self.origin {
-            Some(origin) => origin.may_repeat(),
-            None => false,
-        };
-        if may_repeat && !self.touched && self.stage == Stage::Forwarding {
+    fn hear_fault(&mut self, fault: OriginFault)
+        ensures { Faulted self.old fault self.new }
+    {
+        if self.may_repeat() {
             self.repeats = true;
             self.stage = Stage::Asking;
         } else {
@@ -688,30 +847,56 @@ impl GatewayConnection {
         }
     }
 
+    fn may_repeat(&self) -> bool
+        ensures { IsTrue result ↔ MayRepeat self.now }
+    {
+        if self.touched || self.stage != Stage::Forwarding {
+            return false;
+        }
+        match &self.origin {
+            Some(origin) => origin.may_repeat(),
+            None => false,
+        }
+    }
+
     // ---- other protocols
 
     // A 101 to an opening handshake, or a 2xx to CONNECT.
-    fn hear_switch(&mut self, rules: &Rules, now: Date, response: &OriginResponse) {
-        match self.switch(rules, now, response) {
-            Ok(()) => self.stage = Stage::Switched,
+    fn hear_switch(&mut self, rules: &Rules, now: Date, response: &OriginResponse)
+        ensures { OfAsked self.old
+            (λ asked. PassesSwitch rules.now now self.old asked response.now self.new) self.new }
+    {
+        let Some(asked) = &self.asked else {
+            return self.stage = Stage::Aborted;
+        };
+        match switched_fields(self.alloc, &rules.gateway, asked, response, now) {
+            Ok(fields) => self.switch(response, &fields),
             Err(own) => self.fail(own),
         }
     }
 
-    fn switch(&mut self, rules: &Rules, now: Date, response: &OriginResponse) -> Result<(), Own> {
-        let Some(asked) = &self.asked else {
-            return Err(Own::OutOfMemory);
-        };
-        let fields = switched_fields(self.alloc, &rules.gateway, asked, response, now)?;
-        match put_switch(self.alloc, response, &fields, &mut self.client) {
-            Ok(()) => Ok(()),
-            Err(error) => Err(Own::Unsendable(error)),
+    // Puts the response that ends HTTP to the client, or answers.
+    fn switch(&mut self, response: &OriginResponse, fields: &[FieldLine])
+        ensures { SwitchesTo self.old response.now (fields_of fields.now) self.new }
+    {
+        match put_switch(self.alloc, response, fields, &mut self.client) {
+            Ok(()) => self.stage = Stage::Switched,
+            Err(error) => self.fail(Own::Unsendable(error)),
+        }
+    }
+
+    fn is_passing(&self) -> bool {
+        match self.stage {
+            Stage::Forwarding | Stage::Judging | Stage::Passing | Stage::Switched => true,
+            _ => false,
         }
     }
 
     /// Takes the origin's connection, after `Exchanged`. `None` if no further request may go over it.
-    pub fn take_origin(&mut self) -> Option<OriginConnection> {
-        if self.stage != Stage::Idle && self.stage != Stage::Asking {
+    pub fn take_origin(&mut self) -> Option<OriginConnection>
+        ensures { TakesOrigin self.old result self.new }
+    {
+        if self.is_passing() {
             return None;
         }
         self.origin_hungry = false;
@@ -722,7 +907,9 @@ impl GatewayConnection {
     }
 
     /// Goes on with the bytes of the other protocol, after `Tunnel`. Fails if an allocation fails.
-    pub fn into_tunnel(self) -> Result<Tunnel, AllocError> {
+    pub fn into_tunnel(self) -> Result<Tunnel, AllocError>
+        ensures { IfOk result (Begins self) }
+    {
         let mut to_client = BytesMut::copy_from_slice(self.alloc, self.client.output())?;
         let mut to_origin = BytesMut::new(self.alloc);
         let mut origin_ended = false;
@@ -739,5 +926,15 @@ impl GatewayConnection {
             client_ended,
             origin_ended,
         })
+    }
+}
+
+// Whether the gateway sends the 100 (Continue).
+fn is_answered(expectation: Expectation) -> bool
+    ensures { result ≡ is_answered expectation }
+{
+    match expectation {
+        Expectation::Answered => true,
+        _ => false,
     }
 }

@@ -1,4 +1,7 @@
 //! What is done with a request, as data.
+ghost use Rattle.std.specs.Prelude.{◌≡◌, IfOk, option_map};
+ghost use Rattle.gateway_exchange.specs.Decisions.{IsDecision, IsDecisionFor, IsConnectDecision, IsOutgoing};
+ghost use Rattle.gateway_exchange.specs.Decisions.{OpensWebsocket, takes_over, version_of};
 
 use crate::own::Own;
 use crate::rules::{Peer, Rules, next_connection};
@@ -44,7 +47,7 @@ impl AskedRequest {
                 return field.value.as_bytes();
             }
         }
-        b""
+        &[]
     }
 }
 
@@ -58,7 +61,9 @@ pub(crate) enum RequestDecision {
 }
 
 /// The version of HTTP with this minor version.
-fn version_of(minor: u8) -> Version {
+fn version_of(minor: u8) -> Version
+    ensures { result ≡ version_of minor }
+{
     if minor == 0 {
         Version::HTTP_10
     } else {
@@ -67,11 +72,9 @@ fn version_of(minor: u8) -> Version {
 }
 
 // Whether the request is an opening handshake of a WebSocket that goes on as one.
-pub(crate) fn opens_websocket(
-    alloc: Global,
-    rules: &Rules,
-    request: &RequestHead,
-) -> Result<bool, AllocError> {
+fn opens_websocket(alloc: Global, rules: &Rules, request: &RequestHead) -> Result<bool, AllocError>
+    ensures { IfOk result (OpensWebsocket rules.now request.now) }
+{
     if !rules.passes_websocket {
         return Ok(false);
     }
@@ -89,30 +92,43 @@ pub(crate) fn opens_websocket(
     }
 }
 
+// Whether the gateway sends the 100 (Continue) that would be the origin's.
+fn takes_over(answers: bool, expectation: Expectation) -> bool
+    ensures { result ≡ takes_over answers expectation }
+{
+    match (answers, expectation) {
+        (true, Expectation::Forwarded) => true,
+        _ => false,
+    }
+}
+
 // The request as the origin server gets it, without Expect if the gateway answers that itself.
-fn outgoing(
+fn outgoing_of(
     alloc: Global,
     rules: &Rules,
     target: Bytes,
     sent: SentRequest,
-) -> Result<Outgoing, AllocError> {
-    if !rules.answers_expect || sent.expectation != Expectation::Forwarded {
+) -> Result<Outgoing, AllocError>
+    ensures { IfOk result (IsOutgoing rules.now sent target) }
+{
+    if takes_over(rules.answers_expect, sent.expectation) {
+        let own = Expectation::Answered.fields(alloc)?;
         return Ok(Outgoing {
             target,
             framing: sent.framing,
-            expectation: sent.expectation,
-            fields: sent.fields,
+            expectation: Expectation::Answered,
+            fields: replace_fields(alloc, sent.fields, own)?,
         });
     }
     Ok(Outgoing {
         target,
         framing: sent.framing,
-        expectation: Expectation::Answered,
-        fields: replace_fields(alloc, sent.fields, Expectation::Answered.fields(alloc)?)?,
+        expectation: sent.expectation,
+        fields: sent.fields,
     })
 }
 
-// What is done with a request that has this target and this authority.
+// What is done with a request that has this target and this authority, if it is sent so.
 fn decide_for<'a>(
     alloc: Global,
     rules: &'a Rules,
@@ -120,7 +136,10 @@ fn decide_for<'a>(
     request: &'a RequestHead,
     authority: Option<&'a HeaderValue>,
     target: Bytes,
-) -> Result<RequestDecision, AllocError> {
+) -> Result<RequestDecision, AllocError>
+    ensures { IfOk result (IsDecisionFor rules.now peer.now request.now
+        (option_map (λ value. value.now.bytes) authority.entry) target) }
+{
     let head = ReceivedRequest {
         protocol: protocol_of(request.minor),
         method: &request.method,
@@ -128,11 +147,8 @@ fn decide_for<'a>(
         fields: &request.fields,
     };
     let websocket = HeaderValue::from_static("websocket");
-    let upgrade = if opens_websocket(alloc, rules, request)? {
-        Some(&websocket)
-    } else {
-        None
-    };
+    let opens = opens_websocket(alloc, rules, request)?;
+    let upgrade = opens.then_some(&websocket);
     let outcome = send_request(
         alloc,
         &rules.gateway,
@@ -143,7 +159,9 @@ fn decide_for<'a>(
         &head,
     )?;
     match outcome {
-        HopOutcome::Send(sent) => Ok(RequestDecision::Send(outgoing(alloc, rules, target, sent)?)),
+        HopOutcome::Send(sent) => Ok(RequestDecision::Send(outgoing_of(
+            alloc, rules, target, sent,
+        )?)),
         HopOutcome::RequireLength => Ok(RequestDecision::Answer(Own::LengthRequired)),
         HopOutcome::Respond(_) => Ok(RequestDecision::Answer(Own::FinalRecipient)),
         HopOutcome::Reject(rejection) => Ok(RequestDecision::Answer(Own::Rejected(rejection))),
@@ -157,19 +175,18 @@ fn decide_connect(
     rules: &Rules,
     peer: &Peer,
     request: &RequestHead,
-) -> Result<RequestDecision, AllocError> {
+) -> Result<RequestDecision, AllocError>
+    ensures { IfOk result (IsConnectDecision rules.now.passes_connect rules.now peer.now request.now) }
+{
     if !rules.passes_connect {
         return Ok(RequestDecision::Answer(Own::Connect));
     }
-    match host_value(alloc, keys, request.target.as_slice())? {
-        Some(host) => decide_for(
-            alloc,
-            rules,
-            peer,
-            request,
-            Some(&host),
-            Bytes::copy_from_slice(alloc, request.target.as_slice())?,
-        ),
+    let target = request.target.as_slice();
+    match host_value(alloc, keys, target)? {
+        Some(host) => {
+            let sent = Bytes::copy_from_slice(alloc, target)?;
+            decide_for(alloc, rules, peer, request, Some(&host), sent)
+        }
         None => Ok(RequestDecision::Answer(Own::InvalidTarget)),
     }
 }
@@ -181,7 +198,9 @@ pub(crate) fn decide(
     rules: &Rules,
     peer: &Peer,
     request: &RequestHead,
-) -> Result<RequestDecision, AllocError> {
+) -> Result<RequestDecision, AllocError>
+    ensures { IfOk result (IsDecision rules.now peer.now request.now) }
+{
     if request.method.as_str() == "CONNECT" {
         return decide_connect(alloc, keys, rules, peer, request);
     }

@@ -1,10 +1,15 @@
 //! Why a gateway answers a request itself.
+ghost use Rattle.std.specs.Prelude.{◌≡◌, MatchResult};
+ghost use Rattle.http_header.specs.FieldValue.{IsFieldValue};
+ghost use Rattle.http1.specs.Head.{header_parts, pairs};
+ghost use Rattle.http1_typed.specs.Parts.{reason_of};
+ghost use Rattle.gateway_exchange.specs.Own.{PutsOwn, RefusesOwn, own_closes, own_fields, own_status};
 
 use gateway_connection::OriginFault;
 use gateway_messages::Rejection;
 use http::StatusCode;
-use http1::{Header, WriteError};
-use server_stream::Rejection as Unread;
+use http1::{BodySize, Header, WriteError};
+use server_stream::{Rejection as Unread, StreamConnection};
 
 /// Why a gateway answers a request itself (RFC 9110, sections 15.5 and 15.6).
 #[derive(Clone, Copy, Debug, PartialEq, Eq)]
@@ -47,7 +52,9 @@ pub(crate) const CLOSE: Header<'static> = Header {
 
 impl Own {
     /// The status of the answer.
-    pub fn status(self) -> StatusCode {
+    pub fn status(self) -> StatusCode
+        ensures { result ≡ own_status self }
+    {
         match self {
             Own::Unread(rejection) => rejection.status(),
             Own::Rejected(rejection) => StatusCode::from_u16(rejection.status()).unwrap_or(
@@ -70,7 +77,9 @@ impl Own {
     }
 
     /// Whether the client's connection closes after the answer: the request is at fault, or came late.
-    pub fn closes(self) -> bool {
+    pub fn closes(self) -> bool
+        ensures { result ≡ own_closes self }
+    {
         match self {
             Own::Unread(_)
             | Own::Rejected(_)
@@ -82,4 +91,27 @@ impl Own {
             _ => false,
         }
     }
+}
+
+fn reason(status: StatusCode) -> &'static [u8]
+    ensures { result.now ≡ reason_of status }
+{
+    status.canonical_reason().unwrap_or("").as_bytes()
+}
+
+// The fields of an answer, beside those that frame it.
+fn own_fields(own: Own) -> &'static [Header<'static>]
+    ensures { pairs result.now ≡ own_fields own }
+{
+    if own.closes() { &[CLOSE] } else { &[] }
+}
+
+/// Puts the answer, without content.
+pub(crate) fn put_own(own: Own, client: &mut StreamConnection) -> Result<(), WriteError>
+    ensures { MatchResult result (λ _. PutsOwn client.old own client.new)
+        (λ error. RefusesOwn client.old own error client.new) }
+{
+    let status = own.status();
+    client.respond(status, reason(status), own_fields(own), BodySize::Known(0))?;
+    client.end(&[])
 }

@@ -1,4 +1,14 @@
 //! Messages on their way from one connection to the other.
+ghost use Rattle.std.specs.Prelude.{◌≡◌, IfErr, IfOk, MatchResult, option_map, option_to_list};
+ghost use Rattle.headers.{specs.LineMap.field_of};
+ghost use Rattle.http1.specs.{Conn.finish_refusal};
+ghost use Rattle.gateway_messages.specs.{FieldLines.fields_of, Responses.{IsForwardableResponse, IsResponseOutcome}};
+ghost use Rattle.gateway_exchange.specs.Passing.{EndsRequest, EndsResponse, IsSwitched, IsUnswitched, PutsInterim};
+ghost use Rattle.gateway_exchange.specs.Passing.{PutsResponse, PutsSwitch, RefusesInterim};
+ghost use Rattle.gateway_exchange.specs.Passing.{RefusesRequestEnd, RefusesResponse, RefusesResponseEnd, RefusesSwitch};
+ghost use Rattle.gateway_exchange.specs.Passing.{answered, switching_fields, with_conditions};
+ghost use Rattle.gateway_exchange.specs.Passing.{PutsRequest, RefusesRequest};
+ghost use Rattle.gateway_exchange.specs.Steps.{Begins, RefusesBegin};
 
 use crate::decision::AskedRequest;
 use crate::own::Own;
@@ -28,12 +38,16 @@ pub(crate) struct Heard {
 }
 
 // Puts the head of the request to the origin.
-pub(crate) fn put_request(
+fn put_request(
     alloc: Global,
     asked: &AskedRequest,
     fields: &[FieldLine],
     origin: &mut OriginConnection,
-) -> Result<(), WriteError> {
+) -> Result<(), WriteError>
+    ensures { MatchResult result
+        (λ _. PutsRequest asked.now (fields_of fields.now) origin.old origin.new)
+        (λ error. RefusesRequest asked.now (fields_of fields.now) origin.old error origin.new) }
+{
     let headers = header_list(alloc, fields)?;
     origin.send(
         &asked.head.method,
@@ -43,6 +57,25 @@ pub(crate) fn put_request(
     )
 }
 
+// Puts the head of the request to the origin, and its end if it was read whole before.
+pub(crate) fn begin_request(
+    alloc: Global,
+    asked: &AskedRequest,
+    fields: &[FieldLine],
+    whole: bool,
+    origin: &mut OriginConnection,
+) -> Result<(), WriteError>
+    ensures { MatchResult result
+        (λ _. Begins asked.now (fields_of fields.now) whole origin.old origin.new)
+        (λ error. RefusesBegin asked.now (fields_of fields.now) origin.old error origin.new) }
+{
+    put_request(alloc, asked, fields, origin)?;
+    if whole {
+        origin.end(&[])?;
+    }
+    Ok(())
+}
+
 // Puts the end of the request to the origin, with the trailer fields that are forwarded.
 pub(crate) fn end_request(
     alloc: Global,
@@ -50,7 +83,10 @@ pub(crate) fn end_request(
     asked: &AskedRequest,
     trailers: &HeaderMap,
     origin: &mut OriginConnection,
-) -> Result<(), WriteError> {
+) -> Result<(), WriteError>
+    ensures { MatchResult result (λ _. EndsRequest gateway.now asked.now trailers.now origin.old origin.new)
+        (λ error. RefusesRequestEnd gateway.now asked.now trailers.now origin.old error origin.new) }
+{
     let message = MessageHead {
         fields: &asked.head.fields,
         framing: asked.outgoing.framing,
@@ -68,7 +104,9 @@ pub(crate) fn judge(
     status: StatusCode,
     response: &OriginResponse,
     now: Date,
-) -> Result<ResponseOutcome, AllocError> {
+) -> Result<ResponseOutcome, AllocError>
+    ensures { IfOk result (IsResponseOutcome gateway.now now (answered asked.now status response.now)) }
+{
     let head = ResponseHead {
         protocol: protocol_of(response.minor),
         status,
@@ -85,7 +123,10 @@ pub(crate) fn put_interim(
     response: &OriginResponse,
     sent: &ForwardedResponse,
     client: &mut StreamConnection,
-) -> Result<(), WriteError> {
+) -> Result<(), WriteError>
+    ensures { MatchResult result (λ _. PutsInterim response.now sent.now client.old client.new)
+        (λ error. RefusesInterim response.now sent.now client.old error client.new) }
+{
     let headers = header_list(alloc, &sent.fields)?;
     client.interim(response.status, response.reason.as_slice(), &headers)
 }
@@ -95,7 +136,10 @@ pub(crate) fn put_response(
     alloc: Global,
     heard: &Heard,
     client: &mut StreamConnection,
-) -> Result<(), WriteError> {
+) -> Result<(), WriteError>
+    ensures { MatchResult result (λ _. PutsResponse heard.now client.old client.new)
+        (λ error. RefusesResponse heard.now client.old error client.new) }
+{
     let headers = header_list(alloc, &heard.sent.fields)?;
     client.respond(
         heard.response.status,
@@ -112,7 +156,10 @@ pub(crate) fn end_response(
     heard: &Heard,
     trailers: &HeaderMap,
     client: &mut StreamConnection,
-) -> Result<(), WriteError> {
+) -> Result<(), WriteError>
+    ensures { MatchResult result (λ _. EndsResponse gateway.now heard.now trailers.now client.old client.new)
+        (λ error. RefusesResponseEnd gateway.now heard.now trailers.now client.old error client.new) }
+{
     let message = MessageHead {
         fields: &heard.response.fields,
         framing: heard.sent.framing,
@@ -124,10 +171,9 @@ pub(crate) fn end_response(
 
 // What is forwarded of a 101 to an opening handshake: what is of a response without content, and the fields
 // of the new protocol (RFC 9110, section 7.8).
-pub(crate) fn switching_fields(
-    alloc: Global,
-    sent: ForwardedResponse,
-) -> Result<Vec<FieldLine>, AllocError> {
+fn switching_fields(alloc: Global, sent: ForwardedResponse) -> Result<Vec<FieldLine>, AllocError>
+    ensures { IfOk result (λ fields. fields_of fields.items ≡ switching_fields (fields_of sent.fields.items)) }
+{
     let websocket = HeaderValue::from_static("websocket");
     let own = next_connection(Some(&websocket)).fields(alloc)?;
     replace_fields(alloc, sent.fields, own)
@@ -140,7 +186,11 @@ pub(crate) fn switched_fields(
     asked: &AskedRequest,
     response: &OriginResponse,
     now: Date,
-) -> Result<Vec<FieldLine>, Own> {
+) -> Result<Vec<FieldLine>, Own>
+    ensures ok { IfOk result (λ fields.
+        IsSwitched gateway.now now asked.now response.now (fields_of fields.items)) }
+    ensures err { IfErr result (IsUnswitched gateway.now asked.now response.now) }
+{
     if response.status != StatusCode::SWITCHING_PROTOCOLS {
         return match judge(alloc, gateway, asked, response.status, response, now) {
             Ok(ResponseOutcome::Forward(sent)) => Ok(sent.fields),
@@ -167,12 +217,17 @@ pub(crate) fn put_switch(
     response: &OriginResponse,
     fields: &[FieldLine],
     client: &mut StreamConnection,
-) -> Result<(), WriteError> {
+) -> Result<(), WriteError>
+    ensures { MatchResult result (λ _. PutsSwitch response.now (fields_of fields.now) client.old client.new)
+        (λ error. RefusesSwitch response.now (fields_of fields.now) client.old error client.new) }
+{
     let headers = header_list(alloc, fields)?;
     client.switch(response.status, response.reason.as_slice(), &headers)
 }
 
-fn copies(alloc: Global, fields: &[FieldLine]) -> Result<Vec<FieldLine>, AllocError> {
+fn copies(alloc: Global, fields: &[FieldLine]) -> Result<Vec<FieldLine>, AllocError>
+    ensures { IfOk result (λ list. fields_of list.items ≡ fields_of fields.now) }
+{
     let mut list = Vec::with_capacity(alloc, fields.len())?;
     for field in fields {
         list.push(FieldLine {
@@ -187,7 +242,10 @@ fn encoded(
     alloc: Global,
     name: HeaderName,
     value: Option<HeaderValue>,
-) -> Result<Encoded, AllocError> {
+) -> Result<Encoded, AllocError>
+    ensures { IfOk result (λ field. field_of field ≡
+        (name, option_to_list (option_map (λ line. line.bytes) value))) }
+{
     let mut lines = Vec::new(alloc);
     if let Some(value) = value {
         lines.push(value)?;
@@ -201,7 +259,9 @@ pub(crate) fn with_conditions(
     fields: &[FieldLine],
     etags: Option<HeaderValue>,
     since: Option<HeaderValue>,
-) -> Result<Vec<FieldLine>, AllocError> {
+) -> Result<Vec<FieldLine>, AllocError>
+    ensures { IfOk result (λ list. fields_of list.items ≡ with_conditions etags since (fields_of fields.now)) }
+{
     let own = vec![in alloc;
         encoded(alloc, IF_NONE_MATCH, etags)?,
         encoded(alloc, IF_MODIFIED_SINCE, since)?,

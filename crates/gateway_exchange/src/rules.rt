@@ -1,4 +1,7 @@
 //! The settings of a gateway, and the client of a connection.
+ghost use Rattle.std.specs.Prelude.{◌≡◌, option_map};
+ghost use Rattle.gateway_hops.{specs.Arrivals.arrival_parts, specs.Connections.connection_parts};
+ghost use Rattle.gateway_exchange.specs.Decisions.{offering, peer_arrival};
 
 use gateway_hops::{Arrival, Forwarding, NextConnection, Node, Scheme};
 use gateway_messages::Gateway;
@@ -35,7 +38,9 @@ pub struct Peer {
 
 impl Peer {
     // How a request of the client arrives.
-    pub(crate) fn arrival(&self) -> Arrival<'_> {
+    pub(crate) fn arrival(&self) -> Arrival<'_>
+        ensures { arrival_parts result ≡ peer_arrival self.now }
+    {
         Arrival {
             client: &self.node,
             interface: None,
@@ -47,7 +52,9 @@ impl Peer {
 }
 
 // What the gateway says about its connection to an origin server: that stays open, and offers this protocol.
-pub(crate) fn next_connection(upgrade: Option<&HeaderValue>) -> NextConnection<'_> {
+pub(crate) fn next_connection(upgrade: Option<&HeaderValue>) -> NextConnection<'_>
+    ensures { connection_parts result ≡ offering (option_map (λ value. value.now.bytes) upgrade.entry) }
+{
     NextConnection {
         closes: false,
         accepts_trailers: false,

@@ -1,6 +1,7 @@
 -- Messages as `http1` takes them (RFC 9112, section 6).
 use Rattle.std.specs.Prelude.{ℕ, ◌==◌, if◌then◌else◌}
-use Rattle.http1.{specs.declared.conn.BodySize.BodySize, specs.declared.conn.BodySize.TheVariants as Size}
+use Rattle.http1.specs.declared.conn.BodySize.{BodySize}
+use Rattle.http1.specs.declared.conn.BodySize.TheVariants as Size
 use Rattle.gateway_messages.specs.declared.framing.Framing.{Framing}
 use Rattle.gateway_messages.specs.declared.framing.Framing.TheVariants as Framed
 use Rattle.gateway_messages.specs.declared.protocol.Protocol.{Protocol}

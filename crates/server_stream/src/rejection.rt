@@ -1,4 +1,6 @@
 //! Why a connection is rejected.
+ghost use Rattle.std.specs.Prelude.{◌≡◌};
+ghost use Rattle.server_stream.specs.Heads.{rejection_status};
 
 use http::StatusCode;
 use http1::ReadError;
@@ -24,12 +26,16 @@ pub enum Rejection {
 impl Rejection {
     /// The status of a response that says so: 400, 414, 431, 500 or 501 (RFC 9110, sections 15.5 and
     /// 15.6, and RFC 6585, section 5).
-    pub fn status(self) -> StatusCode {
+    pub fn status(self) -> StatusCode
+        ensures { result ≡ rejection_status self }
+    {
         match self {
-            Rejection::Malformed(ReadError::UriTooLong) => StatusCode::URI_TOO_LONG,
-            Rejection::Malformed(error) if error.status() == 431 =>
-                StatusCode::REQUEST_HEADER_FIELDS_TOO_LARGE,
-            Rejection::Malformed(_) | Rejection::CutShort => StatusCode::BAD_REQUEST,
+            Rejection::Malformed(error) => match error.status() {
+                414 => StatusCode::URI_TOO_LONG,
+                431 => StatusCode::REQUEST_HEADER_FIELDS_TOO_LARGE,
+                _ => StatusCode::BAD_REQUEST,
+            },
+            Rejection::CutShort => StatusCode::BAD_REQUEST,
             Rejection::UnknownCoding => StatusCode::NOT_IMPLEMENTED,
             Rejection::InvalidFields => StatusCode::REQUEST_HEADER_FIELDS_TOO_LARGE,
             Rejection::OutOfMemory => StatusCode::INTERNAL_SERVER_ERROR,
@@ -52,12 +58,22 @@ impl fmt::Display for Rejection {
 impl Error for Rejection {}
 
 impl From<AllocError> for Rejection {
+    ghost use Rattle.std.specs.Prelude.{◌≡◌};
+    ghost use Rattle.server_stream.specs.declared.rejection.Rejection.TheVariants.{OutOfMemory};
+
+    ghost from_gives = { λ _ why. why ≡ OutOfMemory };
+
     fn from(_: AllocError) -> Rejection {
         Rejection::OutOfMemory
     }
 }
 
 impl From<http::Error> for Rejection {
+    ghost use Rattle.std.specs.Prelude.{◌≡◌};
+    ghost use Rattle.server_stream.specs.Heads.{map_rejection};
+
+    ghost from_gives = { λ error why. why ≡ map_rejection error };
+
     fn from(error: http::Error) -> Rejection {
         match error {
             http::Error::OutOfMemory => Rejection::OutOfMemory,
