@@ -94,17 +94,6 @@ size_t log_front(const struct address *client) {
     return start;
 }
 
-size_t log_place(void) { return log_.length; }
-
-char *log_hold(size_t start, size_t *length) {
-    char *line = malloc(log_.length - start + 1);
-    *length = line ? log_.length - start : 0;
-    if (line)
-        memcpy(line, log_.lines + start, *length);
-    log_.length = start;
-    return line;
-}
-
 void log_end(size_t start) {
     log_text(log_.form == JSON_LOG ? "}\n" : "\n");
     if (log_.length > PIPE_BUF && start > 0)

@@ -11,9 +11,6 @@ int open_log(const char *file);
 /* The worker's lines go to this descriptor from now on. */
 void use_log(int descriptor, enum log_form form);
 
-/* Where the next line begins. */
-size_t log_place(void);
-
 /* Begins a line: with the time, the client, and the place of the request. Returns where it begins. */
 size_t log_front(const struct address *client);
 
@@ -21,9 +18,6 @@ size_t log_front(const struct address *client);
 void log_bytes(const char *bytes, size_t length);
 void log_escaped(const uint8_t *bytes, size_t length);
 __attribute__((format(printf, 1, 2))) void log_text(const char *format, ...);
-
-/* Takes back the line that begins there, and how long it is. NULL if there is no memory, and then it is lost. */
-char *log_hold(size_t start, size_t *length);
 
 /* Ends the line that begins there. */
 void log_end(size_t start);

@@ -6,91 +6,75 @@
 #include <stdio.h>
 #include <string.h>
 
-enum { FRONT = 16 }; /* bytes of version 2 before its addresses */
+enum { LONGEST_LINE = 107, FRONT = 16 }; /* what is before the addresses of version 2 */
 
 static const uint8_t signature[12] = "\r\n\r\n\0\r\nQUIT\n";
 
-static bool is_second(const struct proxy_header *header) { return header->bytes[0] == signature[0]; }
+static bool is_line(const struct proxy_header *header) { return header->bytes[0] == 'P'; }
 
-/* How many of the next bytes belong to the header, of which some are there. A line ends with its LF. */
-static size_t bytes_to_take(const struct proxy_header *header, const uint8_t *next, size_t count) {
-    size_t room = PROXY_ROOM - 1 - header->length;
-    if (header->length == 0)
-        return 1; /* it tells the version */
-    if (is_second(header)) {
-        size_t wanted = header->length < FRONT ? FRONT - header->length : header->left;
-        return count < wanted ? count : wanted;
-    }
-    const uint8_t *end = memchr(next, '\n', count);
-    size_t line = end ? (size_t)(end - next) + 1 : count;
-    return line < room ? line : room;
+/* How many more bytes are the header's for sure. */
+static size_t bytes_left(const struct proxy_header *header) {
+    size_t length = header->length;
+    if (length == 0 || is_line(header))
+        return length == 0 || header->bytes[length - 1] != '\n';
+    return length < FRONT ? FRONT - length : FRONT + (size_t)(header->bytes[14] << 8 | header->bytes[15]) - length;
+}
+
+/* Whether it can't be a header any more. */
+static bool is_wrong(const struct proxy_header *header) {
+    size_t length = header->length;
+    if (is_line(header))
+        return length > LONGEST_LINE || memcmp(header->bytes, "PROXY ", length < 6 ? length : 6);
+    if (memcmp(header->bytes, signature, length < sizeof signature ? length : sizeof signature))
+        return true;
+    return length >= FRONT && (header->bytes[12] >> 4 != 2 || (header->bytes[12] & 0xf) > 1 ||
+                               length + bytes_left(header) >= sizeof header->bytes);
 }
 
 /* "PROXY TCP4 CLIENT SERVER PORT PORT", or "PROXY UNKNOWN" and anything. */
-static enum proxy_state read_first(const char *line, struct address *client) {
+static bool read_line(const char *line, struct address *told) {
     char protocol[8], node[INET6_ADDRSTRLEN + 1];
     unsigned port, other;
-    struct address told = {.family = AF_UNSPEC};
     if (!strncmp(line, "PROXY UNKNOWN", 13) && strchr(" \r", line[13]))
-        return PROXY_READ;
+        return true;
     if (sscanf(line, "PROXY %7s %46s %*46s %5u %5u\r", protocol, node, &port, &other) != 4 || port > UINT16_MAX)
-        return PROXY_WRONG;
-    told.family = !strcmp(protocol, "TCP4") ? AF_INET : !strcmp(protocol, "TCP6") ? AF_INET6 : AF_UNSPEC;
-    told.port = (uint16_t)port;
-    if (told.family == AF_UNSPEC || inet_pton(told.family, node, told.bytes) != 1)
-        return PROXY_WRONG;
-    *client = told;
-    return PROXY_READ;
+        return false;
+    told->family = !strcmp(protocol, "TCP4") ? AF_INET : AF_INET6;
+    told->port = (uint16_t)port;
+    return (told->family == AF_INET || !strcmp(protocol, "TCP6")) && inet_pton(told->family, node, told->bytes) == 1;
 }
 
-/* Addresses follow the front: of the client, of the server, and then their ports. */
-static enum proxy_state read_second(const uint8_t *bytes, size_t length, struct address *client) {
-    struct address told = {.family = bytes[13] >> 4 == 1 ? AF_INET : bytes[13] >> 4 == 2 ? AF_INET6 : AF_UNSPEC};
-    size_t size = told.family == AF_INET ? 4 : 16;
-    if ((bytes[12] & 0xf) == 0 || told.family == AF_UNSPEC) /* the proxy itself connects, or it tells nothing of use */
-        return PROXY_READ;
-    if (length < FRONT + 2 * size + 4)
-        return PROXY_WRONG;
-    memcpy(told.bytes, bytes + FRONT, size);
-    told.port = (uint16_t)(bytes[FRONT + 2 * size] << 8 | bytes[FRONT + 2 * size + 1]);
-    *client = told;
-    return PROXY_READ;
+/* The addresses: of the client, of the server, and then their ports. A proxy that connects for itself tells none. */
+static bool read_addresses(const struct proxy_header *header, struct address *told) {
+    const uint8_t *bytes = header->bytes;
+    int family = bytes[13] >> 4 == 1 ? AF_INET : bytes[13] >> 4 == 2 ? AF_INET6 : AF_UNSPEC;
+    size_t size = family == AF_INET ? 4 : 16, ports = FRONT + 2 * size;
+    if ((bytes[12] & 0xf) == 0 || family == AF_UNSPEC)
+        return true;
+    if (header->length < ports + 4)
+        return false;
+    memcpy(told->bytes, bytes + FRONT, size);
+    told->family = family;
+    told->port = (uint16_t)(bytes[ports] << 8 | bytes[ports + 1]);
+    return true;
 }
 
 enum proxy_state read_proxy_header(int socket, struct proxy_header *header, struct address *client) {
-    uint8_t next[PROXY_ROOM];
-    for (;;) {
-        ssize_t count = recv(socket, next, sizeof next, MSG_PEEK);
+    struct address told = {.family = AF_UNSPEC};
+    while (bytes_left(header) > 0) {
+        ssize_t count = recv(socket, header->bytes + header->length, bytes_left(header), 0);
         if (count < 0 && errno == EINTR)
             continue;
         if (count <= 0)
             return count < 0 && errno == EAGAIN ? PROXY_WAITS : PROXY_WRONG;
-        size_t taken = bytes_to_take(header, next, (size_t)count);
-        if (recv(socket, next, taken, 0) != (ssize_t)taken)
+        header->length += (size_t)count;
+        if (is_wrong(header))
             return PROXY_WRONG;
-        bool was_front = is_second(header) && header->length >= FRONT && header->left > 0;
-        size_t room = PROXY_ROOM - 1 - header->length, kept = taken < room ? taken : room; /* the rest is of no use */
-        memcpy(header->bytes + header->length, next, kept);
-        header->length += kept;
-        if (was_front)
-            header->left -= taken;
-        if (is_second(header)) {
-            if (header->length == FRONT && !was_front)
-                header->left = (size_t)(header->bytes[14] << 8 | header->bytes[15]);
-            if (header->length >= sizeof signature &&
-                (memcmp(header->bytes, signature, sizeof signature) || header->bytes[12] >> 4 != 2 ||
-                 (header->bytes[12] & 0xf) > 1))
-                return PROXY_WRONG;
-            if (header->length >= FRONT && header->left == 0)
-                return read_second(header->bytes, header->length, client);
-        } else {
-            size_t compared = header->length < 6 ? header->length : 6;
-            if (memcmp(header->bytes, "PROXY ", compared))
-                return PROXY_WRONG;
-            if (header->bytes[header->length - 1] == '\n')
-                return read_first((const char *)header->bytes, client);
-            if (header->length == PROXY_ROOM - 1)
-                return PROXY_WRONG;
-        }
     }
+    header->bytes[header->length] = 0;
+    if (!(is_line(header) ? read_line((const char *)header->bytes, &told) : read_addresses(header, &told)))
+        return PROXY_WRONG;
+    if (told.family != AF_UNSPEC)
+        *client = told;
+    return PROXY_READ;
 }

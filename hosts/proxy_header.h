@@ -4,13 +4,10 @@
 
 #include "loop.h"
 
-enum { PROXY_ROOM = 108 };
-
-/* What was read of a header. Zero bytes are nothing. */
+/* What was read of a header: at first nothing. A longer one is wrong. */
 struct proxy_header {
-    uint8_t bytes[PROXY_ROOM];
     size_t length;
-    size_t left; /* bytes of version 2 that follow, once its length is known */
+    uint8_t bytes[4096];
 };
 
 enum proxy_state { PROXY_WAITS, PROXY_READ, PROXY_WRONG };

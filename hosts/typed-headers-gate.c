@@ -77,8 +77,6 @@ struct exchange {
     uint64_t begun;              /* when the request came */
     uint64_t given, left;        /* of the content of a response that is given: where it goes on, and how much is left */
     uint64_t passed;             /* bytes of content that the client gets */
-    char *line;                  /* of the log, NULL if there is none */
-    size_t line_length, line_rest;
     int unsent;      /* bytes that the system had to send when the wait began */
     uint16_t status;  /* of the response, or 0 */
     uint16_t failure; /* what is answered if no origin can be connected to */
@@ -125,74 +123,45 @@ static void follow(struct exchange *exchange, const struct typed_headers_pass_fa
 
 typedef uint8_t text_call(struct typed_headers_gate *, uint8_t *, size_t, size_t *);
 
-static void log_part(struct exchange *exchange, text_call *call) {
+/* A part of the request, or its field of this name, or a dash. */
+static void log_part(struct exchange *exchange, const char *before, text_call *call, const char *name) {
     size_t length;
-    if (call(&exchange->gate, own.buffer, BUFFER, &length) == TYPED_HEADERS_DONE)
+    uint8_t status = call ? call(&exchange->gate, own.buffer, BUFFER, &length)
+                          : typed_headers_gate_field(&exchange->gate, (const uint8_t *)name, strlen(name), own.buffer,
+                                                     BUFFER, &length);
+    log_text("%s", before);
+    if (status == TYPED_HEADERS_DONE && exchange->is_asked)
         log_escaped(own.buffer, length);
     else
         log_text("-");
 }
 
-static void log_field(struct exchange *exchange, const char *name) {
-    size_t length;
-    if (typed_headers_gate_field(&exchange->gate, (const uint8_t *)name, strlen(name), own.buffer, BUFFER, &length) ==
-        TYPED_HEADERS_DONE)
-        log_escaped(own.buffer, length);
-    else
-        log_text("-");
-}
-
-/* Keeps what the line says of the request, since it is no more once the response ends. */
-static void hold_line(struct exchange *exchange) {
+static void log_line(struct exchange *exchange, uint16_t status) {
     bool is_json = gateway->hosting.log == JSON_LOG;
-    if (gateway->hosting.log == NO_LOG || exchange->is_own)
-        return;
+    unsigned long long passed = exchange->passed, took = worker.now - exchange->begun;
     size_t start = log_front(&exchange->told);
-    log_text(is_json ? ",\"method\":\"" : "");
-    log_part(exchange, typed_headers_gate_method);
-    log_text(is_json ? "\",\"host\":\"" : " ");
+    log_part(exchange, is_json ? ",\"method\":\"" : "", typed_headers_gate_method, NULL);
     if (is_json)
-        log_part(exchange, typed_headers_gate_authority);
-    log_text(is_json ? "\",\"target\":\"" : "");
-    log_part(exchange, typed_headers_gate_target);
-    log_text(is_json ? "\"" : " HTTP/1.1\"");
-    exchange->line_rest = log_place() - start;
-    log_text(is_json ? ",\"referer\":\"" : " \"");
-    log_field(exchange, "referer");
-    log_text(is_json ? "\",\"user_agent\":\"" : "\" \"");
-    log_field(exchange, "user-agent");
-    log_text("\"");
-    exchange->line = log_hold(start, &exchange->line_length);
-}
-
-static void log_status(const struct exchange *exchange, uint16_t status) {
-    unsigned long long bytes = exchange->passed, took = worker.now - exchange->begun;
-    if (gateway->hosting.log != JSON_LOG)
-        log_text(exchange->passed ? " %u %llu" : " %u -", (unsigned)status, bytes);
-    else
-        log_text(",\"status\":%u,\"bytes\":%llu,\"milliseconds\":%llu,\"cache\":\"%s\"", (unsigned)status, bytes, took,
+        log_part(exchange, "\",\"host\":\"", typed_headers_gate_authority, NULL);
+    log_part(exchange, is_json ? "\",\"target\":\"" : " ", typed_headers_gate_target, NULL);
+    if (is_json)
+        log_text("\",\"status\":%u,\"bytes\":%llu,\"milliseconds\":%llu,\"cache\":\"%s\"", status, passed, took,
                  cache_words[exchange->cached]);
+    else
+        log_text(passed ? " HTTP/1.1\" %u %llu" : " HTTP/1.1\" %u -", status, passed);
+    log_part(exchange, is_json ? ",\"referer\":\"" : " \"", NULL, "referer");
+    log_part(exchange, is_json ? "\",\"user_agent\":\"" : "\" \"", NULL, "user-agent");
+    log_text("\"");
+    log_end(start);
 }
 
-/* Notes the end of a response, or of what was no request. */
+/* Notes the end of a response, also to what was no request. */
 static void conclude(struct exchange *exchange, uint16_t status) {
-    if (!exchange->is_own)
+    if (!exchange->is_own) {
         count_response(status, exchange->cached);
-    if (exchange->line) {
-        size_t start = log_place();
-        log_bytes(exchange->line, exchange->line_rest);
-        log_status(exchange, status);
-        log_bytes(exchange->line + exchange->line_rest, exchange->line_length - exchange->line_rest);
-        log_end(start);
-    } else if (!exchange->is_asked && gateway->hosting.log != NO_LOG) {
-        size_t start = log_front(&exchange->told);
-        log_text(gateway->hosting.log == JSON_LOG ? "" : "-\"");
-        log_status(exchange, status);
-        log_text(gateway->hosting.log == JSON_LOG ? "" : " \"-\" \"-\"");
-        log_end(start);
+        if (gateway->hosting.log != NO_LOG)
+            log_line(exchange, status);
     }
-    free(exchange->line);
-    exchange->line = NULL;
     exchange->is_asked = false;
 }
 
@@ -217,7 +186,6 @@ static void close_upstream(struct upstream *upstream) {
     close_source(&upstream->end.source);
 }
 
-/* An idle connection of which something is told has ended, or has bytes that nobody asked for. */
 static void on_origin(struct source *source, uint32_t events);
 
 /* Keeps the connection of an exchange for another one, if it may be kept. */
@@ -436,7 +404,7 @@ static void on_origin(struct source *source, uint32_t events) {
     upstream->end.is_readable |= (events & ~(uint32_t)EPOLLOUT) != 0;
     upstream->end.is_full = false;
     if (!upstream->exchange)
-        close_upstream(upstream);
+        close_upstream(upstream); /* it has ended, or has bytes that nobody asked for */
     else if (upstream->is_connected)
         drive(upstream->exchange);
     else
@@ -655,45 +623,43 @@ static bool move(struct exchange *exchange, const struct typed_headers_gate_fact
 
 /* ---- Exchanges ---- */
 
-/* Closes both connections. If the response isn't whole, the client is to see that. */
-static void close_exchange(struct exchange *exchange, bool is_cut) {
-    struct end *client = &exchange->end;
+/* Frees all that an exchange has but its socket. */
+static void release(struct exchange *exchange) {
     if (exchange->is_asked)
         conclude(exchange, exchange->status ? exchange->status : 499); /* (as other proxies log it) */
     abandon_pass(exchange);
     if (exchange->upstream)
         close_upstream(exchange->upstream);
-    if (is_cut && client->source.socket >= 0) {
+    end_tls(&exchange->end);
+    typed_headers_gate_free(&exchange->gate);
+    free(exchange->header);
+    exchange->header = NULL;
+    if (!exchange->is_own)
+        count_event(CLOSED_CONNECTIONS);
+}
+
+/* Closes both connections. If a message isn't whole, the client is to see that. */
+static void close_exchange(struct exchange *exchange, bool is_cut) {
+    struct end *client = &exchange->end;
+    if (is_cut && !exchange->is_own) {
         setsockopt(client->source.socket, SOL_SOCKET, SO_LINGER, &(struct linger){1, 0}, sizeof(struct linger));
         if (client->tls)
             tls_cut(client->tls);
         client->tls = NULL;
     }
-    end_tls(client);
-    typed_headers_gate_free(&exchange->gate);
-    free(exchange->header);
-    exchange->header = NULL;
-    if (!exchange->is_own) {
+    release(exchange);
+    if (!exchange->is_own)
         count_connection(&exchange->client, -1);
-        count_event(CLOSED_CONNECTIONS);
-    }
     close_source(&client->source);
 }
 
-/* All was sent: lets the client read the end. */
+/* All was sent: closes both, once the client has read the end. */
 static void end_exchange(struct exchange *exchange) {
     if (exchange->is_own) {
         close_exchange(exchange, false);
         return;
     }
-    if (exchange->is_asked)
-        conclude(exchange, exchange->status);
-    abandon_pass(exchange);
-    if (exchange->upstream)
-        close_upstream(exchange->upstream);
-    end_tls(&exchange->end);
-    typed_headers_gate_free(&exchange->gate);
-    count_event(CLOSED_CONNECTIONS);
+    release(exchange);
     linger(&exchange->end.source, &exchange->client);
 }
 
@@ -741,7 +707,6 @@ static void begin_request(struct exchange *exchange) {
     exchange->repeats = false;
     exchange->is_asked = true;
     count_event(REQUESTS);
-    hold_line(exchange);
     if (worker.is_stopping && typed_headers_gate_close_after(&exchange->gate))
         exchange->is_over = true;
     if (exchange->entrance->is_metrics)

@@ -4,7 +4,7 @@ use crate::calling::change;
 use c_handles::{Handle, HeldGate};
 use c_parts::{Failure, HashKeys, read_map};
 use headers::HeaderMap;
-use http::StatusCode;
+use http::{Method, StatusCode};
 use http1::{BodySize, Header, WriteError};
 use std::alloc::{AllocError, Global};
 
@@ -36,7 +36,7 @@ pub fn answer(alloc: Global, handle: &mut Handle, status: u16) -> Result<(), Fai
     )
 }
 
-/// Passes on the origin's response that waits.
+/// Forwards the origin's response that waits.
 pub fn pass(alloc: Global, handle: &mut Handle) -> Result<(), Failure> {
     change(
         alloc,
@@ -59,6 +59,20 @@ fn lines_of<'a>(alloc: Global, fields: &'a HeaderMap) -> Result<Vec<Header<'a>>,
     Ok(lines)
 }
 
+// A response to HEAD and a 304 have no content, whatever length their fields state (RFC 9110, sections 9.3.2 and
+// 15.4.5).
+fn size_of(held: &HeldGate, status: StatusCode, length: u64) -> BodySize {
+    let is_head = match held.connection.request() {
+        Some(request) => request.head.method == Method::HEAD,
+        None => false,
+    };
+    if is_head || status == StatusCode::NOT_MODIFIED {
+        BodySize::Empty
+    } else {
+        BodySize::Known(length)
+    }
+}
+
 fn respond_in(
     alloc: Global,
     held: &mut HeldGate,
@@ -68,7 +82,8 @@ fn respond_in(
 ) -> Result<(), Failure> {
     let lines = lines_of(alloc, fields)?;
     let reason = status.canonical_reason().unwrap_or("").as_bytes();
-    written(held.connection.respond(status, reason, lines.as_slice(), BodySize::Known(length)))
+    let size = size_of(held, status, length);
+    written(held.connection.respond(status, reason, lines.as_slice(), size))
 }
 
 /// Begins a response of the caller's, with these fields and so much content. Rejected if none is due, the status is no

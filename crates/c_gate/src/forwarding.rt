@@ -73,7 +73,7 @@ pub fn closes_after(alloc: Global, handle: &mut Handle) -> Result<(), Failure> {
         alloc,
         handle,
         |held| {
-            let _ = held;
+            held.connection.close_after();
             Ok(())
         },
     )

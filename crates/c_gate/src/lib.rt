@@ -1,6 +1,6 @@
 //! A gateway's connection for C: a client's connection and at most one origin's, behind handles.
 //!
-//! Nothing here opens a socket. The host, a program in C, passes on what it received, and writes what it is offered.
+//! Nothing here opens a socket. The host, a program in C, gives what it received, and writes what it is offered.
 //! `include/typed_headers.h` documents the calls.
 #![tactic(auto)]
 

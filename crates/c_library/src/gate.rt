@@ -281,7 +281,7 @@ pub extern "C" fn typed_headers_gate_response(
     }
 }
 
-/// Passes it on.
+/// Forwards it.
 #[unsafe(no_mangle)]
 pub extern "C" fn typed_headers_gate_pass(alloc: Global, gate: &mut Handle) -> u8 {
     ended(pass(alloc, gate))

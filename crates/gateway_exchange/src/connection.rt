@@ -18,7 +18,7 @@ ghost use Rattle.gateway_exchange.specs.Steps.{Steps, SwitchesTo, TellsHead, Tim
 
 use crate::decision::{AskedRequest, RequestDecision, decide};
 use crate::event::{GatewayEvent, Phase, Wants};
-use crate::own::{Own, put_own};
+use crate::own::{CLOSE, Own, put_own};
 use crate::pass::{
     Heard, begin_request, end_request, end_response, judge, put_interim, put_response, put_switch,
     switched_fields, with_conditions,
@@ -91,6 +91,8 @@ pub struct GatewayConnection {
     pub(crate) repeats: bool,
     /// Whether the caller watches the response.
     pub(crate) watches: bool,
+    /// Whether the connection ends after the next response.
+    pub(crate) is_last: bool,
     /// Whether all that was received of the client was used.
     pub(crate) client_hungry: bool,
     /// Whether all that was received of the origin was used.
@@ -130,6 +132,7 @@ impl GatewayConnection {
             touched: false,
             repeats: false,
             watches: false,
+            is_last: false,
             client_hungry: false,
             origin_hungry: false,
         }
@@ -532,7 +535,7 @@ impl GatewayConnection {
         ensures { Answers self.old own self.new }
     {
         self.own = Some(own);
-        match put_own(own, &mut self.client) {
+        match put_own(own, self.is_last, &mut self.client) {
             Ok(()) => self.stage = Stage::Ended,
             Err(_) => self.stage = Stage::Aborted,
         }
@@ -578,10 +581,20 @@ impl GatewayConnection {
         if !self.is_asking() {
             return Err(WriteError::State);
         }
-        self.client.respond(status, reason, fields, size)?;
+        let mut list = Vec::new(self.alloc);
+        list.extend_from_slice(fields)?;
+        if self.is_last && list.push(CLOSE).is_err() {
+            return Err(WriteError::OutOfMemory);
+        }
+        self.client.respond(status, reason, &list, size)?;
         self.settle();
         self.stage = Stage::Giving;
         Ok(())
+    }
+
+    /// Says that the connection ends after the next response, which says so.
+    pub fn close_after(&mut self) {
+        self.is_last = true;
     }
 
     /// Puts a piece of the content of the response that the caller gives. Fails as `StreamConnection::push`.
@@ -769,7 +782,7 @@ impl GatewayConnection {
     fn put_head(&mut self, heard: &Heard)
         ensures { PutsHead self.old heard.now self.new }
     {
-        match put_response(self.alloc, heard, &mut self.client) {
+        match put_response(self.alloc, heard, self.is_last, &mut self.client) {
             Ok(()) => self.stage = Stage::Passing,
             Err(error) => self.answer_own(Own::Unsendable(error)),
         }

@@ -100,18 +100,18 @@ fn reason(status: StatusCode) -> &'static [u8]
 }
 
 // The fields of an answer, beside those that frame it.
-fn own_fields(own: Own) -> &'static [Header<'static>]
+fn own_fields(own: Own, is_last: bool) -> &'static [Header<'static>]
     ensures { pairs result.now ≡ own_fields own }
 {
-    if own.closes() { &[CLOSE] } else { &[] }
+    if is_last || own.closes() { &[CLOSE] } else { &[] }
 }
 
 /// Puts the answer, without content.
-pub(crate) fn put_own(own: Own, client: &mut StreamConnection) -> Result<(), WriteError>
+pub(crate) fn put_own(own: Own, is_last: bool, client: &mut StreamConnection) -> Result<(), WriteError>
     ensures { MatchResult result (λ _. PutsOwn client.old own client.new)
         (λ error. RefusesOwn client.old own error client.new) }
 {
     let status = own.status();
-    client.respond(status, reason(status), own_fields(own), BodySize::Known(0))?;
+    client.respond(status, reason(status), own_fields(own, is_last), BodySize::Known(0))?;
     client.end(&[])
 }

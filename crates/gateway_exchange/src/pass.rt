@@ -11,7 +11,7 @@ ghost use Rattle.gateway_exchange.specs.Passing.{PutsRequest, RefusesRequest};
 ghost use Rattle.gateway_exchange.specs.Steps.{Begins, RefusesBegin};
 
 use crate::decision::AskedRequest;
-use crate::own::Own;
+use crate::own::{CLOSE, Own};
 use crate::rules::next_connection;
 use decide_handshake::{Checked, check};
 use gateway_connection::{OriginConnection, OriginResponse};
@@ -135,12 +135,16 @@ pub(crate) fn put_interim(
 pub(crate) fn put_response(
     alloc: Global,
     heard: &Heard,
+    is_last: bool,
     client: &mut StreamConnection,
 ) -> Result<(), WriteError>
     ensures { MatchResult result (λ _. PutsResponse heard.now client.old client.new)
         (λ error. RefusesResponse heard.now client.old error client.new) }
 {
-    let headers = header_list(alloc, &heard.sent.fields)?;
+    let mut headers = header_list(alloc, &heard.sent.fields)?;
+    if is_last && headers.push(CLOSE).is_err() {
+        return Err(WriteError::OutOfMemory);
+    }
     client.respond(
         heard.response.status,
         heard.response.reason.as_slice(),
