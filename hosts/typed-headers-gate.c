@@ -143,12 +143,13 @@ static void log_line(struct exchange *exchange, uint16_t status) {
     log_part(exchange, is_json ? ",\"method\":\"" : "", typed_headers_gate_method, NULL);
     if (is_json)
         log_part(exchange, "\",\"host\":\"", typed_headers_gate_authority, NULL);
-    log_part(exchange, is_json ? "\",\"target\":\"" : " ", typed_headers_gate_target, NULL);
+    if (is_json || exchange->is_asked)
+        log_part(exchange, is_json ? "\",\"target\":\"" : " ", typed_headers_gate_target, NULL);
     if (is_json)
         log_text("\",\"status\":%u,\"bytes\":%llu,\"milliseconds\":%llu,\"cache\":\"%s\"", status, passed, took,
                  cache_words[exchange->cached]);
     else
-        log_text(passed ? " HTTP/1.1\" %u %llu" : " HTTP/1.1\" %u -", status, passed);
+        log_text(passed ? "%s\" %u %llu" : "%s\" %u -", exchange->is_asked ? " HTTP/1.1" : "", status, passed);
     log_part(exchange, is_json ? ",\"referer\":\"" : " \"", NULL, "referer");
     log_part(exchange, is_json ? "\",\"user_agent\":\"" : "\" \"", NULL, "user-agent");
     log_text("\"");
