@@ -867,8 +867,8 @@ static void end_slow(struct source *source) {
 
 /* ---- Clients ---- */
 
-/* Begins HTTP with a client. */
-static void begin_exchange(struct exchange *exchange) {
+/* Begins HTTP with a client. Returns false, and closes, if there is no memory. */
+static bool begin_exchange(struct exchange *exchange) {
     char node[INET6_ADDRSTRLEN] = "";
     bool is_tls = exchange->entrance->is_tls;
     if (exchange->told.family != AF_UNSPEC)
@@ -880,11 +880,12 @@ static void begin_exchange(struct exchange *exchange) {
         (!exchange->is_own && is_tls && !(exchange->end.tls = tls_begin(site.tls, exchange->end.source.socket)))) {
         complain_seldom("no connection");
         close_exchange(exchange, true);
-        return;
+        return false;
     }
     wait_in(&exchange->end.source, &idle);
     if (!exchange->is_own)
         drive(exchange); /* the request is mostly there */
+    return true;
 }
 
 static void greet(struct source *source, bool is_late) {
@@ -950,7 +951,8 @@ static void start_validation(const struct exchange *exchange) {
     made->end.source.socket = -1;
     made->is_own = true;
     made->entrance = exchange->entrance;
-    begin_exchange(made);
+    if (!begin_exchange(made))
+        return;
     if (typed_headers_pass_validation(&of->pass, own.buffer + FIELDS, TARGET - FIELDS, &fields) ||
         typed_headers_gate_target(&of->gate, own.buffer + TARGET, METHOD - TARGET, &target) ||
         typed_headers_gate_method(&of->gate, own.buffer + METHOD, BUFFER - METHOD, &method) ||
