@@ -553,6 +553,17 @@ static ssize_t send_bytes(const struct end *end, size_t length) {
                     : send(end->source.socket, own.buffer, length, MSG_NOSIGNAL);
 }
 
+/* Nothing more is sent to this end. */
+static void end_output(struct end *end) {
+    if (end->is_broken)
+        return;
+    end->is_broken = true;
+    if (end->tls)
+        tls_finish(end->tls);
+    else
+        shutdown(end->source.socket, SHUT_WR); /* it may have gone */
+}
+
 /* Sends what waits for a side. Returns whether something moved. */
 static bool send_some(struct exchange *exchange, struct end *end, uint8_t side) {
     size_t length;
@@ -568,7 +579,8 @@ static bool send_some(struct exchange *exchange, struct end *end, uint8_t side) 
         return false;
     }
     if (count < 0) { /* what an origin has sent before is still read */
-        end->is_broken = end->is_readable = true;
+        end_output(end);
+        end->is_readable = true;
         exchange->is_over |= side == TYPED_HEADERS_CLIENT;
         return false;
     }
@@ -662,17 +674,6 @@ static void end_exchange(struct exchange *exchange) {
     }
     release(exchange);
     linger(&exchange->end.source, &exchange->client);
-}
-
-/* Says that a side of a tunnel gets nothing more. */
-static void end_output(struct end *end) {
-    if (end->is_broken)
-        return;
-    end->is_broken = true;
-    if (end->tls)
-        tls_finish(end->tls);
-    else
-        shutdown(end->source.socket, SHUT_WR); /* it may have gone */
 }
 
 /* Ends what is to be ended of a tunnel. Returns false if nothing is left. */
