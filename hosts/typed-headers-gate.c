@@ -1,7 +1,7 @@
 /* Passes HTTP/1.1 requests on to origin servers, and stores what they answer: typed-headers-gate(1).
  *
- * The library reads the messages of both sides, and gives each byte that goes to either. This program moves bytes, finds
- * an origin, and keeps time. It decides nothing about HTTP.
+ * The library reads the messages of both sides, and gives each byte that goes to either. This program moves bytes,
+ * finds an origin, and keeps time. It decides nothing about HTTP.
  *
  * A worker owns a cache, its clients' connections, and those to origins. An exchange is a client's connection; it owns
  * the connection to the origin that it uses. One that isn't used waits in the list of its origin. */
@@ -75,7 +75,7 @@ struct exchange {
     struct address client, told; /* who has the connection, and of whom that tells */
     uint64_t tried;              /* the origins that failed for this request, a bit each */
     uint64_t begun;              /* when the request came */
-    uint64_t given, left;        /* of the content of a response that is given: where it goes on, and how much is left */
+    uint64_t given, left;        /* where the content of the pass goes on, and how much is left of it */
     uint64_t passed;             /* bytes of content that the client gets */
     int unsent;      /* bytes that the system had to send when the wait began */
     uint16_t status;  /* of the response, or 0 */
@@ -686,7 +686,8 @@ static bool end_tunnel(struct exchange *exchange, const struct typed_headers_gat
 }
 
 static void give_metrics(struct exchange *exchange) {
-    static const char path[] = "/metrics", fields[] = "content-type: text/plain; version=0.0.4\ncache-control: no-store\n";
+    static const char path[] = "/metrics";
+    static const uint8_t fields[] = "content-type: text/plain; version=0.0.4\ncache-control: no-store\n";
     size_t length;
     if (typed_headers_gate_target(&exchange->gate, own.buffer, BUFFER, &length) || length != sizeof path - 1 ||
         memcmp(own.buffer, path, length)) {
@@ -696,7 +697,7 @@ static void give_metrics(struct exchange *exchange) {
     exchange->status = 200;
     exchange->passed = length = print_metrics((char *)own.buffer, BUFFER);
     exchange->is_over =
-        typed_headers_gate_respond(&exchange->gate, 200, (const uint8_t *)fields, sizeof fields - 1, length, &own.keys) ||
+        typed_headers_gate_respond(&exchange->gate, 200, fields, sizeof fields - 1, length, &own.keys) ||
         typed_headers_gate_push(&exchange->gate, own.buffer, length) || typed_headers_gate_end(&exchange->gate);
 }
 
