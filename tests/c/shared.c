@@ -66,7 +66,8 @@ static const struct typed_headers_denial NOT_DENIED;
 static const struct typed_headers_cors_rules RULES = {
     .origins = TEXT("https://a.example\nhttps://c.example"), .exposed = TEXT("etag")};
 static const struct typed_headers_cors_exchange EXCHANGE = {.method = TEXT("GET"), .response = TEXT("Vary: accept\n")};
-static const char SECTION[] = "Host: b.example\nOrigin: https://a.example\nIf-None-Match: \"a\"\nAccept: text/html;q=0.5\n";
+static const char SECTION[] =
+    "Host: b.example\nOrigin: https://a.example\nIf-None-Match: \"a\"\nAccept: text/html;q=0.5\n";
 static const char ASKED[] = "GET /path?query HTTP/1.1\r\nHost: b.example\r\n\r\n";
 
 struct handles {
