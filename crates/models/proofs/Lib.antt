@@ -1,0 +1,4 @@
+mod ConditionLemmas
+mod OriginLemmas
+mod SharingLemmas
+mod StepLemmas
