@@ -44,6 +44,7 @@
 enum {
     BUFFER = 64 * 1024,
     SMALL = 16 * 1024,       /* so much of a file is copied behind the head, and sent with it */
+    LARGE = 256 * 1024,      /* so much of a file isn't put behind the head, which would cut its pages in two */
     TURN_BYTES = 1024 * 1024, /* so much a peer sends before others have their turn */
     TURN_EVENTS = 64,        /* so many things a peer does before */
     READY = 256,             /* so many events are taken at a time */
@@ -698,7 +699,7 @@ static ssize_t send_output(struct peer *peer, size_t length, uint64_t start, uin
     if (range > 0 && range <= SMALL && length + range <= BUFFER &&
         pread(peer->file, worker.buffer + length, (size_t)range, (off_t)start) == (ssize_t)range)
         extra = (size_t)range;
-    ssize_t count = send_bytes(peer, length + extra, range > extra ? MSG_MORE : 0);
+    ssize_t count = send_bytes(peer, length + extra, range > extra && range < LARGE ? MSG_MORE : 0);
     if (count <= (ssize_t)length)
         return count;
     if (typed_headers_connection_sent(&peer->connection, length) != TYPED_HEADERS_DONE)
