@@ -79,6 +79,7 @@ pub fn new_files(
             site,
             left: 0,
             source: None,
+            date: None,
         },
     })
 }
