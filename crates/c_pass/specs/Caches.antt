@@ -1,8 +1,8 @@
 -- Caches, as a caller hands them in.
-use Rattle.std.{specs.Prelude.{◌≡◌, ⊤, ℕ, Bool, true, false, List, [], Result, Ok, Err}, specs.Str.IsUtf8}
+use Rattle.std.{specs.Prelude.{◌≡◌, ⊤, ℕ, Bool, true, false, List, [], length, Result, Ok, Err}, specs.Str.IsUtf8}
 use Rattle.cache_policy.{specs.Policies.{Policy, plain}, specs.declared.Kind.Kind}
 use Rattle.cache_policy.specs.declared.Kind.TheVariants.{Shared as SharedKind, Private}
-use Rattle.cache_store.{specs.History.Call.Removed, specs.Kept.{contents_of, policy_of_store}}
+use Rattle.cache_store.specs.{Contents.beginning, History.Call.{Purged, Removed}, Kept.{contents_of, policy_of_store}}
 use Rattle.cache_store.specs.declared.limits.Limits.{Limits}
 use Rattle.cache_pass.specs.{Effects.{Does, kept_of, settings_of}, Removals.HasNone}
 use Rattle.c_parts.{specs.declared.keys.HashKeys.HashKeys, specs.declared.status.Failure.Failure}
@@ -74,3 +74,25 @@ pub record IsRemoved (target : List ℕ) (old new : Shared) : Type 0 where
 abbrev pub Removes : List ℕ → (old new : Shared) → Result (Unit {0}) Failure → Type 0
 Removes target old new (Ok one) = IsRemoved target old new
 Removes target old new (Err failure) = FailsText target failure × (new ≡ old)
+
+-- what is stored under the targets whose URIs begin with this text is removed, and that any target may be is noted
+pub record IsPurged (prefix : List ℕ) (old new : Shared) (count : ℕ) : Type 0 where
+  pub text : IsUtf8 prefix
+  pub counted : count ≡ length (beginning prefix (contents_of old.cache.store))
+  pub does : Does (settings_of old.cache) (Purged prefix) (kept_of old.cache) (kept_of new.cache)
+  pub settings : settings_of new.cache ≡ settings_of old.cache
+  pub queue : new.queue ≡ old.queue
+  pub beside : IsSameBeside old new
+
+-- out of memory, nothing is
+pub record IsUnpurged (prefix : List ℕ) (old new : Shared) : Type 0 where
+  pub text : IsUtf8 prefix
+  pub kept : kept_of new.cache ≡ kept_of old.cache
+  pub settings : settings_of new.cache ≡ settings_of old.cache
+  pub queue : new.queue ≡ old.queue
+  pub beside : IsSameBeside old new
+
+abbrev pub Purges : List ℕ → (old new : Shared) → Result ℕ Failure → Type 0
+Purges prefix old new (Ok count) = IsPurged prefix old new count
+Purges prefix old new (Err Memory) = IsUnpurged prefix old new
+Purges prefix old new (Err failure) = FailsText prefix failure × (new ≡ old)

@@ -21,7 +21,7 @@ pub use crate::held::{Place, Shared, Stepped};
 pub use crate::opening::{CacheExtensions, CacheOptions, new_cache, new_cache_with};
 pub use crate::outcome::{By, PassOutcome};
 pub use crate::reading::CacheRequest;
-pub use crate::removing::remove;
+pub use crate::removing::{counts, purge, remove};
 pub use crate::stepping::{begin, came, ended, failed, received, resume};
 pub use crate::telling::PassFacts;
 pub use crate::validating::validation_text;

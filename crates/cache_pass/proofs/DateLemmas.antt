@@ -1,6 +1,6 @@
 -- What is stored was asked since its target was last removed.
 use Rattle.{cache_rules.specs.declared.storing.Reception.{Reception, TheVariants.Complete}, url.specs.Parts.serialize}
-use Rattle.cache_store.specs.History.{Call, Call.{Answered, Arrived, Looked, Removed}, History, Removes}
+use Rattle.cache_store.specs.History.{Call, Call.{Answered, Arrived, Looked, Purged, Removed}, History, Removes}
 use Rattle.http_header.specs.{FieldValue.FieldValue, HeaderMap.Entries}
 use Rattle.std.{proofs.lemmas.Option.same_Some, specs.{declared.alloc.AllocError.AllocError, Prelude.⊤}}
 use Rattle.std.proofs.Common.{◌++◌, ◌≡◌, ◌≤◌, ◌⊎◌, ap, arith, false, inl, map, None, Ok, refl, Result, subst, true, ℕ}
@@ -70,6 +70,16 @@ module _ (settings : Settings) (clocks : ℕ → Option ℕ) (pass : ℕ) where
       guard
   after-call (Removed at) log old new does d guard =
       noted (Removed at) at log old.removals new.removals (λ target removes. removes) does.noted d guard
+  after-call (Purged prefix) log old new does d guard = record {
+    current = (guard, d.current);
+    dated = λ p clock is. let was = d.dated p clock is in (
+      omega (arith, was.0, does.noted.rises),
+      λ target fine. (
+        (λ removes. fine (does.noted.outdates target clock was.0)),
+        was.1 target (λ out. fine (does.noted.stays target clock out)),
+      ),
+    );
+  }
   after-call call log old new does d guard =
       unnoted call log old.removals new.removals (λ target none. none) does.noted d guard
 

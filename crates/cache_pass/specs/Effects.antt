@@ -1,8 +1,8 @@
 -- What the steps of passes make of a cache.
-use Rattle.cache_pass.specs.{declared.{cache.Cache.Cache, removals.Removals.Removals}, Removals.IsNoted}
+use Rattle.cache_pass.specs.{declared.{cache.Cache.Cache, removals.Removals.Removals}, Removals.{AreNoted, IsNoted}}
 use Rattle.std.specs.Prelude.{[], ◌++◌, ◌∷◌, ◌≡◌, List, ℕ}
 use Rattle.cache_store.specs.{Contents.{Contents, responses_at}, Kept.{contents_of, policy_of_store}}
-use Rattle.cache_store.specs.{declared.limits.Limits.Limits, History.{Call, Call.{Answered, Removed}, History, Step}}
+use Rattle.cache_store.specs.{declared.limits.Limits.Limits, History.{Call, Call.{Answered, Purged, Removed}, History, Step}}
 use Rattle.{cache_policy.specs.Policies.Policy, cache_rules.specs.declared.stored.StoredResponse.StoredResponse}
 
 -- how a cache decides, what it holds at most, and how many seconds it guesses at most
@@ -30,6 +30,7 @@ stored_at target cache = responses_at target (contents_of cache.store)
 abbrev pub IsNotedBy : Call → Removals → Removals → Type 0
 IsNotedBy (Answered target method status) old new = IsNoted target old new
 IsNotedBy (Removed target) old new = IsNoted target old new
+IsNotedBy (Purged prefix) old new = AreNoted old new
 IsNotedBy other old new = new ≡ old
 
 -- what a call of its store makes of a cache

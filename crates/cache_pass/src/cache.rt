@@ -1,6 +1,6 @@
 //! A store, and what it remembers of removals.
-ghost use Rattle.std.specs.Prelude.{◌≡◌, IfOk};
-ghost use Rattle.cache_store.specs.History.Call.{Removed};
+ghost use Rattle.std.specs.Prelude.{◌≡◌, IfOk, length, OnErr, OnOk};
+ghost use Rattle.cache_store.specs.{Contents.beginning, History.Call.{Purged, Removed}, Kept.contents_of};
 ghost use Rattle.cache_pass.specs.{Effects.{Does, kept_of, settings_of}, Removals.HasNone};
 
 use crate::removals::Removals;
@@ -44,5 +44,20 @@ impl Cache {
     {
         self.store.remove(alloc, target);
         self.removals.note(target);
+    }
+
+    /// Removes what is stored under the targets whose URIs begin with a text, and returns how many these
+    /// were. What was asked for any target before isn't stored any more either. Fails if an allocation
+    /// fails. Then nothing changes.
+    pub fn purge(&mut self, alloc: Global, prefix: &str) -> Result<usize, AllocError>
+        ensures count { IfOk result (λ count. count ≡ length (beginning prefix.now (contents_of self.old.store))) }
+        ensures does { OnOk result (Does (settings_of self.old) (Purged prefix.now) (kept_of self.old)
+            (kept_of self.new)) }
+        ensures err { OnErr result (kept_of self.new ≡ kept_of self.old) }
+        ensures settings { settings_of self.new ≡ settings_of self.old }
+    {
+        let count = self.store.purge(alloc, prefix)?;
+        self.removals.note_all();
+        Ok(count)
     }
 }

@@ -1,6 +1,6 @@
 //! When targets were removed.
 ghost use Rattle.std.{specs.Prelude.{◌≡◌, ◌≢◌, ℕ, List, ◌<◌, IfOk}, specs.Bool.MatchBool};
-ghost use Rattle.cache_pass.specs.Removals.{HasNone, IsNoted, IsOutdated, group_of, last_of};
+ghost use Rattle.cache_pass.specs.Removals.{AreNoted, HasNone, IsNoted, IsOutdated, group_of, last_of};
 
 use crate::removals::Removals;
 use std::alloc::{AllocError, Global};
@@ -29,6 +29,7 @@ impl Removals {
         Ok(Removals {
             clock: 0,
             last: vec![in alloc; 0; GROUPS]?,
+            all: 0,
         })
     }
 
@@ -43,7 +44,7 @@ impl Removals {
     pub fn is_outdated(&self, target: &str, asked: u64) -> bool
         ensures { MatchBool result (IsOutdated self.now target.now asked) (¬ (IsOutdated self.now target.now asked)) }
     {
-        let last = self.last[group_of(target)];
+        let last = self.last[group_of(target)].max(self.all);
         asked < last || last == u64::MAX
     }
 
@@ -56,5 +57,13 @@ impl Removals {
         self.clock = self.clock.saturating_add(1);
         let group = group_of(target);
         self.last[group] = self.last[group].max(self.clock);
+    }
+
+    /// Notes that any target may be removed.
+    pub fn note_all(&mut self)
+        ensures { AreNoted self.old self.new }
+    {
+        self.clock = self.clock.saturating_add(1);
+        self.all = self.all.max(self.clock);
     }
 }

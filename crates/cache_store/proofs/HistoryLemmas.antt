@@ -1,7 +1,7 @@
 -- What the calls of a store leave is justified by them.
 use Rattle.std.proofs.Common.{◌≡◌, ◌≢◌, arith, Bool, cond, false, filter, Option, remove, slice_get, subst, true, zero}
 use Rattle.std.proofs.Common.{[], ◌++◌, ◌∙◌, ◌∷◌, ◌⊎◌, ap, drop, inl, inr, List, None, not, Some, suc, sym, take, ℕ}
-use Rattle.{cache_rules.specs.{Freshening.IsReusable, Stored.request_of_stored}, std.proofs.Common.refl}
+use Rattle.{cache_rules.specs.{Freshening.IsReusable, Stored.request_of_stored}, std.proofs.Common.{IsFalse, refl}}
 use Rattle.{headers.specs.LineMap.{Field, LineMap}, std.proofs.lemmas.{Option.same_Some, Slice.Eq.bytes_eq-Decides}}
 use Rattle.{cache_policy.specs.Decisions.IsGoodEnough, cache_store.specs.declared.limits.Limits.Limits}
 use Rattle.cache_policy.specs.{declared.decision.Decision.Decision, Requests.Request, Policies.{asks, Policy, tells}}
@@ -12,8 +12,8 @@ use Rattle.cache_store.specs.{Updates.{AreLeft, BecomesBeside, BecomesByHead}, S
 use Rattle.cache_store.specs.declared.lookup.Lookup.{Lookup, TheVariants.{Forward, Serve, Validate}}
 use Rattle.cache_store.specs.declared.lookup.Lookup.TheVariants.{ServeAndRevalidate, Unavailable, ValidateOrServe}
 use Rattle.cache_store.specs.{declared.freshening.Refreshed.TheVariants.{Absent, Once, Stored, Unchanged}, History.Has}
-use Rattle.cache_store.specs.Contents.{Contents, is_for, responses_at, Target, used, with_target, without}
-use Rattle.cache_store.specs.History.{HasUnder, Call, Call.{Answered, Arrived, Described, Looked, Removed, Validated}}
+use Rattle.cache_store.specs.Contents.{begins, Contents, is_for, purged, responses_at, Target, used, with_target, without}
+use Rattle.cache_store.specs.History.{HasUnder, Call, Call.{Answered, Arrived, Described, Looked, Purged, Removed, Validated}}
 use Rattle.cache_store.specs.{Lookups.{age_of_stored, freshness_of, IsAnswer, IsFound}, History.{History, Run, Step}}
 use Rattle.cache_policy.specs.declared.decision.Decision.TheVariants as decisions
 
@@ -80,6 +80,11 @@ pub Has-without : (target : List ℕ) (contents : Contents) (entry : Target) →
 Has-without target contents entry h =
     let kept = Has-filter (λ e. not (is_for target e)) contents entry h in
     (kept.0, λ same. grind (arith, kept.1, (bytes_eq-Decides target entry.0).1 same))
+
+pub Has-purged : (prefix : List ℕ) (contents : Contents) (entry : Target) → Has (purged prefix contents) entry
+    → Has contents entry × IsFalse (begins prefix entry.0)
+Has-purged prefix contents entry h =
+    let kept = Has-filter (λ e. not (begins prefix e.0)) contents entry h in (kept.0, grind (arith, kept.1))
 
 pub Has-used : (target : List ℕ) (contents : Contents) (entry : Target) → Has (used target contents) entry → Has
     contents entry
@@ -168,6 +173,11 @@ module _ (policy : Policy) (limits : Limits) where
     removed : (target : List ℕ) → new ≡ without target old → AreJustified (Removed target ∷ calls) new
     removed target left other stored h =
         let kept = Has-without target old (other, h.responses) (subst (λ l. Has l (other, h.responses)) left h.at) in
+        (kept.1, before other stored (record { responses = h.responses; at = kept.0; among = h.among }))
+
+    purged_by : (prefix : List ℕ) → new ≡ purged prefix old → AreJustified (Purged prefix ∷ calls) new
+    purged_by prefix left other stored h =
+        let kept = Has-purged prefix old (other, h.responses) (subst (λ l. Has l (other, h.responses)) left h.at) in
         (kept.1, before other stored (record { responses = h.responses; at = kept.0; among = h.among }))
 
     -- those of other targets
@@ -319,6 +329,7 @@ module _ (policy : Policy) (limits : Limits) where
   step (Answered target method status) calls old new before change =
       answered_request calls old new before target method status change
   step (Removed target) calls old new before change = removed calls old new before target change
+  step (Purged prefix) calls old new before change = purged_by calls old new before prefix change
 
   -- whatever the calls are, what they leave is justified by them
   pub run-justified : (calls : History) (contents : Contents) → Run policy limits calls contents → AreJustified calls

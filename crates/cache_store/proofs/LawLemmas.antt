@@ -7,7 +7,7 @@ use Rattle.cache_rules.{proofs.StoringLemmas.{expires_stays, governing_stays}, s
 use Rattle.cache_rules.specs.declared.{stored.StoredResponse.StoredResponse, storing.Reception.Reception}
 use Rattle.cache_store.specs.{Changes.{IsStoredAs, IsToStore}, History.{Call, HasCome, HasUnder, History, IsJustified}}
 use Rattle.cache_store.specs.{Contents.Contents, History.{Removes, Run, Call.{Arrived, Described, Looked, Validated}}}
-use Rattle.cache_store.specs.{declared.limits.Limits.Limits, History.Call.{Answered, Removed}}
+use Rattle.cache_store.specs.{declared.limits.Limits.Limits, History.Call.{Answered, Purged, Removed}}
 use Rattle.cache_store.proofs.HistoryLemmas.{run-justified}
 
 -- ---- what may be stored
@@ -76,6 +76,7 @@ module _ (policy : Policy) (target : List ℕ) where
       reusable.1.first
   may-be (Answered other method status ∷ calls) stored is = may-be calls stored is.1
   may-be (Removed other ∷ calls) stored is = may-be calls stored is.1
+  may-be (Purged prefix ∷ calls) stored is = may-be calls stored is.1
 
   -- ---- where it comes from
 
@@ -139,6 +140,7 @@ module _ (policy : Policy) (target : List ℕ) where
   came-from (Answered other method status ∷ calls) stored is =
       further (Answered other method status) calls stored (came-from calls stored is.1)
   came-from (Removed other ∷ calls) stored is = further (Removed other) calls stored (came-from calls stored is.1)
+  came-from (Purged prefix ∷ calls) stored is = further (Purged prefix) calls stored (came-from calls stored is.1)
 
   -- ---- after a removal
 
@@ -150,6 +152,7 @@ module _ (policy : Policy) (target : List ℕ) where
   none-after (Described other request head exchange) earlier stored none is = none
   none-after (Answered other method status) earlier stored removes is = is.0 removes.1 removes.0
   none-after (Removed other) earlier stored same is = is.0 same
+  none-after (Purged prefix) earlier stored begins is = grind (arith, begins, is.0)
 
   -- nothing from before a removal is justified after it
   module _ (call : Call) (earlier : History) (removes : Removes target call) where
@@ -168,6 +171,7 @@ module _ (policy : Policy) (target : List ℕ) where
         inr (same, (old, since later old was, get, about, fresh, reusable))
     since (Answered other method status ∷ later) stored is = (is.0, since later stored is.1)
     since (Removed other ∷ later) stored is = (is.0, since later stored is.1)
+    since (Purged prefix ∷ later) stored is = (is.0, since later stored is.1)
 
 -- ---- the laws
 

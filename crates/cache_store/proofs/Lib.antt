@@ -6,6 +6,7 @@ pub mod LookupLemmas
 pub mod NamedLemmas
 pub mod NumberLawLemmas
 pub mod NumberLemmas
+pub mod PurgeLemmas
 pub mod RefreshLemmas
 pub mod StoringLemmas
 pub mod UpdateLemmas

@@ -1,6 +1,7 @@
 -- What a store has.
 use Rattle.std.specs.Prelude.{◌≡◌, ℕ, ◌+◌, ◌-◌, ◌^◌, min, Bool, false, not, List, [], ◌∷◌, ◌++◌, map, length, filter}
 use Rattle.std.{specs.Prelude.{sum_by, bytes_eq, if◌then◌else◌, string_bytes, String, Vec}, specs.List.AllByRecursion}
+use Rattle.std.specs.{List.starts_with, Prelude.◌==◌}
 use Rattle.http_header.specs.{FieldValue.FieldValue, HeaderMap.pairs}
 use Rattle.cache_rules.specs.declared.stored.StoredResponse.{StoredResponse}
 
@@ -33,6 +34,24 @@ module _ (target : List ℕ) where
   -- nothing is stored under the target
   abbrev pub IsAbsent : Contents → Type 0
   IsAbsent = AllByRecursion (λ entry. is_for entry ≡ false)
+
+-- all but these targets
+abbrev pub without_all : List (List ℕ) → Contents → Contents
+without_all [] contents = contents
+without_all (target ∷ targets) contents = without_all targets (without target contents)
+
+module _ (prefix : List ℕ) where
+  -- the URI of the target begins with these bytes
+  abbrev pub begins : List ℕ → Bool
+  begins target = starts_with (◌==◌) target prefix
+
+  -- the targets whose URIs do, the most recently used first
+  abbrev pub beginning : Contents → List (List ℕ)
+  beginning contents = filter begins (map (λ entry. entry.0) contents)
+
+  -- all but these targets
+  abbrev pub purged : Contents → Contents
+  purged contents = filter (λ entry. not (begins entry.0)) contents
 
 -- the target first, if it has responses
 abbrev pub with_target : List ℕ → List StoredResponse → Contents → Contents

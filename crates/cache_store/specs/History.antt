@@ -1,12 +1,12 @@
 -- What a list of calls lets a store have (RFC 9111).
-use Rattle.std.specs.Prelude.{[], ◌∷◌, ◌≡◌, ◌≢◌, ◌≤◌, ◌⊎◌, List, ℕ}
+use Rattle.std.specs.Prelude.{[], ◌∷◌, ◌≡◌, ◌≢◌, ◌≤◌, ◌⊎◌, IsFalse, IsTrue, List, ℕ}
 use Rattle.headers.specs.LineMap.{LineMap}
 use Rattle.cache_policy.specs.{Policies.Policy, Requests.Request, Updating.IsUpdated}
 use Rattle.cache_rules.specs.{Freshening.{IsFreshened, IsHeadOf, IsReusable}, Invalidation.Invalidates}
 use Rattle.cache_rules.specs.{declared.freshening.Exchange.Exchange, Selection.IsCandidate, Stored.fields_of_stored}
 use Rattle.cache_rules.specs.declared.{stored.StoredResponse.StoredResponse, storing.Reception.Reception}
 use Rattle.cache_store.specs.Changes.{IsFront, IsInserted, IsRefreshed, IsRefreshedByHead, IsStoredAs, IsToStore}
-use Rattle.cache_store.specs.{Contents.{Contents, used, without}, Numbers.AreNumbered, Updates.IsGetFor}
+use Rattle.cache_store.specs.{Contents.{begins, Contents, purged, used, without}, Numbers.AreNumbered, Updates.IsGetFor}
 use Rattle.cache_store.specs.declared.{freshening.Refreshed.Refreshed, limits.Limits.Limits}
 
 -- a call of a store, with the target that it is for
@@ -23,6 +23,8 @@ pub data Call : Type 0 where
   Answered : List ℕ → List ℕ → ℕ → Call
   -- `remove`
   Removed : List ℕ → Call
+  -- `purge`, with the first bytes of the targets' URIs
+  Purged : List ℕ → Call
 
 -- calls of one store, the latest first
 abbrev pub History : Type 0
@@ -63,6 +65,7 @@ module _ (policy : Policy) (limits : Limits) where
   Step (Answered target method status) old new =
       (Invalidates method status × (new ≡ without target old)) ⊎ ((¬ (Invalidates method status)) × (new ≡ old))
   Step (Removed target) old new = new ≡ without target old
+  Step (Purged prefix) old new = new ≡ purged prefix old
 
   -- after these calls a new store has this
   abbrev pub Run : History → Contents → Type 0
@@ -105,8 +108,9 @@ module _ (policy : Policy) (target : List ℕ) where
   IsJustified (Answered other method status ∷ calls) stored =
       (Invalidates method status → other ≢ target) × IsJustified calls stored
   IsJustified (Removed other ∷ calls) stored = (other ≢ target) × IsJustified calls stored
+  IsJustified (Purged prefix ∷ calls) stored = IsFalse (begins prefix target) × IsJustified calls stored
 
--- the call removes what is stored under the target: `remove`, or `invalidate` after a request that isn't safe and a
+-- the call removes what is stored under the target: `remove`, `purge`, or `invalidate` after a request that isn't safe and a
 -- response that is no error (section 4.4)
 abbrev pub Removes : List ℕ → Call → Type 0
 Removes target (Looked other) = ⊥
@@ -115,6 +119,7 @@ Removes target (Validated other request update exchange) = ⊥
 Removes target (Described other request head exchange) = ⊥
 Removes target (Answered other method status) = (other ≡ target) × Invalidates method status
 Removes target (Removed other) = other ≡ target
+Removes target (Purged prefix) = IsTrue (begins prefix target)
 
 -- the stored response came for a request to the target: the origin sent its content, with this status
 pub record HasCome (target : List ℕ) (calls : History) (stored : StoredResponse) : Type 0 where
