@@ -8,10 +8,11 @@ import os
 import pickle
 import tempfile
 import unittest
+from collections import Counter
 from typing import Dict, List, Tuple
 
 from typed_headers.__main__ import main
-from typed_headers.audit import Exchange, UnreadableFile, findings, map_partition, read_exchanges
+from typed_headers.audit import Exchange, UnreadableFile, count_partition, findings, map_partition, read_exchanges
 
 RESPONSE = b"HTTP/1.1 200 OK\r\nCache-Control: max-age=60\r\nETag: \"a\"\r\n\r\ncontent\r\nHTTP/1.1 500 Not a head\r\n"
 HEAD = b"HTTP/1.1 200 OK\r\nCache-Control: max-age=60\r\nETag: \"a\"\r\n"
@@ -121,6 +122,16 @@ class Found(unittest.TestCase):
         found = map_partition(pickle.loads(pickle.dumps(given)))
         self.assertEqual(found, [findings(given[0])] * 3)
         self.assertEqual(json.loads(json.dumps(found)), found)
+
+    def test_counts_of_partitions(self) -> None:
+        wrong = Exchange("u", b"HTTP/1.1 200 OK\nCache-Control: no-store\nAge: x\nDate: x\nno field\n")
+        given = [Exchange("u", HEAD), wrong, Exchange("u", b"\n"), wrong]
+        counts = count_partition(given[:2])
+        counts.add(pickle.loads(pickle.dumps(count_partition(given[2:]))))
+        found = map_partition(given)
+        self.assertEqual(counts.responses, 4)
+        self.assertEqual(counts.findings, Counter(name for it in found for name in it["findings"]))
+        self.assertEqual(list(counts.malformed.items()), [("age", 2), ("date", 2)])
 
 
 class Command(unittest.TestCase):

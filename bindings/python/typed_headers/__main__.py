@@ -7,11 +7,11 @@ import sys
 from collections import Counter, deque
 from concurrent.futures import Future, ProcessPoolExecutor
 from datetime import datetime
-from typing import Any, Deque, Dict, Iterable, Iterator, List, Optional, Sequence
+from typing import Callable, Deque, Iterable, Iterator, List, Optional, Sequence, Tuple
 
 from . import _library
 from ._version import VERSION
-from .audit import FINDINGS, Exchange, map_partition, read_exchanges
+from .audit import FINDINGS, Counts, Exchange, count_partition, map_partition, read_exchanges
 from .caching import Decision
 from .conditions import Precondition
 from .errors import HeaderError
@@ -162,79 +162,77 @@ def as_json(it: Report) -> str:
 
 #: How many exchanges a process is handed at a time, and how many such batches wait for each process.
 BATCH, WAITING = 500, 4
+Judged = Tuple[Counts, str]
 
 
-def judged(batches: Iterable[List[Exchange]], jobs: int) -> Iterator[List[Dict[str, Any]]]:
-    """What `map_partition` finds in each batch, in their order, by this many processes."""
+def judged(batches: Iterable[List[Exchange]], judge: Callable[[List[Exchange]], Judged], jobs: int) -> Iterator[Judged]:
+    """What is found in each batch, in their order, by this many processes."""
     if jobs == 1:
-        yield from map(map_partition, batches)
+        yield from map(judge, batches)
         return
     with ProcessPoolExecutor(jobs) as pool:
-        waiting: Deque["Future[List[Dict[str, Any]]]"] = deque()
+        waiting: Deque["Future[Judged]"] = deque()
         for batch in batches:
-            waiting.append(pool.submit(map_partition, batch))
+            waiting.append(pool.submit(judge, batch))
             if len(waiting) == jobs * WAITING:
                 yield waiting.popleft().result()
         while waiting:
             yield waiting.popleft().result()
 
 
-class Audit:
-    """Judges the exchanges of files, and counts what it finds."""
+def counted(batch: List[Exchange]) -> Judged:
+    return count_partition(batch), ""
 
-    def __init__(self, prints_each: bool) -> None:
-        self.prints_each = prints_each
-        self.count = 0
-        self.counts: "Counter[str]" = Counter()
-        self.names: "Counter[str]" = Counter()
-        self.failures: List[str] = []
 
-    def batches(self, names: Sequence[str]) -> Iterator[List[Exchange]]:
-        for name in names:
-            batch: List[Exchange] = []
-            try:
-                with open(name, "rb") if name != "-" else open(sys.stdin.fileno(), "rb", closefd=False) as file:
-                    for exchange in read_exchanges(file):
-                        batch.append(exchange)
-                        if len(batch) == BATCH:
-                            yield batch
-                            batch = []
-            except (HeaderError, OSError) as error:
-                self.failures.append(f"{name}: {error}")
-            if batch:
-                yield batch
+def printed(batch: List[Exchange]) -> Judged:
+    """Counts of findings, and a line of JSON for each exchange."""
+    found = map_partition(batch)
+    counts = Counts(len(found), Counter(name for it in found for name in it["findings"]))
+    return counts, "".join(json.dumps(it) + "\n" for it in found)
 
-    def add(self, found: List[Dict[str, Any]]) -> None:
-        for it in found:
-            self.count += 1
-            self.counts.update(it["findings"])
-            self.names.update(field["name"] for field in it.get("fields", ()) if field["error"] is not None)
-            if self.prints_each:
-                print(json.dumps(it))
-        if sys.stderr.isatty():
-            print(f"\r{self.count:,} responses", end="", file=sys.stderr, flush=True)
 
-    def table(self) -> None:
-        print(f"{self.count:>12,}  responses")
-        for name, meaning in FINDINGS.items():
-            count = self.counts[name]
-            share = f"{100 * count / self.count:5.1f} %" if self.count else ""
-            print(f"{count:>12,}  {share:>7}  {name}: {meaning}")
-        for name, count in self.names.most_common(20):
-            print(f"{count:>12,}           malformed {shown(name)}")
+def batches_of(names: Sequence[str], failures: List[str]) -> Iterator[List[Exchange]]:
+    """The exchanges of files, in batches. A file that can't be read to its end adds to the failures."""
+    for name in names:
+        batch: List[Exchange] = []
+        try:
+            with open(name, "rb") if name != "-" else open(sys.stdin.fileno(), "rb", closefd=False) as file:
+                for exchange in read_exchanges(file):
+                    batch.append(exchange)
+                    if len(batch) == BATCH:
+                        yield batch
+                        batch = []
+        except (HeaderError, OSError) as error:
+            failures.append(f"{name}: {error}")
+        if batch:
+            yield batch
+
+
+def table(counts: Counts) -> None:
+    print(f"{counts.responses:>12,}  responses")
+    for name, meaning in FINDINGS.items():
+        count = counts.findings[name]
+        share = f"{100 * count / counts.responses:5.1f} %" if counts.responses else ""
+        print(f"{count:>12,}  {share:>7}  {name}: {meaning}")
+    for name, count in counts.malformed.most_common(20):
+        print(f"{count:>12,}           malformed {shown(name)}")
 
 
 def audit(names: Sequence[str], prints_each: bool, jobs: int) -> int:
-    found = Audit(prints_each)
-    for batch in judged(found.batches(names), jobs):
-        found.add(batch)
+    counts = Counts()
+    failures: List[str] = []
+    for more, lines in judged(batches_of(names, failures), printed if prints_each else counted, jobs):
+        counts.add(more)
+        sys.stdout.write(lines)
+        if sys.stderr.isatty():
+            print(f"\r{counts.responses:,} responses", end="", file=sys.stderr, flush=True)
     if sys.stderr.isatty():
         print(file=sys.stderr)
     if not prints_each:
-        found.table()
-    for failure in found.failures:
+        table(counts)
+    for failure in failures:
         print(f"typed-headers: {shown(failure)}", file=sys.stderr)
-    return 2 if found.failures else 1 if found.counts["malformed_line"] or found.counts["malformed_field"] else 0
+    return 2 if failures else 1 if counts.findings["malformed_line"] or counts.findings["malformed_field"] else 0
 
 
 def time_of(text: str) -> datetime:

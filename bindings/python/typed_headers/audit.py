@@ -11,7 +11,8 @@ Files are read as streams, whatever their size; only a HAR file is read whole. `
 import gzip
 import json
 import re
-from dataclasses import dataclass
+from collections import Counter
+from dataclasses import dataclass, field
 from datetime import datetime
 from typing import IO, Any, Dict, Iterable, Iterator, List, Optional, Tuple, cast
 
@@ -19,7 +20,16 @@ from .errors import HeaderError
 from .headers import Headers
 from .inspection import Report, inspect, report_data
 
-__all__ = ["Exchange", "FINDINGS", "UnreadableFile", "findings", "map_partition", "read_exchanges"]
+__all__ = [
+    "Counts",
+    "Exchange",
+    "FINDINGS",
+    "UnreadableFile",
+    "count_partition",
+    "findings",
+    "map_partition",
+    "read_exchanges",
+]
 
 #: What an exchange may be found to have, and what that means.
 FINDINGS = {
@@ -86,7 +96,7 @@ def _seconds(text: str) -> Optional[int]:
         return None
 
 
-def _warc_records(file: IO[bytes]) -> Iterator[Tuple[Dict[str, str], bytes]]:
+def _warc_records(file: IO[bytes]) -> Iterator[Tuple[Headers, bytes]]:
     """The named fields and the head of each record that holds a message."""
     while True:
         line = file.readline(_PIECE)
@@ -97,7 +107,7 @@ def _warc_records(file: IO[bytes]) -> Iterator[Tuple[Dict[str, str], bytes]]:
         if not line.startswith(b"WARC/"):
             raise UnreadableFile(f"expected a record of a WARC file, not {line[:40]!r}")
         named, _ = _head(file, _LARGEST_HEAD)
-        fields = dict(Headers(named))
+        fields = Headers(named)
         length = fields.get("content-length", "")
         if not length.isdecimal():
             raise UnreadableFile(f"a record of a WARC file needs a Content-Length, not {length!r}")
@@ -112,9 +122,9 @@ def _warc_records(file: IO[bytes]) -> Iterator[Tuple[Dict[str, str], bytes]]:
 def _read_warc(file: IO[bytes]) -> Iterator[Exchange]:
     """The exchanges of a WARC file: a request is the record before its response or behind it, whichever names the other."""
     requests: Dict[str, bytes] = {}
-    waits: Optional[Tuple[Dict[str, str], bytes]] = None
+    waits: Optional[Tuple[Headers, bytes]] = None
 
-    def exchange(fields: Dict[str, str], head: bytes, request: bytes) -> Exchange:
+    def exchange(fields: Headers, head: bytes, request: bytes) -> Exchange:
         return Exchange(fields.get("warc-target-uri", ""), head, request, _seconds(fields.get("warc-date", "")))
 
     try:
@@ -227,11 +237,15 @@ def _found(report: Report) -> Iterator[str]:
         yield "not_judged"
 
 
+def _inspected(exchange: Exchange) -> Report:
+    text = b"\r\n\r\n".join(it.rstrip(b"\r\n") for it in (exchange.request, exchange.response) if it)
+    return inspect(text + b"\r\n\r\n", received=exchange.received)
+
+
 def findings(exchange: Exchange) -> Dict[str, Any]:
     """What `inspect` answers for the response, as data for JSON, with `url`, and `findings`: names of `FINDINGS`."""
-    text = b"\r\n\r\n".join(it.rstrip(b"\r\n") for it in (exchange.request, exchange.response) if it)
     try:
-        report = inspect(text + b"\r\n\r\n", received=exchange.received)
+        report = _inspected(exchange)
     except HeaderError as error:
         return {"url": exchange.url, "findings": ["not_judged"], "error": str(error)}
     return {"url": exchange.url, "findings": list(_found(report)), **report_data(report)}
@@ -240,3 +254,33 @@ def findings(exchange: Exchange) -> Dict[str, Any]:
 def map_partition(exchanges: Iterable[Exchange]) -> List[Dict[str, Any]]:
     """`findings` of each exchange, as `map_partitions` of Dask's bags and `mapPartitions` of Spark want it."""
     return [findings(it) for it in exchanges]
+
+
+@dataclass
+class Counts:
+    """How many responses were judged, and how many of them have each finding and each malformed field."""
+
+    responses: int = 0
+    findings: "Counter[str]" = field(default_factory=Counter)
+    malformed: "Counter[str]" = field(default_factory=Counter)
+
+    def add(self, other: "Counts") -> None:
+        """Adds what another process or partition counted."""
+        self.responses += other.responses
+        self.findings.update(other.findings)
+        self.malformed.update(other.malformed)
+
+
+def count_partition(exchanges: Iterable[Exchange]) -> Counts:
+    """Counts the findings of exchanges, in less time than `map_partition` takes."""
+    counts = Counts()
+    for exchange in exchanges:
+        counts.responses += 1
+        try:
+            report = _inspected(exchange)
+        except HeaderError:
+            counts.findings["not_judged"] += 1
+            continue
+        counts.findings.update(_found(report))
+        counts.malformed.update(it.name for it in report.fields if it.error is not None)
+    return counts

@@ -168,6 +168,20 @@ def decide(
     return Decision(decision)
 
 
+def judge(
+    method: bytes, request: bytes, response: bytes, status: int, now: int, shared: bool
+) -> Tuple[bool, Optional[int], int, Decision]:
+    """What `may_store`, `lifetime`, `current_age` and `decide` say of a response that has just come, of sections."""
+    calls, asked, times = _library.calls, (method, request), (now, now, now)
+    ended, answer = calls.may_store(asked, status, response, shared)
+    fresh, seconds = calls.lifetime(response, now, shared)
+    aged, age = calls.current_age(response, times)
+    decided, decision = calls.decide((method, request, response), asked, times, shared)
+    for each in (ended, fresh, aged, decided):
+        _library.check(each, lambda: _refused(request, response))
+    return answer == 1, None if fresh == _library.ABSENT else seconds, age, Decision(decision)
+
+
 def validators(response: HeadersLike, received: Optional[Time] = None) -> Tuple[Tuple[str, str], ...]:
     """The fields by which the origin is asked whether a stored response is still good (RFC 9111, section 4.3.1).
 

@@ -80,13 +80,18 @@ def canonical_field(name: Text, *lines: Text) -> List[str]:
     """
     field = (name if isinstance(name, str) else _library.to_str(_library.to_bytes(name, "name"))).lower()
     if field in FIELDS:
-        status, found = _library.calls.field(field.encode("ascii"), lines)
-        if status:
-            raise _library.failed(status, field, lines)
-        return _library.to_str(found).split("\n")[:-1]
+        return canonical_known(field, lines)
     given = _library.to_lines(field, lines)
     _check_name(field)
     return [_library.to_str(line.strip(b" \t")) for line in given]
+
+
+def canonical_known(field: str, lines: Tuple[Text, ...]) -> List[str]:
+    """The canonical field lines of a field that the library knows, by its name in lower case."""
+    status, found = _library.calls.field(field.encode("ascii"), lines)
+    if status:
+        raise _library.failed(status, field, lines)
+    return found.decode("latin-1").split("\n")[:-1]
 
 
 @lru_cache(maxsize=256)

@@ -4,9 +4,11 @@
 of the library. Nothing is computed here.
 """
 
+from __future__ import annotations
+
 import re
 import time
-from dataclasses import dataclass, field, fields, is_dataclass
+from dataclasses import dataclass, field, is_dataclass
 from datetime import datetime
 from enum import IntEnum
 from typing import Any, Callable, Dict, List, Optional, Tuple, TypeVar
@@ -14,10 +16,10 @@ from typing import Any, Callable, Dict, List, Optional, Tuple, TypeVar
 from . import _library
 from ._library import Text, Time
 from ._names import FIELDS
-from .caching import Decision, Times, current_age, decide, lifetime, may_store, validators
+from .caching import Decision, judge, validators
 from .conditions import Precondition, Selection, Target, evaluate, select
 from .errors import HeaderError, InvalidField
-from .headers import Headers, canonical_field
+from .headers import Headers, canonical_field, canonical_known
 from .values import Host, Origin
 
 __all__ = [
@@ -128,9 +130,12 @@ _RESPONSE = re.compile(rb"HTTP/\d(?:\.\d)? (\d{3})(?: .*)?")
 _REQUEST = re.compile(rb"([!#$%&'*+.^_`|~0-9A-Za-z-]+) \S+ HTTP/\d(?:\.\d)?")
 
 
+_NO_MEMORY = int(_library.Status.NO_MEMORY)
+
+
 def _are_fields(section: bytes) -> bool:
     status, _ = _library.calls.section_new(section)
-    if status == _library.Status.NO_MEMORY:
+    if status == _NO_MEMORY:
         raise MemoryError
     return not status
 
@@ -164,8 +169,8 @@ def parse_heads(text: Text) -> Tuple[Optional[Head], Optional[Head]]:
     (200, b'Age: 7\\n')
     """
     given = _library.to_bytes(text, "the head")
-    lines = [line[:-1] if line.endswith(b"\r") else line for line in given.split(b"\n")]
-    if any(line.startswith(b"< HTTP/") for line in lines):
+    lines = (given[:-1] if given.endswith(b"\r") else given).replace(b"\r\n", b"\n").split(b"\n")
+    if b"< HTTP/" in given and any(line.startswith(b"< HTTP/") for line in lines):
         # curl marks what it sent and what it got, and prints lines of its own between.
         lines = [line[2:] for line in lines if line[:2] in (b"> ", b"< ") or line in (b">", b"<")]
     heads: List[List[bytes]] = []
@@ -193,19 +198,16 @@ _PARSED: Dict[str, Callable[..., object]] = {"host": Host.parse, "origin": Origi
 
 
 def _fields(headers: Headers) -> Tuple[FieldReport, ...]:
-    lines_of: Dict[str, List[str]] = {}
-    for name, value in headers.pairs():
-        lines_of.setdefault(name, []).append(value)
     found = []
-    for name, given in lines_of.items():
-        lines = tuple(given)
+    for name in headers:
+        lines, is_known = tuple(headers.lines(name)), name in FIELDS
         try:
-            report = FieldReport(name, lines, name in FIELDS, tuple(canonical_field(name, *lines)))
+            canonical = tuple(canonical_known(name, lines) if is_known else canonical_field(name, *lines))
             if name in _PARSED:
                 _PARSED[name](*lines)
+            found.append(FieldReport(name, lines, is_known, canonical))
         except InvalidField as error:
-            report = FieldReport(name, lines, name in FIELDS, None, error.reason, error.line, error.byte)
-        found.append(report)
+            found.append(FieldReport(name, lines, is_known, None, error.reason, error.line, error.byte))
     return tuple(found)
 
 
@@ -244,12 +246,14 @@ def inspect(text: Text, *, received: Optional[Time] = None, length: Optional[int
             return None
 
     headers = Headers(head.section)
+    reports = _fields(headers)
+    lines_of = {it.name: it.canonical for it in reports}
     at = int(time.time()) if received is None else _library.to_seconds(received, "received")
     method = asked.method if asked and asked.method else "GET"
     request = Headers(asked.section) if asked else Headers()
 
     def one(name: str) -> Optional[str]:
-        lines = known(lambda: headers.canonical(name)) if headers.lines(name) else None
+        lines = lines_of.get(name)
         return ", ".join(lines) if lines else None
 
     ranges = tuple((name, line) for name in ("accept-ranges", "range", "content-range") for line in [one(name)] if line)
@@ -261,26 +265,17 @@ def inspect(text: Text, *, received: Optional[Time] = None, length: Optional[int
         size = length
         selection = known(lambda: select(method, request, target, size, at))
     if not answered:
-        return Report(head, _fields(headers), ranges=ranges, selection=selection, notes=tuple(notes))
+        return Report(head, reports, ranges=ranges, selection=selection, notes=tuple(notes))
 
-    status = answered.status or 200
-
-    times = Times(at, at, at)
+    exchange = method.encode("ascii"), request.section, headers.section, answered.status or 200
 
     def cache(shared: bool) -> Optional[CacheReport]:
-        return known(
-            lambda: CacheReport(
-                may_store(method, request, status, headers, shared=shared),
-                lifetime(headers, at, shared=shared),
-                current_age(headers, times),
-                decide(method, request, method, request, headers, times, shared=shared),
-            )
-        )
+        return known(lambda: CacheReport(*judge(*exchange, at, shared)))
 
     tag = target.etag
     return Report(
         head,
-        _fields(headers),
+        reports,
         browser_cache=cache(False),
         shared_cache=cache(True),
         cors=CorsReport(
@@ -306,27 +301,38 @@ def inspect(text: Text, *, received: Optional[Time] = None, length: Optional[int
 
 def report_data(report: Report) -> Dict[str, Any]:
     """The report as data for JSON: enums by name, times in ISO 8601, and `is_valid`. The section's bytes are left out."""
-    given: Dict[str, Any] = {**_plain(report), "is_valid": report.is_valid}
+    given: Dict[str, Any] = {
+        name: [_field_data(field) for field in report.fields] if name == "fields" else _plain(member)
+        for name, member in report.__dict__.items()
+    }
     del given["head"]["section"]
-    return given
+    return {**given, "is_valid": report.is_valid}
 
 
-_NAMES: Dict[type, Optional[Tuple[str, ...]]] = {}
-_SAME = (str, bool, int, type(None))
+def _field_data(report: FieldReport) -> Dict[str, Any]:
+    canonical = None if report.canonical is None else [*report.canonical]
+    return {**report.__dict__, "lines": [*report.lines], "canonical": canonical}
+
+
+_SAME = frozenset((str, bool, int, type(None)))
+_REPORTS: Dict[type, bool] = {}
 
 
 def _plain(value: object) -> Any:
     kind = type(value)
     if kind in _SAME:
         return value
-    if kind is tuple or kind is list:
+    if kind is tuple:
         return [it if type(it) is str else _plain(it) for it in value]  # type: ignore[attr-defined]
+    if kind not in _REPORTS:
+        _REPORTS[kind] = is_dataclass(kind)
+    if _REPORTS[kind]:
+        # (with its members in their order)
+        found = value.__dict__.copy()
+        for name, member in found.items():
+            if type(member) not in _SAME:
+                found[name] = _plain(member)
+        return found
     if isinstance(value, IntEnum):
         return value.name.lower()
-    if kind not in _NAMES:
-        _NAMES[kind] = tuple(it.name for it in fields(kind)) if is_dataclass(kind) else None
-    names = _NAMES[kind]
-    if names is None:
-        return value.isoformat() if isinstance(value, datetime) else value
-    members = value.__dict__
-    return {name: it if type(it) in _SAME else _plain(it) for name in names for it in (members[name],)}
+    return value.isoformat() if isinstance(value, datetime) else value
