@@ -190,7 +190,7 @@ async def get(application: Any, path: str, fields: Dict[str, str], **more: Any) 
 class Waiting(unittest.TestCase):
     """While a client waits for the application, what is stored changes."""
 
-    def late(self, second: int) -> Tuple[int, bytes]:
+    async def late(self, second: int) -> Tuple[int, bytes]:
         """What Alice gets after a 503, if her second request is answered with this status in the meantime."""
         now, waits, goes = [1000], asyncio.Event(), asyncio.Event()
         stated = [(b"cache-control", b"max-age=10, stale-if-error=600"), (b"vary", b"cookie")]
@@ -219,13 +219,13 @@ class Waiting(unittest.TestCase):
             status, _, content = await first
             return status, content
 
-        return asyncio.run(run())
+        return await run()
 
     def test_a_304_came_in_the_meantime(self) -> None:
-        self.assertEqual(self.late(304), (200, b"page of alice"))
+        self.assertEqual(asyncio.run(self.late(304)), (200, b"page of alice"))
 
     def test_a_200_came_in_the_meantime(self) -> None:
-        self.assertEqual(self.late(200), (200, b"page of alice"))
+        self.assertEqual(asyncio.run(self.late(200)), (200, b"page of alice"))
 
     def test_an_error_that_comes_too_late_is_passed_on(self) -> None:
         now, fails = [1000], [0]
@@ -354,7 +354,9 @@ class Collapsing(unittest.TestCase):
             thread.join(30)
         self.assertEqual(got, [b"hello"] * 2)
 
-    def tasks(self, *fields: Tuple[bytes, bytes], status: int = 200, is_cancelled: bool = False) -> Tuple[int, List[Any]]:
+    async def tasks(
+        self, *fields: Tuple[bytes, bytes], status: int = 200, is_cancelled: bool = False
+    ) -> Tuple[int, List[Any]]:
         """How often the application is asked, and what each client gets; the first may be cancelled."""
         asked, goes, count = asyncio.Event(), asyncio.Event(), [0]
 
@@ -380,20 +382,21 @@ class Collapsing(unittest.TestCase):
             goes.set()
             return await asyncio.gather(*tasks, return_exceptions=True)
 
-        got = asyncio.run(run())
+        got = await run()
         return count[0], [it[::2] if isinstance(it, tuple) else type(it) for it in got]
 
     def test_one_task_asks_for_all(self) -> None:
-        self.assertEqual(self.tasks((b"cache-control", b"max-age=60")), (1, [(200, b"hello")] * self.CLIENTS))
+        found = asyncio.run(self.tasks((b"cache-control", b"max-age=60")))
+        self.assertEqual(found, (1, [(200, b"hello")] * self.CLIENTS))
 
     def test_each_task_asks_for_what_is_not_stored(self) -> None:
-        found = self.tasks((b"cache-control", b"no-store"))
+        found = asyncio.run(self.tasks((b"cache-control", b"no-store")))
         self.assertEqual(found, (self.CLIENTS, [(200, b"hello")] * self.CLIENTS))
 
     def test_other_tasks_go_on(self) -> None:
-        count, got = self.tasks((b"cache-control", b"max-age=60"), status=502)
+        count, got = asyncio.run(self.tasks((b"cache-control", b"max-age=60"), status=502))
         self.assertEqual(got, [(502, b"hello")] + [(200, b"hello")] * (self.CLIENTS - 1))
-        count, got = self.tasks((b"cache-control", b"max-age=60"), is_cancelled=True)
+        count, got = asyncio.run(self.tasks((b"cache-control", b"max-age=60"), is_cancelled=True))
         self.assertEqual(got, [asyncio.CancelledError] + [(200, b"hello")] * (self.CLIENTS - 1))
 
 

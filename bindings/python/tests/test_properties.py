@@ -13,13 +13,13 @@ import tempfile
 import threading
 import time
 import unittest
-from collections import Counter, defaultdict
+from collections import defaultdict
 from concurrent.futures import ThreadPoolExecutor
 from datetime import timedelta, timezone
 from enum import Enum
 from functools import partial
 from random import Random
-from typing import Any, Callable, Dict, List, NamedTuple, Tuple, cast
+from typing import Any, Callable, Counter, Dict, List, NamedTuple, Tuple, cast
 
 import typed_headers as it
 from typed_headers import asgi, audit, connection, inspection, wsgi
@@ -600,7 +600,7 @@ class Calls(unittest.TestCase):
         """Each call ends with a value or a `HeaderError`. A few of each name are made again, many times: what is
         allocated doesn't grow with the rounds."""
         kept: Dict[str, List[Call]] = defaultdict(list)
-        ended: "Counter[str]" = Counter()
+        ended: Counter[str] = Counter()
         sizes: List[Allocated] = []
         rounds = 10 if CALLS > DRAWN else 1
 

@@ -11,10 +11,9 @@ Files are read as streams, whatever their size; only a HAR file is read whole. `
 import gzip
 import json
 import re
-from collections import Counter
 from dataclasses import dataclass, field
 from datetime import datetime
-from typing import IO, Any, Dict, Iterable, Iterator, List, Optional, Tuple, cast
+from typing import IO, Any, Counter, Dict, Iterable, Iterator, List, Optional, Tuple, cast
 
 from .errors import HeaderError
 from .headers import Headers
@@ -261,8 +260,8 @@ class Counts:
     """How many responses were judged, and how many of them have each finding and each malformed field."""
 
     responses: int = 0
-    findings: "Counter[str]" = field(default_factory=Counter)
-    malformed: "Counter[str]" = field(default_factory=Counter)
+    findings: Counter[str] = field(default_factory=Counter)
+    malformed: Counter[str] = field(default_factory=Counter)
 
     def add(self, other: "Counts") -> None:
         """Adds what another process or partition counted."""

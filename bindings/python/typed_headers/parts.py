@@ -22,7 +22,7 @@ from .negotiation import (
     language_quality,
     type_quality,
 )
-from .values import date, format_date
+from .values import _made, date, format_date
 
 __all__ = [
     "Accept",
@@ -384,13 +384,6 @@ class Challenge:
         return f"{self.scheme} {', '.join(shown)}".rstrip(" ")
 
 
-def _made(cls: Type[Value], **given: Any) -> Value:
-    """A value of members that the library gave, so that they need no check."""
-    value = object.__new__(cls)
-    value.__dict__.update(given)
-    return value
-
-
 @dataclass(frozen=True)
 class Link:
     """A link (RFC 8288).
@@ -537,7 +530,7 @@ class CacheStatus:
 def _number(text: Optional[str]) -> Optional[int]:
     if not text:
         return None
-    digits = text.removeprefix("-")
+    digits = text[1:] if text.startswith("-") else text
     return int(text) if digits.isascii() and digits.isdigit() and len(digits) <= 15 else None
 
 
@@ -598,12 +591,13 @@ class SetCookie:
             elif name:
                 unknown.append((name, value))
         path, same_site = given.get("path", ""), given.get("samesite", "").lower()
+        domain = given.get("domain", "").lower()
         return _made(
             cls,
             name=first,
             value=content,
             path=path if path.startswith("/") else None,
-            domain=given.get("domain", "").removeprefix(".").lower() or None,
+            domain=(domain[1:] if domain.startswith(".") else domain) or None,
             max_age=_number(given.get("max-age")),
             expires=_date(given.get("expires")),
             secure="secure" in given,

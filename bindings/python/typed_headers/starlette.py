@@ -56,7 +56,7 @@ class TypedHeader:
 _TYPES: Dict[str, Any] = {
     name.replace("_", "-"): get_args(get_type_hints(it.fget, localns={"parts": parts})["return"])[0]
     for name, it in vars(Headers).items()
-    if isinstance(it, property) and name != "section"
+    if isinstance(it, property) and it.fget is not None and name != "section"
 }
 #: The field of each type that isn't that of several.
 _FIELDS = {kind: name for name, kind in reversed(_TYPES.items()) if kind not in (bool, int, str, datetime, List[str])}
