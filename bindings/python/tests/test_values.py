@@ -5,6 +5,7 @@ import multiprocessing
 import pickle
 import unittest
 from concurrent.futures import ProcessPoolExecutor
+from dataclasses import fields
 from datetime import datetime, timedelta, timezone
 from random import Random
 from typing import Any, Callable, List, Tuple, get_type_hints
@@ -12,24 +13,32 @@ from typing import Any, Callable, List, Tuple, get_type_hints
 from typed_headers import (
     ByteRange,
     CacheControl,
+    Content,
     ContentRange,
     Cookie,
+    CorsPolicy,
     Credentials,
     ETag,
     ETags,
+    Gateway,
     HeaderError,
     Headers,
+    Hop,
     Host,
     IfRange,
     InvalidField,
     InvalidSection,
     MediaType,
+    Method,
     Origin,
     Range,
     ReferrerPolicy,
+    Representation,
+    Resource,
     RetryAfter,
     Section,
     StrictTransportSecurity,
+    Target,
     age,
     canonical_field,
     canonical_section,
@@ -342,10 +351,22 @@ class Others(unittest.TestCase):
             lambda: Range(one),
             lambda: RetryAfter(one),
             lambda: StrictTransportSecurity(1, one),
+            lambda: ByteRange(text, 1),
+            lambda: Method(one),
+            lambda: Resource(["GET"], [one]),
+            lambda: Resource(["GET"], cors=one),
         )
         for place, make in enumerate(wrong):
             with self.assertRaises(TypeError, msg=str(place)):
                 make()
+        # (a text from a file of settings is true, whatever it says)
+        for kind, needed in ((Content, ()), (CorsPolicy, ()), (Gateway, ("gw",)), (Hop, ()), (Method, ("GET",)),
+                             (Representation, ()), (Resource, (["GET"],)), (Target, ())):
+            flags = [it.name for it in fields(kind) if it.type is bool]
+            self.assertTrue(flags)
+            for name in flags:
+                with self.assertRaisesRegex(TypeError, f"{name}: expected bool, not str"):
+                    kind(*needed, **{name: "false"})
         self.assertEqual((str(CacheControl(max_age=True)), str(Host("a", True))), ("max-age=1", "a:1"))
 
     def test_values_are_values(self) -> None:

@@ -116,6 +116,13 @@ def check_types(value: object, /, **kinds: Union[type, Tuple[type, ...]]) -> Non
             raise TypeError(f"{name}: expected {wanted}, not {type(given).__name__}")
 
 
+def check_flags(value: object) -> None:
+    """Raises an error if a member that is declared as a bool isn't one: the text `false` is true."""
+    for name, kind in type(value).__annotations__.items():
+        if kind is bool and not isinstance(getattr(value, name), bool):
+            check_types(value, **{name: bool})
+
+
 def to_pairs(given: Iterable[Tuple[str, str]], what: str) -> Tuple[Tuple[str, str], ...]:
     """Pairs of texts."""
     pairs = tuple((name, value) for name, value in given)

@@ -10,7 +10,7 @@ from . import _library
 from ._library import Text, Time
 from .errors import HeaderError
 from .headers import Headers, HeadersLike, Section, section_of
-from .values import ByteRange, ETag, MediaType
+from .values import ByteRange, ETag, MediaType, ranges_of
 
 __all__ = ["Content", "Precondition", "Response", "Selection", "Target", "evaluate", "respond", "select"]
 
@@ -39,6 +39,10 @@ class Target:
     #: Whether that date is a strong validator (RFC 9110, section 8.8.2.2).
     is_date_strong: bool = False
 
+    def __post_init__(self) -> None:
+        if not isinstance(self.exists, bool) or not isinstance(self.is_date_strong, bool):
+            _library.check_flags(self)
+
 
 @dataclass(frozen=True)
 class Selection:
@@ -62,6 +66,9 @@ class Content:
     media_type: Union[MediaType, str, None] = None
     #: Whether ranges of it are sent.
     sends_ranges: bool = True
+
+    def __post_init__(self) -> None:
+        _library.check_flags(self)
 
 
 @dataclass(frozen=True)
@@ -176,7 +183,7 @@ def select(
     _library.check(status, lambda: _refused(method, request, target))
     if status == _library.ABSENT:
         raise HeaderError("target: it doesn't exist, so nothing of it can be selected")
-    return Selection(answer, tuple(ByteRange(first, last) for first, last in found))
+    return Selection(answer, ranges_of(found))
 
 
 def respond(
@@ -215,7 +222,7 @@ def respond(
         _library.check(status, lambda: _no_response(method, request, target, kind, separator))
     if not code:
         return None
-    return Response(code, tuple(ByteRange(*it) for it in found), tuple(Headers(text).pairs()), keeps == 1)
+    return Response(code, ranges_of(found), tuple(Headers(text).pairs()), keeps == 1)
 
 
 def _no_response(method: Text, request: HeadersLike, target: Target, kind: bytes, boundary: bytes) -> HeaderError:

@@ -98,6 +98,7 @@ class CorsPolicy:
     _handle: "ClassVar[_library.Handle]"
 
     def __post_init__(self) -> None:
+        _library.check_flags(self)
         for name in _LISTS:
             given = getattr(self, name)
             object.__setattr__(self, name, (given,) if isinstance(given, str) else tuple(given))

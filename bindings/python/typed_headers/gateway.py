@@ -152,6 +152,9 @@ class Hop:
     #: Whether the gateway, and all clients behind it, accept trailer fields.
     accepts_trailers: bool = False
 
+    def __post_init__(self) -> None:
+        _library.check_flags(self)
+
 
 def _wrong_section(section: bytes) -> Optional[HeaderError]:
     try:
@@ -226,11 +229,11 @@ class Gateway:
     _parts: ClassVar[Tuple[bytes, bytes, bool, bool]]
 
     def __post_init__(self) -> None:
+        _library.check_flags(self)
         protected = (self.protected,) if isinstance(self.protected, str) else tuple(self.protected)
         object.__setattr__(self, "protected", protected)
         lines = _library.joined(_library.to_lines("protected", protected))
-        flags = (bool(self.consumes_credentials), bool(self.passes_underscores))
-        parts = (_library.to_bytes(self.name, "name"), lines, *flags)
+        parts = (_library.to_bytes(self.name, "name"), lines, self.consumes_credentials, self.passes_underscores)
         object.__setattr__(self, "_parts", parts)
         self.forward_request("GET", {"Host": "a"})
 

@@ -12,7 +12,7 @@ from .conditions import CONTENT_DIGESTS, RESPONSE_FIELDS
 from .cors import CORS_FIELDS, CorsPolicy
 from .errors import HeaderError
 from .headers import Headers, HeadersLike, asked_of
-from .values import ByteRange, ETag, MediaType
+from .values import ByteRange, ETag, MediaType, ranges_of
 
 __all__ = ["Answer", "Denied", "Method", "Reason", "Representation", "Resource", "Sends", "State"]
 
@@ -110,6 +110,10 @@ class Method:
     #: strong date in If-Unmodified-Since (RFC 6585, section 3). GET and HEAD need not.
     needs_condition: bool = False
 
+    def __post_init__(self) -> None:
+        _library.check_types(self, name=str)
+        _library.check_flags(self)
+
 
 @dataclass(frozen=True)
 class Representation:
@@ -131,6 +135,9 @@ class Representation:
     sends_ranges: bool = True
     #: Whether `last_modified` is a strong validator (RFC 9110, section 8.8.2.2).
     is_date_strong: bool = False
+
+    def __post_init__(self) -> None:
+        _library.check_flags(self)
 
 
 @dataclass(frozen=True)
@@ -273,6 +280,10 @@ class Resource:
         object.__setattr__(self, "methods", methods)
         for name in ("representations", "hosts"):
             object.__setattr__(self, name, tuple(getattr(self, name)))
+        if not all(isinstance(it, Representation) for it in self.representations):
+            raise TypeError("representations: expected representations of Representation")
+        _library.check_types(self, cors=(CorsPolicy, type(None)))
+        _library.check_flags(self)
         if self.implemented is not None:
             object.__setattr__(self, "implemented", tuple(self.implemented))
         object.__setattr__(self, "state", State(self.state))
@@ -361,7 +372,7 @@ class Resource:
             named.update(RESPONSE_FIELDS, _OF_REPRESENTATION, () if code == 200 else CONTENT_DIGESTS)
         if self.cors is not None:
             named.update(CORS_FIELDS)
-        parts = tuple(ByteRange(*it) for it in ranges)
+        parts = ranges_of(ranges)
         return Answer(Reason(reason), code or None, Sends(sends), place, parts, lines, frozenset(named))
 
     def _refused(self, methods: Tuple[Method, ...]) -> HeaderError:

@@ -8,7 +8,7 @@ from base64 import b64encode
 from dataclasses import dataclass, field
 from datetime import datetime, timedelta, timezone
 from enum import Enum
-from typing import TYPE_CHECKING, Any, Iterator, List, Optional, Tuple, Type, TypeVar
+from typing import TYPE_CHECKING, Any, Iterator, List, Optional, Sequence, Tuple, Type, TypeVar
 
 from . import _library
 from ._library import Text, Time
@@ -495,6 +495,10 @@ class ByteRange:
     first: int
     last: int
 
+    def __post_init__(self) -> None:
+        for name in ("first", "last"):
+            object.__setattr__(self, name, _library.to_number(getattr(self, name), name))
+
     @property
     def length(self) -> int:
         """How many bytes the range has."""
@@ -504,6 +508,11 @@ class ByteRange:
     def slice(self) -> "slice":
         """The range as a slice of the content."""
         return slice(self.first, self.last + 1)
+
+
+def ranges_of(found: Sequence[Tuple[int, int]]) -> Tuple[ByteRange, ...]:
+    """Ranges that the library gave."""
+    return tuple([_made(ByteRange, first=first, last=last) for first, last in found])
 
 
 @dataclass(frozen=True)
