@@ -17,9 +17,10 @@
  *   its name. No space is taken off its ends.
  * - A call that writes bytes takes room for them. `*written` says how many bytes there are, also if they don't fit: the
  *   status is TYPED_HEADERS_NO_ROOM then, and the room is as it was. Nothing is written after them.
- * - Calls keep no state, but for caches, passes and the handles of sections, policies, resources and connections.
- *   They may run in several threads at once; none may run in a signal handler, nor in the child of a fork of a process
- *   with threads.
+ * - Calls keep no state, but for handles: those of caches, passes, sections, policies, resources, connections and files.
+ *   They may run in several threads at once. On one handle those may overlap that take it as `const`: they only read it.
+ *   Any other call on a handle overlaps with none on the same one, and the program orders it with the others, as by a
+ *   lock. No call may run in a signal handler, nor in the child of a fork of a process with threads.
  * - Memory comes from malloc, realloc and free, and is given back before the call returns, but for that of a cache and
  *   of the handles.
  *   The status is TYPED_HEADERS_NO_MEMORY only if something is allocated: for lines of a field, for a section that has
@@ -254,8 +255,8 @@ enum typed_headers_decision {
 
 /*
  * A cache: closed, or open with a store of responses. Zero bytes are a closed one, as TYPED_HEADERS_CLOSED_CACHE. Its
- * members are the library's: a program changes none, and copies none but of a closed one. Two calls on one cache may
- * not run at once. Another thread may make the next one, if the two are ordered, as by a lock.
+ * members are the library's: a program changes none, and copies none but of a closed one. Each call changes it, so no
+ * two calls on one cache may overlap. Another thread may make the next one, if the two are ordered, as by a lock.
  */
 struct typed_headers_cache {
     void *place;
@@ -306,7 +307,8 @@ struct typed_headers_cache_request {
 /*
  * A pass: one client's request through a cache, closed or open. Zero bytes are a closed one, as
  * TYPED_HEADERS_CLOSED_PASS. It is the library's as a cache is. A step of a pass is a call on its cache, too. A call
- * that takes the pass alone may overlap with any on the cache and on other passes.
+ * that takes the pass alone may overlap with any on the cache and on other passes; if it takes the pass as `const`, also
+ * with others that do.
  */
 struct typed_headers_pass {
     void *place;
@@ -873,9 +875,8 @@ enum typed_headers_form {
 /*
  * A handle: closed, or open with what it was opened with. Zero bytes are a closed one, as TYPED_HEADERS_CLOSED. An open
  * one has memory until it is closed again, and what it has never changes. Its members are the library's: a program
- * changes none, and copies none but of a closed one. Two calls on one handle may not run at once, also if both only
- * read it. Another thread may make the next one, if the two are ordered, as by a lock. Threads that read at the same
- * time have a handle each.
+ * changes none, and copies none but of a closed one. Threads may share it: a call that takes it as `const` only reads it,
+ * and any number of these may overlap, without a lock. A call that opens or closes it overlaps with no other on it.
  *
  * Absent, of each call that reads a handle: it is closed, or is that of another struct.
  */
@@ -900,7 +901,7 @@ struct typed_headers_resource_handle {
 
 /*
  * The connection of a server: closed, or open with what it received and has to send. It is a handle as the ones above,
- * but calls change what it has.
+ * but calls change what it has: those that don't take it as `const`, each of which overlaps with no other on it.
  */
 struct typed_headers_connection {
     void *place;
@@ -937,7 +938,7 @@ struct typed_headers_files_options {
     bool negotiates;
 };
 
-/* A service of the files below a folder, which opens none: a handle as the ones above. */
+/* A service of the files below a folder, which opens none: a handle as a connection. */
 struct typed_headers_files {
     void *place;
     bool is_open;
@@ -1538,14 +1539,14 @@ uint8_t typed_headers_section_new(struct typed_headers_section *fields, const ui
  * What `typed_headers_field` gives for the lines of a name. Absent also: the section has none. Refused: the name is no
  * field name, or the header rejects the lines. Memory: there are lines, or the name is no standard one.
  */
-uint8_t typed_headers_section_field(struct typed_headers_section *fields, const uint8_t *name, size_t name_length,
-                                    uint8_t *room, size_t room_length, size_t *written);
+uint8_t typed_headers_section_field(const struct typed_headers_section *fields, const uint8_t *name,
+                                    size_t name_length, uint8_t *room, size_t room_length, size_t *written);
 
 /*
  * What `typed_headers_evaluate` gives for these fields. Refused: the method is no token, `target->etag` is no entity
  * tag, or the date lies past the year 9999.
  */
-uint8_t typed_headers_section_evaluate(struct typed_headers_section *fields, const uint8_t *method,
+uint8_t typed_headers_section_evaluate(const struct typed_headers_section *fields, const uint8_t *method,
                                        size_t method_length, const struct typed_headers_target *target,
                                        uint16_t *answer);
 
@@ -1553,7 +1554,7 @@ uint8_t typed_headers_section_evaluate(struct typed_headers_section *fields, con
  * What `typed_headers_select` gives for these fields. Absent also: the target has no representation. Refused: as for
  * `typed_headers_section_evaluate`. Memory: Range applies.
  */
-uint8_t typed_headers_section_select(struct typed_headers_section *fields, const uint8_t *method,
+uint8_t typed_headers_section_select(const struct typed_headers_section *fields, const uint8_t *method,
                                      size_t method_length, const struct typed_headers_target *target,
                                      uint64_t length, uint16_t *answer, struct typed_headers_bytes_range *room,
                                      size_t room_length, size_t *written);
@@ -1562,7 +1563,7 @@ uint8_t typed_headers_section_select(struct typed_headers_section *fields, const
  * What `typed_headers_respond` gives for these fields. Refused: as for `typed_headers_section_evaluate`, or the media
  * type is no line, or the boundary is none. Memory: the media type isn't empty, or the boundary is one.
  */
-uint8_t typed_headers_section_respond(struct typed_headers_section *fields, const uint8_t *method,
+uint8_t typed_headers_section_respond(const struct typed_headers_section *fields, const uint8_t *method,
                                       size_t method_length, const struct typed_headers_target *target,
                                       const struct typed_headers_content *content,
                                       struct typed_headers_response *response,
@@ -1573,11 +1574,11 @@ uint8_t typed_headers_section_respond(struct typed_headers_section *fields, cons
  * What `typed_headers_choose_type`, `_coding` and `_language` give for the lines of Accept, Accept-Encoding and
  * Accept-Language. Absent also: none is acceptable. Refused: a line of the offers can't be one.
  */
-uint8_t typed_headers_section_choose_type(struct typed_headers_section *fields, const uint8_t *offers,
+uint8_t typed_headers_section_choose_type(const struct typed_headers_section *fields, const uint8_t *offers,
                                           size_t offers_length, size_t *place);
-uint8_t typed_headers_section_choose_coding(struct typed_headers_section *fields, const uint8_t *offers,
+uint8_t typed_headers_section_choose_coding(const struct typed_headers_section *fields, const uint8_t *offers,
                                             size_t offers_length, size_t *place);
-uint8_t typed_headers_section_choose_language(struct typed_headers_section *fields, const uint8_t *offers,
+uint8_t typed_headers_section_choose_language(const struct typed_headers_section *fields, const uint8_t *offers,
                                               size_t offers_length, size_t *place);
 
 /*
@@ -1592,8 +1593,8 @@ uint8_t typed_headers_cors_policy_new(struct typed_headers_cors_policy *policy,
  * response before the first empty one is no field. Too large: the response has more names than a map has room for
  * (24,576). Memory: nothing is rejected.
  */
-uint8_t typed_headers_cors_policy_answer(struct typed_headers_cors_policy *policy,
-                                         struct typed_headers_section *fields,
+uint8_t typed_headers_cors_policy_answer(const struct typed_headers_cors_policy *policy,
+                                         const struct typed_headers_section *fields,
                                          const struct typed_headers_cors_exchange *exchange,
                                          const struct typed_headers_keys *keys,
                                          struct typed_headers_cors_facts *facts, uint8_t *room, size_t room_length,
@@ -1614,8 +1615,8 @@ uint8_t typed_headers_resource_handle_new(struct typed_headers_resource_handle *
  * version or the status of the denial is another number, the target is in absolute-form without a host, or the
  * challenge of a 401 is empty or can't be a field line. Memory: nothing is rejected.
  */
-uint8_t typed_headers_resource_handle_answer(struct typed_headers_resource_handle *handle,
-                                             struct typed_headers_section *fields,
+uint8_t typed_headers_resource_handle_answer(const struct typed_headers_resource_handle *handle,
+                                             const struct typed_headers_section *fields,
                                              const struct typed_headers_resource_request *request,
                                              const struct typed_headers_denial *denial,
                                              struct typed_headers_resource_facts *facts,
@@ -1656,31 +1657,31 @@ uint8_t typed_headers_connection_finish_input(struct typed_headers_connection *c
  * The method of the request that waits, the path and the query of its target, and its content. Absent also: its target
  * has no query. Refused: no request waits.
  */
-uint8_t typed_headers_connection_method(struct typed_headers_connection *connection, uint8_t *room,
+uint8_t typed_headers_connection_method(const struct typed_headers_connection *connection, uint8_t *room,
                                         size_t room_length, size_t *written);
-uint8_t typed_headers_connection_path(struct typed_headers_connection *connection, uint8_t *room, size_t room_length,
-                                      size_t *written);
-uint8_t typed_headers_connection_query(struct typed_headers_connection *connection, uint8_t *room,
+uint8_t typed_headers_connection_path(const struct typed_headers_connection *connection, uint8_t *room,
+                                      size_t room_length, size_t *written);
+uint8_t typed_headers_connection_query(const struct typed_headers_connection *connection, uint8_t *room,
                                        size_t room_length, size_t *written);
-uint8_t typed_headers_connection_content(struct typed_headers_connection *connection, uint8_t *room,
+uint8_t typed_headers_connection_content(const struct typed_headers_connection *connection, uint8_t *room,
                                          size_t room_length, size_t *written);
 
 /*
  * The first line of the field of this name, in any case, of the request that waits. Absent also: it has no such field.
  * Refused: the name is no field name, or no request waits. Memory: the name isn't one of the standards'.
  */
-uint8_t typed_headers_connection_field(struct typed_headers_connection *connection, const uint8_t *name,
+uint8_t typed_headers_connection_field(const struct typed_headers_connection *connection, const uint8_t *name,
                                        size_t name_length, uint8_t *room, size_t room_length, size_t *written);
 
 /*
  * The field lines of the request that waits, each with a LF: the name in lower case, a colon, a space and the value.
  * Those of one name come together, in their order. Refused: no request waits. Memory: it has a field.
  */
-uint8_t typed_headers_connection_fields(struct typed_headers_connection *connection, uint8_t *room,
+uint8_t typed_headers_connection_fields(const struct typed_headers_connection *connection, uint8_t *room,
                                         size_t room_length, size_t *written);
 
 /* The version of HTTP of the request that waits: 10 or 11. Refused: no request waits. */
-uint8_t typed_headers_connection_version(struct typed_headers_connection *connection, uint8_t *version);
+uint8_t typed_headers_connection_version(const struct typed_headers_connection *connection, uint8_t *version);
 
 /*
  * Begins the plan of the response to the request that waits: with this status, and without fields and content. Refused:
@@ -1713,11 +1714,11 @@ uint8_t typed_headers_connection_plan_range(struct typed_headers_connection *con
 uint8_t typed_headers_connection_respond(struct typed_headers_connection *connection);
 
 /* The first bytes that wait to be written, as many as fit. They stay until `typed_headers_connection_sent`. */
-uint8_t typed_headers_connection_output(struct typed_headers_connection *connection, uint8_t *room,
+uint8_t typed_headers_connection_output(const struct typed_headers_connection *connection, uint8_t *room,
                                         size_t room_length, size_t *written);
 
 /* Which bytes of what the program has open are to be written, once no others wait. Absent also: none are. */
-uint8_t typed_headers_connection_range(struct typed_headers_connection *connection, uint64_t *start,
+uint8_t typed_headers_connection_range(const struct typed_headers_connection *connection, uint64_t *start,
                                        uint64_t *length);
 
 /*
@@ -1730,14 +1731,14 @@ uint8_t typed_headers_connection_sent(struct typed_headers_connection *connectio
  * The response 408 to a client that is too slow (RFC 9110, section 15.5.9): the program sends it, and closes. Absent
  * also: no part of a request was received, a request waits, or bytes wait to be written. Then the program only closes.
  */
-uint8_t typed_headers_connection_time_out(struct typed_headers_connection *connection, uint8_t *room,
+uint8_t typed_headers_connection_time_out(const struct typed_headers_connection *connection, uint8_t *room,
                                           size_t room_length, size_t *written);
 
 /* The status by which the connection rejected what it received, as 400. Absent also: it rejected nothing. */
-uint8_t typed_headers_connection_rejection(struct typed_headers_connection *connection, uint16_t *status);
+uint8_t typed_headers_connection_rejection(const struct typed_headers_connection *connection, uint16_t *status);
 
 /* The status of the plan, and how many bytes its content has. */
-uint8_t typed_headers_connection_planned(struct typed_headers_connection *connection, uint16_t *status,
+uint8_t typed_headers_connection_planned(const struct typed_headers_connection *connection, uint16_t *status,
                                          uint64_t *length);
 
 /* ---- A pass: one client's request through a cache, from its arrival to its last byte. Since 2.0. ---- */
@@ -1799,7 +1800,7 @@ uint8_t typed_headers_pass_failed(struct typed_headers_cache *cache, struct type
  * present Age, which are those of a 206, a 304 or a 416 where the request's own conditions and ranges ask for that; of
  * VALIDATE those by which the origin is asked; else none. Absent: the pass is closed.
  */
-uint8_t typed_headers_pass_fields(struct typed_headers_pass *pass, uint8_t *room, size_t room_length,
+uint8_t typed_headers_pass_fields(const struct typed_headers_pass *pass, uint8_t *room, size_t room_length,
                                   size_t *written);
 
 /*
@@ -1809,7 +1810,7 @@ uint8_t typed_headers_pass_fields(struct typed_headers_pass *pass, uint8_t *room
  * it. Absent: the pass is closed. Too large: there are as many names as a map has room for (24,576), and none is
  * Cache-Control. Memory: nothing is rejected.
  */
-uint8_t typed_headers_pass_validation(struct typed_headers_pass *pass, uint8_t *room, size_t room_length,
+uint8_t typed_headers_pass_validation(const struct typed_headers_pass *pass, uint8_t *room, size_t room_length,
                                       size_t *written);
 
 /*
@@ -1817,8 +1818,8 @@ uint8_t typed_headers_pass_validation(struct typed_headers_pass *pass, uint8_t *
  * pass shares it with the cache until its next step, so no call on the cache changes it, and this call may overlap with
  * all of those, and with calls on other passes. Absent: the step named none, or the pass is closed.
  */
-uint8_t typed_headers_pass_content(struct typed_headers_pass *pass, size_t from, uint8_t *room, size_t room_length,
-                                   size_t *written);
+uint8_t typed_headers_pass_content(const struct typed_headers_pass *pass, size_t from, uint8_t *room,
+                                   size_t room_length, size_t *written);
 
 /*
  * Keeps the next piece of the content that is forwarded, to be stored. If the pieces are more than the cache may have,
@@ -1843,8 +1844,8 @@ uint8_t typed_headers_pass_ended(struct typed_headers_cache *cache, struct typed
 uint8_t typed_headers_files_free(struct typed_headers_files *files);
 
 /*
- * Opens the handle of a service of files below a folder. It serves many connections, one call at a time. Entity tags
- * are hashed with the keys, so that they don't show what they are made of: take the same for all that serve the folder.
+ * Opens the handle of a service of files below a folder. It serves many connections. Entity tags are hashed with the
+ * keys, so that they don't show what they are made of: take the same for all that serve the folder.
  *
  * Refused: the handle is open, `cache_control` or a line of `hosts` is no field value, or the boundary is none (RFC
  * 2046, section 5.1.1). Memory: the handle is closed.
@@ -1861,7 +1862,8 @@ uint8_t typed_headers_files_new(struct typed_headers_files *files, const struct 
  * Absent: nothing is left to open, so call `typed_headers_files_plan`; or a handle is closed. Refused: no request
  * waits. Memory: a request waits, and both handles are open.
  */
-uint8_t typed_headers_files_path(struct typed_headers_files *files, struct typed_headers_connection *connection,
+uint8_t typed_headers_files_path(const struct typed_headers_files *files,
+                                 const struct typed_headers_connection *connection,
                                  const struct typed_headers_entry *found, size_t found_length, uint8_t *room,
                                  size_t room_length, size_t *written);
 

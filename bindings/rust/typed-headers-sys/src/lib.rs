@@ -881,7 +881,7 @@ extern "C" {
         keys: *const Keys,
     ) -> u8;
     pub fn typed_headers_section_field(
-        fields: *mut Section,
+        fields: *const Section,
         name: *const u8,
         name_length: usize,
         room: *mut u8,
@@ -889,14 +889,14 @@ extern "C" {
         written: *mut usize,
     ) -> u8;
     pub fn typed_headers_section_evaluate(
-        fields: *mut Section,
+        fields: *const Section,
         method: *const u8,
         method_length: usize,
         target: *const Target,
         answer: *mut u16,
     ) -> u8;
     pub fn typed_headers_section_select(
-        fields: *mut Section,
+        fields: *const Section,
         method: *const u8,
         method_length: usize,
         target: *const Target,
@@ -907,7 +907,7 @@ extern "C" {
         written: *mut usize,
     ) -> u8;
     pub fn typed_headers_section_respond(
-        fields: *mut Section,
+        fields: *const Section,
         method: *const u8,
         method_length: usize,
         target: *const Target,
@@ -921,27 +921,27 @@ extern "C" {
         written: *mut usize,
     ) -> u8;
     pub fn typed_headers_section_choose_type(
-        fields: *mut Section,
+        fields: *const Section,
         offers: *const u8,
         offers_length: usize,
         place: *mut usize,
     ) -> u8;
     pub fn typed_headers_section_choose_coding(
-        fields: *mut Section,
+        fields: *const Section,
         offers: *const u8,
         offers_length: usize,
         place: *mut usize,
     ) -> u8;
     pub fn typed_headers_section_choose_language(
-        fields: *mut Section,
+        fields: *const Section,
         offers: *const u8,
         offers_length: usize,
         place: *mut usize,
     ) -> u8;
     pub fn typed_headers_cors_policy_new(policy: *mut CorsPolicy, rules: *const CorsRules) -> u8;
     pub fn typed_headers_cors_policy_answer(
-        policy: *mut CorsPolicy,
-        fields: *mut Section,
+        policy: *const CorsPolicy,
+        fields: *const Section,
         exchange: *const CorsExchange,
         keys: *const Keys,
         facts: *mut CorsFacts,
@@ -957,8 +957,8 @@ extern "C" {
         rules: *const CorsRules,
     ) -> u8;
     pub fn typed_headers_resource_handle_answer(
-        handle: *mut ResourceHandle,
-        fields: *mut Section,
+        handle: *const ResourceHandle,
+        fields: *const Section,
         request: *const ResourceRequest,
         denial: *const Denial,
         facts: *mut ResourceFacts,
@@ -975,31 +975,31 @@ extern "C" {
     pub fn typed_headers_connection_receive(connection: *mut Connection, input: *const u8, input_length: usize) -> u8;
     pub fn typed_headers_connection_finish_input(connection: *mut Connection) -> u8;
     pub fn typed_headers_connection_method(
-        connection: *mut Connection,
+        connection: *const Connection,
         room: *mut u8,
         room_length: usize,
         written: *mut usize,
     ) -> u8;
     pub fn typed_headers_connection_path(
-        connection: *mut Connection,
+        connection: *const Connection,
         room: *mut u8,
         room_length: usize,
         written: *mut usize,
     ) -> u8;
     pub fn typed_headers_connection_query(
-        connection: *mut Connection,
+        connection: *const Connection,
         room: *mut u8,
         room_length: usize,
         written: *mut usize,
     ) -> u8;
     pub fn typed_headers_connection_content(
-        connection: *mut Connection,
+        connection: *const Connection,
         room: *mut u8,
         room_length: usize,
         written: *mut usize,
     ) -> u8;
     pub fn typed_headers_connection_field(
-        connection: *mut Connection,
+        connection: *const Connection,
         name: *const u8,
         name_length: usize,
         room: *mut u8,
@@ -1007,12 +1007,12 @@ extern "C" {
         written: *mut usize,
     ) -> u8;
     pub fn typed_headers_connection_fields(
-        connection: *mut Connection,
+        connection: *const Connection,
         room: *mut u8,
         room_length: usize,
         written: *mut usize,
     ) -> u8;
-    pub fn typed_headers_connection_version(connection: *mut Connection, version: *mut u8) -> u8;
+    pub fn typed_headers_connection_version(connection: *const Connection, version: *mut u8) -> u8;
     pub fn typed_headers_connection_plan(connection: *mut Connection, status: u16) -> u8;
     pub fn typed_headers_connection_plan_field(
         connection: *mut Connection,
@@ -1029,21 +1029,21 @@ extern "C" {
     pub fn typed_headers_connection_plan_range(connection: *mut Connection, start: u64, length: u64) -> u8;
     pub fn typed_headers_connection_respond(connection: *mut Connection) -> u8;
     pub fn typed_headers_connection_output(
-        connection: *mut Connection,
+        connection: *const Connection,
         room: *mut u8,
         room_length: usize,
         written: *mut usize,
     ) -> u8;
-    pub fn typed_headers_connection_range(connection: *mut Connection, start: *mut u64, length: *mut u64) -> u8;
+    pub fn typed_headers_connection_range(connection: *const Connection, start: *mut u64, length: *mut u64) -> u8;
     pub fn typed_headers_connection_sent(connection: *mut Connection, count: u64) -> u8;
     pub fn typed_headers_connection_time_out(
-        connection: *mut Connection,
+        connection: *const Connection,
         room: *mut u8,
         room_length: usize,
         written: *mut usize,
     ) -> u8;
-    pub fn typed_headers_connection_rejection(connection: *mut Connection, status: *mut u16) -> u8;
-    pub fn typed_headers_connection_planned(connection: *mut Connection, status: *mut u16, length: *mut u64) -> u8;
+    pub fn typed_headers_connection_rejection(connection: *const Connection, status: *mut u16) -> u8;
+    pub fn typed_headers_connection_planned(connection: *const Connection, status: *mut u16, length: *mut u64) -> u8;
     pub fn typed_headers_pass_free(pass: *mut Pass) -> u8;
     pub fn typed_headers_pass_begin(
         cache: *mut Cache,
@@ -1063,10 +1063,15 @@ extern "C" {
         facts: *mut PassFacts,
     ) -> u8;
     pub fn typed_headers_pass_failed(cache: *mut Cache, pass: *mut Pass, now: u64, facts: *mut PassFacts) -> u8;
-    pub fn typed_headers_pass_fields(pass: *mut Pass, room: *mut u8, room_length: usize, written: *mut usize) -> u8;
-    pub fn typed_headers_pass_validation(pass: *mut Pass, room: *mut u8, room_length: usize, written: *mut usize) -> u8;
+    pub fn typed_headers_pass_fields(pass: *const Pass, room: *mut u8, room_length: usize, written: *mut usize) -> u8;
+    pub fn typed_headers_pass_validation(
+        pass: *const Pass,
+        room: *mut u8,
+        room_length: usize,
+        written: *mut usize,
+    ) -> u8;
     pub fn typed_headers_pass_content(
-        pass: *mut Pass,
+        pass: *const Pass,
         from: usize,
         room: *mut u8,
         room_length: usize,
@@ -1083,8 +1088,8 @@ extern "C" {
     pub fn typed_headers_files_free(files: *mut Files) -> u8;
     pub fn typed_headers_files_new(files: *mut Files, options: *const FilesOptions, keys: *const Keys) -> u8;
     pub fn typed_headers_files_path(
-        files: *mut Files,
-        connection: *mut Connection,
+        files: *const Files,
+        connection: *const Connection,
         found: *const Entry,
         found_length: usize,
         room: *mut u8,
