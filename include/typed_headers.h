@@ -977,6 +977,115 @@ struct typed_headers_entry {
     uint8_t kind;
 };
 
+/*
+ * What a gateway does with each request; a gateway's connection to a client, and at most one to an origin; and one to an
+ * origin by itself. Each is closed or open. Zero bytes are a closed one. They are the library's as a cache is.
+ */
+struct typed_headers_gate_rules {
+    void *place;
+    bool is_open;
+};
+
+struct typed_headers_gate {
+    void *place;
+    bool is_open;
+};
+
+struct typed_headers_gate_origin {
+    void *place;
+    bool is_open;
+};
+
+/* What a gateway does beside what it is to messages. */
+struct typed_headers_gate_options {
+    /* The host that a request of HTTP/1.0 without Host is for. */
+    struct typed_headers_text authority;
+    /* Whether the gateway writes Forwarded (RFC 7239), and X-Forwarded-For, -Host and -Proto. */
+    bool writes_forwarded;
+    bool writes_x_forwarded;
+    /* Whether it sends 100 (Continue) itself, and doesn't ask the origin (RFC 9110, section 10.1.1). */
+    bool answers_expect;
+    /* Whether an opening handshake of a WebSocket goes on as one (RFC 6455). */
+    bool passes_websocket;
+};
+
+/* The client of a connection. */
+struct typed_headers_gate_peer {
+    /* Its node, as that of `typed_headers_hop`, or empty if it isn't known. */
+    struct typed_headers_text node;
+    /* Its port, or 0 if that isn't told. */
+    uint16_t port;
+    /* Whether it came over TLS. */
+    bool is_secure;
+    /* Whether it is trusted to tell who sent it a request. */
+    bool is_trusted;
+};
+
+enum typed_headers_gate_side {
+    TYPED_HEADERS_CLIENT = 0,
+    TYPED_HEADERS_ORIGIN = 1
+};
+
+enum typed_headers_gate_event {
+    /* Nothing more happens until bytes come or go. */
+    TYPED_HEADERS_GATE_WAITS = 0,
+    /* A request came: `typed_headers_gate_forward`, `_answer` or `_respond`. */
+    TYPED_HEADERS_GATE_REQUEST = 1,
+    /* The head of the final response came: `typed_headers_gate_pass`, `_answer`, `_respond` or `_again`. */
+    TYPED_HEADERS_GATE_RESPONSE = 2,
+    /* A piece of it was passed to the client: `typed_headers_gate_piece` has it until the next call. */
+    TYPED_HEADERS_GATE_PIECE = 3,
+    /* The origin ended its connection before it answered, and the request may be repeated: as REQUEST, over another. */
+    TYPED_HEADERS_GATE_REPEAT = 4,
+    /* The origin's connection isn't needed any more: `typed_headers_gate_take`. If a response is passed on, it is whole. */
+    TYPED_HEADERS_GATE_EXCHANGED = 5,
+    /* The connection is no longer HTTP: `typed_headers_gate_tunnel`. */
+    TYPED_HEADERS_GATE_TUNNEL = 6,
+    /* Nothing more is said: write what waits for the client, and close both connections. */
+    TYPED_HEADERS_GATE_CLOSED = 7,
+    /* A message was cut off: close both at once. */
+    TYPED_HEADERS_GATE_ABORTED = 8
+};
+
+/* What a connection does. A program has one time limit for each, and calls `typed_headers_gate_timed_out`. */
+enum typed_headers_gate_phase {
+    /* No byte of a request came. */
+    TYPED_HEADERS_GATE_IDLE = 0,
+    /* A part of a head came. */
+    TYPED_HEADERS_GATE_HEAD = 1,
+    /* The request waits for a connection to an origin. */
+    TYPED_HEADERS_GATE_ASKING = 2,
+    /* Content of the request is awaited, and no head of a response was sent. */
+    TYPED_HEADERS_GATE_CONTENT = 3,
+    /* The request has ended, and its response is awaited. */
+    TYPED_HEADERS_GATE_ANSWER = 4,
+    /* The response is passed on. */
+    TYPED_HEADERS_GATE_PASSING = 5,
+    /* The program gives the response. */
+    TYPED_HEADERS_GATE_GIVING = 6,
+    /* It was answered, and the rest of the request is dropped. */
+    TYPED_HEADERS_GATE_DRAINING = 7,
+    /* It is closed, or a tunnel. */
+    TYPED_HEADERS_GATE_OVER = 8
+};
+
+/* What comes next on a connection, and what to wait for. */
+struct typed_headers_gate_facts {
+    /* How many bytes the piece has, if the event is TYPED_HEADERS_GATE_PIECE. */
+    uint64_t piece;
+    /* One of `typed_headers_gate_event`, and one of `typed_headers_gate_phase`. */
+    uint8_t event;
+    uint8_t phase;
+    /* Whether bytes of a side are to be received, and whether some wait to be written to it. */
+    bool client_input;
+    bool client_output;
+    bool origin_input;
+    bool origin_output;
+    /* Whether the client, or the origin, of a tunnel gets nothing more: shut its connection down for writing. */
+    bool ends_client;
+    bool ends_origin;
+};
+
 /* ---- Written by tools/c_calls from calls.txt. ---- */
 
 /*
@@ -1880,6 +1989,167 @@ uint8_t typed_headers_files_path(const struct typed_headers_files *files,
 uint8_t typed_headers_files_plan(struct typed_headers_files *files, struct typed_headers_connection *connection,
                                  const struct typed_headers_entry *found, size_t found_length, uint64_t now,
                                  bool is_last, size_t *source);
+
+/* ---- A gateway's connection to a client, and at most one to an origin, which opens no socket. Since 2.0. ---- */
+
+/* Closes a handle, and gives its memory back. It may be closed before, or null. The status is TYPED_HEADERS_DONE. */
+uint8_t typed_headers_gate_rules_free(struct typed_headers_gate_rules *rules);
+uint8_t typed_headers_gate_free(struct typed_headers_gate *gate);
+uint8_t typed_headers_gate_origin_free(struct typed_headers_gate_origin *origin);
+
+/*
+ * Opens the handle of what a gateway does with each request. Refused: the handle is open, the gateway's name is no
+ * token, a protected name is no field name, or the authority no field value. Memory: the handle is closed.
+ */
+uint8_t typed_headers_gate_rules_new(struct typed_headers_gate_rules *rules,
+                                     const struct typed_headers_gateway *gateway,
+                                     const struct typed_headers_gate_options *options);
+
+/*
+ * Opens the handle of a connection to a client that has received nothing (RFC 9112). A request with a longer head is
+ * rejected. Then ask `typed_headers_gate_next`, do what it says, and ask again. Refused: the handle is open, or the
+ * node is none. Memory: the handle is closed.
+ */
+uint8_t typed_headers_gate_new(struct typed_headers_gate *gate, const struct typed_headers_gate_peer *peer,
+                               size_t most_head, const struct typed_headers_keys *keys);
+
+/*
+ * Opens the handle of a connection to an origin over which nothing went. Refused: the handle is open. Memory: the
+ * handle is closed.
+ */
+uint8_t typed_headers_gate_origin_new(struct typed_headers_gate_origin *origin, size_t most_head,
+                                      const struct typed_headers_keys *keys);
+
+/*
+ * Says what comes next, which phase it is, and what to wait for. `now` is the time in seconds since the start of 1970.
+ * Absent, of each call on such a handle: it is closed. Refused: the date lies past the year 9999.
+ */
+uint8_t typed_headers_gate_next(struct typed_headers_gate *gate, struct typed_headers_gate_rules *rules,
+                                uint64_t now, struct typed_headers_gate_facts *facts);
+
+/*
+ * Receives bytes of a side, one of `typed_headers_gate_side`, cut anywhere: all of them, or none if it runs out of
+ * memory. Refused, here and below: there is no such side. Memory: `input` isn't empty.
+ */
+uint8_t typed_headers_gate_receive(struct typed_headers_gate *gate, uint8_t side, const uint8_t *input,
+                                   size_t input_length);
+
+/* Says that the input of a side ends here, or that it failed. */
+uint8_t typed_headers_gate_finish(struct typed_headers_gate *gate, uint8_t side);
+
+/* The first bytes that wait to be written to a side, as many as fit. They stay until `typed_headers_gate_sent`. */
+uint8_t typed_headers_gate_output(struct typed_headers_gate *gate, uint8_t side, uint8_t *room, size_t room_length,
+                                  size_t *written);
+
+/* Says that so many bytes were written to a side. Refused also: fewer wait, and nothing changes. */
+uint8_t typed_headers_gate_sent(struct typed_headers_gate *gate, uint8_t side, uint64_t count);
+
+/*
+ * Says that the time limit of the phase is over. What `typed_headers_gate_next` says then is one of: an answer 408 or
+ * 504, an end, or that both connections are to be closed.
+ */
+uint8_t typed_headers_gate_timed_out(struct typed_headers_gate *gate);
+
+/* Says that the connection ends after the next response, or at once if it is idle. */
+uint8_t typed_headers_gate_close_after(struct typed_headers_gate *gate);
+
+/*
+ * The method of the request that waits or is passed on, its target as it is sent, and the host and the port that it is
+ * for. Absent also: there is none.
+ */
+uint8_t typed_headers_gate_method(struct typed_headers_gate *gate, uint8_t *room, size_t room_length,
+                                  size_t *written);
+uint8_t typed_headers_gate_target(struct typed_headers_gate *gate, uint8_t *room, size_t room_length,
+                                  size_t *written);
+uint8_t typed_headers_gate_authority(struct typed_headers_gate *gate, uint8_t *room, size_t room_length,
+                                     size_t *written);
+
+/*
+ * The URI of its target (RFC 9110, section 7.1), as a cache has it as a key. Absent also: there is no request. Memory:
+ * the handle is open.
+ */
+uint8_t typed_headers_gate_key(struct typed_headers_gate *gate, uint8_t *room, size_t room_length, size_t *written);
+
+/*
+ * The first line of its field of this name, in any case. Absent also: it has no such field, or there is no request.
+ * Refused: the name is no field name. Memory: the name isn't one of the standards'.
+ */
+uint8_t typed_headers_gate_field(struct typed_headers_gate *gate, const uint8_t *name, size_t name_length,
+                                 uint8_t *room, size_t room_length, size_t *written);
+
+/* Its field lines as received, each with a LF. Absent also: there is no request. Memory: it has a field. */
+uint8_t typed_headers_gate_fields(struct typed_headers_gate *gate, uint8_t *room, size_t room_length,
+                                  size_t *written);
+
+/*
+ * Sends these If-None-Match and If-Modified-Since in place of its own, as a cache that validates does. Refused: a line
+ * of the section before its first empty one is no field. Memory: the handle is open.
+ */
+uint8_t typed_headers_gate_conditions(struct typed_headers_gate *gate, const uint8_t *section, size_t section_length,
+                                      const struct typed_headers_keys *keys);
+
+/* Sends it over a connection to an origin, whose handle is closed then. Absent also: one of them is closed. */
+uint8_t typed_headers_gate_forward(struct typed_headers_gate *gate, struct typed_headers_gate_origin *origin);
+
+/* Drops the origin's response that waits, and asks again without conditions. */
+uint8_t typed_headers_gate_again(struct typed_headers_gate *gate);
+
+/*
+ * Answers the request that waits, also in place of the origin's response, without content. Refused: the status is no
+ * number from 100 to 999.
+ */
+uint8_t typed_headers_gate_answer(struct typed_headers_gate *gate, uint16_t status);
+
+/*
+ * Begins a response with these fields, and so many bytes of content, to the request that waits, also in place of the
+ * origin's. Refused: none waits, the status is no number from 100 to 999, a line of the section before its first empty
+ * one is no field, or the response can't be sent. Memory: the handle is open.
+ */
+uint8_t typed_headers_gate_respond(struct typed_headers_gate *gate, uint16_t status, const uint8_t *section,
+                                   size_t section_length, uint64_t length, const struct typed_headers_keys *keys);
+
+/*
+ * Adds a piece to the content of that response. Refused: none has begun, or it has more content then. Memory: the piece
+ * isn't empty.
+ */
+uint8_t typed_headers_gate_push(struct typed_headers_gate *gate, const uint8_t *piece, size_t piece_length);
+
+/* Ends that response. Refused: none has begun, or content is missing. Memory: the handle is open. */
+uint8_t typed_headers_gate_end(struct typed_headers_gate *gate);
+
+/*
+ * The status of the origin's response that waits or is passed on, and its field lines, each with a LF. Absent also:
+ * there is none. `*status` is given also if they don't fit. Memory: it has a field.
+ */
+uint8_t typed_headers_gate_response(struct typed_headers_gate *gate, uint16_t *status, uint8_t *room,
+                                    size_t room_length, size_t *written);
+
+/* Passes the origin's response that waits on. */
+uint8_t typed_headers_gate_pass(struct typed_headers_gate *gate);
+
+/* The piece of its content that was passed to the client last. */
+uint8_t typed_headers_gate_piece(struct typed_headers_gate *gate, uint8_t *room, size_t room_length,
+                                 size_t *written);
+
+/*
+ * Opens a closed handle with the connection to the origin, for another request. Absent also: no other may go over it.
+ * Refused: the handle is open. Memory: there is such a connection.
+ */
+uint8_t typed_headers_gate_take(struct typed_headers_gate *gate, struct typed_headers_gate_origin *origin);
+
+/* The status of the last answer. Absent also: it wasn't the gateway's own. */
+uint8_t typed_headers_gate_own(struct typed_headers_gate *gate, uint16_t *status);
+
+/* Goes on with the bytes of the other protocol, after TYPED_HEADERS_GATE_TUNNEL. Memory: the handle is closed then. */
+uint8_t typed_headers_gate_tunnel(struct typed_headers_gate *gate);
+
+/*
+ * Receives a request without content as the client's, as for `typed_headers_pass_validation`. Memory: the handle is
+ * open.
+ */
+uint8_t typed_headers_gate_ask(struct typed_headers_gate *gate, const uint8_t *method, size_t method_length,
+                               const uint8_t *target, size_t target_length, const uint8_t *section,
+                               size_t section_length);
 
 /* ---- The end of what it writes. ---- */
 

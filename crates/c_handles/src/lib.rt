@@ -16,7 +16,7 @@ mod view;
 pub use crate::asking::{choose, evaluate, respond, select};
 pub use crate::field::written_field;
 pub use crate::handle::Handle;
-pub use crate::held::{Held, HeldConnection};
+pub use crate::held::{Held, HeldConnection, HeldGate};
 pub use crate::loan::Loan;
 pub use crate::opening::{
     close, open, open_cache, open_cache_with, open_policy, open_resource, open_section,

@@ -1,6 +1,6 @@
 -- What is true after every history of calls.
 use Rattle.std.proofs.Common.{◌≡◌, ◌≢◌, ℕ, ◌≤◌, inl, inr, Bool, true, false, cond, ◌&&◌, not, List, [], ◌∷◌}
-use Rattle.std.proofs.Common.{◌++◌, length, take, drop, map, Option, Some, None, Result, Ok, Err, sym, refl, ap, ◌∙◌}
+use Rattle.std.proofs.Common.{◌++◌, take, drop, map, Option, Some, None, Result, Ok, Err, sym, refl, ap, ◌∙◌}
 use Rattle.std.proofs.Common.{append_assoc, append-nil, arith, IsTrue, ltb}
 use Rattle.std.{proofs.Math.Seq.drop-length, proofs.lemmas.Bool.{and_parts, cond-true}}
 use Rattle.std.proofs.lemmas.Bool.Decides.{nat_tests}
@@ -12,7 +12,7 @@ use Rattle.http1.specs.{Body.{body_of}, Decoder.{Completes, Continues}}
 use Rattle.http1.specs.{Decoder.{decoder_for, with_front}, Fields.Header}
 use Rattle.http1.specs.Client.{after_head, closed_client, is_interim, is_written, new_client}
 use Rattle.http1.specs.Client.{request_plan, requesting, switches}
-use Rattle.http1.specs.Conn.{Plan, after_data, awaits_head, data_refusal, data_text, finish_refusal, finish_text}
+use Rattle.http1.specs.Conn.{Plan, awaits_head}
 use Rattle.http1.specs.Conn.{is_until_close, keeps_alive, plan_refusal}
 use Rattle.http1.specs.{Framing.{has_no_body, method_kind}}
 use Rattle.http1.specs.{Head.{is_request_line}, Message.{AcceptsResponse, ReadsResponseMessage, known_of}}
@@ -22,16 +22,17 @@ use Rattle.http1.specs.declared.decode.Decoder.TheVariants.{UntilClose}
 use Rattle.http1.specs.{declared.encode.Encoder.Encoder, declared.error.WriteError.WriteError}
 use Rattle.http1.specs.{declared.framing.Framing.Framing, declared.framing.Framing.TheVariants.NoBody}
 use Rattle.http1.specs.declared.framing.MethodKind.{MethodKind}
-use Rattle.http1.proofs.{DecoderLemmas.{Continues-live, decoder_for-live}, OneParse.body_from_completes}
-use Rattle.gateway_connection.specs.Exchanges.{Exchange, IsFront, IsKept, ReadsExchange, ReadsInterim, ReadsKept}
-use Rattle.gateway_connection.specs.Exchanges.{Request, encoder_in, head_text, keeps_in, last_text}
+use Rattle.http1.proofs.{DecoderLemmas.{decoder_for-live}, OneParse.body_from_completes}
+use Rattle.gateway_connection.proofs.ContentLemmas.{end_at, front_goes, front_grows, put_at, takes_data, takes_end}
+use Rattle.gateway_connection.proofs.ContentLemmas.{writing_at}
+use Rattle.gateway_connection.specs.Exchanges.{Exchange, IsKept, ReadsExchange, ReadsInterim, ReadsKept}
+use Rattle.gateway_connection.specs.Exchanges.{Request, encoder_in, head_text, keeps_in}
 use Rattle.gateway_connection.specs.Exchanges.{plan_of, request_bytes, told_of}
 use Rattle.gateway_connection.specs.History.{Exchanged, IsReached, IsTold, MayFollow, Now, Past, asks, change}
 use Rattle.gateway_connection.specs.History.{is_over, no_past, now_text, tell, texts, with_piece, with_trailers}
 use Rattle.gateway_connection.specs.History.{Fresh, Asked, Hears, Over, Opened, Received, Finished, Begun, Put, Closed}
 use Rattle.gateway_connection.specs.History.{Refused, Written, Said}
-use Rattle.gateway_relay.{specs.Content.{after_pieces, map_of, pieces_text}}
-use Rattle.gateway_relay.proofs.RelayLemmas.{after_pieces-append, pieces_text-append}
+use Rattle.gateway_relay.{specs.Content.{after_pieces, map_of}}
 use Rattle.gateway_connection.specs.{Responses.response_of, declared.event.OriginEvent.OriginEvent}
 use Rattle.gateway_connection.specs.declared.event.OriginFault.{OriginFault}
 use Rattle.gateway_connection.specs.declared.event.OriginResponse.{OriginResponse}
@@ -48,10 +49,6 @@ use Rattle.gateway_connection.specs.declared.event.OriginEvent.TheVariants as Is
 
 -- ---- requests
 
-abbrev writing_at : Option (List Header) → Encoder → Writing
-writing_at None e = Writes.Body e
-writing_at (Some trailers) e = Writes.Done
-
 -- the bytes of a request
 abbrev writing_of : Request → Writing
 writing_of r = writing_at r.trailers (after_pieces r.pieces (encoder_in (plan_of r)))
@@ -59,26 +56,6 @@ writing_of r = writing_at r.trailers (after_pieces r.pieces (encoder_in (plan_of
 texts-append : (es : List Exchange) (e : Exchange) → texts (es ++ e ∷ []) ≡ texts es ++ request_bytes e.request
 texts-append [] e = append-nil (request_bytes e.request)
 texts-append (first ∷ es) e = rw (texts-append es e) (sym (append_assoc (request_bytes first.request) _ _))
-
--- a request that isn't ended takes a piece, or its end
-module _ (head : List ℕ) (pieces : List (List ℕ)) (first : Encoder) (w : Writing) where
-  abbrev text_at : List (List ℕ) → Option (List Header) → List ℕ
-  text_at all t = head ++ (pieces_text all first ++ last_text (after_pieces all first) t)
-
-  put_at : (t : Option (List Header)) (piece : List ℕ) → w ≡ writing_at t (after_pieces pieces first)
-      → data_refusal w (length piece) ≡ None
-      → (after_data w (length piece) ≡ writing_at t (after_pieces (pieces ++ piece ∷ []) first))
-      × (text_at (pieces ++ piece ∷ []) t ≡ text_at pieces t ++ data_text w piece)
-  put_at None piece is accepted = rw is (
-    rw (after_pieces-append pieces piece first),
-    simp (pieces_text-append, append-nil, append_assoc),
-  )
-  put_at (Some trailers) piece is accepted = absurd (cc (rw is at accepted))
-
-  end_at : (t : Option (List Header)) (trailers : List Header) → w ≡ writing_at t (after_pieces pieces first)
-      → finish_refusal w trailers ≡ None → text_at pieces (Some trailers) ≡ text_at pieces t ++ finish_text w trailers
-  end_at None trailers is accepted = rw is (simp (append-nil, append_assoc))
-  end_at (Some before) trailers is accepted = absurd (cc (rw is at accepted))
 
 -- ---- the stream
 
@@ -96,21 +73,6 @@ kept-append : {limits : Limits} {middle rest : List ℕ} (es : List Exchange) (s
 kept-append [] stream e m reads exchange told kept = (m, _, rw reads exchange, told, kept, refl)
 kept-append (first ∷ es) stream e m reads exchange told kept =
     (reads.0, reads.1, reads.2, reads.3, reads.4, kept-append es reads.1 e m reads.5 exchange told kept)
-
--- the front of a body goes on
-front_goes : {first d next : Decoder} {bytes unread content piece : List ℕ} {len : ℕ}
-    → IsFront first bytes d unread content → Continues d unread next len piece
-    → IsFront first bytes next (drop len unread) (content ++ piece)
-front_goes {first} {d} {next} {bytes} {unread} {content} {piece} {len} x continues = record {
-  live = Continues-live d next unread len piece continues;
-  back = λ more body rest completes.
-      rw (append_assoc content piece body.bytes)
-      (x.back more (with_front piece body) rest (continues.back more body rest completes));
-  forth = λ more whole rest completes.
-      let f = x.forth more whole rest completes in
-      let g = continues.forth more f.0 rest f.2 in
-      (g.0, rw (append_assoc content piece g.0.bytes) (f.1 ∙ ap (with_front content) g.1), g.2);
-}
 
 -- ---- the client
 
@@ -182,15 +144,6 @@ asked_busy : (t : Option (List Header)) (e : Encoder) → ¬ (writing_at t e ≡
 asked_busy None e idle = absurd (cc)
 asked_busy (Some trailers) e idle = absurd (cc)
 
-takes_data : (w : Writing) (n : ℕ) → data_refusal w n ≡ None → (e : Encoder) × (w ≡ Writes.Body e)
-takes_data (Writes.Body e) n none = (e, refl)
-takes_data w n none = absurd (cc)
-
-takes_end : (w : Writing) (trailers : List Header) → finish_refusal w trailers ≡ None
-    → (e : Encoder) × (w ≡ Writes.Body e)
-takes_end (Writes.Body e) trailers none = (e, refl)
-takes_end w trailers none = absurd (cc)
-
 -- ---- the input goes on, or ends
 
 grows : {old new : Bool} (bytes : List ℕ) → ((more : List ℕ) → MayFollow new more → MayFollow old (bytes ++ more))
@@ -198,16 +151,6 @@ grows : {old new : Bool} (bytes : List ℕ) → ((more : List ℕ) → MayFollow
     → ((more : List ℕ) → MayFollow old more → P (a ++ more) (b ++ more))
     → (more : List ℕ) → MayFollow new more → P ((a ++ bytes) ++ more) ((b ++ bytes) ++ more)
 grows bytes follows P a b f more may = simp append_assoc (f (bytes ++ more) (follows more may))
-
-front_grows : {first now : Decoder} {after unread content : List ℕ} (bytes : List ℕ)
-    → IsFront first after now unread content → IsFront first (after ++ bytes) now (unread ++ bytes) content
-front_grows {first} {now} {after} {unread} {content} bytes x = record {
-  live = x.live;
-  back = λ more body rest completes. rw (append_assoc after bytes more)
-      (x.back (bytes ++ more) body rest (rw (append_assoc unread bytes more) at completes));
-  forth = λ more whole rest completes. simp (append_assoc unread bytes more)
-      (x.forth (bytes ++ more) whole rest (rw (append_assoc after bytes more) at completes));
-}
 
 goes_grows : {k : Frame} {c : Client} {input : List ℕ} (new : Bool) (bytes : List ℕ)
     → ((more : List ℕ) → MayFollow new more → MayFollow k.ended (bytes ++ more)) → (now : Now) → Goes k c input now

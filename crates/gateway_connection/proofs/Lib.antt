@@ -1,3 +1,4 @@
+pub mod ContentLemmas
 pub mod FieldLemmas
 pub mod FindLemmas
 pub mod HistoryLemmas

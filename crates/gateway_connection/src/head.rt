@@ -2,7 +2,7 @@
 ghost use Rattle.std.specs.Prelude.{◌≡◌, ◌≤◌, drop, length, IfErr, IfOk, OnOk};
 ghost use Rattle.httparse.specs.Spans.{IsResponseWithin, IsSectionWithin, IsWithin, span_bytes};
 ghost use Rattle.http1.specs.ServerTrace.{headers_at};
-ghost use Rattle.gateway_relay.specs.Content.{map_of};
+ghost use Rattle.gateway_relay.specs.{Content.map_of, Failures.{IsMapFailure, map_failure}};
 ghost use Rattle.gateway_connection.specs.Responses.{IsFieldsFault, IsUnder};
 
 use crate::event::{OriginFault, OriginResponse};
@@ -16,22 +16,23 @@ use std::hash::RandomState;
 /// How many fields the head of a response may have, and how many trailer fields.
 pub const MAX_FIELDS: usize = 100;
 
-// Takes the first bytes off the input, and makes a header map of the fields in them.
-pub(crate) fn take_fields(
+/// Takes the first bytes off the input, and makes a header map of the fields in them.
+pub fn take_fields(
     alloc: Global,
     keys: RandomState,
     input: &mut BytesMut,
     len: usize,
     spans: &[HeaderSpan],
     count: usize,
-) -> Result<HeaderMap, OriginFault>
+) -> http::Result<HeaderMap>
     requires { IsSectionWithin input.old.items spans.now len count }
     ensures fields { IfOk result (λ fields. fields ≡ map_of (headers_at input.old.items spans.now count)) }
     ensures rest { OnOk result (input.new.items ≡ drop len input.old.items) }
-    ensures reason { IfErr result (IsFieldsFault (headers_at input.old.items spans.now count)) }
+    ensures reason { IfErr result (λ error.
+        IsMapFailure (headers_at input.old.items spans.now count) (map_failure error)) }
 {
     let section = input.freeze_to(len)?;
-    Ok(header_map(alloc, keys, &section, &spans[..count])?)
+    header_map(alloc, keys, &section, &spans[..count])
 }
 
 // Takes the head under the spans off the input.
@@ -61,8 +62,8 @@ pub(crate) fn take_response(
     })
 }
 
-// Takes the bytes under the span off the input, and those before it.
-pub(crate) fn take_piece(input: &mut BytesMut, piece: Span) -> Result<Bytes, AllocError>
+/// Takes the bytes under the span off the input, and those before it.
+pub fn take_piece(input: &mut BytesMut, piece: Span) -> Result<Bytes, AllocError>
     requires { IsWithin (length input.old.items) piece }
     ensures bytes { IfOk result (λ bytes. bytes ≡ span_bytes input.old.items piece) }
     ensures rest { OnOk result (input.new.items ≡ drop piece.end input.old.items) }

@@ -7,5 +7,5 @@ mod head;
 mod origin;
 
 pub use crate::event::{OriginEvent, OriginFault, OriginResponse};
-pub use crate::head::MAX_FIELDS;
+pub use crate::head::{MAX_FIELDS, take_fields, take_piece};
 pub use crate::origin::OriginConnection;

@@ -1105,4 +1105,80 @@ extern "C" {
         is_last: bool,
         source: *mut usize,
     ) -> u8;
+    pub fn typed_headers_gate_rules_free(rules: *mut GateRules) -> u8;
+    pub fn typed_headers_gate_free(gate: *mut Gate) -> u8;
+    pub fn typed_headers_gate_origin_free(origin: *mut GateOrigin) -> u8;
+    pub fn typed_headers_gate_rules_new(
+        rules: *mut GateRules,
+        gateway: *const Gateway,
+        options: *const GateOptions,
+    ) -> u8;
+    pub fn typed_headers_gate_new(gate: *mut Gate, peer: *const GatePeer, most_head: usize, keys: *const Keys) -> u8;
+    pub fn typed_headers_gate_origin_new(origin: *mut GateOrigin, most_head: usize, keys: *const Keys) -> u8;
+    pub fn typed_headers_gate_next(gate: *mut Gate, rules: *mut GateRules, now: u64, facts: *mut GateFacts) -> u8;
+    pub fn typed_headers_gate_receive(gate: *mut Gate, side: u8, input: *const u8, input_length: usize) -> u8;
+    pub fn typed_headers_gate_finish(gate: *mut Gate, side: u8) -> u8;
+    pub fn typed_headers_gate_output(
+        gate: *mut Gate,
+        side: u8,
+        room: *mut u8,
+        room_length: usize,
+        written: *mut usize,
+    ) -> u8;
+    pub fn typed_headers_gate_sent(gate: *mut Gate, side: u8, count: u64) -> u8;
+    pub fn typed_headers_gate_timed_out(gate: *mut Gate) -> u8;
+    pub fn typed_headers_gate_close_after(gate: *mut Gate) -> u8;
+    pub fn typed_headers_gate_method(gate: *mut Gate, room: *mut u8, room_length: usize, written: *mut usize) -> u8;
+    pub fn typed_headers_gate_target(gate: *mut Gate, room: *mut u8, room_length: usize, written: *mut usize) -> u8;
+    pub fn typed_headers_gate_authority(gate: *mut Gate, room: *mut u8, room_length: usize, written: *mut usize) -> u8;
+    pub fn typed_headers_gate_key(gate: *mut Gate, room: *mut u8, room_length: usize, written: *mut usize) -> u8;
+    pub fn typed_headers_gate_field(
+        gate: *mut Gate,
+        name: *const u8,
+        name_length: usize,
+        room: *mut u8,
+        room_length: usize,
+        written: *mut usize,
+    ) -> u8;
+    pub fn typed_headers_gate_fields(gate: *mut Gate, room: *mut u8, room_length: usize, written: *mut usize) -> u8;
+    pub fn typed_headers_gate_conditions(
+        gate: *mut Gate,
+        section: *const u8,
+        section_length: usize,
+        keys: *const Keys,
+    ) -> u8;
+    pub fn typed_headers_gate_forward(gate: *mut Gate, origin: *mut GateOrigin) -> u8;
+    pub fn typed_headers_gate_again(gate: *mut Gate) -> u8;
+    pub fn typed_headers_gate_answer(gate: *mut Gate, status: u16) -> u8;
+    pub fn typed_headers_gate_respond(
+        gate: *mut Gate,
+        status: u16,
+        section: *const u8,
+        section_length: usize,
+        length: u64,
+        keys: *const Keys,
+    ) -> u8;
+    pub fn typed_headers_gate_push(gate: *mut Gate, piece: *const u8, piece_length: usize) -> u8;
+    pub fn typed_headers_gate_end(gate: *mut Gate) -> u8;
+    pub fn typed_headers_gate_response(
+        gate: *mut Gate,
+        status: *mut u16,
+        room: *mut u8,
+        room_length: usize,
+        written: *mut usize,
+    ) -> u8;
+    pub fn typed_headers_gate_pass(gate: *mut Gate) -> u8;
+    pub fn typed_headers_gate_piece(gate: *mut Gate, room: *mut u8, room_length: usize, written: *mut usize) -> u8;
+    pub fn typed_headers_gate_take(gate: *mut Gate, origin: *mut GateOrigin) -> u8;
+    pub fn typed_headers_gate_own(gate: *mut Gate, status: *mut u16) -> u8;
+    pub fn typed_headers_gate_tunnel(gate: *mut Gate) -> u8;
+    pub fn typed_headers_gate_ask(
+        gate: *mut Gate,
+        method: *const u8,
+        method_length: usize,
+        target: *const u8,
+        target_length: usize,
+        section: *const u8,
+        section_length: usize,
+    ) -> u8;
 }

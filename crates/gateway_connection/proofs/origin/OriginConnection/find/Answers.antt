@@ -1,7 +1,7 @@
 use Rattle.std.proofs.Common.{refl}
 use Rattle.std.proofs.lemmas.Result.{err_from_is_err_and}
 use Rattle.http1.specs.declared.conn.Event.TheVariants as Found
-use Rattle.gateway_connection.proofs.FieldLemmas.{fails_as}
+use Rattle.gateway_connection.proofs.FieldLemmas.{fails_as, fault_of}
 use Rattle.gateway_connection.proofs.FindLemmas.{breaks, head_fault, head_found, interim_of, tells}
 use Rattle.gateway_connection.proofs.FindLemmas.{still, takes_piece, takes_response, trailers_fault}
 use Rattle.gateway_connection.proofs.origin.OriginConnection.find.Goals as goal
@@ -52,7 +52,7 @@ returns-in_err-trailers-in-End-clause-err c =
     let r = c.from_residual-in_err-trailers-in-End in
     let p = err_from_is_err_and r.result r.ensures.1 in
     fails_as r.result p.1 p.2 _ (breaks old _ _ _ (trailers_fault old _ _ _ _ _ _ h.0 c.as_slice.ensures h.2 h.3
-    c.in_err-trailers-in-End.ensures.reason))
+    (fault_of _ _ c.in_err-trailers-in-End.ensures.reason)))
 
 pub returns-in_ok-bytes-in-Data-clause-ok : goal.returns-in_ok-bytes-in-Data-clause-ok
 returns-in_ok-bytes-in-Data-clause-ok c =

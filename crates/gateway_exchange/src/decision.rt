@@ -1,0 +1,219 @@
+//! What is done with a request, as data.
+ghost use Rattle.std.specs.Prelude.{◌≡◌, IfOk, option_map};
+ghost use Rattle.gateway_exchange.specs.Decisions.{IsDecision, IsDecisionFor, IsConnectDecision, IsOutgoing};
+ghost use Rattle.gateway_exchange.specs.Decisions.{OpensWebsocket, takes_over, version_of};
+
+use crate::own::Own;
+use crate::rules::{Peer, Rules, next_connection};
+use bytes::Bytes;
+use decide_handshake::{HandshakeAnswer, Origins, accept};
+use gateway_hops::{HopOutcome, SentRequest, replace_fields, send_request};
+use gateway_messages::{Expectation, FieldLine, Framing, Protocol, ReceivedRequest};
+use gateway_parts::{given_authority, host_value, origin_form, protocol_of, target_of};
+use headers::HeaderValue;
+use http::Version;
+use http_header::HOST;
+use server_stream::RequestHead;
+use std::alloc::{AllocError, Global};
+use std::hash::RandomState;
+
+/// The head of a request as it is sent to an origin server, but for its method.
+#[derive(Debug, Drop)]
+pub struct Outgoing {
+    /// The target.
+    pub target: Bytes,
+    /// How the content is delimited, as received and as sent.
+    pub framing: Framing,
+    /// Who sends the 100 (Continue) that the client waits for.
+    pub expectation: Expectation,
+    /// The fields.
+    pub fields: Vec<FieldLine>,
+}
+
+/// A request that may be forwarded.
+#[derive(Debug, Drop)]
+pub struct AskedRequest {
+    /// Its head as received.
+    pub head: RequestHead,
+    /// Its head as sent.
+    pub outgoing: Outgoing,
+}
+
+impl AskedRequest {
+    /// The host that the request is for, and maybe a port: the Host that is sent.
+    pub fn authority(&self) -> &[u8] {
+        for field in &self.outgoing.fields {
+            if field.name == HOST {
+                return field.value.as_bytes();
+            }
+        }
+        &[]
+    }
+}
+
+/// What is done with a request.
+#[derive(Debug, Drop)]
+pub(crate) enum RequestDecision {
+    /// The gateway answers it itself.
+    Answer(Own),
+    /// It may be sent.
+    Send(Outgoing),
+}
+
+/// The version of HTTP with this minor version.
+fn version_of(minor: u8) -> Version
+    ensures { result ≡ version_of minor }
+{
+    if minor == 0 {
+        Version::HTTP_10
+    } else {
+        Version::HTTP_11
+    }
+}
+
+// Whether the request is an opening handshake of a WebSocket that goes on as one.
+fn opens_websocket(alloc: Global, rules: &Rules, request: &RequestHead) -> Result<bool, AllocError>
+    ensures { IfOk result (OpensWebsocket rules.now request.now) }
+{
+    if !rules.passes_websocket {
+        return Ok(false);
+    }
+    let answer = accept(
+        alloc,
+        &request.method,
+        version_of(request.minor),
+        &request.fields,
+        &[],
+        &Origins::any(),
+    )?;
+    match answer {
+        HandshakeAnswer::Switch(..) => Ok(true),
+        _ => Ok(false),
+    }
+}
+
+// Whether the gateway sends the 100 (Continue) that would be the origin's.
+fn takes_over(answers: bool, expectation: Expectation) -> bool
+    ensures { result ≡ takes_over answers expectation }
+{
+    match (answers, expectation) {
+        (true, Expectation::Forwarded) => true,
+        _ => false,
+    }
+}
+
+// The request as the origin server gets it, without Expect if the gateway answers that itself.
+fn outgoing_of(
+    alloc: Global,
+    rules: &Rules,
+    target: Bytes,
+    sent: SentRequest,
+) -> Result<Outgoing, AllocError>
+    ensures { IfOk result (IsOutgoing rules.now sent target) }
+{
+    if takes_over(rules.answers_expect, sent.expectation) {
+        let own = Expectation::Answered.fields(alloc)?;
+        return Ok(Outgoing {
+            target,
+            framing: sent.framing,
+            expectation: Expectation::Answered,
+            fields: replace_fields(alloc, sent.fields, own)?,
+        });
+    }
+    Ok(Outgoing {
+        target,
+        framing: sent.framing,
+        expectation: sent.expectation,
+        fields: sent.fields,
+    })
+}
+
+// What is done with a request that has this target and this authority, if it is sent so.
+fn decide_for<'a>(
+    alloc: Global,
+    rules: &'a Rules,
+    peer: &'a Peer,
+    request: &'a RequestHead,
+    authority: Option<&'a HeaderValue>,
+    target: Bytes,
+) -> Result<RequestDecision, AllocError>
+    ensures { IfOk result (IsDecisionFor rules.now peer.now request.now
+        (option_map (λ value. value.now.bytes) authority.entry) target) }
+{
+    let head = ReceivedRequest {
+        protocol: protocol_of(request.minor),
+        method: &request.method,
+        authority: given_authority(&rules.authority, &request.fields, authority),
+        fields: &request.fields,
+    };
+    let websocket = HeaderValue::from_static("websocket");
+    let opens = opens_websocket(alloc, rules, request)?;
+    let upgrade = opens.then_some(&websocket);
+    let outcome = send_request(
+        alloc,
+        &rules.gateway,
+        Protocol::Http11,
+        &next_connection(upgrade),
+        rules.forwarding,
+        &peer.arrival(),
+        &head,
+    )?;
+    match outcome {
+        HopOutcome::Send(sent) => Ok(RequestDecision::Send(outgoing_of(
+            alloc, rules, target, sent,
+        )?)),
+        HopOutcome::RequireLength => Ok(RequestDecision::Answer(Own::LengthRequired)),
+        HopOutcome::Respond(_) => Ok(RequestDecision::Answer(Own::FinalRecipient)),
+        HopOutcome::Reject(rejection) => Ok(RequestDecision::Answer(Own::Rejected(rejection))),
+    }
+}
+
+// What is done with CONNECT, whose target is the authority (RFC 9112, section 3.2.3).
+fn decide_connect(
+    alloc: Global,
+    keys: RandomState,
+    rules: &Rules,
+    peer: &Peer,
+    request: &RequestHead,
+) -> Result<RequestDecision, AllocError>
+    ensures { IfOk result (IsConnectDecision rules.now.passes_connect rules.now peer.now request.now) }
+{
+    if !rules.passes_connect {
+        return Ok(RequestDecision::Answer(Own::Connect));
+    }
+    let target = request.target.as_slice();
+    match host_value(alloc, keys, target)? {
+        Some(host) => {
+            let sent = Bytes::copy_from_slice(alloc, target)?;
+            decide_for(alloc, rules, peer, request, Some(&host), sent)
+        }
+        None => Ok(RequestDecision::Answer(Own::InvalidTarget)),
+    }
+}
+
+/// What is done with a request. The keys are for a header map. Fails only if an allocation fails.
+pub(crate) fn decide(
+    alloc: Global,
+    keys: RandomState,
+    rules: &Rules,
+    peer: &Peer,
+    request: &RequestHead,
+) -> Result<RequestDecision, AllocError>
+    ensures { IfOk result (IsDecision rules.now peer.now request.now) }
+{
+    if request.method.as_str() == "CONNECT" {
+        return decide_connect(alloc, keys, rules, peer, request);
+    }
+    let is_options = request.method.as_str() == "OPTIONS";
+    let Some(target) = target_of(is_options, request.target.as_slice()) else {
+        return Ok(RequestDecision::Answer(Own::InvalidTarget));
+    };
+    let sent = origin_form(alloc, is_options, &target)?;
+    let Some(authority) = target.authority else {
+        return decide_for(alloc, rules, peer, request, None, sent);
+    };
+    match host_value(alloc, keys, authority)? {
+        Some(host) => decide_for(alloc, rules, peer, request, Some(&host), sent),
+        None => Ok(RequestDecision::Answer(Own::InvalidTarget)),
+    }
+}

@@ -1,0 +1,4 @@
+pub mod Exchanges
+pub mod Heads
+pub mod History
+pub mod Steps
