@@ -7,6 +7,9 @@ use http::{HeaderName, HeaderValue, StatusCode};
 use std::alloc::{AllocError, Global};
 use std::collections::VecDeque;
 
+/// So many field lines have room without another allocation.
+const USUAL_LINES: usize = 8;
+
 /// A response: its status, its field lines, and the pieces of its content in order.
 ///
 /// The connection adds Content-Length and Connection where they are needed. A response to HEAD has the
@@ -59,6 +62,9 @@ impl ResponsePlan {
         ensures status { self.new.status ≡ self.old.status }
         ensures pieces { self.new.pieces.items ≡ self.old.pieces.items }
     {
+        if self.headers.is_empty() {
+            self.headers.reserve(USUAL_LINES)?;
+        }
         Ok(self.headers.push((name, value))?)
     }
 
