@@ -1,6 +1,7 @@
 pub mod CheckLemmas
 pub mod ElementLemmas
 pub mod GrantLemmas
+pub mod MadeLemmas
 pub mod RefusalLemmas
 pub mod SameLemmas
 pub mod SentLemmas

@@ -1,23 +1,22 @@
 //! Theorems about the definitions alone. To cite one in a proof, call it.
-ghost use Rattle.std.specs.Prelude.{◌≡◌, ◌≢◌, ◌↔◌, ◌⊎◌, ◌∷◌, [], ◌++◌, ℕ, List, None, IsTrue, codes};
+ghost use Rattle.std.specs.Prelude.{◌≡◌, ◌≢◌, ◌↔◌, ◌⊎◌, ◌∷◌, [], ◌++◌, ◌+◌, ◌<◌, ◌^◌, ℕ, List, None};
+ghost use Rattle.std.specs.Prelude.{IsTrue, codes, length};
 ghost use Rattle.headers.{specs.LineMap.{LineMap, fields_of, set_all}, specs.Lines.Line};
 ghost use Rattle.decide_cors.{specs.Answer.{AreSame, IsAnswer}, specs.Browser.{CorsCheck, IsExposed, IsOkStatus}};
 ghost use Rattle.decide_cors.{specs.Browser.{IsPreflightFor, IsSentFor, PreflightPasses, Request}, specs.Cache.Serves};
-ghost use Rattle.decide_cors.{specs.Kinds.IsKindOf, specs.Policy.Policy, specs.declared.kind.CorsKind.CorsKind};
-ghost use Rattle.decide_cors.{specs.declared.policy.CorsAnswer.CorsAnswer, specs.declared.rules.CorsRules.CorsRules};
+ghost use Rattle.decide_cors.{specs.Policy.Policy, specs.declared.policy.CorsAnswer.CorsAnswer};
+ghost use Rattle.decide_cors.specs.declared.rules.CorsRules.{CorsRules};
 ghost use Rattle.decide_cors.specs.Rules.{AllowsCredentials, AllowsOrigin, AllowsRequest, Exposes, IsLawful};
 ghost use Rattle.decide_cors.specs.Rules.{IsPolicyOf};
 
-/// Theorem: each request is of some kind, and so has an answer, which is computed from the kind.
-#[tactic(auto, using(crate::proofs::SameLemmas::some_kind))]
-pub fn request_has_a_kind()
-    ensures { (method : List ℕ) (sent : LineMap) → (kind : CorsKind) × IsKindOf method sent kind }
-{}
-
-/// Theorem: a request has at most one answer: one kind, one permission, and one list of fields.
-#[tactic(auto, using(crate::proofs::SameLemmas::answer_once))]
+/// Theorem: a request has exactly one answer: one kind, one permission, and one list of fields.
+/// (With one more, the field lines of `Vary` must fit a `Vec`.)
+#[tactic(auto, using(crate::proofs::MadeLemmas::some_answer, crate::proofs::SameLemmas::answer_once))]
 pub fn request_has_one_answer()
-    ensures { (policy : Policy) (method : List ℕ) (sent response : LineMap) (a b : CorsAnswer)
+    ensures some { (policy : Policy) (method : List ℕ) (sent response : LineMap)
+        → length (response (codes "vary")) + 1 < 2 ^ 63
+        → (answer : CorsAnswer) × IsAnswer policy method sent response answer }
+    ensures one { (policy : Policy) (method : List ℕ) (sent response : LineMap) (a b : CorsAnswer)
         → IsAnswer policy method sent response a → IsAnswer policy method sent response b → AreSame a b }
 {}
 

@@ -3,13 +3,14 @@ pub mod AnswerLemmas
 mod ChosenLemmas
 mod ConditionLemmas
 mod DeniedLemmas
+pub mod ExistenceLemmas
 mod GuardLemmas
 mod HeadLemmas
 pub mod ItemLemmas
 mod MemberLemmas
 mod OneReasonLemmas
 mod OtherFieldLemmas
-mod OwnFieldLemmas
+pub mod OwnFieldLemmas
 pub mod PickLemmas
 mod PlanLemmas
 mod ReasonLemmas

@@ -1,17 +1,18 @@
 -- What a request is answered (RFC 9110).
 use Rattle.std.specs.Prelude.{◌≡◌, ℕ, Bool, true, false, List, [], ◌∷◌, ◌++◌, slice_get, Option, Some, None, codes}
-use Rattle.std.specs.Prelude.{option_map, bytes_eq, if◌then◌else◌, ⊤}
-use Rattle.headers.specs.LineMap.{Field, LineMap}
+use Rattle.std.specs.Prelude.{option_map, bytes_eq, if◌then◌else◌, ⊤, ◌<◌, ◌^◌, All, length}
+use Rattle.headers.specs.LineMap.{Field, LineMap, lines_at}
 use Rattle.{headers.specs.{LineMap.fields_of, Lines.Line}, decide_cors.specs.Answer.IsAnswer as IsPolicyAnswer}
 use Rattle.decide_cors.specs.{Policy.Policy, declared.policy.CorsAnswer.CorsAnswer}
-use Rattle.{decide_negotiation.specs.Choice.Picks, decide_preconditions.specs.{Fields.is_known_by, Plans.IsSamePlan}}
+use Rattle.decide_negotiation.specs.Choice.{Picks}
+use Rattle.decide_preconditions.specs.{Contents.limits_of, Fields.is_known_by, Plans.IsSamePlan}
 use Rattle.decide_preconditions.specs.{Responses.IsAnswered, declared.{content.Content.Content, plan.Plan.Plan}}
 use Rattle.decide_preconditions.specs.declared.{resource.TargetState.TargetState as Target, response.Response.Response}
 use Rattle.decide_resource.specs.{Applies.applies, Fields.{describes, metadata_fields, reason_fields, status_of}}
 use Rattle.decide_resource.specs.{Fields.{vary_fields, vary_lines}, Reasons.IsFirst, Representations.score}
 use Rattle.decide_resource.specs.{Requests.Request, declared.answer.{Answer.Answer, Sends.Sends}}
 use Rattle.decide_resource.specs.declared.{reason.Reason.Reason, representation.Representation.Representation}
-use Rattle.decide_resource.specs.declared.resource.{Resource.Resource, State.State}
+use Rattle.decide_resource.specs.declared.resource.{MethodRule.MethodRule, Resource.Resource, State.State}
 use Rattle.decide_preconditions.specs.declared.resource.TargetState.TheVariants as target
 use Rattle.decide_resource.specs.declared.answer.Sends.TheVariants as sends
 use Rattle.decide_resource.specs.declared.resource.State.TheVariants as state
@@ -149,6 +150,21 @@ pub record IsAnswer (present : ℕ) (resource : Resource) (request : Request) (a
   pub shared : List Field
   pub is_shared : IsShared resource.cors request (vary_lines resource answer.reason) shared
   pub fields : fields_of answer.fields.items ≡ (own ++ vary_fields (vary_lines resource answer.reason)) ++ shared
+
+-- ---- a resource whose answers fit memory
+
+-- a rule takes fewer lines of each field than a `Vec` may have
+abbrev pub TakesFew : MethodRule → Type 0
+TakesFew rule = (name : List ℕ) → length (lines_at rule.takes name) < 2 ^ 63
+
+-- a response has fewer parts of the representation than a `Vec` may have
+abbrev pub HasFewParts : Representation → Type 0
+HasFewParts representation = (limits_of representation.content).parts < 2 ^ 63
+
+-- Each list of an answer fits a `Vec`. All that a machine can hold does.
+pub record FitsMemory (resource : Resource) : Type 0 where
+  pub takes : All TakesFew resource.rules.items
+  pub parts : All HasFewParts resource.representations.items
 
 -- ---- two answers that say the same
 

@@ -4,7 +4,8 @@ ghost use Rattle.headers.specs.{LineMap.{LineMap, fields_of, set_all}, Merge.mer
 ghost use Rattle.decide_cors.specs.Browser.{CorsCheck, IsOkStatus, IsPreflightFor, PreflightPasses, Request as Sent};
 ghost use Rattle.decide_cors.specs.{Cache.Serves, Policy.Policy, Rules.{AllowsCredentials, AllowsOrigin}};
 ghost use Rattle.decide_cors.specs.{Rules.{AllowsRequest, IsLawful, IsPolicyOf}, declared.rules.CorsRules.CorsRules};
-ghost use Rattle.decide_resource.specs.{Answers.{AreSame, IsAnswer, IsSelected}, Applies.{applies, is_read}};
+ghost use Rattle.decide_resource.specs.{Answers.{AreSame, FitsMemory, IsAnswer, IsSelected}};
+ghost use Rattle.decide_resource.specs.{Applies.{applies, is_read}};
 ghost use Rattle.decide_resource.specs.{Applies.{is_implemented, methods, needs_condition, rule}, Fields.status_denied};
 ghost use Rattle.decide_resource.specs.{Guards.ReplacesNamed, Reasons.{Before, IsFirst}, Requests.{Request, get_of}};
 ghost use Rattle.decide_resource.specs.{Requests.{head_of, unconditional}, Vary.{AreAlike, ChooseAlike, SelectTheSame}};
@@ -33,10 +34,12 @@ pub fn request_selects_one_place()
         → IsSelected resource fields a → IsSelected resource fields b → a ≡ b }
 {}
 
-/// Theorem: a request has at most one answer: one reason, one status, one list of fields, one
-/// content.
+/// Theorem: a request has exactly one answer: one reason, one status, one list of fields, one
+/// content, if what the resource lists fits memory.
 pub fn request_has_one_answer()
-    ensures { (present : ℕ) (resource : Resource) (request : Request) (a b : Answer)
+    ensures some { (present : ℕ) (resource : Resource) (request : Request) → FitsMemory resource
+        → (answer : Answer) × IsAnswer present resource request answer }
+    ensures one { (present : ℕ) (resource : Resource) (request : Request) (a b : Answer)
         → IsAnswer present resource request a → IsAnswer present resource request b → AreSame a b }
 {}
 

@@ -9,18 +9,18 @@ same_value-is None None h = refl
 same_value-is (Some x) (Some y) h = ap Some ((bytes_eq-Decides x y).0 h)
 same_value-is x y h = absurd (cc h)
 
-same_value-refl : (x : Option (List ℕ)) → same_value x x ≡ true
+pub same_value-refl : (x : Option (List ℕ)) → same_value x x ≡ true
 same_value-refl None = refl
 same_value-refl (Some x) = (bytes_eq-Decides x x).1 refl
 
 -- a request that agrees with another takes its place
-agree-first : (vary : List ℕ) (q r s : Request) → agree vary q r ≡ true → agree vary q s ≡ agree vary r s
+agree-first : (vary : List (List ℕ)) (q r s : Request) → agree vary q r ≡ true → agree vary q s ≡ agree vary r s
 agree-first [] q r s h = refl
 agree-first (n ∷ vary) q r s h =
     let a = and_parts (same_value (q.fields n) (r.fields n)) (agree vary q r) h in
     cc (same_value-is (q.fields n) (r.fields n) a.0, agree-first vary q r s a.1)
 
-agree-refl : (vary : List ℕ) (q : Request) → agree vary q q ≡ true
+agree-refl : (vary : List (List ℕ)) (q : Request) → agree vary q q ≡ true
 agree-refl [] q = refl
 agree-refl (n ∷ vary) q = and_from _ _ (same_value-refl (q.fields n)) (agree-refl vary q)
 

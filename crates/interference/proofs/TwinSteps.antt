@@ -27,7 +27,7 @@ head-reply : (whole : Bool) (given : Dated) → head_of (reply_of whole given) �
 head-reply true given = refl
 head-reply false given = refl
 
-alike-same : (secret : ℕ → Bool) (q r : Request) → q ≡ r → Alike secret q r
+alike-same : (secret : List ℕ → Bool) (q r : Request) → q ≡ r → Alike secret q r
 alike-same secret q r same =
     record {
       is_get = ap (λ x. x.is_get) same;

@@ -38,7 +38,7 @@ twin_if R false x y x' y' p q = q refl
 
 pub record Two : Type 0 where
   pub watches : ℕ → Bool
-  pub secret : ℕ → Bool
+  pub secret : List ℕ → Bool
   pub origin : Origin
   pub other : Origin
   pub asks : Clients
@@ -128,7 +128,7 @@ pub data TwinWorld (t : Two) : World → World → Type 0 where
 
 -- ---- requests that are alike
 
-module _ {secret : ℕ → Bool} where
+module _ {secret : List ℕ → Bool} where
   pub alike-store : (q r : Request) → Alike secret q r → (head : Head) → may_store q head ≡ may_store r head
   alike-store q r alike head = cc (alike.is_get, alike.authorized)
 
@@ -136,7 +136,7 @@ module _ {secret : ℕ → Bool} where
       → nat_eq q.target r.target ≡ nat_eq q'.target r'.target
   alike-target q q' r r' a b = cc (a.target, b.target)
 
-  alike-agree : (vary : List ℕ) (q q' r r' : Request) → NamesNone secret vary → Alike secret q q'
+  alike-agree : (vary : List (List ℕ)) (q q' r r' : Request) → NamesNone secret vary → Alike secret q q'
       → Alike secret r r' → agree vary q r ≡ agree vary q' r'
   alike-agree [] q q' r r' public a b = refl
   alike-agree (n ∷ vary) q q' r r' public a b =

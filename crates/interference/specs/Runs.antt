@@ -1,7 +1,7 @@
 -- Runs that show that the theorems aren't vacuous, and that each of their premises is needed. At the end of a line are
 -- the places of the messages (m) and passes (p) that its events add.
 use Rattle.std.specs.Prelude.{ℕ, zero, suc, Bool, true, false, List, [], ◌∷◌, ◌++◌, ◌==◌, if◌then◌else◌, Option, Some}
-use Rattle.std.specs.Prelude.{None}
+use Rattle.std.specs.Prelude.{None, bytes_eq}
 use Rattle.interference.{specs.Events.{Event, Setting}, specs.Events.Event.{Ticks, Changes, Sends, Begins, Asks}}
 use Rattle.interference.specs.Events.Event.{Answers, AnswersNotModified, Returns, Looks, Stores, Freshens, Replies}
 use Rattle.interference.{specs.Events.Event.Arrives, specs.Worlds.{Request, Storing, Answer, Origin, Dated, Kind}}
@@ -29,7 +29,9 @@ get target cookies credentials =
     record {
       is_get = true;
       target = target;
-      fields = λ name. if name == cookie then cookies else (if name == authorization then credentials else None);
+      fields =
+          λ name.
+          if bytes_eq name cookie then cookies else (if bytes_eq name authorization then credentials else None);
     }
 
 -- each client sends a cookie of its own, and asks for the target with the number
@@ -227,8 +229,8 @@ with_a_private_page =
 abbrev pub is_ann : ℕ → Bool
 is_ann client = client == ann
 
-abbrev pub is_cookie : ℕ → Bool
-is_cookie name = name == cookie
+abbrev pub is_cookie : List ℕ → Bool
+is_cookie name = bytes_eq name cookie
 
-abbrev pub is_authorization : ℕ → Bool
-is_authorization name = name == authorization
+abbrev pub is_authorization : List ℕ → Bool
+is_authorization name = bytes_eq name authorization

@@ -60,30 +60,30 @@ pub record GetsAnothers (origin : Origin) (world : World) : Type 0 where
 -- ---- two runs
 
 -- Two requests differ at most in the values of secret fields; and both have Authorization, or neither.
-pub record Alike (secret : ℕ → Bool) (q r : Request) : Type 0 where
+pub record Alike (secret : List ℕ → Bool) (q r : Request) : Type 0 where
   pub is_get : q.is_get ≡ r.is_get
   pub target : q.target ≡ r.target
-  pub fields : (name : ℕ) → secret name ≡ false → q.fields name ≡ r.fields name
+  pub fields : (name : List ℕ) → secret name ≡ false → q.fields name ≡ r.fields name
   pub authorized : is_authorized q ≡ is_authorized r
 
 -- no secret field is among these
-abbrev pub NamesNone : (ℕ → Bool) → List ℕ → Type 0
+abbrev pub NamesNone : (List ℕ → Bool) → List (List ℕ) → Type 0
 NamesNone secret [] = ⊤
 NamesNone secret (name ∷ vary) = (secret name ≡ false) × NamesNone secret vary
 
-abbrev pub VariesByNone : (ℕ → Bool) → Storing → Type 0
+abbrev pub VariesByNone : (List ℕ → Bool) → Storing → Type 0
 VariesByNone secret NotShared = ⊤
 VariesByNone secret (Shared vary even_authorized) = NamesNone secret vary
 
 -- no answer that may be stored varies by a secret field
-abbrev pub NoVaryNamesASecret : (ℕ → Bool) → Origin → Type 0
+abbrev pub NoVaryNamesASecret : (List ℕ → Bool) → Origin → Type 0
 NoVaryNamesASecret secret origin =
     (version : ℕ) (q : Request) → may_store q (origin version q).head ≡ true
     → VariesByNone secret (origin version q).head.storing
 
 -- Some clients watch, all together. They ask the same, if they have been told the same; the others' requests are alike,
 -- whatever these have been told.
-pub record DifferInSecrets (watches secret : ℕ → Bool) (clients others : Clients) : Type 0 where
+pub record DifferInSecrets (watches : ℕ → Bool) (secret : List ℕ → Bool) (clients others : Clients) : Type 0 where
   pub watching : (client number : ℕ) (told : List Dated) → watches client ≡ true
       → clients client number told ≡ others client number told
   pub other : (client number : ℕ) (told told' : List Dated) → watches client ≡ false
@@ -91,7 +91,7 @@ pub record DifferInSecrets (watches secret : ℕ → Bool) (clients others : Cli
 
 -- Two origin servers give each answer to a request of those who watch alike. Asked two requests that are alike, they
 -- give the same answer, or two that may not be stored.
-pub record DifferInPrivate (watches secret : ℕ → Bool) (clients : Clients) (origin other : Origin) : Type 0 where
+pub record DifferInPrivate (watches : ℕ → Bool) (secret : List ℕ → Bool) (clients : Clients) (origin other : Origin) : Type 0 where
   pub watching : (version client number : ℕ) (told : List Dated) → watches client ≡ true
       → origin version (clients client number told) ≡ other version (clients client number told)
   pub alike : (version : ℕ) (q r : Request) → Alike secret q r

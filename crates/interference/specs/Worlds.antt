@@ -1,18 +1,18 @@
 -- Requests, what the origin server answers to them, and what shared caches store of that (RFC 9110; RFC 9111).
 use Rattle.std.specs.Prelude.{ℕ, Bool, true, false, List, [], ◌∷◌, ◌+◌, ◌++◌, ◌==◌, ◌&&◌, ◌||◌, not, if◌then◌else◌}
-use Rattle.std.specs.Prelude.{bytes_eq, nat_le, Option, Some, None}
+use Rattle.std.specs.Prelude.{bytes_eq, codes, nat_le, Option, Some, None}
 
--- A request: the combined value of each field that it has, by the number of the field's name. Who sends it isn't in it.
+-- A request: the combined value of each field that it has (RFC 9110, section 5.2). Who sends it isn't in it.
 pub record Request : Type 0 where
   pub is_get : Bool
   pub target : ℕ
-  pub fields : ℕ → Option (List ℕ)
+  pub fields : List ℕ → Option (List ℕ)
 
-abbrev pub cookie : ℕ
-cookie = 1
+abbrev pub cookie : List ℕ
+cookie = codes "cookie"
 
-abbrev pub authorization : ℕ
-authorization = 2
+abbrev pub authorization : List ℕ
+authorization = codes "authorization"
 
 -- ---- answers
 
@@ -21,7 +21,7 @@ pub data Storing : Type 0 where
   -- private or no-store
   NotShared : Storing
   -- for requests that agree in the fields that Vary names; `even_authorized`: public, must-revalidate or s-maxage (3.5)
-  Shared : (vary : List ℕ) → (even_authorized : Bool) → Storing
+  Shared : (vary : List (List ℕ)) → (even_authorized : Bool) → Storing
 
 -- An answer's fields, as a 304 has them too (RFC 9110, section 15.4.5). The lifetime is in seconds; `others` are all
 -- that no cache reads, as Set-Cookie.
@@ -70,7 +70,7 @@ same_value (Some x) None = false
 same_value (Some x) (Some y) = bytes_eq x y
 
 -- two requests agree in these fields (section 4.1)
-abbrev pub agree : List ℕ → Request → Request → Bool
+abbrev pub agree : List (List ℕ) → Request → Request → Bool
 agree [] q r = true
 agree (name ∷ vary) q r = same_value (q.fields name) (r.fields name) && agree vary q r
 

@@ -14,8 +14,9 @@ use Rattle.server_connection.proofs.SendLemmas.{base_out, answers, call, closes_
 use Rattle.server_connection.{proofs.SendLemmas.{laid_open, moves, stays_open}, specs.declared.machine.Machine.Machine}
 use Rattle.server_connection.{specs.declared.piece.OpenRange.OpenRange, specs.declared.piece.Piece.Piece}
 use Rattle.server_connection.specs.declared.plan.ResponsePlan.{ResponsePlan}
-use Rattle.server_connection.specs.Connection.{Exchanged, HasEnded, IsClosing}
-use Rattle.server_connection.{specs.Connection.{IsReached, IsSentLiterally, Turns}, specs.Connection.IsReached.begun}
+use Rattle.server_connection.specs.Connection.{Exchanged, HasEnded, HasRested, HasTurned, IsClosing, IsReached}
+use Rattle.server_connection.specs.Connection.{IsSentLiterally, IsTurned, Turns, WaitsAtRest, IsReached.begun}
+use Rattle.server_connection.specs.Connection.IsTurned.{by_none, by_read, by_write}
 use Rattle.server_connection.{specs.Connection.IsReached.moved, specs.Literal.{IsLater, IsLiteral}}
 use Rattle.server_connection.{specs.Pieces.{Shortens, Advances, Gives}, specs.declared.machine.Phase.Phase}
 use Rattle.server_connection.specs.declared.machine.Phase.TheVariants.{Receiving, Asking, Responding}
@@ -453,7 +454,7 @@ module _ {H : Type 0} (plans : Plans H) (gives : H → Gives) where
   abbrev pub HasRun : Config → H → (remaining left contents grown : Option (List ℕ)) → Machine → H → Type 0
   HasRun config first remaining left contents grown m now =
       (received : List ℕ) × (sent : List ℕ) × Consumes remaining left received × Appends contents grown sent
-      × IsReached plans gives config first m now received sent
+      × HasTurned plans gives config first m now received sent left
 
   -- ---- the end
 
@@ -770,42 +771,85 @@ module _ {H : Type 0} {plans : Plans H} {gives : H → Gives} where
 
   -- ---- the loop over a reader and a writer
 
+  pub is_reached : {config : Config} {first now : H} {m : Machine} {received sent : List ℕ}
+      → IsTurned plans gives config first m now received sent → IsReached plans gives config first m now received sent
+  is_reached (by_none m x) = x
+  is_reached {config} {first} (by_write old new before now received sent more x step) =
+      subst (λ (t : List ℕ). IsReached plans gives config first new now t (sent ++ more)) (append-nil received)
+      (moved old new before now received sent [] more (is_reached x) step)
+  is_reached {config} {first} (by_read old new now received sent more x rests step) =
+      subst (λ (t : List ℕ). IsReached plans gives config first new now (received ++ more) t) (append-nil sent)
+      (moved old new now now received sent more [] (is_reached x) step)
+
+  -- where the connection rests, its input goes on
+  pub rests_open : {first now : H} {m : Machine} {received sent : List ℕ}
+      → HasRested plans gives first m now received sent → m.state ≡ Open → m.ended ≡ false
+  rests_open h going = (h.rests going (omega (arith, ap length h.empty))).0
+
   -- one turn more
   pub runs_on : {config : Config} {first : H} (r u : Option (List ℕ)) {s t v w : Option (List ℕ)} {a b : Machine}
       {f g : H} → Turns plans gives s t v w a f b g → HasRun plans gives config first r s u v a f
       → HasRun plans gives config first r t u w b g
-  runs_on r u {s} {t} {v} {w} {a} {b} {f} {g} turn run = (
+  runs_on {config} {first} r u {s} {t} {v} {w} turn run = (
     run.0 ++ turn.received,
     run.1 ++ turn.sent,
     Consumes-then r s t run.0 turn.received run.2 turn.consumes,
     Appends-then u v w run.1 turn.sent run.3 turn.appends,
-    moved a b f g run.0 run.1 turn.received turn.sent run.4 turn.moves,
+    turn.goes config first run.0 run.1 run.4,
   )
 
   -- a turn that reads nothing
   pub turns_by : {remaining contents grown : Option (List ℕ)} {old new : Machine} {before now : H} (sent : List ℕ)
-      → Appends contents grown sent → Moves plans gives old before [] sent new now
+      → Appends contents grown sent → Moves plans gives old before [] sent new now → new.ended ≡ old.ended
       → Turns plans gives remaining remaining contents grown old before new now
-  turns_by {remaining} sent written x = record {
+  turns_by {remaining} {old = old} {new = new} {before = before} {now = now} sent written x same = record {
     received = [];
     sent = sent;
     consumes = Consumes-none remaining remaining (stays_known remaining);
     appends = written;
-    moves = x;
+    goes = λ config first r s h. record {
+      turned =
+          subst (λ (t : List ℕ). IsTurned plans gives config first new now t (s ++ sent)) (sym (append-nil r))
+          (by_write old new before now r s sent h.turned x);
+      ends = λ e. h.ends (sym same ∙ e);
+    };
   }
 
-  -- a turn that flushes and reads
-  pub turns_read : {remaining left contents grown : Option (List ℕ)} {old new : Machine} {before now : H}
+  -- a turn that flushes and reads, after a step that needs nothing
+  pub turns_read : {remaining left contents grown : Option (List ℕ)} {old between new : Machine} {now : H}
       (bytes : List ℕ) → StaysKnown contents grown → Consumes remaining left bytes
-      → Moves plans gives old before bytes [] new now
-      → Turns plans gives remaining left contents grown old before new now
-  turns_read {contents = contents} {grown = grown} bytes flushed read x = record {
-    received = bytes;
-    sent = [];
-    consumes = read;
-    appends = Appends-none contents grown flushed;
-    moves = x;
-  }
+      → Moves plans gives old now [] [] between now
+      → ((config : Config) (first : H) (r s : List ℕ) → HasTurned plans gives config first old now r s remaining
+      → IsTurned plans gives config first between now r s
+      → HasTurned plans gives config first new now (r ++ bytes) s left)
+      → Turns plans gives remaining left contents grown old now new now
+  turns_read {contents = contents} {grown = grown} {old = old} {between = between} {new = new} {now = now} bytes flushed
+      reads step goes = record {
+        received = bytes;
+        sent = [];
+        consumes = reads;
+        appends = Appends-none contents grown flushed;
+        goes = λ config first r s h.
+            let y =
+            subst (λ (t : List ℕ). IsTurned plans gives config first between now r t) (append-nil s)
+            (by_write old between now now r s [] h.turned step) in
+            let z = goes config first r s h y in record {
+              turned =
+                  subst (λ (t : List ℕ). IsTurned plans gives config first new now (r ++ bytes) t) (sym (append-nil s))
+                  z.turned;
+              ends = z.ends;
+            };
+      }
+
+  -- what is dropped after the end
+  pub turned_drop : {config : Config} {first now : H} {old new : Machine} {received sent : List ℕ} (bytes : List ℕ)
+      → IsTurned plans gives config first old now received sent → old.output.items ≡ [] → Drops old new bytes
+      → IsTurned plans gives config first new now (received ++ bytes) sent
+  turned_drop {config} {first} {now} {old} {new} {received} {sent} bytes x written (inl nothing) =
+      rw (nothing.1, nothing.0, append-nil received) x
+  turned_drop {now = now} {old = old} {new = new} {received = received} {sent = sent} bytes x written (inr some) =
+      by_read old new now received sent bytes x (inr (subst IsClosing (sym some.state) tt, written))
+      (moves_drop now bytes (inr some))
 
   module _ {config : Config} {first : H} where
     pub reached : {m : Machine} {now : H} {received sent : List ℕ}
@@ -846,12 +890,20 @@ module _ {H : Type 0} {plans : Plans H} {gives : H → Gives} where
 
   -- nothing was read and nothing was written
   pub run_first : {config : Config} {first : H} {m : Machine} (r u : Option (List ℕ))
-      → IsReached plans gives config first m first [] [] → HasRun plans gives config first r r u u m first
-  run_first r u x = ([], [], Consumes-none r r (stays_known r), Appends-none u u (stays_known u), x)
+      → IsReached plans gives config first m first [] [] → m.ended ≡ false
+      → HasRun plans gives config first r r u u m first
+  run_first {m = m} r u x going = (
+    [],
+    [],
+    Consumes-none r r (stays_known r),
+    Appends-none u u (stays_known u),
+    record { turned = by_none m x; ends = λ e. absurd (cc (going, e)) },
+  )
 
   -- what the connection says of its bytes is returned
   pub run_ends : {config : Config} {first now : H} {m : Machine} (r s u v : Option (List ℕ)) {b : Bool} (done : Bool)
       → done ≡ b → (run : HasRun plans gives config first r s u v m now)
       → Exchanged plans gives config first now run.0 run.1 b → (received : List ℕ) × (sent : List ℕ)
       × Consumes r s received × Appends u v sent × Exchanged plans gives config first now received sent done
-  run_ends r s u v done is run x = (run.0, run.1, run.2, run.3, rw is x)
+      × WaitsAtRest plans gives config first now received sent s
+  run_ends {m = m} r s u v done is run x = (run.0, run.1, run.2, run.3, rw is x, (m, run.4))

@@ -1,6 +1,6 @@
 -- What is written over a connection, and what it wants of its host.
 use Rattle.std.specs.Prelude.{◌≡◌, ◌≢◌, ℕ, ◌⊎◌, Bool, true, false, List, [], ◌++◌, Option, ⊤}
-use Rattle.std.specs.Io.KnownBytes.{Appends, Consumes}
+use Rattle.std.specs.Io.KnownBytes.{Appends, Consumes, IsAtEnd}
 use Rattle.http_server.{specs.declared.state.Config.Config, specs.declared.state.State.State}
 use Rattle.http_server.{specs.declared.state.State.TheVariants.{Open, Closing, Upgraded, Aborted}, specs.Exchange.Chain}
 use Rattle.http_server.specs.History.{History, IsServed, Rests}
@@ -85,11 +85,42 @@ pub record HasRested {H : Type 0} (plans : Plans H) (gives : H → Gives) (first
   pub rests : Rests m.config (history_of m past)
   pub empty : m.output.items ≡ []
 
--- a turn of the loop over a reader and a writer moves the connection by the bytes that it read and wrote
+-- the connection closes as HTTP has it, and all of its output is written
+abbrev pub HasWritten : Machine → Type 0
+HasWritten m = IsClosing m.state × (m.output.items ≡ [])
+
+-- A connection over a reader and a writer, once these bytes were read and these were written. It reads only where it
+-- rests, or, to drop the rest of a content that it rejected, where it has written all.
+pub data IsTurned {H : Type 0} (plans : Plans H) (gives : H → Gives) (config : Config) (first : H)
+    : Machine → H → List ℕ → List ℕ → Type 0 where
+  by_none : (m : Machine) → IsReached plans gives config first m first [] [] →
+      IsTurned plans gives config first m first [] []
+  by_write : (old new : Machine) (before now : H) (received sent more : List ℕ) →
+      IsTurned plans gives config first old before received sent → Moves plans gives old before [] more new now →
+      IsTurned plans gives config first new now received (sent ++ more)
+  by_read : (old new : Machine) (now : H) (received sent more : List ℕ) →
+      IsTurned plans gives config first old now received sent →
+      HasRested plans gives first old now received sent ⊎ HasWritten old →
+      Moves plans gives old now more [] new now → IsTurned plans gives config first new now (received ++ more) sent
+
+-- so it is, and its input counts as ended only if no byte of it is left
+pub record HasTurned {H : Type 0} (plans : Plans H) (gives : H → Gives) (config : Config) (first : H) (m : Machine)
+    (now : H) (received sent : List ℕ) (left : Option (List ℕ)) : Type 0 where
+  pub turned : IsTurned plans gives config first m now received sent
+  pub ends : m.ended ≡ true → IsAtEnd left
+
+abbrev pub WaitsAtRest : {H : Type 0} → Plans H → (H → Gives) → Config → H → H → List ℕ → List ℕ → Option (List ℕ)
+    → Type 0
+WaitsAtRest plans gives config first now received sent left =
+    (m : Machine) × HasTurned plans gives config first m now received sent left
+
+-- a turn of the loop over a reader and a writer, in which these bytes are read and these are written
 pub record Turns {H : Type 0} (plans : Plans H) (gives : H → Gives) (remaining left contents grown : Option (List ℕ))
     (old : Machine) (before : H) (new : Machine) (now : H) : Type 0 where
   pub received : List ℕ
   pub sent : List ℕ
   pub consumes : Consumes remaining left received
   pub appends : Appends contents grown sent
-  pub moves : Moves plans gives old before received sent new now
+  pub goes : (config : Config) (first : H) (r s : List ℕ)
+      → HasTurned plans gives config first old before r s remaining
+      → HasTurned plans gives config first new now (r ++ received) (s ++ sent) left

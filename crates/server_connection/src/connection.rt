@@ -1,5 +1,5 @@
 //! A connection, as its host has it.
-ghost use Rattle.std.specs.Prelude.{◌≡◌, ◌↔◌, ◌≤◌, ℕ, [], List, length, true, IfNone, IfSome, OnErr, OnOk, IsTrue};
+ghost use Rattle.std.specs.Prelude.{◌≡◌, ◌↔◌, ◌≤◌, ℕ, [], List, length, false, true, IfNone, IfSome, OnErr, OnOk, IsTrue};
 ghost use Rattle.http_server.specs.declared.state.Config.{Config};
 ghost use Rattle.server_connection.specs.Connection.{Exchanged, HasRested, IsClosing, IsReached, IsSaid};
 ghost use Rattle.server_connection.specs.Machine.{HandsOut, HandsOutRange, HasAborted, HasNoRange, HasStopped};
@@ -43,6 +43,7 @@ impl ServerConnection {
     pub fn new<A: Application>(alloc: Global, keys: RandomState, config: Config) -> ServerConnection
         ensures begins { (first : A) → IsReached A.plans A.gives config first result.machine first [] [] }
         ensures phase { result.machine.phase ≡ Phase.Receiving }
+        ensures ended { result.machine.ended ≡ false }
     {
         ServerConnection {
             machine: Machine::new(alloc, keys, config),
@@ -77,6 +78,7 @@ impl ServerConnection {
     pub fn next<A: Application>(&mut self) -> Event
         ensures moves { (now : A) → Moves A.plans A.gives self.old.machine now [] [] self.new.machine now }
         ensures said { IsSaid self.new.machine result }
+        ensures ended { (now : A) → self.new.machine.ended ≡ self.old.machine.ended }
         ensures rests { result ≡ Event.NeedsInput → (config : Config) (first now : A) (received sent : List ℕ)
             → IsReached A.plans A.gives config first self.old.machine now received sent
             → HasRested A.plans A.gives first self.new.machine now received sent }

@@ -89,6 +89,7 @@ impl Machine {
         ensures phase { result.phase ≡ Phase.Receiving }
         ensures state { result.state ≡ State.Open }
         ensures output { result.output.items ≡ [] }
+        ensures ended { result.ended ≡ false }
         ensures holds { Holds (core result new_past) }
     {
         let parts = Parts {
@@ -155,7 +156,8 @@ impl Machine {
     // ends the connection once it reads that the server does (RFC 9112, section 9.6). After other rejections it may
     // send nothing, and wait.
     fn unwanted(&self) -> u64
-        ensures { 0 < result → (self.now.state ≡ Closing (Refused BodyTooLarge)) × (self.now.phase ≡ Phase.Receiving) }
+        ensures { 0 < result → (self.now.state ≡ Closing (Refused BodyTooLarge)) × (self.now.phase ≡ Phase.Receiving)
+            × (self.now.ended ≡ false) }
     {
         let is_too_large = matches!(
             self.state,
@@ -177,8 +179,11 @@ impl Machine {
     /// Drops what was read of a content that was rejected for its length, and reads once more. Returns
     /// false if there is no more to read. A client that still sends could lose the response otherwise.
     pub(crate) fn drop_content<R: Read>(&mut self, reader: &mut R) -> bool
-        ensures { (bytes : List ℕ) × Drops self.old self.new bytes
+        ensures drops { (bytes : List ℕ) × Drops self.old self.new bytes
             × Consumes (R.remaining reader.old) (R.remaining reader.new) bytes }
+        ensures end { self.new.ended ≡ true
+            → ((self.old.ended ≡ true) × (R.remaining reader.new ≡ R.remaining reader.old))
+            ⊎ IsAtEnd (R.remaining reader.new) }
     {
         if self.unwanted() == 0 {
             return false;

@@ -1,7 +1,8 @@
 //! One connection over a reader and a writer that block.
 ghost use Rattle.std.{specs.Prelude.{◌≡◌, ℕ, List, [], is_ok}, specs.Io.KnownBytes.{Appends, Consumes}};
-ghost use Rattle.server_connection.{specs.Connection.{Exchanged, IsSaid, Turns}, specs.Machine.{IsNextRange, Leads}};
-ghost use Rattle.server_connection.specs.Machine.{Moves};
+ghost use Rattle.http_server.specs.declared.state.Config.{Config};
+ghost use Rattle.server_connection.specs.Connection.{Exchanged, HasRested, IsReached, IsSaid, Turns, WaitsAtRest};
+ghost use Rattle.server_connection.specs.Machine.{IsNextRange, Leads, Moves};
 
 use crate::connection::{Event, ServerConnection};
 use crate::handler::Handler;
@@ -36,7 +37,8 @@ pub fn serve_exchanges<H: Handler, R: Read, W: Write>(
     ensures { (received : List ℕ) × (sent : List ℕ)
         × Consumes (R.remaining reader.old) (R.remaining reader.new) received
         × Appends (W.contents writer.old) (W.contents writer.new) sent
-        × Exchanged H.plans H.gives config handler.old handler.new received sent (is_ok result) }
+        × Exchanged H.plans H.gives config handler.old handler.new received sent (is_ok result)
+        × WaitsAtRest H.plans H.gives config handler.old handler.new received sent (R.remaining reader.new) }
 {
     let mut connection = ServerConnection::new::<H>(alloc, keys, config);
     let mut buffer = vec![in alloc; 0; PIECE_LEN]?;
@@ -73,9 +75,13 @@ fn turn<H: Handler, R: Read, W: Write>(
             connection.machine.read_from(reader)?;
             Ok(false)
         }
-        Event::Closed(_) | Event::Aborted => {
+        Event::Closed(_) => {
             writer.flush()?;
             Ok(!connection.machine.drop_content(reader))
+        }
+        Event::Aborted => {
+            writer.flush()?;
+            Ok(true)
         }
     }
 }
@@ -84,6 +90,10 @@ fn turn<H: Handler, R: Read, W: Write>(
 fn next<H: Handler>(connection: &mut ServerConnection, handler: &H) -> Event
     ensures moves { Moves H.plans H.gives connection.old.machine handler.now [] [] connection.new.machine handler.now }
     ensures said { IsSaid connection.new.machine result }
+    ensures rests { result ≡ Event.NeedsInput → (config : Config) (first : H) (received sent : List ℕ)
+        → IsReached H.plans H.gives config first connection.old.machine handler.now received sent
+        → HasRested H.plans H.gives first connection.new.machine handler.now received sent }
+    ensures ended { connection.new.machine.ended ≡ connection.old.machine.ended }
 {
     let was_open = connection.machine.is_open();
     let event = connection.next::<H>();
@@ -118,7 +128,8 @@ fn send<H: Handler, W: Write>(
     writer: &mut W,
 ) -> io::Result<bool>
     ensures { (sent : List ℕ) × Appends (W.contents writer.old) (W.contents writer.new) sent
-        × Moves H.plans H.gives connection.old.machine handler.now [] sent connection.new.machine handler.now }
+        × Moves H.plans H.gives connection.old.machine handler.now [] sent connection.new.machine handler.now
+        × (connection.new.machine.ended ≡ connection.old.machine.ended) }
 {
     if let Some(extent) = connection.machine.range_to_read() {
         fill(connection, handler, extent, buffer);

@@ -13,6 +13,9 @@ pub returns-clause-moves : goal.returns-clause-moves
 returns-clause-moves g c = λ now.
     moves_steps (leads_then (c.loop-spans.invariant now) (c.step.ensures.leads now))
 
+pub returns-clause-ended : goal.returns-clause-ended
+returns-clause-ended g c = λ now. (leads_then (c.loop-spans.invariant now) (c.step.ensures.leads now)).ended
+
 pub returns-clause-rests : goal.returns-clause-rests
 returns-clause-rests g c = λ said config first now received sent x.
     let y = reached x in
