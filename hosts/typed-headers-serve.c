@@ -349,10 +349,12 @@ static bool plan_file(struct peer *peer) {
     size_t count = 0, length, source = MOST_FOUND;
     uint8_t status;
     char path[PATH_MAX];
+    bool has_path;
     do { /* It mostly names one path. A plan is refused while it names another. */
         status = typed_headers_files_path(&own.files, &peer->connection, found, count, (uint8_t *)path,
                                           sizeof path - 1, &length);
-        if (status == TYPED_HEADERS_DONE || status == TYPED_HEADERS_NO_ROOM) {
+        has_path = status == TYPED_HEADERS_DONE || status == TYPED_HEADERS_NO_ROOM;
+        if (has_path) {
             /* The system opens no path that is longer than the room. */
             path[status == TYPED_HEADERS_DONE ? length : 0] = 0;
             files[count] = find(path, &found[count], &statuses[count]);
@@ -362,7 +364,7 @@ static bool plan_file(struct peer *peer) {
         }
         status = typed_headers_files_plan(&own.files, &peer->connection, found, count, worker.date, peer->is_last,
                                           &source);
-    } while (status == TYPED_HEADERS_REFUSED && count < MOST_FOUND);
+    } while (status == TYPED_HEADERS_REFUSED && has_path && count < MOST_FOUND);
     for (size_t i = 0; i < count; i++) {
         if (status == TYPED_HEADERS_DONE && i == source && files[i] >= 0) {
             peer->file = files[i];
