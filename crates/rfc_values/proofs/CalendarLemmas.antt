@@ -1,8 +1,7 @@
 -- The sums of the calendar in closed form, and their order.
-use Rattle.std.proofs.Common.{◌≡◌, ℕ, zero, suc, ◌+◌, ◌-◌, ◌*◌, ◌/◌, ◌≤◌, refl, arith}
-use Rattle.std.proofs.lemmas.Bool.Decides.{nat_tests}
-use Rattle.httpdate.specs.Calendar.{days_in_year, days_in_month, days_of_years, days_of_months}
-use Rattle.rfc_values.specs.Calendar.{days_before_year}
+use Rattle.httpdate.specs.Calendar.{days_in_month, days_in_year, days_of_months, days_of_years}
+use Rattle.{rfc_values.specs.Calendar.days_before_year, std.proofs.Common.{arith, refl, suc, zero, ℕ, ◌*◌, ◌+◌, ◌-◌}}
+use Rattle.std.proofs.{Common.{◌/◌, ◌≡◌, ◌≤◌}, lemmas.Bool.Decides.nat_tests}
 
 -- the days before the year y, by its leap years: each fourth but each hundredth, and each four hundredth
 abbrev pub days_before : ℕ → ℕ
@@ -14,10 +13,7 @@ days_before-suc y = grind (arith, nat_tests)
 pub days_before_year_closed : (y : ℕ) → days_before_year y ≡ days_before y
 unfolding days_before_year
 days_before_year_closed zero = refl
-days_before_year_closed (suc y) =
-    let before = days_before_year_closed y in
-    let step = days_before-suc y in
-    omega arith
+days_before_year_closed (suc y) = grind (arith, days_before-suc, days_before_year_closed y)
 
 -- from 1970 on, as httpdate counts
 pub days_before_year-1970 : (n : ℕ) → days_before_year (1970 + n) ≡ days_of_years n + 719528
@@ -51,10 +47,7 @@ days_before_year_later y z h =
 pub days_of_months_bound : (y n : ℕ) → days_of_months y n ≤ 31 * n
 unfolding days_of_months
 days_of_months_bound y zero = omega arith
-days_of_months_bound y (suc n) =
-    let before = days_of_months_bound y n in
-    let more = short_month y (suc n) in
-    omega arith
+days_of_months_bound y (suc n) = grind (arith, short_month, days_of_months_bound y n)
 
 near_february : (y z m : ℕ) → days_in_month y m ≤ days_in_month z m + 1
 near_february y z m = grind (arith, nat_tests)
@@ -68,7 +61,4 @@ unfolding days_of_months
 days_of_months_near y z zero = omega arith
 days_of_months_near y z (suc zero) = omega arith
 days_of_months_near y z (suc (suc zero)) = let near = near_february y z 2 in omega arith
-days_of_months_near y z (suc (suc (suc n))) =
-    let before = days_of_months_near y z (suc (suc n)) in
-    let same = other_month y z (suc (suc (suc n))) (omega arith) in
-    omega arith
+days_of_months_near y z (suc (suc (suc n))) = grind (arith, other_month, days_of_months_near y z (suc (suc n)))

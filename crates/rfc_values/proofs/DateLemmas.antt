@@ -1,70 +1,37 @@
 -- The function that reads a date reads exactly what the definition says.
-use Rattle.std.proofs.Common.{◌≡◌, ℕ, zero, suc, ◌+◌, ◌*◌, ◌%◌, ◌==◌, Bool, true, false, cond, List, [], ◌∷◌, ◌++◌}
-use Rattle.std.proofs.Common.{get_or, Option, Some, None, MatchOption, option_map, option_and_then, refl, sym, ap, ◌∙◌}
-use Rattle.std.{proofs.Common.{subst, arith, inl, inr}, proofs.lemmas.Bool.{and_parts, leb-true, ltb-true}}
-use Rattle.std.{proofs.lemmas.Bool.Decides.nat_tests, proofs.lemmas.Option.{none-some, same_Some}, specs.Int.IsInRange}
-use Rattle.httpdate.{specs.Reader.{read_tag, read_name, read_padded_day}, specs.Text.{day_name, day_name_rest}}
-use Rattle.httpdate.{specs.Text.two_digits, proofs.OptionLemmas.{cond_some, and_then_some}}
-use Rattle.httpdate.proofs.ReaderLemmas.{after_tag_sound, read_name_sound, read_name-day_name, read_tag_complete}
-use Rattle.httpdate.proofs.ReaderLemmas.{read_padded_day_digits, read_padded_day_space}
-use Rattle.rfc_values.specs.declared.date_time.DateTime.{DateTime}
-use Rattle.rfc_values.specs.Calendar.{seconds, in_year, IsDateTime, IsNear}
-use Rattle.rfc_values.{specs.Date.{ShowsDate, ShowsNamed, Denotes, timestamp}, specs.Reader.is_date_time}
-use Rattle.rfc_values.specs.Reader.{in_near_century, read_imf_fixdate, read_rfc850_date, read_asctime_date, read_form}
-use Rattle.rfc_values.{specs.Reader.date_time, proofs.CalendarLemmas.short_month, proofs.FormatLemmas.imf_rest}
-use Rattle.rfc_values.proofs.FormatLemmas.{rfc850_rest, asctime_rest, imf_fixdate_grouped, rfc850_date_grouped}
-use Rattle.rfc_values.proofs.FormatLemmas.{asctime_date_grouped, Fits, imf_complete, rfc850_complete, asctime_complete}
-use Rattle.rfc_values.proofs.FormatLemmas.{imf_sound, rfc850_sound, asctime_sound}
-use Rattle.rfc_values.proofs.YearLemmas.{near_century_sound, near_century_complete}
+use Rattle.httpdate.proofs.{OptionLemmas.{and_then_some, cond_some}, ReaderLemmas.{after_tag_sound, read_name-day_name}}
+use Rattle.httpdate.proofs.ReaderLemmas.{read_name_sound, read_padded_day_digits, read_padded_day_space}
+use Rattle.httpdate.{proofs.ReaderLemmas.read_tag_complete, specs.Reader.{read_name, read_padded_day, read_tag}}
+use Rattle.{httpdate.specs.Text.{day_name, day_name_rest, two_digits}, rfc_values.proofs.CalendarLemmas.short_month}
+use Rattle.rfc_values.proofs.FormatLemmas.{asctime_complete, asctime_date_grouped, asctime_rest, asctime_sound, Fits}
+use Rattle.rfc_values.proofs.FormatLemmas.{imf_complete, imf_fixdate_grouped, imf_rest, imf_sound, rfc850_complete}
+use Rattle.rfc_values.proofs.FormatLemmas.{rfc850_date_grouped, rfc850_rest, rfc850_sound}
+use Rattle.rfc_values.{proofs.YearLemmas.{near_century_complete, near_century_sound}, specs.Calendar.in_year}
+use Rattle.rfc_values.specs.{Calendar.{IsDateTime, IsNear, seconds}, Date.{Denotes, ShowsDate, ShowsNamed, timestamp}}
+use Rattle.rfc_values.specs.{declared.date_time.DateTime.DateTime, Reader.{date_time, in_near_century, is_date_time}}
+use Rattle.rfc_values.specs.Reader.{read_asctime_date, read_form, read_imf_fixdate, read_rfc850_date}
+use Rattle.std.proofs.Common.{[], ap, arith, Bool, cond, false, get_or, inl, inr, List, MatchOption, None, Option}
+use Rattle.std.proofs.Common.{option_and_then, option_map, refl, Some, subst, sym, true, ℕ, ◌%◌, ◌*◌, ◌++◌, ◌+◌, ◌==◌}
+use Rattle.std.proofs.{Common.{◌∙◌, ◌∷◌, ◌≡◌}, lemmas.Bool.{and_parts, Decides.nat_tests, leb-true, ltb-true}}
+use Rattle.std.{proofs.lemmas.Option.{none-some, same_Some}, specs.Int.IsInRange}
 
 -- ---- the test of a date
 
 is_date_time_sound : (d : DateTime) → is_date_time d ≡ true → IsDateTime d
-is_date_time_sound d h =
-    let a = and_parts _ _ h in
-    let b = and_parts _ _ a.0 in
-    let c = and_parts _ _ b.0 in
-    let e = and_parts _ _ c.0 in
-    let f = and_parts _ _ e.0 in
-    let g = and_parts _ _ f.0 in
-    let i = and_parts _ _ g.0 in (
-      leb-true _ _ i.0,
-      (leb-true _ _ i.1, leb-true _ _ g.1),
-      (leb-true _ _ f.1, leb-true _ _ e.1),
-      ltb-true _ _ c.1,
-      ltb-true _ _ b.1,
-      leb-true _ _ a.1,
-    )
+is_date_time_sound d h = grind (arith, and_parts, leb-true, ltb-true)
 
 is_date_time_complete : (d : DateTime) → IsDateTime d → is_date_time d ≡ true
 is_date_time_complete d h = grind (arith, nat_tests)
 
 Fits_valid : (d : DateTime) → IsDateTime d → Fits d
-Fits_valid d h =
-    let short = short_month d.year d.month in
-    record {
-      year = h.0;
-      month = h.1;
-      day = omega arith;
-      hour = omega arith;
-      minute = omega arith;
-      second = omega arith;
-    }
+Fits_valid d h = grind (arith, short_month)
 
 -- ---- each form after the name of the day
 
 -- the rest of a day's name begins with a letter
 letter : (n : ℕ) (rest : List ℕ) → IsInRange 1 7 n
     → ((get_or (day_name_rest n ++ rest) 0 0 == 44) ≡ false) × ((get_or (day_name_rest n ++ rest) 0 0 == 32) ≡ false)
-letter (suc zero) rest h = (refl, refl)
-letter (suc (suc zero)) rest h = (refl, refl)
-letter (suc (suc (suc zero))) rest h = (refl, refl)
-letter (suc (suc (suc (suc zero)))) rest h = (refl, refl)
-letter (suc (suc (suc (suc (suc zero))))) rest h = (refl, refl)
-letter (suc (suc (suc (suc (suc (suc zero)))))) rest h = (refl, refl)
-letter (suc (suc (suc (suc (suc (suc (suc zero))))))) rest h = (refl, refl)
-letter zero rest h = absurd (omega arith)
-letter (suc (suc (suc (suc (suc (suc (suc (suc k)))))))) rest h = absurd (omega arith)
+letter n rest h = grind arith
 
 -- a date with its form, as read after the name of its day
 module _ (now named : ℕ) (d : DateTime) (is_day : IsInRange 1 7 named) (valid : IsDateTime d) where
@@ -74,14 +41,7 @@ module _ (now named : ℕ) (d : DateTime) (is_day : IsInRange 1 7 named) (valid 
 
   read_rfc850 : IsNear now d → read_form now named (day_name_rest named ++ rfc850_rest d) ≡ Some d
   unfolding read_form
-  read_rfc850 near =
-      let first = letter named (rfc850_rest d) is_day in
-      rw (
-        first.0,
-        first.1,
-        read_tag_complete (day_name_rest named) (rfc850_rest d),
-        rfc850_complete d (Fits_valid d valid),
-      ) (near_century_complete now d valid near)
+  read_rfc850 near = grind (arith, letter, rfc850_rest, read_tag_complete, rfc850_complete, Fits_valid, near_century_complete)
 
   read_asctime : (day : List ℕ) → ((rest : List ℕ) → read_padded_day (day ++ rest) ≡ Some (d.day, rest))
       → read_form now named (asctime_rest day d) ≡ Some d
@@ -135,12 +95,7 @@ module _ (now named : ℕ) (text rest : List ℕ) (d : DateTime) (led : text ≡
   whole shown e = led ∙ ap (λ r. day_name named ++ r) e
 
   other : (space : Bool) → read_with_space now named rest space ≡ Some d → ShowsNamed now named text d
-  other true e =
-      elim (asctime_sound rest d e) [
-        | inl s ↦ inr (inr (inl (whole _ s ∙ sym (asctime_date_grouped named (two_digits d.day) d))))
-        | inr s ↦
-            inr (inr (inr (whole _ s.0 ∙ sym (asctime_date_grouped named (32 ∷ (48 + d.day) ∷ []) d), s.1)))
-      ]
+  other true e = grind (arith, asctime_sound, whole, asctime_date_grouped)
   other false e =
       let tagged = option_and_then read_rfc850_date (read_tag (day_name_rest named) rest) in
       and_then_some _ tagged _ e λ short read found.
@@ -153,9 +108,7 @@ module _ (now named : ℕ) (text rest : List ℕ) (d : DateTime) (led : text ≡
       inr (inl (whole _ rest_is ∙ sym (rfc850_date_grouped named d), near))
 
   by_comma : (comma space : Bool) → read_with_comma now named rest comma space ≡ Some d → ShowsNamed now named text d
-  by_comma false space e = other space e
-  by_comma true space e =
-      inl (whole _ (imf_sound rest d e) ∙ sym (imf_fixdate_grouped named d))
+  by_comma comma space e = grind (arith, other, whole, imf_sound, imf_fixdate_grouped)
 
 form_sound : (now named : ℕ) (text rest : List ℕ) (d : DateTime) → text ≡ day_name named ++ rest
     → read_form now named rest ≡ Some d → ShowsNamed now named text d
@@ -178,8 +131,7 @@ date_time_sound now text d e =
 pub timestamp_complete : (now : ℕ) (text : List ℕ) (second : ℕ) → Denotes now text second
     → timestamp now text ≡ Some second
 unfolding timestamp
-timestamp_complete now text second (d, valid, shown, is) =
-    rw (date_time_complete now text d valid shown) (ap (λ n. Some n) is)
+timestamp_complete now text second (d, valid, shown, is) = grind (arith, date_time_complete)
 
 pub timestamp_sound : (now : ℕ) (text : List ℕ) (second : ℕ) → timestamp now text ≡ Some second
     → Denotes now text second

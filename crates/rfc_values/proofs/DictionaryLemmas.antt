@@ -1,31 +1,22 @@
 -- The members of a dictionary, one after the other.
-use Rattle.std.proofs.Common.{◌≡◌, ℕ, zero, suc, Bool, true, false, List, [], ◌∷◌, refl, sym, ◌∙◌, ap, ◌<◌, ◌≤◌, length}
-use Rattle.std.{proofs.Common.{cond, Option, Some, None, option_and_then, option_map, arith}, specs.Prelude.◌==◌}
-use Rattle.rfc_values.{specs.Bytes.{after_run, before}, specs.Dictionaries.{Entry, MemberParts, after_comma, entry}}
-use Rattle.rfc_values.specs.Dictionaries.{entry_by, length_of, member_value, members_in, members_within}
-use Rattle.rfc_values.{specs.Dictionaries.{next_members, value_behind}, specs.Items.{Reading, after_inner}}
-use Rattle.rfc_values.{specs.Items.{after_key, after_parameters, bare_item}, specs.Items.ValueParts.Other}
-use Rattle.rfc_values.{specs.declared.bytes.Class.TheVariants.Blank, proofs.ItemLemmas.{ReadsWithin, Within}}
 use Rattle.rfc_values.proofs.ItemLemmas.{inner-within, item-shorter, key-shorter, parameters-within, reads-cond}
-use Rattle.rfc_values.proofs.ItemLemmas.{reads-none, reads-some, run-shorter}
+use Rattle.rfc_values.proofs.ItemLemmas.{reads-none, reads-some, ReadsWithin, run-shorter, Within}
+use Rattle.rfc_values.specs.{Bytes.after_run, declared.bytes.Class.TheVariants.Blank, Dictionaries.{after_comma, entry}}
+use Rattle.rfc_values.specs.Dictionaries.{Entry, entry_by, length_of, member_value, MemberParts, members_in}
+use Rattle.rfc_values.specs.{Dictionaries.{members_within, next_members, value_behind}, Items.after_key}
+use Rattle.{rfc_values.specs.Items.{after_parameters, Reading, ValueParts.Other}, std.proofs.Common.{[], arith, Bool}}
+use Rattle.std.proofs.Common.{cond, length, List, None, Option, option_and_then, option_map, refl, rules, Some, suc}
+use Rattle.std.proofs.Common.{sym, zero, ℕ, ◌<◌, ◌∙◌, ◌∷◌, ◌≡◌, ◌≤◌}
 
 inner-reads : (n : ℕ) (o : Option (List ℕ)) → Within n o
     → ReadsWithin n (option_map (λ rest. record { value = Other; rest = rest }) o)
-inner-reads n None h = reads-none n
-inner-reads n (Some rest) h = reads-some n _ (h rest refl)
+inner-reads n o h = grind (arith, reads-none, reads-some)
 
 member_value-within : (s : List ℕ) → ReadsWithin (length s) (member_value s)
-member_value-within [] = reads-none 0
-member_value-within (b ∷ s) =
-    reads-cond (length (b ∷ s)) (b == 40) _ _
-    (λ r e. let h = inner-reads (length s) (after_inner s) (inner-within s) r e in omega (arith, h))
-    (item-shorter (b ∷ s))
+member_value-within s = grind (arith, reads-none, reads-cond, inner-reads, inner-within, item-shorter)
 
 value_behind-within : (s : List ℕ) → ReadsWithin (length s) (value_behind s)
-value_behind-within [] = reads-some 0 _ (omega arith)
-value_behind-within (b ∷ s) =
-    reads-cond (length (b ∷ s)) (b == 61) _ _
-    (λ r e. let h = member_value-within s r e in omega (arith, h)) (reads-some (length (b ∷ s)) _ (omega arith))
+value_behind-within s = grind (arith, reads-some, reads-cond, member_value-within)
 
 -- the members that follow, if there are some, are no longer than this
 abbrev pub FollowsWithin : ℕ → Option (Option (List ℕ)) → Type 0
@@ -44,20 +35,14 @@ follows-some : (n : ℕ) (s : List ℕ) → length s ≤ n → FollowsWithin n (
 follows-some n s h t e = grind (arith, h, some_some s t e)
 
 comma-within : (s : List ℕ) → FollowsWithin (length s) (after_comma s)
-comma-within [] = follows-none 0
-comma-within (b ∷ s) = follows-some (length (b ∷ s)) (b ∷ s) (omega arith)
+comma-within s = grind (arith, follows-none, follows-some)
 
 follows-cond : (n : ℕ) (v : Bool) (x y : Option (Option (List ℕ))) → FollowsWithin n x → FollowsWithin n y
     → FollowsWithin n (cond v x y)
-follows-cond n true x y p q = p
-follows-cond n false x y p q = q
+follows-cond n v x y p q = grind arith
 
 next-within : (s : List ℕ) → FollowsWithin (length s) (next_members s)
-next-within [] = follows-last 0
-next-within (b ∷ s) =
-    follows-cond (length (b ∷ s)) (b == 44) (after_comma (after_run Blank s)) None
-    (λ t e. let h = comma-within (after_run Blank s) t e in omega (arith, h, run-shorter Blank s))
-    (follows-none (length (b ∷ s)))
+next-within s = grind (arith, follows-last, follows-cond, comma-within, run-shorter, follows-none)
 
 -- what follows an entry is shorter than this
 abbrev pub ShrinksTo : ℕ → Option Entry → Type 0
@@ -71,8 +56,7 @@ some_entry a b e = cc
 
 last-shrinks : (n : ℕ) (member : MemberParts) (o : Option (Option (List ℕ))) → FollowsWithin n o
     → ShrinksTo n (option_map (λ next. record { member = member; next = next }) o)
-last-shrinks n member None h one t e f = shrinks-none n one t e f
-last-shrinks n member (Some next) h one t e f = h t (ap Some (ap (λ x. x.next) (some_entry _ one e) ∙ f))
+last-shrinks n member o h one t e f = grind (arith, shrinks-none, some_entry)
 
 rest-shrinks : (n : ℕ) (key : List ℕ) (reading : Reading) (o : Option (List ℕ)) → Within n o
     → ShrinksTo n (option_and_then (λ rest. option_map (λ next. record {
@@ -95,14 +79,12 @@ value-shrinks n key (Some reading) h =
     (λ r e. omega (arith, parameters-within reading.rest r e, h reading refl))
 
 entry_by-shrinks : (text behind : List ℕ) → ShrinksTo (length behind) (entry_by text behind)
-entry_by-shrinks text behind =
-    value-shrinks (length behind) (before text behind) (value_behind behind) (value_behind-within behind)
+entry_by-shrinks text behind = search (rules, value-shrinks, value_behind-within)
 
 key-shrinks : (text : List ℕ) (o : Option (List ℕ)) → ((r : List ℕ) → o ≡ Some r → length r < length text)
     → (one : Entry) (t : List ℕ) → option_and_then (entry_by text) o ≡ Some one → one.next ≡ Some t
     → length t < length text
-key-shrinks text None h one t e f = absurd (let g : None ≡ Some one = e in cc)
-key-shrinks text (Some r) h one t e f = omega (arith, h r refl, entry_by-shrinks text r one t e f)
+key-shrinks text o h one t e f = grind (arith, entry_by-shrinks)
 
 -- what follows a member is shorter than the text
 pub entry-shorter : (text : List ℕ) (one : Entry) (t : List ℕ) → entry text ≡ Some one → one.next ≡ Some t
@@ -111,8 +93,7 @@ entry-shorter text one t e f = key-shrinks text (after_key text) (key-shorter te
 
 next-smaller : (text : List ℕ) (one : Entry) (o : Option (List ℕ)) → entry text ≡ Some one → one.next ≡ o
     → length_of o < length_of (Some text)
-next-smaller text one None e f = omega arith
-next-smaller text one (Some t) e f = omega (arith, entry-shorter text one t e f)
+next-smaller text one o e f = grind (arith, entry-shorter)
 
 pub entry-smaller : (text : List ℕ) (one : Entry) → entry text ≡ Some one
     → length_of one.next < length_of (Some text)
@@ -132,8 +113,7 @@ entry-same : (o : Option Entry) (n m : ℕ)
     → ((one : Entry) → o ≡ Some one → members_within n one.next ≡ members_within m one.next)
     → option_and_then (λ one. option_map (λ others. one.member ∷ others) (members_within n one.next)) o
     ≡ option_and_then (λ one. option_map (λ others. one.member ∷ others) (members_within m one.next)) o
-entry-same None n m h = refl
-entry-same (Some one) n m h = ap (option_map (λ others. one.member ∷ others)) (h one refl)
+entry-same o n m h = grind arith
 
 stable : (n m : ℕ) (text : Option (List ℕ)) → length_of text < n → length_of text < m
     → members_within n text ≡ members_within m text
@@ -153,16 +133,8 @@ members-end = within-end 0
 -- a member, and those that follow it
 pub members-next : (text : List ℕ) (one : Entry) → entry text ≡ Some one
     → members_in (Some text) ≡ option_map (λ others. one.member ∷ others) (members_in one.next)
-members-next text one e =
-    within-suc (length_of (Some text)) text
-    ∙ ap (option_and_then (λ x. option_map (λ others. x.member ∷ others)
-    (members_within (length_of (Some text)) x.next))) e
-    ∙ ap (option_map (λ others. one.member ∷ others))
-    (stable (length_of (Some text)) (suc (length_of one.next)) one.next (entry-smaller text one e) (omega arith))
+members-next text one e = grind (arith, within-suc, stable, entry-smaller)
 
 -- a malformed member
 pub members-malformed : (text : List ℕ) → entry text ≡ None → members_in (Some text) ≡ None
-members-malformed text e =
-    within-suc (length_of (Some text)) text
-    ∙ ap (option_and_then (λ x. option_map (λ others. x.member ∷ others)
-    (members_within (length_of (Some text)) x.next))) e
+members-malformed text e = grind (arith, within-suc)

@@ -1,16 +1,16 @@
 -- The functions that read the three forms read them, and nothing else.
-use Rattle.std.proofs.Common.{◌≡◌, ℕ, ◌+◌, ◌%◌, ◌<◌, ◌≤◌, ◌⊎◌, List, [], ◌∷◌, ◌++◌, Some, option_and_then, ap, ◌∙◌}
-use Rattle.std.{proofs.Common.{subst, arith, inl, inr, append_assoc, eqb-true}, proofs.lemmas.List.nil_from_length}
-use Rattle.std.{proofs.lemmas.Slice.Eq.bytes_eq-Decides, specs.Int.IsInRange, proofs.lemmas.Option.same_Some}
-use Rattle.httpdate.specs.Reader.{read_tag, read_two_digits, read_name, read_year, read_time, read_padded_day}
-use Rattle.httpdate.specs.Text.{day_name, day_name_rest, month_name, two_digits, four_digits}
-use Rattle.httpdate.{proofs.OptionLemmas.{cond_some, and_then_some, same_parts}, proofs.ReaderLemmas.after_tag_sound}
-use Rattle.httpdate.proofs.ReaderLemmas.{clock, read_tag_sound, read_two_digits_complete, read_two_digits_sound}
-use Rattle.httpdate.proofs.ReaderLemmas.{read_name_sound, read_name-month_name, read_year_complete, read_year_sound}
-use Rattle.httpdate.proofs.ReaderLemmas.{read_time_complete, read_time_sound, read_padded_day_sound}
-use Rattle.rfc_values.{specs.declared.date_time.DateTime.DateTime, specs.Calendar.in_year}
-use Rattle.rfc_values.specs.Reader.{read_day_and_month, read_time_in_gmt, read_imf_fixdate, read_rfc850_date}
-use Rattle.rfc_values.{specs.Reader.read_asctime_date, specs.Text.{imf_fixdate, rfc850_date, asctime_date}}
+use Rattle.httpdate.proofs.{OptionLemmas.{and_then_some, cond_some, same_parts}, ReaderLemmas.{after_tag_sound, clock}}
+use Rattle.httpdate.proofs.ReaderLemmas.{read_name-month_name, read_name_sound, read_padded_day_sound, read_tag_sound}
+use Rattle.httpdate.proofs.ReaderLemmas.{read_time_complete, read_time_sound, read_two_digits_complete}
+use Rattle.httpdate.proofs.ReaderLemmas.{read_two_digits_sound, read_year_complete, read_year_sound}
+use Rattle.httpdate.specs.Reader.{read_name, read_padded_day, read_tag, read_time, read_two_digits, read_year}
+use Rattle.httpdate.specs.Text.{day_name, day_name_rest, four_digits, month_name, two_digits}
+use Rattle.rfc_values.specs.{Calendar.in_year, declared.date_time.DateTime.DateTime, Reader.read_asctime_date}
+use Rattle.rfc_values.specs.Reader.{read_day_and_month, read_imf_fixdate, read_rfc850_date, read_time_in_gmt}
+use Rattle.{rfc_values.specs.Text.{asctime_date, imf_fixdate, rfc850_date}, std.proofs.Common.{[], ap, append_assoc}}
+use Rattle.std.proofs.Common.{arith, eqb-true, inl, inr, List, option_and_then, rules, Some, subst, ℕ, ◌%◌, ◌++◌, ◌+◌}
+use Rattle.std.proofs.{Common.{◌<◌, ◌∙◌, ◌∷◌, ◌≡◌, ◌≤◌, ◌⊎◌}, lemmas.{List.nil_from_length, Option.same_Some}}
+use Rattle.std.{proofs.lemmas.Slice.Eq.bytes_eq-Decides, specs.Int.IsInRange}
 
 abbrev gmt : List ℕ
 gmt = 32 ∷ 71 ∷ 77 ∷ 84 ∷ []
@@ -56,13 +56,7 @@ pub record Fits (d : DateTime) : Type 0 where
 module _ (d : DateTime) (h : Fits d) where
   pub imf_complete : read_imf_fixdate (imf_rest d) ≡ Some d
   unfolding read_imf_fixdate read_day_and_month read_time_in_gmt read_tag
-  imf_complete =
-      rw (
-        read_two_digits_complete d.day _ h.day,
-        read_name-month_name d.month _ h.month,
-        read_year_complete d.year _ h.year,
-        read_time_complete d.hour d.minute d.second gmt h.hour h.minute h.second,
-      )
+  imf_complete = search (rules, read_two_digits_complete, read_name-month_name, read_year_complete, read_time_complete)
 
   pub rfc850_complete : read_rfc850_date (rfc850_rest d) ≡ Some (in_year d (d.year % 100))
   unfolding read_rfc850_date read_day_and_month read_time_in_gmt read_tag
@@ -112,12 +106,7 @@ day_and_month_sound separator text rest day month e =
 time_in_gmt_sound : (text : List ℕ) (time : ℕ × ℕ × ℕ) → read_time_in_gmt text ≡ Some time
     → text ≡ clock time.0 time.1 time.2 gmt
 unfolding read_time_in_gmt
-time_in_gmt_sound text time e =
-    and_then_some _ (read_time text) _ e λ read got e₁.
-    let (test, same) = cond_some _ _ _ e₁ in
-    let end = (bytes_eq-Decides read.1 gmt).0 test in
-    read_time_sound text read.1 read.0 got ∙ ap (clock read.0.0 read.0.1 read.0.2) end
-    ∙ ap (λ t. clock t.0 t.1 t.2 gmt) same
+time_in_gmt_sound text time e = grind (arith, and_then_some, cond_some, bytes_eq-Decides, read_time_sound, clock)
 
 pub imf_sound : (text : List ℕ) (d : DateTime) → read_imf_fixdate text ≡ Some d → text ≡ imf_rest d
 unfolding read_imf_fixdate

@@ -1,11 +1,10 @@
 -- What httpdate writes of a second denotes that second.
-use Rattle.std.{proofs.Common.{◌≡◌, ℕ, ◌+◌, ◌-◌, ◌≤◌, Some, refl, inl, arith}, specs.Int.IsInRange}
-use Rattle.httpdate.{specs.declared.date.HttpDate.HttpDate, specs.declared.parts.Parts.Parts}
+use Rattle.httpdate.specs.{Date.{date_text, unix_secs}, declared.{date.HttpDate.HttpDate, parts.Parts.Parts}}
+use Rattle.rfc_values.proofs.{CalendarLemmas.days_before_year-1970, DateLemmas.timestamp_complete}
+use Rattle.rfc_values.specs.{Calendar.{day_number, IsDateTime, seconds, unix_epoch}, Date.timestamp}
+use Rattle.{rfc_values.specs.{declared.date_time.DateTime.DateTime, Text.imf_fixdate}, std.proofs.Common.{arith, inl}}
+use Rattle.std.{proofs.Common.{refl, Some, ℕ, ◌+◌, ◌-◌, ◌≡◌, ◌≤◌}, specs.Int.IsInRange}
 use Rattle.httpdate.specs.Calendar as Http
-use Rattle.httpdate.specs.Date.{date_text, unix_secs}
-use Rattle.rfc_values.{specs.declared.date_time.DateTime.DateTime, specs.Calendar.{day_number, seconds, unix_epoch}}
-use Rattle.rfc_values.{specs.Calendar.IsDateTime, specs.Date.timestamp, specs.Text.imf_fixdate}
-use Rattle.rfc_values.{proofs.CalendarLemmas.days_before_year-1970, proofs.DateLemmas.timestamp_complete}
 
 -- the numbers of a date of httpdate
 abbrev shown_by : Parts → DateTime
@@ -28,8 +27,7 @@ unfolding imf_fixdate
 imf_fixdate-shown_by d = refl
 
 named_day : (d : HttpDate) → IsInRange 1 7 d.parts.wday
-named_day d =
-    let right = d.right_day in (omega (arith, right), omega (arith, right))
+named_day d = grind arith
 
 pub timestamp-date_text : (now : ℕ) (d : HttpDate) → timestamp now (date_text d) ≡ Some (unix_epoch + unix_secs d)
 timestamp-date_text now d =

@@ -1,7 +1,7 @@
 -- What is repeated doesn't depend on how often it might be, as long as each step takes a byte.
-use Rattle.std.proofs.Common.{◌≡◌, ℕ, zero, suc, List, [], ◌∷◌, refl, sym, ◌∙◌, ap, ◌<◌, ◌≤◌, length, Option, Some}
-use Rattle.std.{proofs.Common.{None, arith}, proofs.lemmas.Option.same_Some}
-use Rattle.rfc_values.{specs.Items.{Step, after_all, led, repeated}, specs.Items.Step.{Ends, Fails, Goes}}
+use Rattle.{rfc_values.specs.Items.{after_all, led, repeated, Step, Step.{Ends, Fails, Goes}}, std.proofs.Common.ap}
+use Rattle.std.proofs.Common.{arith, length, List, None, Option, refl, Some, suc, sym, zero, ℕ, ◌<◌, ◌∙◌, ◌≡◌, ◌≤◌}
+use Rattle.std.proofs.lemmas.Option.{same_Some}
 
 -- each step that may be followed by one takes a byte
 abbrev pub Takes : (List ℕ → Step) → Type 0
@@ -17,9 +17,7 @@ unfolding repeated
 repeated-suc step n s = refl
 
 led-same : (p : Step) (f g : List ℕ → Option (List ℕ)) → ((r : List ℕ) → p ≡ Goes r → f r ≡ g r) → led p f ≡ led p g
-led-same (Ends r) f g h = refl
-led-same Fails f g h = refl
-led-same (Goes r) f g h = h r refl
+led-same p f g h = grind arith
 
 stable : (step : List ℕ → Step) → Takes step → (n m : ℕ) (s : List ℕ) → length s < n → length s < m
     → repeated step n s ≡ repeated step m s
@@ -33,9 +31,7 @@ stable step h (suc n) (suc m) s a b =
 
 pub all-goes : (step : List ℕ → Step) → Takes step → (s r : List ℕ) → step s ≡ Goes r
     → after_all step s ≡ after_all step r
-all-goes step h s r e =
-    repeated-suc step (length s) s ∙ ap (λ p. led p (λ t. repeated step (length s) t)) e
-    ∙ stable step h (length s) (suc (length r)) r (h s r e) (omega arith)
+all-goes step h s r e = grind (arith, repeated-suc, stable)
 
 pub all-ends : (step : List ℕ → Step) (s r : List ℕ) → step s ≡ Ends r → after_all step s ≡ Some r
 all-ends step s r e = repeated-suc step (length s) s ∙ ap (λ p. led p (λ t. repeated step (length s) t)) e
@@ -46,9 +42,7 @@ all-fails step s e = repeated-suc step (length s) s ∙ ap (λ p. led p (λ t. r
 led-shorter : (p : Step) (f : List ℕ → Option (List ℕ)) (n : ℕ) (r : List ℕ) → led p f ≡ Some r
     → ((t : List ℕ) → p ≡ Ends t → length t ≤ n) → ((t : List ℕ) → p ≡ Goes t → f t ≡ Some r → length r ≤ n)
     → length r ≤ n
-led-shorter (Ends t) f n r e ends goes = grind (arith, ends t refl, same_Some t r e)
-led-shorter Fails f n r e ends goes = absurd (let h : None ≡ Some r = e in cc)
-led-shorter (Goes t) f n r e ends goes = goes t refl e
+led-shorter p f n r e ends goes = grind (arith, same_Some)
 
 repeated-shorter : (step : List ℕ → Step) → Takes step → Keeps step → (n : ℕ) (s r : List ℕ)
     → repeated step n s ≡ Some r → length r ≤ length s

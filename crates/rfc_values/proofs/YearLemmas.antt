@@ -1,36 +1,27 @@
 -- Years that end with the same two digits, and which of them is near now.
-use Rattle.std.proofs.Common.{◌≡◌, ℕ, zero, suc, ◌+◌, ◌-◌, ◌*◌, ◌/◌, ◌%◌, ◌<◌, ◌≤◌, Bool, true, false, cond, nat_lt}
-use Rattle.std.{proofs.Common.{Option, Some, None, refl, sym, ap, ◌∙◌, arith, inl, inr}, proofs.lemmas.Bool.cases_Bool}
-use Rattle.std.{proofs.lemmas.Bool.{and_parts, leb-true, ltb-true, ltb-false}, proofs.lemmas.Bool.Decides.nat_tests}
-use Rattle.std.proofs.lemmas.Option.{none-some, same_Some}
-use Rattle.rfc_values.{specs.declared.date_time.DateTime.DateTime, specs.Calendar.{day_number, seconds, in_year}}
-use Rattle.rfc_values.{specs.Calendar.{unix_epoch, IsDateTime, IsNear}, specs.Reader.{is_near, in_near_century}}
 use Rattle.rfc_values.proofs.CalendarLemmas.{days_before_year_closed, days_before_year_later, days_of_months_bound}
-use Rattle.rfc_values.proofs.CalendarLemmas.{days_of_months_near, short_month}
+use Rattle.rfc_values.{proofs.CalendarLemmas.{days_of_months_near, short_month}, specs.Calendar.{day_number, in_year}}
+use Rattle.rfc_values.specs.{Calendar.{IsDateTime, IsNear, seconds, unix_epoch}, declared.date_time.DateTime.DateTime}
+use Rattle.{rfc_values.specs.Reader.{in_near_century, is_near}, std.proofs.Common.{arith, false, inl, inr, nat_lt}}
+use Rattle.std.proofs.Common.{None, refl, Some, suc, sym, true, zero, ℕ, ◌%◌, ◌*◌, ◌+◌, ◌-◌, ◌/◌, ◌<◌, ◌∙◌, ◌≡◌, ◌≤◌}
+use Rattle.std.proofs.lemmas.Bool.{and_parts, cases_Bool, Decides.nat_tests, leb-true, ltb-false, ltb-true}
+use Rattle.std.proofs.lemmas.Option.{none-some, same_Some}
 
 -- ---- the search of a century
 
 pub near_here : (now : ℕ) (d here : DateTime) (n century : ℕ) → 1 ≤ n → here ≡ in_year d (century * 100 + d.year)
     → is_near now here ≡ true → in_near_century now d n century ≡ Some here
 unfolding in_near_century
-near_here now d here zero century some is near = absurd (omega arith)
-near_here now d here (suc n) century some is near =
-    let test : is_near now (in_year d (century * 100 + d.year)) ≡ true = ap (is_near now) (sym is) ∙ near in
-    rw test (ap (λ x. Some x) (sym is))
+near_here now d here n century some is near = grind arith
 
 pub near_later : (now : ℕ) (d here : DateTime) (n century : ℕ) → 1 ≤ n → here ≡ in_year d (century * 100 + d.year)
     → is_near now here ≡ false → in_near_century now d n century ≡ in_near_century now d (n - 1) (century + 1)
 unfolding in_near_century
-near_later now d here zero century some is far = absurd (omega arith)
-near_later now d here (suc n) century some is far =
-    let test : is_near now (in_year d (century * 100 + d.year)) ≡ false = ap (is_near now) (sym is) ∙ far in
-    let back : suc n - 1 ≡ n = omega arith in
-    rw (test, back) refl
+near_later now d here n century some is far = grind arith
 
 pub near_none : (now : ℕ) (d : DateTime) (n century : ℕ) → n ≡ 0 → in_near_century now d n century ≡ None
 unfolding in_near_century
-near_none now d zero century none = refl
-near_none now d (suc n) century none = absurd (omega arith)
+near_none now d n century none = grind arith
 
 -- ---- the test
 
@@ -60,30 +51,16 @@ valid_day d h = let short = short_month d.year d.month in (omega arith, omega ar
 -- a date before 1950 lies before 1970
 seconds_early : (d : DateTime) (y : ℕ) → IsDateTime d → y ≤ 1949 → seconds (in_year d y) < unix_epoch
 unfolding seconds day_number
-seconds_early d y valid h =
-    let day = valid_day d valid in
-    omega (
-      arith,
-      days_before_year_later y 1949 h,
-      days_before_year_closed 1949,
-      days_of_months_bound y (d.month - 1),
-    )
+seconds_early d y valid h = grind (arith, valid_day, days_before_year_later, days_before_year_closed, days_of_months_bound)
 
 -- of the years that end with the same digits, a date is near now in one at most
 far_before : (now : ℕ) (d : DateTime) (y z : ℕ) → IsNear now (in_year d z) → y + 100 ≤ z
     → is_near now (in_year d y) ≡ false
-far_before now d y z near h =
-    let order = seconds_later d (y + 50) (z - 50) (omega arith) in
-    grind (arith, nat_tests)
+far_before now d y z near h = grind (arith, seconds_later)
 
 -- a date near now lies in a year from 1900 on
 near_from_1900 : (now : ℕ) (d : DateTime) → IsDateTime d → IsNear now d → 1900 ≤ d.year
-near_from_1900 now d valid near =
-    elim (cases_Bool (nat_lt d.year 1900)) [
-      | inl t ↦ let early : d.year < 1900 = ltb-true _ _ t in
-          absurd (omega (arith, seconds_early d (d.year + 50) valid (omega arith), near.1))
-      | inr f ↦ ltb-false _ _ f
-    ]
+near_from_1900 now d valid near = grind (arith, cases_Bool, nat_lt, ltb-true, seconds_early, ltb-false)
 
 -- the search finds the date that is near now, from any century that is not later than its own
 found_from : (now : ℕ) (d : DateTime) (n century : ℕ) → IsNear now d → century ≤ d.year / 100
@@ -116,13 +93,4 @@ pub near_century_sound : (now : ℕ) (short d : DateTime) (n century : ℕ) → 
     → IsNearBy now short d
 unfolding in_near_century
 near_century_sound now short d zero century e = absurd (none-some _ e)
-near_century_sound now short d (suc n) century e =
-    go _ _ refl e (near_century_sound now short d n (century + 1))
-  where
-    go : (later : Option DateTime) (b : Bool) → is_near now (in_year short (century * 100 + short.year)) ≡ b
-        → cond b (Some (in_year short (century * 100 + short.year))) later ≡ Some d
-        → (later ≡ Some d → IsNearBy now short d) → IsNearBy now short d
-    go later true near found below =
-        let same = same_Some _ _ found in
-        (century, sym same, is_near_sound now d (ap (is_near now) (sym same) ∙ near))
-    go later false near found below = below found
+near_century_sound now short d (suc n) century e = grind (arith, same_Some, is_near_sound, near_century_sound now short d n (century + 1))

@@ -1,11 +1,9 @@
-use Rattle.std.proofs.Common.{◌≡◌, ◌+◌, ◌-◌, sym, ap, ◌∙◌, arith}
-use Rattle.rfc_values.{specs.Reader.in_near_century, proofs.YearLemmas.{near_here, near_later, near_none}}
+use Rattle.rfc_values.{proofs.YearLemmas.{near_here, near_later, near_none}, specs.Reader.in_near_century}
+use Rattle.std.proofs.Common.{ap, arith, sym, ◌+◌, ◌-◌, ◌∙◌, ◌≡◌}
 use Rattle.rfc_values.proofs.date_time.DateTime.in_near_century.Goals as goal
 
 pub returns-then-is_near-clause-value : goal.returns-then-is_near-clause-value
-returns-then-is_near-clause-value c =
-    let near = sym c.is_near.ensures ∙ c.if-is_near.true in
-    sym (c.loop-century.invariant ∙ near_here _ _ _ _ _ (omega arith) c.in_year-date.ensures near)
+returns-then-is_near-clause-value c = grind (arith, near_here)
 
 pub loop-century-preserved : goal.loop-century-preserved
 loop-century-preserved c =
