@@ -4,7 +4,6 @@ use Rattle.http.specs.declared.error.Error.{Error}
 use Rattle.http1.specs.Fields.{Header}
 use Rattle.gateway_relay.specs.Failures.{IsMapFailure, map_failure}
 use Rattle.gateway_connection.specs.Responses.{IsFieldsFault, map_fault}
-use Rattle.gateway_connection.specs.declared.event.OriginFault.{OriginFault}
 use Rattle.http.specs.declared.error.Error.TheVariants as Mapped
 
 -- the reason is the one of a relay
@@ -14,7 +13,6 @@ fault_of fields Mapped.OutOfMemory why = tt
 fault_of fields e why = why
 
 -- a call that fails so
-pub fails_as : {T : Type 0} (r : Result T OriginFault) {f y : OriginFault} → r ≡ Err y → y ≡ f
-    → (P : OriginFault → Type 0) → P f → IfErr r P
-fails_as {T} r is same P because =
-    subst (λ (x : Result T OriginFault). IfErr x P) (sym is) (subst P (sym same) because)
+pub fails_as : {T E : Type 0} (r : Result T E) {f y : E} → r ≡ Err y → y ≡ f → (P : E → Type 0) → P f → IfErr r P
+fails_as {T} {E} r is same P because =
+    subst (λ (x : Result T E). IfErr x P) (sym is) (subst P (sym same) because)

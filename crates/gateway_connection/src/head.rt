@@ -13,10 +13,11 @@ use httparse::spans::{HeaderSpan, ResponseSpans, Span};
 use std::alloc::{AllocError, Global};
 use std::hash::RandomState;
 
-/// How many fields the head of a response may have, and how many trailer fields.
+/// How many fields the head of a message may have, and how many trailer fields.
 pub const MAX_FIELDS: usize = 100;
 
-/// Takes the first bytes off the input, and makes a header map of the fields in them.
+/// Takes the first bytes off the input, and makes a header map of the fields in them. Fails if no header
+/// map takes them, or if an allocation fails.
 pub fn take_fields(
     alloc: Global,
     keys: RandomState,
@@ -62,7 +63,7 @@ pub(crate) fn take_response(
     })
 }
 
-/// Takes the bytes under the span off the input, and those before it.
+/// Takes the bytes under the span off the input, and those before it. Fails if an allocation fails.
 pub fn take_piece(input: &mut BytesMut, piece: Span) -> Result<Bytes, AllocError>
     requires { IsWithin (length input.old.items) piece }
     ensures bytes { IfOk result (λ bytes. bytes ≡ span_bytes input.old.items piece) }

@@ -1,15 +1,15 @@
 -- Exchanges: requests by the grammar, and the responses to them literally.
-use Rattle.std.specs.Prelude.{◌≡◌, ◌≢◌, ⊤, ℕ, Bool, true, false, List, [], ◌∷◌, ◌++◌, map, Option, Some, None}
+use Rattle.std.specs.Prelude.{◌≡◌, ◌≢◌, ⊤, ℕ, true, List, [], ◌∷◌, ◌++◌, map, Option, None}
 use Rattle.std.specs.Prelude.{Result}
 use Rattle.httparse.specs.{Spans.name_and_value}
 use Rattle.http_header.{specs.FieldValue.FieldValue, specs.HeaderMap.Entries}
-use Rattle.http1.specs.{Body.{Body, ReadsBody}, Conn.{Plan, keeps_alive, planned_headers}, Decoder.decoder_for}
+use Rattle.http1.specs.{Conn.{Plan, keeps_alive, planned_headers}}
 use Rattle.http1.specs.{Fields.Header, Framing.method_kind, Head.response_text}
 use Rattle.http1.specs.{Message.{AcceptsRequest, ReadsRequestMessage, known_of}, declared.conn.BodySize.BodySize}
-use Rattle.http1.specs.{declared.conn.Limits.Limits, declared.decode.Decoder.Decoder, declared.encode.Encoder.Encoder}
+use Rattle.http1.specs.{declared.conn.Limits.Limits}
 use Rattle.http1.specs.{declared.error.WriteError.WriteError, declared.framing.Framing.Framing}
 use Rattle.gateway_relay.specs.Content.{after_pieces, map_of, pieces_text}
-use Rattle.gateway_connection.specs.Exchanges.{IsFront, encoder_in, keeps_in, last_text}
+use Rattle.gateway_connection.specs.Exchanges.{encoder_in, keeps_in, last_text}
 use Rattle.server_stream.specs.{Heads.told_of, declared.event.RequestHead.RequestHead}
 use Rattle.httparse.specs.Grammar as Grammar
 use Rattle.http1.specs.Message as Message

@@ -3,7 +3,7 @@ use Rattle.std.specs.Prelude.{◌≡◌, ⊤, ℕ, Bool, true, false, List, map}
 use Rattle.httparse.specs.Spans.{name_and_value, span_bytes}
 use Rattle.httparse.specs.{declared.spans.HeaderSpan.HeaderSpan, declared.spans.RequestSpans.RequestSpans}
 use Rattle.http.specs.declared.error.Error.{Error}
-use Rattle.http1.specs.{Conn.unread_size, Decoder.decoder_for, Fields.Header, Message.known_of, ReadError.status_of}
+use Rattle.http1.specs.{Conn.unread_size, Fields.Header, ReadError.status_of}
 use Rattle.http1.specs.ServerTrace.{headers_at}
 use Rattle.http1.specs.{declared.conn.BodySize.BodySize, declared.conn.BodySize.TheVariants.{Known, Unknown}}
 use Rattle.http1.specs.{declared.framing.Framing.Framing, declared.server.Server.Server}

@@ -1,19 +1,21 @@
 -- Every history of calls on a connection, and what is true after it.
-use Rattle.std.specs.Prelude.{◌≡◌, ℕ, ◌≤◌, false, List, [], ◌∷◌, ◌++◌, length, map, take, Option, Some, None}
+use Rattle.std.specs.Prelude.{◌≡◌, ⊤, ℕ, ◌≤◌, true, false, List, [], ◌∷◌, ◌++◌, length, map, take, Some, None}
 use Rattle.httparse.specs.{Spans.name_and_value}
 use Rattle.http_header.{specs.FieldValue.FieldValue, specs.HeaderMap.Entries}
 use Rattle.http1.specs.{Body.{Body, ReadsBody}, Decoder.decoder_for, Fields.Header, Message.AcceptsRequest}
 use Rattle.http1.specs.{declared.conn.BodySize.BodySize, declared.conn.Limits.Limits, declared.decode.Decoder.Decoder}
 use Rattle.http1.specs.{declared.framing.Framing.Framing, declared.server.Server.Server}
-use Rattle.gateway_relay.specs.Content.{map_of}
-use Rattle.gateway_connection.specs.Exchanges.{IsFront}
+use Rattle.http1.specs.Server.{may_respond}
+use Rattle.gateway_relay.specs.Content.{after_pieces, map_of}
+use Rattle.gateway_connection.specs.Exchanges.{IsFront, encoder_in}
 use Rattle.server_stream.specs.Exchanges.{Answer, Bare, Begun, Due, Exchange, Final, IsFramedFor, ReadsKept, Response}
-use Rattle.server_stream.specs.Exchanges.{Switched, answer_text, exchange_text, no_answer}
+use Rattle.server_stream.specs.Exchanges.{Switched, answer_text, exchange_text, no_answer, plan_of}
 use Rattle.server_stream.specs.{Heads.told_of, declared.connection.StreamConnection.StreamConnection}
 use Rattle.server_stream.specs.{declared.event.RequestHead.RequestHead, declared.event.StreamEvent.StreamEvent}
 use Rattle.server_stream.specs.Steps.{Ends, Finishes, HandsOut, Informs, IsNew, Puts, PutsNothing, Receives, Responds}
 use Rattle.server_stream.specs.Steps.{Says, Switches}
 use Rattle.httparse.specs.Grammar as Grammar
+use Rattle.http1.specs.declared.conn.Writing.TheVariants as Writes
 use Rattle.server_stream.specs.declared.event.StreamEvent.TheVariants as Is
 
 -- what was told of the request now: nothing; or its head, and this content; or all of it
@@ -157,7 +159,7 @@ pub record IsPart (limits : Limits) (start : List ℕ) (told : RequestHead) (con
   pub framing : Framing
   pub after : List ℕ
   pub accepts : (more : List ℕ) → AcceptsRequest limits (start ++ more) head framing (after ++ more)
-  pub told : told ≡ told_of head framing
+  pub parts : told ≡ told_of head framing
   pub framed : IsFramedFor final head framing
   pub decoder : Decoder
   pub front : IsFront (decoder_for limits framing) after decoder unread content
@@ -169,12 +171,12 @@ pub record IsWhole (limits : Limits) (start : List ℕ) (told : RequestHead) (co
   pub framing : Framing
   pub after : List ℕ
   pub accepts : (more : List ℕ) → AcceptsRequest limits (start ++ more) head framing (after ++ more)
-  pub told : told ≡ told_of head framing
+  pub parts : told ≡ told_of head framing
   pub framed : IsFramedFor final head framing
   pub body : Body
   pub reads : (more : List ℕ) → ReadsBody limits framing (after ++ more) body (unread ++ more)
-  pub content : content ≡ body.bytes
-  pub trailers : trailers ≡ map_of (map name_and_value body.trailers)
+  pub bytes : content ≡ body.bytes
+  pub fields : trailers ≡ map_of (map name_and_value body.trailers)
 
 -- What was told of the request now is what the grammar finds in the stream from its start on, of which this is unread.
 -- The final response, if it was begun, is framed for this request.
@@ -183,6 +185,15 @@ IsTold limits start Nothing final unread = start ≡ unread
 IsTold limits start (Part head content) final unread = IsPart limits start head content unread final
 IsTold limits start (Whole head content trailers) final unread =
     IsWhole limits start head content trailers unread final
+
+-- what may be put: a final response if a request was told and none was begun, and content as the encoder of a
+-- response that isn't ended takes it
+abbrev pub MayPut : Server → Final → Heard → Type 0
+MayPut s Due Nothing = ⊤
+MayPut s Due heard = may_respond s ≡ true
+MayPut s (Begun r) heard =
+    r.trailers ≡ None → s.writing ≡ Writes.Body (after_pieces r.pieces (encoder_in (plan_of r)))
+MayPut s (Switched b) heard = ⊤
 
 -- The theorem. What was written, and then what waits in the output, is the responses of the exchanges before and then
 -- those to the request now, as far as they were put, literally and in order. What was received begins with the requests
@@ -195,3 +206,4 @@ pub record Exchanged (limits : Limits) (m : StreamConnection) (p : Past) : Type 
   pub unread : List ℕ
   pub now : IsTold limits start p.heard p.answer.final unread
   pub left : m.fault ≡ None → unread ≡ m.input.items
+  pub puts : MayPut m.server p.answer.final p.heard

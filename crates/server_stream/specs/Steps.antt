@@ -7,14 +7,14 @@ use Rattle.http_header.{specs.FieldValue.FieldValue, specs.HeaderMap.Entries}
 use Rattle.http1.specs.{Body.{Body, body_of}, Decoder.{Completes, Continues, Starves, decoder_for}, Fields.Header}
 use Rattle.http1.specs.Conn.{after_data, data_refusal, data_text, finish_refusal, finish_text}
 use Rattle.http1.specs.{Head.response_text, Message.AcceptsRequest}
-use Rattle.http1.specs.Server.{ServerRefuses, after_end, after_informational, after_piece, after_response, closed_server}
-use Rattle.http1.specs.Server.{failed_server, informational_refusal, new_server, peer_minor, planned_response}
-use Rattle.http1.specs.Server.{request_of, response_refusal, upgrade_refusal, upgraded_server, with_writing}
+use Rattle.http1.specs.Server.{ServerRefuses, after_end, after_informational, after_piece, after_response}
+use Rattle.http1.specs.Server.{closed_server, failed_server, informational_refusal, new_server, peer_minor}
+use Rattle.http1.specs.Server.{planned_response, request_of, response_refusal, upgrade_refusal, upgraded_server}
+use Rattle.http1.specs.{Server.with_writing, declared.server.Server.Server}
 use Rattle.http1.specs.{declared.conn.BodySize.BodySize, declared.conn.Limits.Limits, declared.conn.Reading.Reading}
 use Rattle.http1.specs.{declared.decode.Decoder.Decoder, declared.error.ReadError.ReadError}
 use Rattle.http1.specs.declared.error.ReadError.TheVariants.{UnexpectedEof}
 use Rattle.http1.specs.{declared.error.WriteError.WriteError, declared.framing.Framing.Framing}
-use Rattle.http1.specs.{declared.server.Server.Server}
 use Rattle.gateway_relay.specs.{Content.map_of, Failures.HasNoMap}
 use Rattle.gateway_connection.specs.declared.head.TheConstants.{MAX_FIELDS}
 use Rattle.server_stream.specs.{Heads.told_of, declared.connection.StreamConnection.StreamConnection}
@@ -161,17 +161,19 @@ pub record RunsOut (old new : StreamConnection) : Type 0 where
 abbrev pub AtEnd : StreamConnection → (StreamConnection → Type 0) → Type 0
 AtEnd old P = (old.ended ≡ true) × (between : StreamConnection) × RunsOut old between × P between
 
--- more is needed here
+-- more is needed here, or the server has closed
 abbrev pub IsStarved : Reading → Type 0
 IsStarved Reads.Head = ⊤
 IsStarved (Reads.Body d) = ⊤
+IsStarved Reads.Closed = ⊤
 IsStarved reading = ⊥
 
--- the input ends between two requests
-pub record EndsBetween (old new : StreamConnection) : Type 0 where
-  pub due : old.server.reading ≡ Reads.Head
-  pub empty : old.input.items ≡ []
-  pub rest : new ≡ record old { server = closed_server old.server }
+-- the input ends between two requests, or the server has closed
+abbrev pub EndsBetween : StreamConnection → StreamConnection → Type 0
+EndsBetween old new =
+    ((old.server.reading ≡ Reads.Head) × (old.input.items ≡ [])
+    × (new ≡ record old { server = closed_server old.server }))
+    ⊎ ((old.server.reading ≡ Reads.Closed) × (new ≡ old))
 
 -- what comes next
 abbrev pub Finds : StreamConnection → StreamEvent → StreamConnection → Type 0
@@ -231,9 +233,15 @@ pub record Breaks (old : StreamConnection) (why : Rejection) (new : StreamConnec
   pub server : Fails old.server old.input.items new.server
   pub rest : new ≡ record old { server = new.server; input = new.input }
 
+-- a request has begun
+abbrev pub IsWithin : Reading → List ℕ → Type 0
+IsWithin Reads.Head input = input ≢ []
+IsWithin (Reads.Body d) input = ⊤
+IsWithin reading input = ⊥
+
 -- the input ends within a request
 pub record CutsOff (old : StreamConnection) (new : StreamConnection) : Type 0 where
-  pub within : (old.server.reading ≡ Reads.Head) → old.input.items ≢ []
+  pub within : IsWithin old.server.reading old.input.items
   pub rest : new ≡ record old { server = failed_server old.server UnexpectedEof }
 
 abbrev pub Rejects : StreamConnection → Rejection → StreamConnection → Type 0

@@ -1,5 +1,5 @@
 //! One connection to a client.
-ghost use Rattle.std.specs.Prelude.{◌≡◌, ◌≢◌, ◌×◌, ◌≤◌, ◌↔◌, [], drop, false, length, IfErr, IfOk, IsTrue};
+ghost use Rattle.std.specs.Prelude.{◌≡◌, ◌≤◌, ◌↔◌, [], drop, false, length, IfErr, IfOk, IsTrue};
 ghost use Rattle.std.specs.Prelude.{MatchResult, None, OnErr, OnOk};
 ghost use Rattle.httparse.specs.Spans.{IsRequestWithin};
 ghost use Rattle.http1.specs.{Conn.{data_refusal, finish_refusal}, Head.pairs, ServerTrace.headers_at};
@@ -7,9 +7,9 @@ ghost use Rattle.http1.specs.Server.{informational_refusal, response_refusal, se
 ghost use Rattle.http1.specs.{declared.conn.Limits.Limits};
 ghost use Rattle.server_stream.specs.Heads.{IsHeadRejection, IsUnder};
 ghost use Rattle.server_stream.specs.History.{Exchanged, IsReached, Past};
-ghost use Rattle.server_stream.specs.Steps.{CutsOff, Ends, EndsBetween, Finds, Finishes, GoesOn, HandsOut, Informs, IsNew};
-ghost use Rattle.server_stream.specs.Steps.{IsStarved};
-ghost use Rattle.server_stream.specs.Steps.{Puts, Receives, RefusesWrite, Rejects, Responds, Says, Switches};
+ghost use Rattle.server_stream.specs.Steps.{CutsOff, Ends, EndsBetween, Finds, Finishes, GoesOn, HandsOut, Informs};
+ghost use Rattle.server_stream.specs.Steps.{IsNew, IsStarved, Puts, Receives, RefusesWrite, Rejects, Responds};
+ghost use Rattle.server_stream.specs.Steps.{Says, Switches};
 
 use crate::event::{RequestHead, StreamEvent};
 use crate::rejection::Rejection;
