@@ -14,7 +14,6 @@ fault_of fields Mapped.OutOfMemory why = tt
 fault_of fields e why = why
 
 -- a call that fails so
-pub fails_as : {T : Type 0} (r : Result T OriginFault) {f y : OriginFault} → r ≡ Err y → y ≡ f
-    → (P : OriginFault → Type 0) → P f → IfErr r P
-fails_as {T} r is same P because =
-    subst (λ (x : Result T OriginFault). IfErr x P) (sym is) (subst P (sym same) because)
+pub fails_as : {T E : Type 0} (r : Result T E) {f y : E} → r ≡ Err y → y ≡ f → (P : E → Type 0) → P f → IfErr r P
+fails_as {T} {E} r is same P because =
+    subst (λ (x : Result T E). IfErr x P) (sym is) (subst P (sym same) because)

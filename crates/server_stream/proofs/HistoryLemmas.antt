@@ -1,41 +1,51 @@
 -- What is true after every history of calls.
-use Rattle.std.proofs.Common.{◌≡◌, ◌≢◌, ⊤, ℕ, ◌≤◌, ◌⊎◌, inl, inr, Bool, true, false, cond, ◌&&◌, not, List, [], ◌∷◌}
-use Rattle.std.proofs.Common.{◌++◌, length, take, drop, map, Option, Some, None, Result, Ok, Err, sym, refl, ap, ◌∙◌}
-use Rattle.std.proofs.Common.{append_assoc, append-nil, arith, subst, ◌==◌}
-use Rattle.std.{proofs.lemmas.Bool.{and_parts, cond-true}}
-use Rattle.std.proofs.lemmas.List.{take-append-drop}
+use Rattle.std.specs.Bool.{⊤}
+use Rattle.std.proofs.Common.{◌≡◌, ◌≢◌, ℕ, ◌⊎◌, inl, inr, Bool, true, false, cond, ◌&&◌, not, List, [], ◌∷◌, ◌++◌}
+use Rattle.std.proofs.Common.{length, take, drop, map, Option, Some, None, Result, Ok, Err, sym, refl, ap, ◌∙◌}
+use Rattle.std.proofs.Common.{append_assoc, append-nil, ◌==◌, ◌/◌, ◌||◌, nat_lt}
+use Rattle.std.{proofs.lemmas.Bool.{and_parts}, proofs.lemmas.List.{take-append-drop}}
 use Rattle.httparse.{specs.Grammar.{Field}, specs.Spans.name_and_value}
 use Rattle.httparse.proofs.GrammarLemmas.{ReadsRequest-append}
 use Rattle.http_header.{specs.FieldValue.FieldValue, specs.HeaderMap.Entries}
 use Rattle.http1.specs.{Body.{Body, ReadsBody, body_of}, Decoder.{Completes, Continues}}
 use Rattle.http1.specs.{Decoder.{decoder_for, with_front}, Fields.Header}
 use Rattle.http1.specs.Conn.{Plan, after_data, awaits_head, data_refusal, data_text, finish_refusal, finish_text, is_read}
-use Rattle.http1.specs.Conn.{keeps_alive, plan_refusal}
-use Rattle.http1.specs.{Framing.method_kind, Head.is_status_line, Message.{AcceptsRequest, known_of}}
-use Rattle.http1.specs.Server.{after_end, after_piece, closed_server, cycle, failed_server, has_request, may_respond}
-use Rattle.http1.specs.Server.{new_server, request_of}
+use Rattle.http1.specs.{Conn.{is_connect, plan_refusal, planned_headers}, Fields.known_fields}
+use Rattle.http1.specs.{Head.{is_status_line, response_text}, Message.{AcceptsRequest}}
+use Rattle.http1.specs.Server.{RefusesAt, after_end, after_informational, after_piece, after_response, bodiless_refusal}
+use Rattle.http1.specs.Server.{closed_server, failed_server, has_request, informational_refusal, may_respond, new_server}
+use Rattle.http1.specs.Server.{planned_response, responding, response_plan, response_refusal, upgrade_refusal}
+use Rattle.http1.specs.Server.{states_upgrade, upgraded_server, with_writing}
 use Rattle.http1.specs.{declared.conn.BodySize.BodySize, declared.conn.Limits.Limits}
-use Rattle.http1.specs.{declared.conn.Reading.Reading, declared.conn.Writing.Writing, declared.decode.Decoder.Decoder}
+use Rattle.http1.specs.{declared.conn.Reading.Reading, declared.decode.Decoder.Decoder}
 use Rattle.http1.specs.{declared.encode.Encoder.Encoder, declared.error.WriteError.WriteError}
-use Rattle.http1.specs.declared.error.ReadError.{ReadError}
+use Rattle.http1.specs.{declared.error.ReadError.ReadError, declared.error.ReadError.TheVariants.{UnexpectedEof}}
 use Rattle.http1.specs.{declared.framing.Framing.Framing, declared.server.Server.Server}
 use Rattle.http1.proofs.{DecoderLemmas.decoder_for-live, OneParse.body_from_completes}
-use Rattle.gateway_relay.{specs.Content.{after_pieces, map_of, pieces_text}}
-use Rattle.gateway_connection.specs.Exchanges.{encoder_in, keeps_in, last_text}
+use Rattle.gateway_relay.{specs.Content.{after_pieces, map_of}}
+use Rattle.gateway_connection.specs.Exchanges.{encoder_in, keeps_in}
 use Rattle.gateway_connection.proofs.ContentLemmas.{end_at, front_goes, front_grows, put_at, takes_data, takes_end}
+use Rattle.gateway_connection.proofs.ContentLemmas.{writing_at}
+use Rattle.server_stream.proofs.FindLemmas.{Turns, limits_turned, reads_next, still_waits, turns_piece, waits_before}
 use Rattle.server_stream.specs.Exchanges.{Answer, Bare, Begun, Due, Exchange, Final, IsFramedFor, IsOf, ReadsExchange}
 use Rattle.server_stream.specs.Exchanges.{ReadsKept, Response, Switched, answer_text, bare_text, bare_texts}
 use Rattle.server_stream.specs.Exchanges.{exchange_text, final_text, head_text, no_answer, plan_of, response_bytes}
 use Rattle.server_stream.specs.{Heads.told_of, declared.connection.StreamConnection.StreamConnection}
 use Rattle.server_stream.specs.{declared.event.RequestHead.RequestHead, declared.event.StreamEvent.StreamEvent}
-use Rattle.server_stream.specs.History.{Heard, Nothing, Part, Whole, IsTold, IsWhole, Past, no_past, over, texts}
-use Rattle.server_stream.specs.History.{with_content, with_end}
-use Rattle.server_stream.specs.Steps.{IsOfContent, RunsOutAt, after_head}
+use Rattle.server_stream.specs.declared.rejection.Rejection.{Rejection}
+use Rattle.server_stream.specs.History.{Exchanged, Heard, IsReached, IsTold, IsWhole, Past, answers, begins, change}
+use Rattle.server_stream.specs.History.{informs, no_past, over, reject_at, tell, texts, with_content, with_end}
+use Rattle.server_stream.specs.History.{with_piece, with_trailers, Nothing, Part, Whole, Opened, Received, Finished}
+use Rattle.server_stream.specs.History.{Informed, Responded, Handed, Put, Ended, Refused, Written, Said}
+use Rattle.server_stream.specs.Steps.{Ends, EndsBetween, Fails, Finds, HandsOut, Informs, IsOfContent, IsWithin, Puts}
+use Rattle.server_stream.specs.Steps.{PutsNothing, Receives, Rejects, Responds, RunsOut, RunsOutAt, SaysAt, Switches}
+use Rattle.server_stream.specs.Steps.{after_head}
 use Rattle.httparse.specs.Grammar as Grammar
-use Rattle.http1.specs.Server as Serving
 use Rattle.http1.specs.declared.conn.Reading.TheVariants as Reads
 use Rattle.http1.specs.declared.conn.Writing.TheVariants as Writes
+use Rattle.http1.specs.declared.error.WriteError.TheVariants as Refusal
 use Rattle.http1.specs.declared.server.Request as Known
+use Rattle.server_stream.specs.declared.event.StreamEvent.TheVariants as Is
 
 -- ---- responses
 
@@ -78,12 +88,21 @@ WritesAt s Due = (s.writing ≡ Writes.Head) ⊎ (s.writing ≡ Writes.Closed)
 WritesAt s (Begun r) = WritesResponse r.trailers s r
 WritesAt s (Switched b) = s.writing ≡ Writes.Upgraded
 
+-- where a stream is
+record Place : Type 0 where
+  limits : Limits
+  start : List ℕ
+  final : Final
+  unread : List ℕ
+
+abbrev ToldAt : Place → Heard → Type 0
+ToldAt w heard = IsTold w.limits w.start heard w.final w.unread
+
 -- where a response may begin, the server knows the request that was told
-abbrev AskedAt : {limits : Limits} {start : List ℕ} {final : Final} {unread : List ℕ} (s : Server) (heard : Heard)
-    → IsTold limits start heard final unread → Type 0
-AskedAt s Nothing x = ⊤
-AskedAt s (Part head content) x = may_respond s ≡ true → IsOf s.request x.head x.framing
-AskedAt s (Whole head content trailers) x = may_respond s ≡ true → IsOf s.request x.head x.framing
+abbrev AskedAt : (w : Place) (s : Server) (heard : Heard) → ToldAt w heard → Type 0
+AskedAt w s Nothing x = ⊤
+AskedAt w s (Part head content) x = may_respond s ≡ true → IsOf s.request x.head x.framing
+AskedAt w s (Whole head content trailers) x = may_respond s ≡ true → IsOf s.request x.head x.framing
 
 -- the final response is ended, and keeps the connection
 abbrev IsKept : Final → Type 0
@@ -92,11 +111,10 @@ IsKept (Begun r) = (r.trailers ≢ None) × (keeps_in (plan_of r) ≡ true)
 IsKept (Switched b) = ⊥
 
 -- what the server reads, by what was told
-abbrev IsAt : {limits : Limits} {start : List ℕ} {final : Final} {unread : List ℕ} (s : Server) (a : Answer)
-    (heard : Heard) → IsTold limits start heard final unread → Type 0
-IsAt s a Nothing x = (a ≡ no_answer) × ((s ≡ new_server s.limits) ⊎ IsShut s)
-IsAt s a (Part head content) x = (s.reading ≡ Reads.Body x.decoder) ⊎ IsShut s
-IsAt s a (Whole head content trailers) x =
+abbrev IsAt : (w : Place) (s : Server) (a : Answer) (heard : Heard) → ToldAt w heard → Type 0
+IsAt w s a Nothing x = (a ≡ no_answer) × ((s ≡ new_server s.limits) ⊎ IsShut s)
+IsAt w s a (Part head content) x = (s.reading ≡ Reads.Body x.decoder) ⊎ IsShut s
+IsAt w s a (Whole head content trailers) x =
     (s.reading ≡ Reads.Done) ⊎ (IsShut s ⊎ ((s ≡ new_server s.limits) × IsKept a.final))
 
 -- what a read leaves as it was
@@ -113,74 +131,39 @@ record Since (k : Frame) (text : List ℕ) : Type 0 where
   start : List ℕ
   kept : (more : List ℕ) → ReadsKept k.limits (k.received ++ more) k.before (start ++ more)
 
+abbrev place : Frame → List ℕ → Answer → List ℕ → Place
+place k start a unread = record { limits = k.limits; start = start; final = a.final; unread = unread }
+
 -- a connection, also one that is rejected
 record Goes (k : Frame) (s : Server) (unread : List ℕ) (heard : Heard) (a : Answer) : Type 0 where
   since : Since k (answer_text a)
   limited : s.limits ≡ k.limits
   told : IsTold k.limits since.start heard a.final unread
   writes : WritesAt s a.final
-  asked : AskedAt s heard told
+  asked : AskedAt (place k since.start a unread) s heard told
 
 -- a connection that isn't rejected
 record Going (k : Frame) (s : Server) (input : List ℕ) (heard : Heard) (a : Answer) : Type 0 where
   goes : Goes k s input heard a
-  at : IsAt s a heard goes.told
+  at : IsAt (place k goes.since.start a input) s a heard goes.told
 
 -- ---- a turn of the server
 
--- the server that reads this next, and knows whether its client waits
-abbrev reads_next : Server → Reading → Bool → Server
-reads_next s next waits =
-    record s { reading = next; request = record (s.request) { expects_continue = waits } }
-
--- it goes on, or it closes, or it begins again
-abbrev Turns : Server → Reading → Bool → Server → Type 0
-Turns s next waits new =
-    (new ≡ reads_next s next waits)
-    ⊎ (((s.writing ≡ Writes.Done) × (new ≡ closed_server (reads_next s next waits)))
-    ⊎ ((s.writing ≡ Writes.Done) × (s.request.keep_alive ≡ true) × (is_read next ≡ true)
-    × (new ≡ new_server s.limits)))
-
-turns : (s : Server) (next : Reading) (waits : Bool) → Turns s next waits (cycle (reads_next s next waits))
-turns s next waits = by_writing s.writing refl
-  where
-    by_reading : (b : Bool) → is_read next ≡ b → s.writing ≡ Writes.Done → s.request.keep_alive ≡ true
-        → Turns s next waits (cycle (reads_next s next waits))
-    by_reading true is done keeps = inr (inr (done, keeps, is, rw (done, keeps, is) refl))
-    by_reading false is done keeps = inl (rw (done, keeps, is) refl)
-
-    by_keeping : (b : Bool) → s.request.keep_alive ≡ b → s.writing ≡ Writes.Done
-        → Turns s next waits (cycle (reads_next s next waits))
-    by_keeping true keeps done = by_reading (is_read next) refl done keeps
-    by_keeping false keeps done = inr (inl (done, rw (done, keeps) refl))
-
-    by_writing : (w : Writing) → s.writing ≡ w → Turns s next waits (cycle (reads_next s next waits))
-    by_writing Writes.Done is = by_keeping s.request.keep_alive refl is
-    by_writing w is = inl (rw is refl)
-
-limits_turned : {s new : Server} {next : Reading} {waits : Bool} → Turns s next waits new → new.limits ≡ s.limits
-limits_turned (inl goes) = rw goes refl
-limits_turned (inr (inl closes)) = rw closes.1 refl
-limits_turned (inr (inr begins)) = rw begins.3 refl
-
--- whether the client still waits, once this was read
-abbrev still_waits : Server → List ℕ → Reading → Bool
-still_waits s input next = s.request.expects_continue && ((length input == 0) && not (is_read next))
-
-waits_before : (s : Server) (input : List ℕ) (next : Reading) → still_waits s input next ≡ true
-    → s.request.expects_continue ≡ true
-waits_before s input next waits = (and_parts s.request.expects_continue _ waits).0
-
-turns_piece : (s : Server) (input : List ℕ) (next : Reading) → Turns s next (still_waits s input next)
-    (after_piece s input next)
-turns_piece s input next = turns s next (still_waits s input next)
-
 new_body : (s : Server) (d : Decoder) → s.reading ≡ Reads.Body d → ¬ (s ≡ new_server s.limits)
-new_body s d is new = absurd (cc (is, ap (λ (x : Server). x.reading) new))
+new_body s d is new =
+    let head : s.reading ≡ Reads.Head = ap (λ (x : Server). x.reading) new in absurd (cc (is, head))
 
 shut_body : (s : Server) (d : Decoder) → s.reading ≡ Reads.Body d → ¬ (IsShut s)
 shut_body s d is (inl shut) = absurd (cc (is, shut.0))
 shut_body s d is (inr shut) = absurd (cc (is, shut.0))
+
+shut_failed : (s : Server) (e : ReadError) → s.reading ≡ Reads.Failed e → ¬ (IsShut s)
+shut_failed s e is (inl shut) = absurd (cc (is, shut.0))
+shut_failed s e is (inr shut) = absurd (cc (is, shut.0))
+
+new_failed : (s : Server) (e : ReadError) → s.reading ≡ Reads.Failed e → ¬ (s ≡ new_server s.limits)
+new_failed s e is new =
+    let head : s.reading ≡ Reads.Head = ap (λ (x : Server). x.reading) new in absurd (cc (is, head))
 
 shut_head : (s : Server) → s.reading ≡ Reads.Head → ¬ (IsShut s)
 shut_head s is (inl shut) = absurd (cc (is, shut.0))
@@ -228,7 +211,7 @@ writes_turned s new d next waits f is t w = by_turn t
     by_turn : Turns s next waits new → WritesAt new f
     by_turn (inl goes) = rw goes (same f w)
     by_turn (inr (inl closes)) = rw closes.1 (ended f closes.0 w)
-    by_turn (inr (inr begins)) = rw begins.3 (again f begins.0 begins.1 w)
+    by_turn (inr (inr anew)) = rw anew.3 (again f anew.0 anew.1 w)
 
 -- what it knows of the request is as before
 is_of_waits : {q : Known.Request} {h : Grammar.RequestHead} {framing : Framing} (waits : Bool)
@@ -252,7 +235,7 @@ asked_turned : (s new : Server) (d : Decoder) (next : Reading) (waits : Bool) (h
 asked_turned s new d next waits h framing is before (inl goes) asked may =
     rw goes (is_of_waits waits before (asked (may_begin s d next waits is (rw goes at may))))
 asked_turned s new d next waits h framing is before (inr (inl closes)) asked may = absurd (cc (rw closes.1 at may))
-asked_turned s new d next waits h framing is before (inr (inr begins)) asked may = absurd (cc (rw begins.3 at may))
+asked_turned s new d next waits h framing is before (inr (inr anew)) asked may = absurd (cc (rw anew.3 at may))
 
 -- ---- the input goes on
 
@@ -261,20 +244,22 @@ grows : (bytes : List ℕ) (P : List ℕ → List ℕ → Type 0) (a b : List �
 grows bytes P a b f more = simp append_assoc (f (bytes ++ more))
 
 -- what was told is as before, and so is what the server does
-told_grows : {limits : Limits} {start : List ℕ} {final : Final} {unread : List ℕ} (bytes : List ℕ) (heard : Heard)
-    (x : IsTold limits start heard final unread)
-    → (y : IsTold limits (start ++ bytes) heard final (unread ++ bytes))
-    × ((s : Server) → AskedAt s heard x → AskedAt s heard y)
-    × ((s : Server) (a : Answer) → IsAt s a heard x → IsAt s a heard y)
-told_grows {limits} {start} {final} {unread} bytes Nothing x =
+abbrev grown : Place → List ℕ → Place
+grown w bytes = record w { start = w.start ++ bytes; unread = w.unread ++ bytes }
+
+told_grows : (w : Place) (bytes : List ℕ) (heard : Heard) (x : ToldAt w heard)
+    → (y : ToldAt (grown w bytes) heard)
+    × ((s : Server) → AskedAt w s heard x → AskedAt (grown w bytes) s heard y)
+    × ((s : Server) (a : Answer) → IsAt w s a heard x → IsAt (grown w bytes) s a heard y)
+told_grows w bytes Nothing x =
     (ap (λ (t : List ℕ). t ++ bytes) x, λ s asked. tt, λ s a at. at)
-told_grows {limits} {start} {final} {unread} bytes (Part head content) x = (
+told_grows w bytes (Part head content) x = (
   record {
     head = x.head;
     framing = x.framing;
     after = x.after ++ bytes;
-    accepts = grows bytes (λ t u. AcceptsRequest limits t x.head x.framing u) start x.after x.accepts;
-    told = x.told;
+    accepts = grows bytes (λ t u. AcceptsRequest w.limits t x.head x.framing u) w.start x.after x.accepts;
+    parts = x.parts;
     framed = x.framed;
     decoder = x.decoder;
     front = front_grows bytes x.front;
@@ -282,18 +267,18 @@ told_grows {limits} {start} {final} {unread} bytes (Part head content) x = (
   λ s asked. asked,
   λ s a at. at,
 )
-told_grows {limits} {start} {final} {unread} bytes (Whole head content trailers) x = (
+told_grows w bytes (Whole head content trailers) x = (
   record {
     head = x.head;
     framing = x.framing;
     after = x.after ++ bytes;
-    accepts = grows bytes (λ t u. AcceptsRequest limits t x.head x.framing u) start x.after x.accepts;
-    told = x.told;
+    accepts = grows bytes (λ t u. AcceptsRequest w.limits t x.head x.framing u) w.start x.after x.accepts;
+    parts = x.parts;
     framed = x.framed;
     body = x.body;
-    reads = grows bytes (λ t u. ReadsBody limits x.framing t x.body u) x.after unread x.reads;
-    content = x.content;
-    trailers = x.trailers;
+    reads = grows bytes (λ t u. ReadsBody w.limits x.framing t x.body u) x.after w.unread x.reads;
+    bytes = x.bytes;
+    fields = x.fields;
   },
   λ s asked. asked,
   λ s a at. at,
@@ -302,7 +287,7 @@ told_grows {limits} {start} {final} {unread} bytes (Whole head content trailers)
 goes_grows : {k : Frame} {s : Server} {unread : List ℕ} {a : Answer} (bytes : List ℕ) (heard : Heard)
     → Goes k s unread heard a → Goes (record k { received = k.received ++ bytes }) s (unread ++ bytes) heard a
 goes_grows {k} {s} {unread} {a} bytes heard g =
-    let y = told_grows bytes heard g.told in
+    let y = told_grows (place k g.since.start a unread) bytes heard g.told in
     record {
       since = record {
         written = g.since.written;
@@ -330,19 +315,19 @@ module _ {k : Frame} {s : Server} {input : List ℕ} {a : Answer} where
       rw (left, goes) (record {
         goes = record {
           since = g.since;
-          limited = limits_turned t ∙ g.limited;
+          limited = limits_turned s _ _ waits t ∙ g.limited;
           told = record {
             head = x.head;
             framing = x.framing;
             after = x.after;
             accepts = x.accepts;
-            told = x.told;
+            parts = x.parts;
             framed = x.framed;
             decoder = after;
             front = front_goes x.front (rw same at continues);
           };
           writes = writes_turned s _ d _ waits a.final is t g.writes;
-          asked = asked_turned s _ d _ waits x.head x.framing is (waits_before s input _) t g.asked;
+          asked = asked_turned s _ d _ waits x.head x.framing is (waits_before s input (Reads.Body after)) t g.asked;
         };
         at = reads_turned t;
       })
@@ -351,24 +336,24 @@ module _ {k : Frame} {s : Server} {input : List ℕ} {a : Answer} where
           → (new.reading ≡ Reads.Body after) ⊎ IsShut new
       reads_turned (inl goes) = rw goes (inl refl)
       reads_turned (inr (inl closes)) = rw closes.1 (inr (inl (refl, refl)))
-      reads_turned (inr (inr begins)) = absurd (cc begins.2)
+      reads_turned (inr (inr anew)) = absurd (cc anew.2)
 
   -- a request is being read
-  heard : (P : Heard → Type 0) {d : Decoder} → s.reading ≡ Reads.Body d
+  in_part : (P : Heard → Type 0) {d : Decoder} → s.reading ≡ Reads.Body d
       → ((head : RequestHead) (content : List ℕ) (g : Going k s input (Part head content) a)
       → d ≡ g.goes.told.decoder → P (Part head content))
       → (heard : Heard) → Going k s input heard a → P heard
-  heard P {d} is f Nothing g = nothing g.at.1
+  in_part P {d} is f Nothing g = nothing g.at.1
     where
       nothing : (s ≡ new_server s.limits) ⊎ IsShut s → P Nothing
       nothing (inl new) = absurd (new_body s d is new)
       nothing (inr shut) = absurd (shut_body s d is shut)
-  heard P {d} is f (Part head content) g = part g.at
+  in_part P {d} is f (Part head content) g = part g.at
     where
       part : (s.reading ≡ Reads.Body g.goes.told.decoder) ⊎ IsShut s → P (Part head content)
       part (inl reads) = f head content g (cc (is, reads))
       part (inr shut) = absurd (shut_body s d is shut)
-  heard P {d} is f (Whole head content trailers) g = whole g.at
+  in_part P {d} is f (Whole head content trailers) g = whole g.at
     where
       whole : (s.reading ≡ Reads.Done) ⊎ (IsShut s ⊎ ((s ≡ new_server s.limits) × IsKept a.final))
           → P (Whole head content trailers)
@@ -381,17 +366,17 @@ module _ {k : Frame} {s : Server} {input : List ℕ} {a : Answer} where
       → next ≡ after_piece s input (Reads.Body after) → (heard_now : Heard) → Going k s input heard_now a
       → Going k next rest (with_content piece heard_now) a
   piece_now {next} {rest} d after len piece is continues left goes =
-      heard (λ heard_now. Going k next rest (with_content piece heard_now) a) is (λ head content g same.
+      in_part (λ heard_now. Going k next rest (with_content piece heard_now) a) is (λ head content g same.
       part_now head content piece d after len g.goes is same continues left goes)
 
   -- nothing more is found
   runs_out : {next : Server} {rest : List ℕ} (r : Reading) → s.reading ≡ r → RunsOutAt r s input next rest
       → (heard_now : Heard) → Going k s input heard_now a → Going k next rest heard_now a
   runs_out Reads.Head is found heard_now g = rw (found.0, found.1) g
-  runs_out {next} {rest} (Reads.Body d) is found = 
-      heard (λ heard_now. Going k next rest heard_now a) is (λ head content g same.
+  runs_out {next} {rest} (Reads.Body d) is found heard_now g =
+      in_part (λ heard_now. Going k next rest heard_now a) is (λ head content g same.
       rw (append-nil content) at
-      (part_now head content [] d found.0 found.1 g.goes is same found.2.continues found.3 found.4))
+      (part_now head content [] d found.0 found.1 g.goes is same found.2.continues found.3 found.4)) heard_now g
   runs_out r is found heard_now g = absurd found
 
   -- content ends
@@ -401,30 +386,30 @@ module _ {k : Frame} {s : Server} {input : List ℕ} {a : Answer} where
       → trailers ≡ map_of (map name_and_value fields) → next ≡ after_piece s input Reads.Done
       → (heard_now : Heard) → Going k s input heard_now a → Going k next rest (with_end trailers heard_now) a
   end_now {next} {rest} fields {d} {trailers} is completes fields_are goes =
-      heard (λ heard_now. Going k next rest (with_end trailers heard_now) a) is (λ head content g same.
+      in_part (λ heard_now. Going k next rest (with_end trailers heard_now) a) is (λ head content g same.
       let x = g.goes.told in
       let waits = still_waits s input Reads.Done in
       let t = turns_piece s input Reads.Done in
       rw goes (record {
         goes = record {
           since = g.goes.since;
-          limited = limits_turned t ∙ g.goes.limited;
+          limited = limits_turned s _ _ waits t ∙ g.goes.limited;
           told = record {
             head = x.head;
             framing = x.framing;
             after = x.after;
             accepts = x.accepts;
-            told = x.told;
+            parts = x.parts;
             framed = x.framed;
             body = with_front content (body_of [] fields);
             reads = λ more. body_from_completes k.limits x.framing (x.after ++ more)
                 (with_front content (body_of [] fields)) (rest ++ more)
                 (x.front.back more (body_of [] fields) (rest ++ more) (rw same at (completes more)));
-            content = sym (append-nil content);
-            trailers = fields_are;
+            bytes = sym (append-nil content);
+            fields = fields_are;
           };
           writes = writes_turned s _ d _ waits a.final is t g.goes.writes;
-          asked = asked_turned s _ d _ waits x.head x.framing is (waits_before s input _) t g.goes.asked;
+          asked = asked_turned s _ d _ waits x.head x.framing is (waits_before s input Reads.Done) t g.goes.asked;
         };
         at = ends_turned a.final g.goes.writes t;
       }))
@@ -433,19 +418,19 @@ module _ {k : Frame} {s : Server} {input : List ℕ} {a : Answer} where
           → (new.reading ≡ Reads.Done) ⊎ (IsShut new ⊎ ((new ≡ new_server new.limits) × IsKept f))
       ends_turned f w (inl goes) = rw goes (inl refl)
       ends_turned f w (inr (inl closes)) = rw closes.1 (inr (inl (inl (refl, refl))))
-      ends_turned f w (inr (inr begins)) = rw begins.3 (inr (inr (refl, kept f w)))
+      ends_turned f w (inr (inr anew)) = rw anew.3 (inr (inr (refl, kept f w)))
         where
           kept : (f : Final) → WritesAt s f → IsKept f
-          kept Due (inl head) = absurd (cc (head, begins.0))
-          kept Due (inr closed) = absurd (cc (closed, begins.0))
+          kept Due (inl head) = absurd (cc (head, anew.0))
+          kept Due (inr closed) = absurd (cc (closed, anew.0))
           kept (Begun r) w = response r.trailers refl w
             where
               response : (t : Option (List Header)) → r.trailers ≡ t → WritesResponse t s r → IsKept (Begun r)
-              response None open w = absurd (cc (begins.0, w.0))
-              response (Some trailers) whole (inl ended) = (λ none. absurd (cc (whole, none)), ended.1 begins.1)
-              response (Some trailers) whole (inr (inl closed)) = absurd (cc (begins.0, closed))
+              response None begun w = absurd (cc (anew.0, w.0))
+              response (Some trailers) whole (inl ended) = (λ none. absurd (cc (whole, none)), ended.1 anew.1)
+              response (Some trailers) whole (inr (inl closed)) = absurd (cc (anew.0, closed))
               response (Some trailers) whole (inr (inr new)) = absurd (new_body s _ is new.0)
-          kept (Switched b) w = absurd (cc (begins.0, w))
+          kept (Switched b) w = absurd (cc (anew.0, w))
 
 -- ---- the next request
 
@@ -463,9 +448,9 @@ whole_reads interim r x kept more = record {
     head = x.accepts more;
     body = x.reads more;
   };
-  head = x.told;
-  content = x.content;
-  trailers = x.trailers;
+  head = x.parts;
+  content = x.bytes;
+  trailers = x.fields;
   framed = x.framed;
   whole = kept.0;
   kept = kept.1;
@@ -474,18 +459,15 @@ whole_reads interim r x kept more = record {
 abbrev later : Frame → Heard → Answer → Frame
 later k heard a = record k { before = k.before ++ over heard a }
 
+-- the next request begins here
+record Begins (k : Frame) (s : Server) (input : List ℕ) (heard : Heard) (a : Answer) : Type 0 where
+  written : k.sent ++ k.output ≡ texts (k.before ++ over heard a) ++ []
+  kept : (more : List ℕ) → ReadsKept k.limits (k.received ++ more) (k.before ++ over heard a) (input ++ more)
+  writing : s.writing ≡ Writes.Head
+
 module _ {k : Frame} {s : Server} {input : List ℕ} (is : s.reading ≡ Reads.Head) where
-  -- the next request begins here
-  record Begins (heard : Heard) (a : Answer) : Type 0 where
-    written : k.sent ++ k.output ≡ texts (k.before ++ over heard a) ++ []
-    kept : (more : List ℕ) → ReadsKept k.limits (k.received ++ more) (k.before ++ over heard a) (input ++ more)
-    writing : s.writing ≡ Writes.Head
-
-  not_shut : {P : Type 0} → IsShut s → P
-  not_shut shut = absurd (shut_head s is shut)
-
-  begins : (heard : Heard) (a : Answer) → Going k s input heard a → Begins heard a
-  begins Nothing a g = record {
+  next_begins : (heard : Heard) (a : Answer) → Going k s input heard a → Begins k s input heard a
+  next_begins Nothing a g = record {
     written = rw (append-nil k.before)
         (g.goes.since.written ∙ ap (λ (x : Answer). texts k.before ++ answer_text x) g.at.0);
     kept = λ more. rw (append-nil k.before) (rw g.goes.told at (g.goes.since.kept more));
@@ -494,18 +476,18 @@ module _ {k : Frame} {s : Server} {input : List ℕ} (is : s.reading ≡ Reads.H
     where
       writing : (s ≡ new_server s.limits) ⊎ IsShut s → s.writing ≡ Writes.Head
       writing (inl new) = ap (λ (x : Server). x.writing) new
-      writing (inr shut) = not_shut shut
-  begins (Part head content) a g = part g.at
+      writing (inr shut) = absurd (shut_head s is shut)
+  next_begins (Part head content) a g = part g.at
     where
-      part : (s.reading ≡ Reads.Body g.goes.told.decoder) ⊎ IsShut s → Begins (Part head content) a
+      part : (s.reading ≡ Reads.Body g.goes.told.decoder) ⊎ IsShut s → Begins k s input (Part head content) a
       part (inl reads) = absurd (cc (is, reads))
-      part (inr shut) = not_shut shut
-  begins (Whole head content trailers) a g = whole g.at
+      part (inr shut) = absurd (shut_head s is shut)
+  next_begins (Whole head content trailers) a g = whole g.at
     where
       ended : (interim : List Bare) (f : Final) → IsKept f
           → Goes k s input (Whole head content trailers) (record { interim = interim; final = f })
           → s ≡ new_server s.limits
-          → Begins (Whole head content trailers) (record { interim = interim; final = f })
+          → Begins k s input (Whole head content trailers) (record { interim = interim; final = f })
       ended interim Due kept g new = absurd kept
       ended interim (Begun r) kept g new = record {
         written = g.since.written ∙ sym (texts-append k.before _) ∙ sym (append-nil _);
@@ -515,9 +497,9 @@ module _ {k : Frame} {s : Server} {input : List ℕ} (is : s.reading ≡ Reads.H
       ended interim (Switched b) kept g new = absurd kept
 
       whole : (s.reading ≡ Reads.Done) ⊎ (IsShut s ⊎ ((s ≡ new_server s.limits) × IsKept a.final))
-          → Begins (Whole head content trailers) a
+          → Begins k s input (Whole head content trailers) a
       whole (inl done) = absurd (cc (is, done))
-      whole (inr (inl shut)) = not_shut shut
+      whole (inr (inl shut)) = absurd (shut_head s is shut)
       whole (inr (inr new)) = ended a.interim a.final new.1 g.goes new.0
 
   -- its head is read
@@ -525,7 +507,7 @@ module _ {k : Frame} {s : Server} {input : List ℕ} (is : s.reading ≡ Reads.H
       → AcceptsRequest s.limits input h framing rest → (heard : Heard) (a : Answer) → Going k s input heard a
       → Going (later k heard a) (after_head s h framing) rest (Part (told_of h framing) []) no_answer
   head_now {h} {framing} {rest} accepts heard a g =
-      let b = begins heard a g in
+      let b = next_begins heard a g in
       record {
         goes = record {
           since = record { written = b.written; start = input; kept = b.kept };
@@ -540,7 +522,7 @@ module _ {k : Frame} {s : Server} {input : List ℕ} (is : s.reading ≡ Reads.H
               host = accepts.host;
               framed = accepts.framed;
             });
-            told = refl;
+            parts = refl;
             framed = tt;
             decoder = decoder_for k.limits framing;
             front = record {
@@ -559,7 +541,7 @@ module _ {k : Frame} {s : Server} {input : List ℕ} (is : s.reading ≡ Reads.H
   rejected_now : {next : Server} → next.limits ≡ s.limits → next.writing ≡ s.writing → (heard : Heard) (a : Answer)
       → Going k s input heard a → Goes (later k heard a) next input Nothing no_answer
   rejected_now limited writing heard a g =
-      let b = begins heard a g in
+      let b = next_begins heard a g in
       record {
         since = record { written = b.written; start = input; kept = b.kept };
         limited = limited ∙ g.goes.limited;
@@ -567,3 +549,902 @@ module _ {k : Frame} {s : Server} {input : List ℕ} (is : s.reading ≡ Reads.H
         writes = inl (writing ∙ b.writing);
         asked = tt;
       }
+
+-- ---- rejections
+
+-- what is rejected is of the request now, or follows the exchange now
+abbrev RejectedAt : Frame → Server → List ℕ → Heard → Answer → Type 0
+RejectedAt k next unread (Whole head content trailers) a =
+    Goes (later k (Whole head content trailers) a) next unread Nothing no_answer
+RejectedAt k next unread heard a = Goes k next unread heard a
+
+failed_writes : (s : Server) (d : Decoder) (e : ReadError) (f : Final) → s.reading ≡ Reads.Body d → WritesAt s f
+    → WritesAt (failed_server s e) f
+failed_writes s d e Due is w = w
+failed_writes s d e (Begun r) is w = response r.trailers w
+  where
+    response : (t : Option (List Header)) → WritesResponse t s r → WritesResponse t (failed_server s e) r
+    response None w = (w.0, λ keeps. absurd (cc keeps))
+    response (Some trailers) (inl done) = inl (done.0, λ keeps. absurd (cc keeps))
+    response (Some trailers) (inr (inl closed)) = inr (inl closed)
+    response (Some trailers) (inr (inr again)) = absurd (new_body s d is again.0)
+failed_writes s d e (Switched b) is w = w
+
+failed_asked : (s : Server) (d : Decoder) (e : ReadError) (h : Grammar.RequestHead) (framing : Framing)
+    → s.reading ≡ Reads.Body d → (may_respond s ≡ true → IsOf s.request h framing)
+    → may_respond (failed_server s e) ≡ true → IsOf (failed_server s e).request h framing
+failed_asked s d e h framing is asked may =
+    let x = asked (may_begin s d (Reads.Failed e) s.request.expects_continue is may) in
+    record { method = x.method; minor = x.minor; keeps = λ keeps. absurd (cc keeps); waits = x.waits }
+
+module _ {k : Frame} {s : Server} {input : List ℕ} {a : Answer} where
+  head_fails : (next : Server) → s.reading ≡ Reads.Head → next.limits ≡ s.limits → next.writing ≡ s.writing
+      → (heard_now : Heard) → Going k s input heard_now a → RejectedAt k next input heard_now a
+  head_fails next is limited writing Nothing g = record {
+    since = g.goes.since;
+    limited = limited ∙ g.goes.limited;
+    told = g.goes.told;
+    writes = rw g.at.0 (inl (writing ∙ (next_begins is Nothing a g).writing));
+    asked = tt;
+  }
+  head_fails next is limited writing (Part head content) g = absurd (part g.at)
+    where
+      part : (s.reading ≡ Reads.Body g.goes.told.decoder) ⊎ IsShut s → ⊥
+      part (inl reads) = absurd (cc (is, reads))
+      part (inr shut) = shut_head s is shut
+  head_fails next is limited writing (Whole head content trailers) g =
+      rejected_now is limited writing (Whole head content trailers) a g
+
+  body_fails : (d : Decoder) (e : ReadError) → s.reading ≡ Reads.Body d → (heard_now : Heard)
+      → Going k s input heard_now a → RejectedAt k (failed_server s e) input heard_now a
+  body_fails d e is = in_part (λ heard_now. RejectedAt k (failed_server s e) input heard_now a) is
+      (λ head content g same. record {
+        since = g.goes.since;
+        limited = g.goes.limited;
+        told = g.goes.told;
+        writes = failed_writes s d e a.final is g.goes.writes;
+        asked = failed_asked s d e g.goes.told.head g.goes.told.framing is g.goes.asked;
+      })
+
+  piece_fails : (d : Decoder) (reading : Reading) → s.reading ≡ Reads.Body d → (heard_now : Heard)
+      → Going k s input heard_now a → RejectedAt k (after_piece s input reading) input heard_now a
+  piece_fails d reading is = in_part (λ heard_now. RejectedAt k (after_piece s input reading) input heard_now a) is
+      (λ head content g same.
+      let x = g.goes.told in
+      let waits = still_waits s input reading in
+      let t = turns_piece s input reading in
+      record {
+        since = g.goes.since;
+        limited = limits_turned s _ _ waits t ∙ g.goes.limited;
+        told = x;
+        writes = writes_turned s _ d reading waits a.final is t g.goes.writes;
+        asked = asked_turned s _ d reading waits x.head x.framing is (waits_before s input reading) t g.goes.asked;
+      })
+
+  -- a connection that isn't rejected can be read
+  not_failed : (e : ReadError) → s.reading ≡ Reads.Failed e → (heard_now : Heard) → ¬ (Going k s input heard_now a)
+  not_failed e is Nothing g = nothing g.at.1
+    where
+      nothing : (s ≡ new_server s.limits) ⊎ IsShut s → ⊥
+      nothing (inl new) = new_failed s e is new
+      nothing (inr shut) = shut_failed s e is shut
+  not_failed e is (Part head content) g = part g.at
+    where
+      part : (s.reading ≡ Reads.Body g.goes.told.decoder) ⊎ IsShut s → ⊥
+      part (inl reads) = absurd (cc (is, reads))
+      part (inr shut) = shut_failed s e is shut
+  not_failed e is (Whole head content trailers) g = whole g.at
+    where
+      whole : (s.reading ≡ Reads.Done) ⊎ (IsShut s ⊎ ((s ≡ new_server s.limits) × IsKept a.final)) → ⊥
+      whole (inl done) = absurd (cc (is, done))
+      whole (inr (inl shut)) = shut_failed s e is shut
+      whole (inr (inr new)) = new_failed s e is new.0
+
+  malformed : (r : Reading) (room : ℕ) (e : ReadError) → s.reading ≡ r → RefusesAt r s.limits input room e
+      → (heard_now : Heard) → Going k s input heard_now a → RejectedAt k (failed_server s e) input heard_now a
+  malformed Reads.Head room e is wrong heard_now g = head_fails (failed_server s e) is refl refl heard_now g
+  malformed (Reads.Body d) room e is wrong heard_now g = body_fails d e is heard_now g
+  malformed (Reads.Failed earlier) room e is wrong heard_now g = absurd (not_failed earlier is heard_now g)
+  malformed r room e is wrong heard_now g = absurd wrong
+
+  fails : (next : Server) → Fails s input next → (heard_now : Heard) → Going k s input heard_now a
+      → RejectedAt k next input heard_now a
+  fails next (inl wrong) heard_now g =
+      rw wrong.2 (malformed s.reading _ wrong.0 refl wrong.1 heard_now g)
+  fails next (inr (inl head)) heard_now g = rw head.5 (head_fails _ head.0 refl refl heard_now g)
+  fails next (inr (inr piece)) heard_now g = rw piece.4 (piece_fails piece.0 piece.1 piece.2 heard_now g)
+
+  cut_off : (r : Reading) → s.reading ≡ r → IsWithin r input → (heard_now : Heard) → Going k s input heard_now a
+      → RejectedAt k (failed_server s UnexpectedEof) input heard_now a
+  cut_off Reads.Head is within heard_now g = head_fails (failed_server s UnexpectedEof) is refl refl heard_now g
+  cut_off (Reads.Body d) is within heard_now g = body_fails d UnexpectedEof is heard_now g
+  cut_off r is within heard_now g = absurd within
+
+  -- the input ends between two requests
+  closed_now : s.reading ≡ Reads.Head → (heard_now : Heard) → Going k s input heard_now a
+      → Going k (closed_server s) input heard_now a
+  closed_now is Nothing g = record {
+    goes = record {
+      since = g.goes.since;
+      limited = g.goes.limited;
+      told = g.goes.told;
+      writes = rw g.at.0 (inr refl);
+      asked = tt;
+    };
+    at = (g.at.0, inr (inl (refl, refl)));
+  }
+  closed_now is (Part head content) g = absurd (part g.at)
+    where
+      part : (s.reading ≡ Reads.Body g.goes.told.decoder) ⊎ IsShut s → ⊥
+      part (inl reads) = absurd (cc (is, reads))
+      part (inr shut) = shut_head s is shut
+  closed_now is (Whole head content trailers) g = record {
+    goes = record {
+      since = g.goes.since;
+      limited = g.goes.limited;
+      told = g.goes.told;
+      writes = closes a.final (whole g.at);
+      asked = λ may. absurd (cc may);
+    };
+    at = inr (inl (inl (refl, refl)));
+  }
+    where
+      whole : (s.reading ≡ Reads.Done) ⊎ (IsShut s ⊎ ((s ≡ new_server s.limits) × IsKept a.final)) → IsKept a.final
+      whole (inl done) = absurd (cc (is, done))
+      whole (inr (inl shut)) = absurd (shut_head s is shut)
+      whole (inr (inr new)) = new.1
+
+      closes : (f : Final) → IsKept f → WritesAt (closed_server s) f
+      closes Due kept = absurd kept
+      closes (Begun r) kept = response r.trailers refl
+        where
+          response : (t : Option (List Header)) → r.trailers ≡ t → WritesResponse t (closed_server s) r
+          response None none = absurd (kept.0 none)
+          response (Some trailers) some = inr (inl refl)
+      closes (Switched b) kept = absurd kept
+
+-- ---- responses are put
+
+-- the final response goes on, or begins
+abbrev FramedAt : (w : Place) (next : Final) (heard : Heard) → ToldAt w heard → Type 0
+FramedAt w next Nothing x = ⊤
+FramedAt w next (Part head content) x = IsFramedFor next x.head x.framing
+FramedAt w next (Whole head content trailers) x = IsFramedFor next x.head x.framing
+
+-- within a request
+abbrev InRequest : (w : Place) (s : Server) (heard : Heard) → ToldAt w heard → Type 0
+InRequest w s Nothing x = ⊥
+InRequest w s (Part head content) x = s.reading ≡ Reads.Body x.decoder
+InRequest w s (Whole head content trailers) x = s.reading ≡ Reads.Done
+
+in_request : (w : Place) (s : Server) (a : Answer) → ¬ (s ≡ new_server s.limits) → ¬ (IsShut s) → (heard : Heard)
+    (x : ToldAt w heard) → IsAt w s a heard x → InRequest w s heard x
+in_request w s a old running Nothing x (same, inl new) = old new
+in_request w s a old running Nothing x (same, inr shut) = running shut
+in_request w s a old running (Part head content) x (inl reads) = reads
+in_request w s a old running (Part head content) x (inr shut) = absurd (running shut)
+in_request w s a old running (Whole head content trailers) x (inl done) = done
+in_request w s a old running (Whole head content trailers) x (inr (inl shut)) = absurd (running shut)
+in_request w s a old running (Whole head content trailers) x (inr (inr new)) = absurd (old new.0)
+
+reframed : (w : Place) (next : Final) (heard : Heard) (x : ToldAt w heard) → FramedAt w next heard x
+    → let v : Place = record w { final = next } in
+    (y : ToldAt v heard) × ((s : Server) → AskedAt w s heard x → AskedAt v s heard y)
+    × ((s : Server) → InRequest w s heard x → InRequest v s heard y)
+reframed w next Nothing x framed = (x, λ s asked. asked, λ s at. at)
+reframed w next (Part head content) x framed = (
+  record {
+    head = x.head;
+    framing = x.framing;
+    after = x.after;
+    accepts = x.accepts;
+    parts = x.parts;
+    framed = framed;
+    decoder = x.decoder;
+    front = x.front;
+  },
+  λ s asked. asked,
+  λ s at. at,
+)
+reframed w next (Whole head content trailers) x framed = (
+  record {
+    head = x.head;
+    framing = x.framing;
+    after = x.after;
+    accepts = x.accepts;
+    parts = x.parts;
+    framed = framed;
+    body = x.body;
+    reads = x.reads;
+    bytes = x.bytes;
+    fields = x.fields;
+  },
+  λ s asked. asked,
+  λ s at. at,
+)
+
+-- what a call that puts bytes changes
+record PutIn {k : Frame} {s : Server} {unread : List ℕ} {heard : Heard} {a : Answer} (g : Goes k s unread heard a)
+    (next : Server) (text : List ℕ) (b : Answer) : Type 0 where
+  goes : Goes (record k { output = k.output ++ text }) next unread heard b
+  at : IsAt (place k g.since.start a unread) s a heard g.told
+      → IsAt (place k goes.since.start b unread) next b heard goes.told
+
+longer : {k : Frame} {before after : List ℕ} (text : List ℕ) → Since k before → after ≡ before ++ text
+    → Since (record k { output = k.output ++ text }) after
+longer {k} {before} {after} text s more = record {
+  written = sym (append_assoc k.sent k.output text) ∙ ap (λ (t : List ℕ). t ++ text) s.written
+      ∙ append_assoc (texts k.before) before text ∙ ap (λ (t : List ℕ). texts k.before ++ t) (sym more);
+  start = s.start;
+  kept = s.kept;
+}
+
+-- the server reads on within the request
+stays_at : (w : Place) (s next : Server) (b : Answer) → next.reading ≡ s.reading → (heard : Heard) (y : ToldAt w heard)
+    → InRequest w s heard y → IsAt w next b heard y
+stays_at w s next b same Nothing y is = absurd is
+stays_at w s next b same (Part head content) y is = inl (same ∙ is)
+stays_at w s next b same (Whole head content trailers) y is = inl (same ∙ is)
+
+-- no response may begin
+not_asked : (w : Place) (next : Server) → may_respond next ≡ false → (heard : Heard) (x : ToldAt w heard)
+    → AskedAt w next heard x
+not_asked w next mute Nothing x = tt
+not_asked w next mute (Part head content) x = λ may. absurd (cc (mute, may))
+not_asked w next mute (Whole head content trailers) x = λ may. absurd (cc (mute, may))
+
+framed_as : (w : Place) (heard : Heard) (x : ToldAt w heard) → FramedAt w w.final heard x
+framed_as w Nothing x = tt
+framed_as w (Part head content) x = x.framed
+framed_as w (Whole head content trailers) x = x.framed
+
+puts : {k : Frame} {s : Server} {unread : List ℕ} {heard : Heard} {a : Answer} (g : Goes k s unread heard a)
+    (next : Server) (text : List ℕ) (b : Answer) → answer_text b ≡ answer_text a ++ text → next.limits ≡ s.limits
+    → FramedAt (place k g.since.start a unread) b.final heard g.told → WritesAt next b.final
+    → AskedAt (place k g.since.start a unread) next heard g.told → ¬ (s ≡ new_server s.limits) → ¬ (IsShut s)
+    → ((y : ToldAt (place k g.since.start b unread) heard) → InRequest (place k g.since.start b unread) s heard y
+    → IsAt (place k g.since.start b unread) next b heard y)
+    → PutIn g next text b
+unfolding longer
+puts {k} {s} {unread} {heard} {a} g next text b said limited framed writes asked old running at =
+    let w = place k g.since.start a unread in
+    let y = reframed w b.final heard g.told framed in
+    record {
+      goes = record {
+        since = longer text g.since said;
+        limited = limited ∙ g.limited;
+        told = y.0;
+        writes = writes;
+        asked = y.1 next asked;
+      };
+      at = λ is. at y.0 (y.2 s (in_request w s a old running heard g.told is));
+    }
+
+-- ---- a response may begin
+
+begun_old : (s : Server) → may_respond s ≡ true → ¬ (s ≡ new_server s.limits)
+begun_old s may new =
+    let mute : may_respond s ≡ false = ap (λ (x : Server). may_respond x) new in absurd (cc (may, mute))
+
+closed_mute : (s : Server) → s.writing ≡ Writes.Closed → may_respond s ≡ false
+closed_mute s is = rw is refl
+
+upgraded_mute : (s : Server) → s.writing ≡ Writes.Upgraded → may_respond s ≡ false
+upgraded_mute s is = rw is refl
+
+done_mute : (s : Server) → s.writing ≡ Writes.Done → may_respond s ≡ false
+done_mute s is = rw is refl
+
+body_mute : (s : Server) (e : Encoder) → s.writing ≡ Writes.Body e → may_respond s ≡ false
+body_mute s e is = rw is refl
+
+begun_running : (s : Server) → may_respond s ≡ true → ¬ (IsShut s)
+begun_running s may (inl shut) = absurd (cc (may, closed_mute s shut.1))
+begun_running s may (inr shut) = absurd (cc (may, upgraded_mute s shut.1))
+
+due_now : (s : Server) (f : Final) → may_respond s ≡ true → WritesAt s f → f ≡ Due
+due_now s Due may w = refl
+due_now s (Begun r) may w = absurd (response r.trailers w)
+  where
+    response : (t : Option (List Header)) → WritesResponse t s r → ⊥
+    response None w = absurd (cc (may, body_mute s _ w.0))
+    response (Some trailers) (inl done) = absurd (cc (may, done_mute s done.0))
+    response (Some trailers) (inr (inl closed)) = absurd (cc (may, closed_mute s closed))
+    response (Some trailers) (inr (inr new)) = begun_old s may new.0
+due_now s (Switched b) may w = absurd (cc (may, upgraded_mute s w))
+
+-- why a head without content isn't rejected
+module _ (minor status : ℕ) (reason : List ℕ) (headers : List Header) where
+  in_state : (state right : Bool) → bodiless_refusal state right minor status reason headers ≡ None → state ≡ true
+  in_state true right none = refl
+  in_state false right none = absurd (cc none)
+
+  switches_in_state : (state right missing : Bool) → cond missing (Some Refusal.MissingUpgrade)
+      (bodiless_refusal state right minor status reason headers) ≡ None → state ≡ true
+  switches_in_state state right true none = absurd (cc none)
+  switches_in_state state right false none = in_state state right none
+
+read_asks : (r : Reading) → is_read r ≡ true → has_request r ≡ true
+read_asks Reads.Done is = refl
+read_asks r is = absurd (cc is)
+
+abbrev bare : ℕ → ℕ → List ℕ → List Header → Bare
+bare minor status reason headers = record { minor = minor; status = status; reason = reason; headers = headers }
+
+module _ {k : Frame} {s : Server} {unread : List ℕ} (heard : Heard) (a : Answer) (g : Goes k s unread heard a) where
+  abbrev here : Place
+  here = place k g.since.start a unread
+
+  inform_now : (status : ℕ) (reason : List ℕ) (headers : List Header)
+      → informational_refusal s status reason headers ≡ None
+      → PutIn g (after_informational s status) (response_text 1 status reason headers)
+      (record a { interim = a.interim ++ bare 1 status reason headers ∷ [] })
+  inform_now status reason headers none =
+      puts g (after_informational s status) (response_text 1 status reason headers)
+      (record a { interim = a.interim ++ bare 1 status reason headers ∷ [] }) said refl
+      (framed_as here heard g.told) writes (asks here heard g.told g.asked) (begun_old s may) (begun_running s may)
+      (stays_at here s (after_informational s status)
+      (record a { interim = a.interim ++ bare 1 status reason headers ∷ [] }) refl heard)
+    where
+      may : may_respond s ≡ true
+      may = (and_parts (may_respond s) (nat_lt 0 s.request.minor) (in_state 1 status reason headers _
+          ((status / 100 == 1) && not (status == 101)) none)).0
+
+      due : a.final ≡ Due
+      due = due_now s a.final may g.writes
+
+      said : answer_text (record a { interim = a.interim ++ bare 1 status reason headers ∷ [] })
+          ≡ answer_text a ++ response_text 1 status reason headers
+      said = rw due (append-nil _ ∙ bare_texts-append a.interim (bare 1 status reason headers)
+          ∙ ap (λ (t : List ℕ). t ++ response_text 1 status reason headers) (sym (append-nil (bare_texts a.interim))))
+
+      writes : WritesAt (after_informational s status) a.final
+      writes = rw due (rw due at g.writes)
+
+      asks : (w : Place) (heard : Heard) (x : ToldAt w heard) → AskedAt w s heard x
+          → AskedAt w (after_informational s status) heard x
+      asks w Nothing x asked = tt
+      asks w (Part head content) x asked =
+          λ may. is_of_waits _ (λ waits. (and_parts s.request.expects_continue _ waits).0) (asked may)
+      asks w (Whole head content trailers) x asked =
+          λ may. is_of_waits _ (λ waits. (and_parts s.request.expects_continue _ waits).0) (asked may)
+
+  respond_now : (status : ℕ) (reason : List ℕ) (headers : List Header) (size : BodySize)
+      → response_refusal s status reason size headers ≡ None
+      → PutIn g (after_response s status size headers) (planned_response s status reason size headers)
+      (record a { final = Begun (begins s status reason headers size) })
+  respond_now status reason headers size none =
+      puts g (after_response s status size headers) (planned_response s status reason size headers)
+      (record a { final = Begun (begins s status reason headers size) }) said stays.0
+      (framed here heard g.told g.asked) writes
+      (not_asked here (after_response s status size headers)
+      (body_mute (after_response s status size headers) _ stays.2) heard g.told)
+      (begun_old s may) (begun_running s may)
+      (stays_at (record here { final = Begun (begins s status reason headers size) }) s
+      (after_response s status size headers) (record a { final = Begun (begins s status reason headers size) }) stays.1
+      heard)
+    where
+      planned : (may early : Bool) (plan : Result Plan WriteError)
+          → plan_refusal (cond (not may) (Err Refusal.State) (cond early (Err Refusal.InvalidStartLine) plan))
+          (is_status_line s.request.minor status reason) headers ≡ None
+          → (may ≡ true)
+          × (cond (not may) (Err Refusal.State) (cond early (Err Refusal.InvalidStartLine) plan) ≡ plan)
+      planned true false plan none = (refl, refl)
+      planned true true plan none = absurd (cc none)
+      planned false early plan none = absurd (cc none)
+
+      may_plan : (may_respond s ≡ true)
+          × (response_plan s status size headers ≡ plan_of (begins s status reason headers size))
+      may_plan = planned (may_respond s) (nat_lt status 200 || (is_connect s.request.method && nat_lt status 300))
+          (plan_of (begins s status reason headers size)) none
+
+      may : may_respond s ≡ true
+      may = may_plan.0
+
+      due : a.final ≡ Due
+      due = due_now s a.final may g.writes
+
+      responds : (plan : Result Plan WriteError)
+          → plan_refusal plan (is_status_line s.request.minor status reason) headers ≡ None
+          → ((responding s plan).limits ≡ s.limits) × ((responding s plan).reading ≡ s.reading)
+          × ((responding s plan).writing ≡ Writes.Body (encoder_in plan))
+          × ((responding s plan).request.keep_alive ≡ keeps_in plan)
+      responds (Ok plan) none = (refl, refl, refl, refl)
+      responds (Err error) none = absurd (cc none)
+
+      stays : ((after_response s status size headers).limits ≡ s.limits)
+          × ((after_response s status size headers).reading ≡ s.reading)
+          × ((after_response s status size headers).writing
+          ≡ Writes.Body (encoder_in (response_plan s status size headers)))
+          × ((after_response s status size headers).request.keep_alive
+          ≡ keeps_in (response_plan s status size headers))
+      stays = responds (response_plan s status size headers) none
+
+      writes : WritesAt (after_response s status size headers) (Begun (begins s status reason headers size))
+      writes = (
+        stays.2 ∙ ap (λ (p : Result Plan WriteError). Writes.Body (encoder_in p)) may_plan.1,
+        λ keeps. ap keeps_in (sym may_plan.1) ∙ sym stays.3 ∙ keeps,
+      )
+
+      text : planned_response s status reason size headers ≡ head_text (begins s status reason headers size)
+      text = ap (λ (p : Result Plan WriteError). response_text s.request.minor status reason
+          (planned_headers p headers)) may_plan.1
+
+      said : answer_text (record a { final = Begun (begins s status reason headers size) })
+          ≡ answer_text a ++ planned_response s status reason size headers
+      said = ap (λ (t : List ℕ). bare_texts a.interim ++ t)
+          (append-nil (head_text (begins s status reason headers size)))
+          ∙ ap (λ (t : List ℕ). bare_texts a.interim ++ t) (sym text)
+          ∙ ap (λ (t : List ℕ). t ++ planned_response s status reason size headers)
+          (sym (append-nil (bare_texts a.interim)))
+          ∙ ap (λ (f : Final). (bare_texts a.interim ++ final_text f)
+          ++ planned_response s status reason size headers) (sym due)
+
+      framed : (w : Place) (heard : Heard) (x : ToldAt w heard) → AskedAt w s heard x
+          → FramedAt w (Begun (begins s status reason headers size)) heard x
+      framed w Nothing x asked = tt
+      framed w (Part head content) x asked = asked may
+      framed w (Whole head content trailers) x asked = asked may
+
+  switch_now : (status : ℕ) (reason : List ℕ) (headers : List Header)
+      → upgrade_refusal s status reason headers ≡ None
+      → PutIn g (upgraded_server s) (response_text s.request.minor status reason headers)
+      (record a { final = Switched (bare s.request.minor status reason headers) })
+  switch_now status reason headers none =
+      puts g (upgraded_server s) (response_text s.request.minor status reason headers)
+      (record a { final = Switched (bare s.request.minor status reason headers) }) said refl
+      (framed here heard g.told g.asked) refl (not_asked here (upgraded_server s) refl heard g.told)
+      (begun_old s may) (begun_running s may)
+      (at (record here { final = Switched (bare s.request.minor status reason headers) }) heard)
+    where
+      state : (awaits_head s.writing && (is_read s.reading && s.request.wants_upgrade)) ≡ true
+      state = switches_in_state s.request.minor status reason headers
+          (awaits_head s.writing && (is_read s.reading && s.request.wants_upgrade))
+          (cond (is_connect s.request.method) (status / 100 == 2) (status == 101))
+          (((awaits_head s.writing && (is_read s.reading && s.request.wants_upgrade))
+          && cond (is_connect s.request.method) (status / 100 == 2) (status == 101))
+          && not (states_upgrade s.request (known_fields headers))) none
+
+      may : may_respond s ≡ true
+      may =
+          let x = and_parts (awaits_head s.writing) (is_read s.reading && s.request.wants_upgrade) state in
+          let read = (and_parts (is_read s.reading) s.request.wants_upgrade x.1).0 in
+          rw (x.0, read_asks s.reading read) refl
+
+      due : a.final ≡ Due
+      due = due_now s a.final may g.writes
+
+      said : answer_text (record a { final = Switched (bare s.request.minor status reason headers) })
+          ≡ answer_text a ++ response_text s.request.minor status reason headers
+      said = ap (λ (t : List ℕ). t ++ response_text s.request.minor status reason headers)
+          (sym (append-nil (bare_texts a.interim)))
+          ∙ ap (λ (f : Final). (bare_texts a.interim ++ final_text f)
+          ++ response_text s.request.minor status reason headers) (sym due)
+
+      framed : (w : Place) (heard : Heard) (x : ToldAt w heard) → AskedAt w s heard x
+          → FramedAt w (Switched (bare s.request.minor status reason headers)) heard x
+      framed w Nothing x asked = tt
+      framed w (Part head content) x asked = (asked may).minor
+      framed w (Whole head content trailers) x asked = (asked may).minor
+
+      at : (w : Place) (heard : Heard) (y : ToldAt w heard) → InRequest w s heard y
+          → IsAt w (upgraded_server s) (record a { final = Switched (bare s.request.minor status reason headers) })
+          heard y
+      at w Nothing y is = absurd is
+      at w (Part head content) y is = inr (inr (refl, refl))
+      at w (Whole head content trailers) y is = inr (inl (inr (refl, refl)))
+
+-- ---- a response goes on
+
+-- after the end the server begins again, or waits for the end of the request, or closes
+abbrev EndTurns : Server → Server → Type 0
+EndTurns s next =
+    ((s.request.keep_alive ≡ true) × (is_read s.reading ≡ true) × (next ≡ new_server s.limits))
+    ⊎ ((next ≡ record s { writing = Writes.Done }) ⊎ (next ≡ closed_server (record s { writing = Writes.Done })))
+
+end_turns : (s : Server) → EndTurns s (after_end s)
+end_turns s = by_keeping s.request.keep_alive refl
+  where
+    by_reading : (b : Bool) → is_read s.reading ≡ b → s.request.keep_alive ≡ true → EndTurns s (after_end s)
+    by_reading true read keeps = inl (keeps, read, rw (keeps, read) refl)
+    by_reading false read keeps = inr (inl (rw (keeps, read) refl))
+
+    by_keeping : (b : Bool) → s.request.keep_alive ≡ b → EndTurns s (after_end s)
+    by_keeping true keeps = by_reading (is_read s.reading) refl keeps
+    by_keeping false keeps = inr (inr (rw keeps refl))
+
+limits_ended : (s next : Server) → EndTurns s next → next.limits ≡ s.limits
+limits_ended s next (inl again) = ap (λ (y : Server). y.limits) again.2
+limits_ended s next (inr (inl waits)) = ap (λ (y : Server). y.limits) waits
+limits_ended s next (inr (inr closes)) = ap (λ (y : Server). y.limits) closes
+
+mute_ended : (s next : Server) → EndTurns s next → may_respond next ≡ false
+mute_ended s next (inl again) = ap (λ (y : Server). may_respond y) again.2
+mute_ended s next (inr (inl waits)) = ap (λ (y : Server). may_respond y) waits
+mute_ended s next (inr (inr closes)) = ap (λ (y : Server). may_respond y) closes
+
+-- the response that is being put
+begun_now : (s : Server) (r : Response) (e : Encoder) → s.writing ≡ Writes.Body e → WritesResponse r.trailers s r
+    → (r.trailers ≡ None) × (s.writing ≡ Writes.Body (after_pieces r.pieces (encoder_in (plan_of r)))) × Keeps s r
+begun_now s r e is w = response r.trailers refl w
+  where
+    response : (t : Option (List Header)) → r.trailers ≡ t → WritesResponse t s r
+        → (r.trailers ≡ None) × (s.writing ≡ Writes.Body (after_pieces r.pieces (encoder_in (plan_of r)))) × Keeps s r
+    response None none w = (none, w.0, w.1)
+    response (Some trailers) some (inl done) = absurd (cc (is, done.0))
+    response (Some trailers) some (inr (inl closed)) = absurd (cc (is, closed))
+    response (Some trailers) some (inr (inr new)) =
+        let head : s.writing ≡ Writes.Head = ap (λ (x : Server). x.writing) new.0 in absurd (cc (is, head))
+
+writing_old : (s : Server) (e : Encoder) → s.writing ≡ Writes.Body e → ¬ (s ≡ new_server s.limits)
+writing_old s e is new =
+    let head : s.writing ≡ Writes.Head = ap (λ (x : Server). x.writing) new in absurd (cc (is, head))
+
+writing_running : (s : Server) (e : Encoder) → s.writing ≡ Writes.Body e → ¬ (IsShut s)
+writing_running s e is (inl shut) = absurd (cc (is, shut.1))
+writing_running s e is (inr shut) = absurd (cc (is, shut.1))
+
+more_said : (interim : List Bare) (r next : Response) (text : List ℕ)
+    → response_bytes next ≡ response_bytes r ++ text
+    → answer_text (record { interim = interim; final = Begun next })
+    ≡ answer_text (record { interim = interim; final = Begun r }) ++ text
+more_said interim r next text more = ap (λ (t : List ℕ). bare_texts interim ++ t) more
+    ∙ sym (append_assoc (bare_texts interim) (response_bytes r) text)
+
+abbrev answer : List Bare → Final → Answer
+answer interim final = record { interim = interim; final = final }
+
+framed_change : (w : Place) (r next : Response) → w.final ≡ Begun r → next.asked ≡ r.asked → (heard : Heard)
+    (y : ToldAt w heard) → FramedAt w (Begun next) heard y
+framed_change w r next is same Nothing y = tt
+framed_change w r next is same (Part head content) y =
+    let framed : IsOf r.asked y.head y.framing = rw is at y.framed in rw same framed
+framed_change w r next is same (Whole head content trailers) y =
+    let framed : IsOf r.asked y.head y.framing = rw is at y.framed in rw same framed
+
+due_closed : (s : Server) (e : Encoder) → s.writing ≡ Writes.Body e
+    → (s.writing ≡ Writes.Head) ⊎ (s.writing ≡ Writes.Closed) → ⊥
+due_closed s e is (inl head) = absurd (cc (is, head))
+due_closed s e is (inr closed) = absurd (cc (is, closed))
+
+module _ {k : Frame} {s : Server} {unread : List ℕ} (heard : Heard) (interim : List Bare) where
+  push_now : (piece : List ℕ) (e : Encoder) → s.writing ≡ Writes.Body e
+      → data_refusal s.writing (length piece) ≡ None → (f : Final)
+      → (g : Goes k s unread heard (answer interim f))
+      → PutIn g (with_writing s (after_data s.writing (length piece))) (data_text s.writing piece)
+      (answer interim (change (with_piece piece) f))
+  push_now piece e is none Due g = absurd (due_closed s e is g.writes)
+  push_now piece e is none (Begun r) g =
+      let here = place k g.since.start (answer interim (Begun r)) unread in
+      let there = place k g.since.start (answer interim (Begun (with_piece piece r))) unread in
+      let next = with_writing s (after_data s.writing (length piece)) in
+      puts g next (data_text s.writing piece) (answer interim (Begun (with_piece piece r)))
+      (more_said interim r (with_piece piece r) (data_text s.writing piece) p.1) refl
+      (framed_change here r (with_piece piece r) refl refl heard g.told) (rw x.0 (goes_on, x.2))
+      (not_asked here next (body_mute next _ goes_on) heard g.told) (writing_old s e is) (writing_running s e is)
+      (stays_at there s next (answer interim (Begun (with_piece piece r))) refl heard)
+    where
+      x : (r.trailers ≡ None) × (s.writing ≡ Writes.Body (after_pieces r.pieces (encoder_in (plan_of r)))) × Keeps s r
+      x = begun_now s r e is g.writes
+
+      at_trailers : s.writing ≡ writing_at r.trailers (after_pieces r.pieces (encoder_in (plan_of r)))
+      at_trailers = rw x.0 x.1
+
+      p : (after_data s.writing (length piece)
+          ≡ writing_at r.trailers (after_pieces (r.pieces ++ piece ∷ []) (encoder_in (plan_of r))))
+          × (response_bytes (with_piece piece r) ≡ response_bytes r ++ data_text s.writing piece)
+      p = put_at (head_text r) r.pieces (encoder_in (plan_of r)) s.writing r.trailers piece at_trailers none
+
+      goes_on : after_data s.writing (length piece)
+          ≡ Writes.Body (after_pieces (r.pieces ++ piece ∷ []) (encoder_in (plan_of r)))
+      goes_on = rw x.0 at p.0
+  push_now piece e is none (Switched b) g = absurd (cc (is, g.writes))
+
+  ends_now : (trailers : List Header) (e : Encoder) → s.writing ≡ Writes.Body e
+      → finish_refusal s.writing trailers ≡ None → (f : Final)
+      → (g : Goes k s unread heard (answer interim f))
+      → PutIn g (after_end s) (finish_text s.writing trailers) (answer interim (change (with_trailers trailers) f))
+  ends_now trailers e is none Due g = absurd (due_closed s e is g.writes)
+  ends_now trailers e is none (Begun r) g =
+      let here = place k g.since.start (answer interim (Begun r)) unread in
+      let there = place k g.since.start (answer interim (Begun (with_trailers trailers r))) unread in
+      let turn = end_turns s in
+      puts g (after_end s) (finish_text s.writing trailers) (answer interim (Begun (with_trailers trailers r)))
+      (more_said interim r (with_trailers trailers r) (finish_text s.writing trailers) text)
+      (limits_ended s _ turn) (framed_change here r (with_trailers trailers r) refl refl heard g.told)
+      (writes (after_end s) turn) (not_asked here (after_end s) (mute_ended s _ turn) heard g.told)
+      (writing_old s e is) (writing_running s e is) (at there (after_end s) turn heard)
+    where
+      x : (r.trailers ≡ None) × (s.writing ≡ Writes.Body (after_pieces r.pieces (encoder_in (plan_of r)))) × Keeps s r
+      x = begun_now s r e is g.writes
+
+      at_trailers : s.writing ≡ writing_at r.trailers (after_pieces r.pieces (encoder_in (plan_of r)))
+      at_trailers = rw x.0 x.1
+
+      text : response_bytes (with_trailers trailers r) ≡ response_bytes r ++ finish_text s.writing trailers
+      text = end_at (head_text r) r.pieces (encoder_in (plan_of r)) s.writing r.trailers trailers at_trailers none
+
+      writes : (next : Server) → EndTurns s next → WritesAt next (Begun (with_trailers trailers r))
+      writes next (inl again) = rw again.2 (inr (inr (refl, x.2 again.0)))
+      writes next (inr (inl waits)) = rw waits (inl (refl, x.2))
+      writes next (inr (inr closes)) = rw closes (inr (inl refl))
+
+      at : (w : Place) (next : Server) → EndTurns s next → (heard : Heard) (y : ToldAt w heard) → InRequest w s heard y
+          → IsAt w next (answer interim (Begun (with_trailers trailers r))) heard y
+      at w next turn Nothing y within = absurd within
+      at w next (inl again) (Part head content) y within =
+          let going : is_read s.reading ≡ false = ap is_read within in absurd (cc (again.1, going))
+      at w next (inr (inl waits)) (Part head content) y within = rw waits (inl within)
+      at w next (inr (inr closes)) (Part head content) y within = rw closes (inr (inl (refl, refl)))
+      at w next (inl again) (Whole head content t) y within =
+          rw again.2 (inr (inr (refl, (λ none. absurd (cc none), x.2 again.0))))
+      at w next (inr (inl waits)) (Whole head content t) y within = rw waits (inl within)
+      at w next (inr (inr closes)) (Whole head content t) y within = rw closes (inr (inl (inl (refl, refl))))
+  ends_now trailers e is none (Switched b) g = absurd (cc (is, g.writes))
+
+-- ---- histories
+
+abbrev frame : Limits → List ℕ → Past → Frame
+frame limits output p = record {
+  limits = limits;
+  output = output;
+  received = p.received;
+  sent = p.sent;
+  before = p.before;
+}
+
+abbrev IsOpen : Heard → Type 0
+IsOpen (Whole head content trailers) = ⊥
+IsOpen heard = ⊤
+
+-- any connection
+record Run (limits : Limits) (s : Server) (input output : List ℕ) (fault : Option Rejection) (p : Past) : Type 0 where
+  unread : List ℕ
+  goes : Goes (frame limits output p) s unread p.heard p.answer
+  broken : (why : Rejection) → fault ≡ Some why → IsOpen p.heard
+  going : fault ≡ None → (unread ≡ input)
+      × IsAt (place (frame limits output p) goes.since.start p.answer unread) s p.answer p.heard goes.told
+
+abbrev RunAt : Limits → StreamConnection → Past → Type 0
+RunAt limits m p = Run limits m.server m.input.items m.output.items m.fault p
+
+abbrev GoingAt : Limits → StreamConnection → Past → Type 0
+GoingAt limits m p = Going (frame limits m.output.items p) m.server m.input.items p.heard p.answer
+
+going_of : {limits : Limits} {s : Server} {i o : List ℕ} {f : Option Rejection} {p : Past} → Run limits s i o f p
+    → f ≡ None → Going (frame limits o p) s i p.heard p.answer
+going_of r none = let x = r.going none in rw (← x.0) (record { goes = r.goes; at = x.1 })
+
+run_of : {limits : Limits} {s : Server} {i o : List ℕ} {f : Option Rejection} {p : Past} → f ≡ None
+    → Going (frame limits o p) s i p.heard p.answer → Run limits s i o f p
+run_of {limits} {s} {i} none g = record {
+  unread = i;
+  goes = g.goes;
+  broken = λ why some. absurd (cc (none, some));
+  going = λ is. (refl, g.at);
+}
+
+run_put : {limits : Limits} {s next : Server} {i o text : List ℕ} {f : Option Rejection} {p : Past} {b : Answer}
+    (r : Run limits s i o f p) → PutIn r.goes next text b
+    → Run limits next i (o ++ text) f (record p { answer = b })
+run_put r x = record {
+  unread = r.unread;
+  goes = x.goes;
+  broken = r.broken;
+  going = λ none. ((r.going none).0, x.at (r.going none).1);
+}
+
+-- ---- events
+
+runs_out_at : {limits : Limits} {p : Past} (old new : StreamConnection) → RunsOut old new → GoingAt limits old p
+    → GoingAt limits new p
+runs_out_at {limits} {p} old new w g = rw w.rest (runs_out old.server.reading refl w.found p.heard g)
+
+ends_between : {limits : Limits} {p : Past} (old new : StreamConnection) → EndsBetween old new
+    → GoingAt limits old p → GoingAt limits new p
+ends_between {limits} {p} old new (inl closes) g = rw closes.2 (closed_now closes.0 p.heard g)
+ends_between {limits} {p} old new (inr closed) g = rw closed.1 g
+
+find_goes : {limits : Limits} {p : Past} (old new : StreamConnection) (event : StreamEvent) → Finds old event new
+    → GoingAt limits old p → GoingAt limits new (tell event p)
+find_goes {limits} {p} old new Is.NeedsInput found g = runs_out_at {limits = limits} {p = p} old new found.1 g
+find_goes {limits} {p} old new (Is.Head told) found g =
+    rw (found.rest, found.server, found.parts) (head_now found.due found.accepts p.heard p.answer g)
+find_goes {limits} {p} old new (Is.Content piece) found g =
+    rw found.rest (piece_now found.decoder found.next found.len piece found.reading found.continues found.input
+    found.server p.heard g)
+find_goes {limits} {p} old new (Is.End trailers) found g =
+    rw found.rest (end_now found.fields found.reading found.completes found.parts found.server p.heard g)
+find_goes {limits} {p} old new Is.Waits found g = rw found.1 g
+find_goes {limits} {p} old new Is.Switched found g = rw found.1 g
+find_goes {limits} {p} old new Is.Closed (inl found) g = rw found.1 g
+find_goes {limits} {p} old new Is.Closed (inr found) g =
+    ends_between {limits = limits} {p = p} found.1 new found.3 (runs_out_at {limits = limits} {p = p} old found.1 found.2 g)
+find_goes old new (Is.Rejected why) found g = absurd found
+
+-- a rejection is told: what follows the exchange now is rejected, or what is of its request
+rejected_run : {limits : Limits} {next : Server} {i o : List ℕ} (unread : List ℕ) (why : Rejection) (p : Past) (h : Heard)
+    → RejectedAt (frame limits o p) next unread h p.answer
+    → Run limits next i o (Some why) (reject_at h (record p { heard = h }))
+rejected_run {limits} {next} unread why p Nothing g = record {
+  unread = unread;
+  goes = g;
+  broken = λ other some. tt;
+  going = λ none. absurd (cc none);
+}
+rejected_run {limits} {next} unread why p (Part head content) g = record {
+  unread = unread;
+  goes = g;
+  broken = λ other some. tt;
+  going = λ none. absurd (cc none);
+}
+rejected_run {limits} {next} unread why p (Whole head content trailers) g = record {
+  unread = unread;
+  goes = g;
+  broken = λ other some. tt;
+  going = λ none. absurd (cc none);
+}
+
+rejected_again : {limits : Limits} {s : Server} {i o : List ℕ} {f : Option Rejection} (p : Past) (h : Heard)
+    → IsOpen h → Run limits s i o f (record p { heard = h })
+    → Run limits s i o f (reject_at h (record p { heard = h }))
+rejected_again p Nothing is r = r
+rejected_again p (Part head content) is r = r
+rejected_again p (Whole head content trailers) is r = absurd is
+
+rejects_run : {limits : Limits} {p : Past} (old new : StreamConnection) (why : Rejection) → Rejects old why new
+    → GoingAt limits old p → Run limits new.server new.input.items new.output.items (Some why) (reject_at p.heard p)
+rejects_run {limits} {p} old new why (inl breaks) g =
+    rw breaks.rest (rejected_run old.input.items why p p.heard (fails new.server breaks.server p.heard g))
+rejects_run {limits} {p} old new why (inr cut) g =
+    let ends = cut.1 in
+    let between = ends.1 in
+    let off = ends.3 in
+    rw off.rest (rejected_run between.input.items why p p.heard
+    (cut_off between.server.reading refl off.within p.heard (runs_out_at {limits = limits} {p = p} old between ends.2 g)))
+
+said : {limits : Limits} {p : Past} (old new : StreamConnection) (event : StreamEvent) (f : Option Rejection)
+    → old.fault ≡ f → SaysAt f old event new → RunAt limits old p → RunAt limits new (tell event p)
+said {limits} {p} old new event (Some why) is says r =
+    rw (says.0, says.1) (rejected_again p p.heard (r.broken why is) r)
+said {limits} {p} old new event None is (inl found) r =
+    run_of (fault_stays event found ∙ is) (find_goes old new event found (going_of r is))
+  where
+    out_stays : (old new : StreamConnection) → RunsOut old new → new.fault ≡ old.fault
+    out_stays old new w = ap (λ (m : StreamConnection). m.fault) w.rest
+
+    between_stays : (old new : StreamConnection) → EndsBetween old new → new.fault ≡ old.fault
+    between_stays old new (inl closes) = ap (λ (m : StreamConnection). m.fault) closes.2
+    between_stays old new (inr closed) = ap (λ (m : StreamConnection). m.fault) closed.1
+
+    fault_stays : (event : StreamEvent) → Finds old event new → new.fault ≡ old.fault
+    fault_stays Is.NeedsInput found = out_stays old new found.1
+    fault_stays (Is.Head told) found = ap (λ (m : StreamConnection). m.fault) found.rest
+    fault_stays (Is.Content piece) found = ap (λ (m : StreamConnection). m.fault) found.rest
+    fault_stays (Is.End trailers) found = ap (λ (m : StreamConnection). m.fault) found.rest
+    fault_stays Is.Waits found = ap (λ (m : StreamConnection). m.fault) found.1
+    fault_stays Is.Switched found = ap (λ (m : StreamConnection). m.fault) found.1
+    fault_stays Is.Closed (inl found) = ap (λ (m : StreamConnection). m.fault) found.1
+    fault_stays Is.Closed (inr found) = between_stays found.1 new found.3 ∙ out_stays old found.1 found.2
+    fault_stays (Is.Rejected why) found = absurd found
+said {limits} {p} old new event None is (inr failed) r =
+    rw (failed.3, failed.4) (rejects_run old failed.1 failed.0 failed.2 (going_of r is))
+
+-- ---- calls
+
+new_run : {limits : Limits} {s : Server} {i o : List ℕ} {f : Option Rejection} → s ≡ new_server limits → i ≡ []
+    → o ≡ [] → f ≡ None → Run limits s i o f no_past
+new_run {limits} is_new no_input no_output is_whole =
+    let new : Run limits (new_server limits) [] [] None no_past = run_of refl (record {
+      goes = record {
+        since = record { written = refl; start = []; kept = λ more. refl };
+        limited = refl;
+        told = refl;
+        writes = inl refl;
+        asked = tt;
+      };
+      at = (refl, inl refl);
+    }) in rw (is_new, no_input, no_output, is_whole) new
+
+received : {limits : Limits} {p : Past} (old new : StreamConnection) (bytes : List ℕ) → Receives old bytes new
+    → RunAt limits old p → RunAt limits new (record p { received = p.received ++ bytes })
+unfolding goes_grows
+received {limits} {p} old new bytes is r = rw (is.rest, is.input) (record {
+  unread = r.unread ++ bytes;
+  goes = goes_grows bytes p.heard r.goes;
+  broken = r.broken;
+  going = λ none. (
+    ap (λ (u : List ℕ). u ++ bytes) (r.going none).0,
+    (told_grows (place (frame limits old.output.items p) r.goes.since.start p.answer r.unread) bytes p.heard
+        r.goes.told).2 old.server p.answer (r.going none).1,
+  );
+})
+
+informed : {limits : Limits} {p : Past} (old new : StreamConnection) (status : ℕ) (reason : List ℕ)
+    (headers : List Header) → Informs old status reason headers new → RunAt limits old p
+    → RunAt limits new (informs (record { minor = 1; status = status; reason = reason; headers = headers }) p)
+informed {limits} {p} old new status reason headers x r = rw (x.1.rest, x.1.output, x.1.server)
+    (run_put r (inform_now p.heard p.answer r.goes status reason headers x.0))
+
+responded : {limits : Limits} {p : Past} (old new : StreamConnection) (status : ℕ) (reason : List ℕ)
+    (headers : List Header) (size : BodySize) → Responds old status reason headers size new → RunAt limits old p
+    → RunAt limits new (answers (Begun (begins old.server status reason headers size)) p)
+responded {limits} {p} old new status reason headers size x r = rw (x.1.rest, x.1.output, x.1.server)
+    (run_put r (respond_now p.heard p.answer r.goes status reason headers size x.0))
+
+handed : {limits : Limits} {p : Past} (old new : StreamConnection) (status : ℕ) (reason : List ℕ)
+    (headers : List Header) → Switches old status reason headers new → RunAt limits old p
+    → RunAt limits new (answers (Switched (record {
+      minor = old.server.request.minor;
+      status = status;
+      reason = reason;
+      headers = headers;
+    })) p)
+handed {limits} {p} old new status reason headers x r = rw (x.1.rest, x.1.output, x.1.server)
+    (run_put r (switch_now p.heard p.answer r.goes status reason headers x.0))
+
+put : {limits : Limits} {p : Past} (old new : StreamConnection) (piece : List ℕ) → Puts old piece new
+    → RunAt limits old p → RunAt limits new (answers (change (with_piece piece) p.answer.final) p)
+put {limits} {p} old new piece x r =
+    let e = takes_data _ _ x.0 in
+    rw (x.1.rest, x.1.output, x.1.server)
+    (run_put r (push_now p.heard p.answer.interim piece e.0 e.1 x.0 p.answer.final r.goes))
+
+ended : {limits : Limits} {p : Past} (old new : StreamConnection) (trailers : List Header) → Ends old trailers new
+    → RunAt limits old p → RunAt limits new (answers (change (with_trailers trailers) p.answer.final) p)
+ended {limits} {p} old new trailers x r =
+    let e = takes_end _ _ x.0 in
+    rw (x.1.rest, x.1.output, x.1.server)
+    (run_put r (ends_now p.heard p.answer.interim trailers e.0 e.1 x.0 p.answer.final r.goes))
+
+refused : {limits : Limits} {old new : StreamConnection} {p : Past} → PutsNothing old new → RunAt limits old p
+    → RunAt limits new p
+refused kept run = rw (kept.rest, kept.output) run
+
+written : {limits : Limits} {p : Past} (old new : StreamConnection) (count : ℕ) → HandsOut old count new
+    → RunAt limits old p → RunAt limits new (record p { sent = p.sent ++ take count old.output.items })
+written {limits} {p} old new count out run =
+    let g = run.goes in
+    rw (out.rest, out.output) (record {
+      unread = run.unread;
+      goes = record {
+        since = record {
+          written = append_assoc p.sent (take count old.output.items) _
+              ∙ ap (λ (t : List ℕ). p.sent ++ t) (take-append-drop count old.output.items) ∙ g.since.written;
+          start = g.since.start;
+          kept = g.since.kept;
+        };
+        limited = g.limited;
+        told = g.told;
+        writes = g.writes;
+        asked = g.asked;
+      };
+      broken = run.broken;
+      going = run.going;
+    })
+
+runs : {limits : Limits} {m : StreamConnection} {p : Past} → IsReached limits m p → RunAt limits m p
+runs (Opened m new) = new_run new.server new.input new.output new.fault
+runs (Received old new p bytes before going x) = received old new bytes x (runs before)
+runs (Finished old new p before is) = rw is (runs before)
+runs (Informed old new p status reason headers before x) = informed old new status reason headers x (runs before)
+runs (Responded old new p status reason headers size before x) =
+    responded old new status reason headers size x (runs before)
+runs (Handed old new p status reason headers before x) = handed old new status reason headers x (runs before)
+runs (Put old new p piece before x) = put old new piece x (runs before)
+runs (Ended old new p trailers before x) = ended old new trailers x (runs before)
+runs (Refused old new p before kept) = refused kept (runs before)
+runs (Written old new p count before within out) = written old new count out (runs before)
+runs (Said old new p event before says) = said old new event old.fault refl says (runs before)
+
+pub exchanged : {limits : Limits} {m : StreamConnection} {p : Past} → IsReached limits m p → Exchanged limits m p
+exchanged reached =
+    let r = runs reached in
+    record {
+      written = r.goes.since.written;
+      start = r.goes.since.start;
+      before = r.goes.since.kept;
+      unread = r.unread;
+      now = r.goes.told;
+      left = λ none. (r.going none).0;
+    }

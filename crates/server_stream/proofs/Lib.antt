@@ -1,3 +1,4 @@
 pub mod FieldLemmas
 pub mod FindLemmas
 pub mod HistoryLemmas
+pub mod WriteLemmas

@@ -157,7 +157,7 @@ pub record IsPart (limits : Limits) (start : List ℕ) (told : RequestHead) (con
   pub framing : Framing
   pub after : List ℕ
   pub accepts : (more : List ℕ) → AcceptsRequest limits (start ++ more) head framing (after ++ more)
-  pub told : told ≡ told_of head framing
+  pub parts : told ≡ told_of head framing
   pub framed : IsFramedFor final head framing
   pub decoder : Decoder
   pub front : IsFront (decoder_for limits framing) after decoder unread content
@@ -169,12 +169,12 @@ pub record IsWhole (limits : Limits) (start : List ℕ) (told : RequestHead) (co
   pub framing : Framing
   pub after : List ℕ
   pub accepts : (more : List ℕ) → AcceptsRequest limits (start ++ more) head framing (after ++ more)
-  pub told : told ≡ told_of head framing
+  pub parts : told ≡ told_of head framing
   pub framed : IsFramedFor final head framing
   pub body : Body
   pub reads : (more : List ℕ) → ReadsBody limits framing (after ++ more) body (unread ++ more)
-  pub content : content ≡ body.bytes
-  pub trailers : trailers ≡ map_of (map name_and_value body.trailers)
+  pub bytes : content ≡ body.bytes
+  pub fields : trailers ≡ map_of (map name_and_value body.trailers)
 
 -- What was told of the request now is what the grammar finds in the stream from its start on, of which this is unread.
 -- The final response, if it was begun, is framed for this request.

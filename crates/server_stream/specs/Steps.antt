@@ -161,17 +161,19 @@ pub record RunsOut (old new : StreamConnection) : Type 0 where
 abbrev pub AtEnd : StreamConnection → (StreamConnection → Type 0) → Type 0
 AtEnd old P = (old.ended ≡ true) × (between : StreamConnection) × RunsOut old between × P between
 
--- more is needed here
+-- more is needed here, or the server has closed
 abbrev pub IsStarved : Reading → Type 0
 IsStarved Reads.Head = ⊤
 IsStarved (Reads.Body d) = ⊤
+IsStarved Reads.Closed = ⊤
 IsStarved reading = ⊥
 
--- the input ends between two requests
-pub record EndsBetween (old new : StreamConnection) : Type 0 where
-  pub due : old.server.reading ≡ Reads.Head
-  pub empty : old.input.items ≡ []
-  pub rest : new ≡ record old { server = closed_server old.server }
+-- the input ends between two requests, or the server has closed
+abbrev pub EndsBetween : StreamConnection → StreamConnection → Type 0
+EndsBetween old new =
+    ((old.server.reading ≡ Reads.Head) × (old.input.items ≡ [])
+    × (new ≡ record old { server = closed_server old.server }))
+    ⊎ ((old.server.reading ≡ Reads.Closed) × (new ≡ old))
 
 -- what comes next
 abbrev pub Finds : StreamConnection → StreamEvent → StreamConnection → Type 0
@@ -231,9 +233,15 @@ pub record Breaks (old : StreamConnection) (why : Rejection) (new : StreamConnec
   pub server : Fails old.server old.input.items new.server
   pub rest : new ≡ record old { server = new.server; input = new.input }
 
+-- a request has begun
+abbrev pub IsWithin : Reading → List ℕ → Type 0
+IsWithin Reads.Head input = input ≢ []
+IsWithin (Reads.Body d) input = ⊤
+IsWithin reading input = ⊥
+
 -- the input ends within a request
 pub record CutsOff (old : StreamConnection) (new : StreamConnection) : Type 0 where
-  pub within : (old.server.reading ≡ Reads.Head) → old.input.items ≢ []
+  pub within : IsWithin old.server.reading old.input.items
   pub rest : new ≡ record old { server = failed_server old.server UnexpectedEof }
 
 abbrev pub Rejects : StreamConnection → Rejection → StreamConnection → Type 0
