@@ -70,8 +70,8 @@ struct gateway {
 struct gateway *read_gateway(int count, char **words);
 void free_gateway(struct gateway *gateway);
 
-/* Which group gets the requests for a host and a path, or MOST_GROUPS if none does. The host may end with a port. Of the
- * routes for the host the longest path counts, then of those for any host. */
+/* Which group gets the requests for a host and a path, or MOST_GROUPS if none does. The host may end with a port. Of
+ * the routes for the host the longest path counts, then of those for any host. */
 size_t route_of(const struct gateway *gateway, const char *host, size_t host_length, const char *path,
                 size_t path_length);
 

@@ -79,7 +79,8 @@ bool watch(struct source *source, uint32_t events);
  * many, and the system tells of room only once a large part has gone. */
 bool is_taking(int socket, int *unsent);
 
-/* Closes the socket, if it has one. The memory of the source is freed after the turn, since an event may still be about it. */
+/* Closes the socket, if it has one. The memory of the source is freed after the turn, since an event may still be about
+ * it. */
 void close_source(struct source *source);
 
 /* Ends the output of a connection, and owns its socket and its count from now on. It drops what the client still sends,

@@ -8,8 +8,8 @@ enum { MOST_ADDRESSES = 16, MOST_WORKERS = 64, MISTAKE = 2 };
 
 enum log_form { NO_LOG, COMBINED_LOG, JSON_LOG };
 
-/* What each program is told. It is the first member of what one program is told. A text is a word of the command line or
- * of a line. */
+/* What each program is told: the first member of all that a program is told. A text is of the command line or of a
+ * line. */
 struct hosting {
     const char *addresses[MOST_ADDRESSES];
     size_t address_count;

@@ -6,7 +6,8 @@
 #include <stddef.h>
 #include <sys/types.h>
 
-/* A certificate with its key, and the keys of its tickets, by which clients resume sessions; or what a client trusts. */
+/* A certificate with its key, and the keys of its tickets, by which clients resume sessions. Or what a client
+ * trusts. */
 typedef struct ssl_ctx_st SSL_CTX;
 /* A connection. Its socket is the caller's. */
 typedef struct ssl_st SSL;
@@ -20,8 +21,8 @@ void tls_close(SSL_CTX *context);
  * memory. */
 SSL *tls_begin(SSL_CTX *context, int socket);
 
-/* What connections to servers trust: the certificates in a file, or those of the system if it is NULL. Returns NULL, and
- * says why, if that fails. */
+/* What connections to servers trust: the certificates in a file, or those of the system if it is NULL. Returns NULL,
+ * and says why, if that fails. */
 SSL_CTX *tls_trust(const char *authorities);
 
 /* Begins a connection to a server, which has to show a certificate for this name or address, of a socket that doesn't

@@ -1,7 +1,7 @@
 /* Passes HTTP/1.1 requests on to origin servers, and stores what they answer: typed-headers-gate(1).
  *
- * The library reads the messages of both sides, and gives each byte that goes to either. This program moves bytes, finds
- * an origin, and keeps time. It decides nothing about HTTP.
+ * The library reads the messages of both sides, and gives each byte that goes to either. This program moves bytes,
+ * finds an origin, and keeps time. It decides nothing about HTTP.
  *
  * A worker owns a cache, its clients' connections, and those to origins. An exchange is a client's connection; it owns
  * the connection to the origin that it uses. One that isn't used waits in the list of its origin. */
@@ -75,7 +75,7 @@ struct exchange {
     struct address client, told; /* who has the connection, and of whom that tells */
     uint64_t tried;              /* the origins that failed for this request, a bit each */
     uint64_t begun;              /* when the request came */
-    uint64_t given, left;        /* of the content of a response that is given: where it goes on, and how much is left */
+    uint64_t given, left;        /* where the content of the pass goes on, and how much is left of it */
     uint64_t passed;             /* bytes of content that the client gets */
     int unsent;      /* bytes that the system had to send when the wait began */
     uint16_t status;  /* of the response, or 0 */
@@ -553,6 +553,17 @@ static ssize_t send_bytes(const struct end *end, size_t length) {
                     : send(end->source.socket, own.buffer, length, MSG_NOSIGNAL);
 }
 
+/* Nothing more is sent to this end. */
+static void end_output(struct end *end) {
+    if (end->is_broken)
+        return;
+    end->is_broken = true;
+    if (end->tls)
+        tls_finish(end->tls);
+    else
+        shutdown(end->source.socket, SHUT_WR); /* it may have gone */
+}
+
 /* Sends what waits for a side. Returns whether something moved. */
 static bool send_some(struct exchange *exchange, struct end *end, uint8_t side) {
     size_t length;
@@ -568,7 +579,8 @@ static bool send_some(struct exchange *exchange, struct end *end, uint8_t side) 
         return false;
     }
     if (count < 0) { /* what an origin has sent before is still read */
-        end->is_broken = end->is_readable = true;
+        end_output(end);
+        end->is_readable = true;
         exchange->is_over |= side == TYPED_HEADERS_CLIENT;
         return false;
     }
@@ -664,17 +676,6 @@ static void end_exchange(struct exchange *exchange) {
     linger(&exchange->end.source, &exchange->client);
 }
 
-/* Says that a side of a tunnel gets nothing more. */
-static void end_output(struct end *end) {
-    if (end->is_broken)
-        return;
-    end->is_broken = true;
-    if (end->tls)
-        tls_finish(end->tls);
-    else
-        shutdown(end->source.socket, SHUT_WR); /* it may have gone */
-}
-
 /* Ends what is to be ended of a tunnel. Returns false if nothing is left. */
 static bool end_tunnel(struct exchange *exchange, const struct typed_headers_gate_facts *facts) {
     if (facts->ends_client)
@@ -685,7 +686,8 @@ static bool end_tunnel(struct exchange *exchange, const struct typed_headers_gat
 }
 
 static void give_metrics(struct exchange *exchange) {
-    static const char path[] = "/metrics", fields[] = "content-type: text/plain; version=0.0.4\ncache-control: no-store\n";
+    static const char path[] = "/metrics";
+    static const uint8_t fields[] = "content-type: text/plain; version=0.0.4\ncache-control: no-store\n";
     size_t length;
     if (typed_headers_gate_target(&exchange->gate, own.buffer, BUFFER, &length) || length != sizeof path - 1 ||
         memcmp(own.buffer, path, length)) {
@@ -695,7 +697,7 @@ static void give_metrics(struct exchange *exchange) {
     exchange->status = 200;
     exchange->passed = length = print_metrics((char *)own.buffer, BUFFER);
     exchange->is_over =
-        typed_headers_gate_respond(&exchange->gate, 200, (const uint8_t *)fields, sizeof fields - 1, length, &own.keys) ||
+        typed_headers_gate_respond(&exchange->gate, 200, fields, sizeof fields - 1, length, &own.keys) ||
         typed_headers_gate_push(&exchange->gate, own.buffer, length) || typed_headers_gate_end(&exchange->gate);
 }
 
@@ -867,8 +869,8 @@ static void end_slow(struct source *source) {
 
 /* ---- Clients ---- */
 
-/* Begins HTTP with a client. */
-static void begin_exchange(struct exchange *exchange) {
+/* Begins HTTP with a client. Returns false, and closes, if there is no memory. */
+static bool begin_exchange(struct exchange *exchange) {
     char node[INET6_ADDRSTRLEN] = "";
     bool is_tls = exchange->entrance->is_tls;
     if (exchange->told.family != AF_UNSPEC)
@@ -880,11 +882,12 @@ static void begin_exchange(struct exchange *exchange) {
         (!exchange->is_own && is_tls && !(exchange->end.tls = tls_begin(site.tls, exchange->end.source.socket)))) {
         complain_seldom("no connection");
         close_exchange(exchange, true);
-        return;
+        return false;
     }
     wait_in(&exchange->end.source, &idle);
     if (!exchange->is_own)
         drive(exchange); /* the request is mostly there */
+    return true;
 }
 
 static void greet(struct source *source, bool is_late) {
@@ -950,7 +953,8 @@ static void start_validation(const struct exchange *exchange) {
     made->end.source.socket = -1;
     made->is_own = true;
     made->entrance = exchange->entrance;
-    begin_exchange(made);
+    if (!begin_exchange(made))
+        return;
     if (typed_headers_pass_validation(&of->pass, own.buffer + FIELDS, TARGET - FIELDS, &fields) ||
         typed_headers_gate_target(&of->gate, own.buffer + TARGET, METHOD - TARGET, &target) ||
         typed_headers_gate_method(&of->gate, own.buffer + METHOD, BUFFER - METHOD, &method) ||

@@ -26,26 +26,18 @@ fn written(answer: Result<(), WriteError>) -> Result<(), Failure> {
 /// Answers the request that waits by a status, without content.
 pub fn answer(alloc: Global, handle: &mut Handle, status: u16) -> Result<(), Failure> {
     let status = status_of(status)?;
-    change(
-        alloc,
-        handle,
-        |held| {
-            held.connection.answer(status);
-            Ok(())
-        },
-    )
+    change(alloc, handle, |held| {
+        held.connection.answer(status);
+        Ok(())
+    })
 }
 
 /// Forwards the origin's response that waits.
 pub fn pass(alloc: Global, handle: &mut Handle) -> Result<(), Failure> {
-    change(
-        alloc,
-        handle,
-        |held| {
-            held.connection.pass();
-            Ok(())
-        },
-    )
+    change(alloc, handle, |held| {
+        held.connection.pass();
+        Ok(())
+    })
 }
 
 fn lines_of<'a>(alloc: Global, fields: &'a HeaderMap) -> Result<Vec<Header<'a>>, AllocError> {
@@ -83,7 +75,10 @@ fn respond_in(
     let lines = lines_of(alloc, fields)?;
     let reason = status.canonical_reason().unwrap_or("").as_bytes();
     let size = size_of(held, status, length);
-    written(held.connection.respond(status, reason, lines.as_slice(), size))
+    written(
+        held.connection
+            .respond(status, reason, lines.as_slice(), size),
+    )
 }
 
 /// Begins a response of the caller's, with these fields and so much content. Rejected if none is due, the status is no

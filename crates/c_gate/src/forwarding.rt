@@ -45,50 +45,34 @@ pub fn forward(alloc: Global, handle: &mut Handle, origin: &mut Handle) -> Resul
         return Err(Failure::Absent);
     };
     let connection = connection_of(Box::into_inner(held))?;
-    change(
-        alloc,
-        handle,
-        |held| {
-            held.connection.forward(connection, true);
-            Ok(())
-        },
-    )
+    change(alloc, handle, |held| {
+        held.connection.forward(connection, true);
+        Ok(())
+    })
 }
 
 /// Drops the response that waits, and asks again without conditions.
 pub fn again(alloc: Global, handle: &mut Handle) -> Result<(), Failure> {
-    change(
-        alloc,
-        handle,
-        |held| {
-            held.connection.again();
-            Ok(())
-        },
-    )
+    change(alloc, handle, |held| {
+        held.connection.again();
+        Ok(())
+    })
 }
 
 /// Says that the connection ends after the next response.
 pub fn closes_after(alloc: Global, handle: &mut Handle) -> Result<(), Failure> {
-    change(
-        alloc,
-        handle,
-        |held| {
-            held.connection.close_after();
-            Ok(())
-        },
-    )
+    change(alloc, handle, |held| {
+        held.connection.close_after();
+        Ok(())
+    })
 }
 
 /// Opens a closed handle with the origin's connection, once the exchange is over. `Absent` if no further request may go
 /// over it. Rejected if the handle is open.
 pub fn take_origin(alloc: Global, handle: &mut Handle, origin: &mut Handle) -> Result<(), Failure> {
-    let taken = change(
-        alloc,
-        handle,
-        |held| match held.connection.take_origin() {
-            Some(connection) => Ok(Held::GateOrigin(connection)),
-            None => Err(Failure::Absent),
-        },
-    );
+    let taken = change(alloc, handle, |held| match held.connection.take_origin() {
+        Some(connection) => Ok(Held::GateOrigin(connection)),
+        None => Err(Failure::Absent),
+    });
     c_handles::open(alloc, origin, taken)
 }

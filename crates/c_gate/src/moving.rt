@@ -221,14 +221,10 @@ pub fn next(
 
 /// Says that the time limit of the phase is over.
 pub fn timed_out(alloc: Global, handle: &mut Handle) -> Result<(), Failure> {
-    change(
-        alloc,
-        handle,
-        |gate| {
-            gate.connection.timed_out();
-            Ok(())
-        },
-    )
+    change(alloc, handle, |gate| {
+        gate.connection.timed_out();
+        Ok(())
+    })
 }
 
 fn tunnel_of(held: Held) -> Result<Tunnel, Failure> {

@@ -7,8 +7,8 @@ use gateway_connection::OriginConnection;
 use gateway_exchange::{GatewayConnection, Peer, Rules};
 use gateway_hops::{Forwarding, Received, Scheme};
 use headers::HeaderValue;
-use http1::Limits;
 use http_header::HeaderValueError;
+use http1::Limits;
 use std::alloc::Global;
 use std::hash::RandomState;
 

@@ -102,7 +102,11 @@ fn lines_of(alloc: Global, map: &HeaderMap) -> Result<Vec<u8>, AllocError> {
 
 /// The field lines of the request that waits, or is passed on, each with a byte 10 after it.
 pub fn fields_of(alloc: Global, handle: &mut Handle) -> Result<Vec<u8>, Failure> {
-    ask(alloc, handle, |held| Ok(lines_of(alloc, &asked(held)?.head.fields)?))
+    ask(
+        alloc,
+        handle,
+        |held| Ok(lines_of(alloc, &asked(held)?.head.fields)?),
+    )
 }
 
 fn key_in(alloc: Global, held: &HeldGate) -> Result<Vec<u8>, Failure> {
@@ -137,12 +141,8 @@ pub fn response_of(alloc: Global, handle: &mut Handle) -> Result<(u16, Vec<u8>),
 
 /// The status of the last answer, if it was the gateway's own.
 pub fn own_of(alloc: Global, handle: &mut Handle) -> Result<u16, Failure> {
-    ask(
-        alloc,
-        handle,
-        |held| match held.connection.own() {
-            Some(own) => Ok(own.status().as_u16()),
-            None => Err(Failure::Absent),
-        },
-    )
+    ask(alloc, handle, |held| match held.connection.own() {
+        Some(own) => Ok(own.status().as_u16()),
+        None => Err(Failure::Absent),
+    })
 }

@@ -13,7 +13,7 @@ use Rattle.gateway_messages.specs.Requests as Forwarding
 use Rattle.gateway_messages.specs.Requests.{IsForGateway, Rejects}
 use Rattle.gateway_messages.specs.declared.expectation.Expectation.{Expectation}
 use Rattle.gateway_messages.specs.declared.expectation.Expectation.TheVariants.{Answered, Forwarded}
-use Rattle.gateway_messages.specs.declared.framing.Framing.{Framing}
+use Rattle.gateway_messages.specs.declared.{field_line.FieldLine.FieldLine, framing.Framing.Framing}
 use Rattle.gateway_messages.specs.declared.protocol.Protocol.TheVariants.{Http11}
 use Rattle.gateway_parts.specs.Authorities.{IsAuthority, given_host}
 use Rattle.gateway_parts.{specs.Messages.protocol_of, specs.Targets.{Parts, origin_form, target_of}}
@@ -97,6 +97,14 @@ pub record IsSentOn (rules : Rules) (peer : Peer) (request : RequestHead) (autho
   pub sent : SentRequest
   pub sends : IsSent rules.gateway (next_hop rules peer (websocket_if opens)) (asked rules request authority) sent
   pub outgoing_is : IsOutgoing rules sent to outgoing
+
+-- the field line of Host, and the value of one
+abbrev pub is_host_line : FieldLine → Bool
+is_host_line field = bytes_eq field.name (codes "host")
+
+abbrev pub value_or_none : Option FieldLine → List ℕ
+value_or_none (Some field) = field.value.bytes
+value_or_none None = []
 
 -- ---- decisions
 

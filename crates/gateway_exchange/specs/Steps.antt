@@ -4,13 +4,13 @@ use Rattle.std.specs.Prelude.{Option, Some, None, codes, if◌then◌else◌, mi
 use Rattle.http_header.{specs.FieldValue.FieldValue, specs.HeaderMap.Entries}
 use Rattle.http1.specs.{Conn.{data_refusal, finish_refusal}, Fields.Header}
 use Rattle.http1.specs.Server.{informational_refusal, response_refusal, upgrade_refusal}
-use Rattle.std.specs.declared.vec.Vec.{Vec}
+
 use Rattle.http1.specs.{declared.conn.BodySize.BodySize, declared.conn.Limits.Limits, declared.error.WriteError.WriteError}
 use Rattle.gateway_messages.specs.FieldLines.{fields_of}
 use Rattle.gateway_messages.specs.Responses.{IsDiscarded, IsForwardableResponse, IsForwardedResponse, RejectsResponse}
 use Rattle.gateway_messages.specs.declared.{expectation.Expectation.{Expectation, TheVariants.Answered}}
 use Rattle.gateway_messages.specs.declared.{field_line.FieldLine.FieldLine, rejection.Rejection.Rejection}
-use Rattle.gateway_messages.specs.declared.response.{ContentFraming.TheVariants.Absent, ForwardedResponse.ForwardedResponse}
+use Rattle.gateway_messages.specs.declared.response.{ContentFraming.{ContentFraming, TheVariants.Absent}, ForwardedResponse.ForwardedResponse}
 use Rattle.gateway_connection.specs.declared.{event.OriginEvent.OriginEvent, event.OriginFault.OriginFault}
 use Rattle.gateway_connection.specs.declared.{event.OriginResponse.OriginResponse, origin.OriginConnection.OriginConnection}
 use Rattle.gateway_connection.specs.Steps as Origin
@@ -26,7 +26,7 @@ use Rattle.gateway_exchange.specs.declared.{connection.GatewayConnection.Gateway
 use Rattle.gateway_exchange.specs.declared.{decision.AskedRequest.AskedRequest, decision.Outgoing.Outgoing}
 use Rattle.gateway_exchange.specs.declared.decision.RequestDecision.{RequestDecision}
 use Rattle.gateway_exchange.specs.declared.{event.GatewayEvent.GatewayEvent, event.Phase.Phase, own.Own.Own}
-use Rattle.gateway_exchange.specs.declared.{pass.Heard.Heard}
+use Rattle.gateway_exchange.specs.declared.{event.Wants.Wants, pass.Heard.Heard}
 use Rattle.gateway_exchange.specs.declared.{rules.Peer.Peer, rules.Rules.Rules, tunnel.TheConstants.MOST_WAITING}
 use Rattle.gateway_connection.specs.declared.event.OriginEvent.TheVariants as Comes
 use Rattle.gateway_exchange.specs.declared.connection.Stage.TheVariants as At
@@ -90,6 +90,10 @@ abbrev pub ChangesOrigin : (OriginConnection → OriginConnection → Type 0) �
 ChangesOrigin P old new =
     OnOrigin P old.origin new.origin
     × (new ≡ record old { origin = new.origin; origin_hungry = new.origin_hungry })
+
+abbrev pub is_empty : {A : Type 0} → List A → Bool
+is_empty [] = true
+is_empty (x ∷ xs) = false
 
 abbrev pub output_of : Option OriginConnection → List ℕ
 output_of (Some origin) = origin.output.items
@@ -223,9 +227,9 @@ Sends old origin watches new =
 abbrev pub Conditions : Option FieldValue → Option FieldValue → GatewayConnection → GatewayConnection → Type 0
 Conditions etags since old new =
     ((old.asked ≡ None) × (new ≡ old))
-    ⊎ ((a : AskedRequest) × (fields : Vec FieldLine) × (old.asked ≡ Some a)
-    × (fields_of fields.items ≡ with_conditions etags since (fields_of a.outgoing.fields.items))
-    × (new ≡ record old { conditional = Some fields }))
+    ⊎ ((a : AskedRequest) × (old.asked ≡ Some a)
+    × (sent_fields new a ≡ with_conditions etags since (fields_of a.outgoing.fields.items))
+    × (new ≡ record old { conditional = new.conditional }))
 
 -- ---- both directions
 
@@ -241,10 +245,6 @@ RefusesContent old piece error new =
     ⊎ ((before : OriginConnection) × (after : OriginConnection) × (old.origin ≡ Some before)
     × Origin.RefusesWrite (data_refusal before.client.writing (length piece)) before error after
     × (new ≡ record old { origin = Some after }))
-
-abbrev pub is_empty : {A : Type 0} → List A → Bool
-is_empty [] = true
-is_empty (x ∷ xs) = false
 
 -- the end of the request is put to the origin
 abbrev pub PutsRequestEnd : Rules → GatewayConnection → Entries FieldValue → GatewayConnection → Type 0
@@ -420,11 +420,21 @@ abbrev pub IsNext : GatewayConnection → Stage → Type 0
 IsNext m next =
     (Stream.GoesOn m.client × (next ≡ At.Idle)) ⊎ (¬ (Stream.GoesOn m.client) × (next ≡ At.Closed))
 
--- a response without content that isn't passed on is read to its end, or nothing is
+abbrev pub is_absent_content : ContentFraming → Bool
+is_absent_content Absent = true
+is_absent_content content = false
+
+-- the response that waits has no content
+abbrev pub is_absent : Option Heard → Bool
+is_absent (Some h) = is_absent_content h.sent.content
+is_absent None = false
+
+-- a response without content that isn't passed on is read to its end, so that its connection may be fit
 abbrev pub Settles : GatewayConnection → GatewayConnection → Type 0
 Settles old new =
-    (new ≡ old)
-    ⊎ ((event : OriginEvent) × SaysIn old.origin event new.origin × (new ≡ record old { origin = new.origin }))
+    ((is_absent old.heard ≡ false) × (new ≡ old))
+    ⊎ ((is_absent old.heard ≡ true) × (event : OriginEvent) × SaysIn old.origin event new.origin
+    × (new ≡ record old { origin = new.origin }))
 
 abbrev pub IsAsking : GatewayConnection → Type 0
 IsAsking m = (m.stage ≡ At.Asking) ⊎ (m.stage ≡ At.Judging)
@@ -528,12 +538,46 @@ TimesOutAt Does.Over old new = new ≡ old
 abbrev pub TimesOut : GatewayConnection → GatewayConnection → Type 0
 TimesOut old new = TimesOutAt (phase_of old) old new
 
--- the origin's connection is taken only while no message passes, and given only if it is fit
+-- nothing more is said
+abbrev pub is_over : Stage → Bool
+is_over At.Switched = true
+is_over At.Closed = true
+is_over At.Aborted = true
+is_over stage = false
+
+abbrev pub is_origin_open : Option OriginConnection → Bool
+is_origin_open (Some origin) = not origin.ended
+is_origin_open None = false
+
+-- A side is read once all that came of it was used, and was passed on as far as less than 64 KiB waited.
+abbrev pub wants_of : GatewayConnection → Wants
+wants_of m = record {
+  client_input = m.client_hungry && (not m.client.ended && not (is_over m.stage));
+  client_output = not (is_empty m.client.output.items);
+  origin_input = m.origin_hungry && (is_origin_open m.origin && not (is_over m.stage));
+  origin_output = not (is_empty (output_of m.origin));
+}
+
+-- a message passes over both connections
+abbrev pub is_passing : Stage → Bool
+is_passing At.Forwarding = true
+is_passing At.Judging = true
+is_passing At.Passing = true
+is_passing At.Switched = true
+is_passing stage = false
+
+abbrev pub OfFit : Option OriginConnection → Type 0
+OfFit (Some origin) = Origin.IsFit origin
+OfFit None = ⊥
+
+-- the origin's connection is taken while no message passes, and given if it is fit
 abbrev pub TakesOrigin : GatewayConnection → Option OriginConnection → GatewayConnection → Type 0
 TakesOrigin old (Some origin) new =
-    (old.origin ≡ Some origin) × Origin.IsFit origin × (new ≡ record old { origin = None; origin_hungry = false })
+    (is_passing old.stage ≡ false) × (old.origin ≡ Some origin) × Origin.IsFit origin
+    × (new ≡ record old { origin = None; origin_hungry = false })
 TakesOrigin old None new =
-    (new ≡ old) ⊎ (new ≡ record old { origin = None; origin_hungry = false })
+    ((is_passing old.stage ≡ true) × (new ≡ old))
+    ⊎ ((is_passing old.stage ≡ false) × ¬ (OfFit old.origin) × (new ≡ record old { origin = None; origin_hungry = false }))
 
 -- ---- steps
 
@@ -573,7 +617,7 @@ Steps rules date old told new = StepsAt old.stage rules date old told new
 -- any number of steps that tell nothing
 pub data Runs (rules : Rules) (date : ℕ) (old : GatewayConnection) : GatewayConnection → Type 0 where
   Rests : Runs rules date old old
-  Goes : (between new : GatewayConnection) → Runs rules date old between → Steps rules date between None new
+  Went : (between new : GatewayConnection) → Runs rules date old between → Steps rules date between None new
       → Runs rules date old new
 
 -- steps that tell nothing, and one that tells this; or 2^64 - 1 steps that tell nothing

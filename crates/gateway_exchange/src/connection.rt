@@ -1,5 +1,5 @@
 //! A gateway's connection.
-ghost use Rattle.std.specs.Prelude.{◌≡◌, ◌≢◌, ◌↔◌, ◌≤◌, [], length, IfOk, IsTrue, MatchResult, OnErr, OnOk};
+ghost use Rattle.std.specs.Prelude.{◌≡◌, ◌≢◌, ◌↔◌, ◌≤◌, ◌++◌, [], length, option_map, IfOk, IsTrue, MatchResult, OnErr, OnOk};
 ghost use Rattle.http1.specs.{Conn.{data_refusal, finish_refusal}, Head.pairs, Server.response_refusal};
 ghost use Rattle.http1.specs.{declared.conn.Limits.Limits};
 ghost use Rattle.gateway_messages.specs.FieldLines.{fields_of};
@@ -7,7 +7,8 @@ ghost use Rattle.gateway_connection.specs.Steps as Origin;
 ghost use Rattle.server_stream.specs.Steps as Stream;
 ghost use Rattle.gateway_exchange.specs.{History.{Exchanged, IsReached, Past}, Tunnels.Begins};
 ghost use Rattle.gateway_exchange.specs.Steps.{AsksAgain, Conditions, Connects, EndsGiving, RefusesGiving, RefusesInGiving};
-ghost use Rattle.gateway_exchange.specs.Steps.{TakesOrigin, asks, is_answered};
+ghost use Rattle.gateway_exchange.specs.Steps.{TakesOrigin, asks, is_absent, is_absent_content, is_answered};
+ghost use Rattle.gateway_exchange.specs.Steps.{is_origin_open, is_over, is_passing, wants_of};
 ghost use Rattle.gateway_exchange.specs.Steps.{Answers, AwaitsRequest, BeginsAt, ChangesClient, ChangesOrigin, Considers};
 ghost use Rattle.gateway_exchange.specs.Steps.{ContinuesIf, EndsIdle, Fails, Faulted, FinishesClient, Gives, HandsOutOrigin};
 ghost use Rattle.gateway_exchange.specs.Steps.{HearsClient, HearsOrigin, IsAsking, IsNew, IsNext, MayRepeat, OfAsked};
@@ -232,8 +233,10 @@ impl GatewayConnection {
     // ---- what the host does
 
     /// What to wait for. A side isn't read while 64 KiB or more wait for the other.
-    pub fn wants(&self) -> Wants {
-        let is_over = self.phase() == Phase::Over;
+    pub fn wants(&self) -> Wants
+        ensures { result ≡ wants_of self.now }
+    {
+        let is_over = self.is_over();
         Wants {
             client_input: self.client_hungry && !self.client.is_ended() && !is_over,
             client_output: !self.client.output().is_empty(),
@@ -242,7 +245,19 @@ impl GatewayConnection {
         }
     }
 
-    fn is_origin_open(&self) -> bool {
+    // Whether nothing more is said.
+    fn is_over(&self) -> bool
+        ensures { result ≡ is_over self.now.stage }
+    {
+        match self.stage {
+            Stage::Switched | Stage::Closed | Stage::Aborted => true,
+            _ => false,
+        }
+    }
+
+    fn is_origin_open(&self) -> bool
+        ensures { result ≡ is_origin_open self.now.origin }
+    {
         match &self.origin {
             Some(origin) => !origin.is_ended(),
             None => false,
@@ -402,8 +417,13 @@ impl GatewayConnection {
     }
 
     /// The request that waits or is passed on.
-    pub fn request(&self) -> Option<&AskedRequest> {
-        self.asked.as_ref()
+    pub fn request(&self) -> Option<&AskedRequest>
+        ensures { option_map (λ asked. asked.now) result ≡ self.now.asked }
+    {
+        match &self.asked {
+            Some(asked) => Some(asked),
+            None => None,
+        }
     }
 
     /// Puts these conditions, with which a cache validates what it has stored, in place of those of the
@@ -523,9 +543,11 @@ impl GatewayConnection {
     }
 
     // Whether the response that waits has no content.
-    fn is_absent(&self) -> bool {
+    fn is_absent(&self) -> bool
+        ensures { result ≡ is_absent self.now.heard }
+    {
         match &self.heard {
-            Some(heard) => heard.sent.content == ContentFraming::Absent,
+            Some(heard) => is_absent_content(heard.sent.content),
             None => false,
         }
     }
@@ -534,11 +556,11 @@ impl GatewayConnection {
     fn answer_own(&mut self, own: Own)
         ensures { Answers self.old own self.new }
     {
-        self.own = Some(own);
-        match put_own(own, self.is_last, &mut self.client) {
+        match put_own(&own, self.is_last, &mut self.client) {
             Ok(()) => self.stage = Stage::Ended,
             Err(_) => self.stage = Stage::Aborted,
         }
+        self.own = Some(own);
     }
 
     /// Why the last answer was the gateway's own, if it was.
@@ -627,7 +649,7 @@ impl GatewayConnection {
 
     // ---- both directions
 
-    // Passes on what came of the origin, or else of the client.
+    // Forwards what came of the origin, or else of the client.
     fn transfer(&mut self, rules: &Rules, now: Date) -> Option<GatewayEvent>
         ensures { Transfers rules.now now self.old result self.new }
     {
@@ -641,7 +663,7 @@ impl GatewayConnection {
         Some(GatewayEvent::Waits)
     }
 
-    // Passes on what comes next of the client's request.
+    // Forwards what comes next of the client's request.
     fn hear_client(&mut self, rules: &Rules)
         ensures { HearsClient rules.now self.old self.new }
     {
@@ -702,7 +724,7 @@ impl GatewayConnection {
         }
     }
 
-    // Passes on what comes next of the origin's response.
+    // Forwards what comes next of the origin's response.
     fn hear_origin(&mut self, rules: &Rules, now: Date) -> Option<GatewayEvent>
         ensures { HearsOrigin rules.now now self.old result self.new }
     {
@@ -789,14 +811,17 @@ impl GatewayConnection {
     }
 
     /// The response of the origin that waits, or is passed on.
-    pub fn response(&self) -> Option<&OriginResponse> {
+    pub fn response(&self) -> Option<&OriginResponse>
+        ensures { option_map (λ response. response.now) result
+            ≡ option_map (λ heard. heard.response) self.now.heard }
+    {
         match &self.heard {
             Some(heard) => Some(&heard.response),
             None => None,
         }
     }
 
-    /// Passes on the origin's response that waits.
+    /// Forwards the origin's response that waits.
     pub fn pass(&mut self)
         ensures { Passes self.old self.new }
     {
@@ -898,7 +923,9 @@ impl GatewayConnection {
         }
     }
 
-    fn is_passing(&self) -> bool {
+    fn is_passing(&self) -> bool
+        ensures { result ≡ is_passing self.now.stage }
+    {
         match self.stage {
             Stage::Forwarding | Stage::Judging | Stage::Passing | Stage::Switched => true,
             _ => false,
@@ -923,22 +950,51 @@ impl GatewayConnection {
     pub fn into_tunnel(self) -> Result<Tunnel, AllocError>
         ensures { IfOk result (Begins self) }
     {
-        let mut to_client = BytesMut::copy_from_slice(self.alloc, self.client.output())?;
-        let mut to_origin = BytesMut::new(self.alloc);
-        let mut origin_ended = false;
-        let client_ended = self.client.is_ended();
-        if let Some(origin) = self.origin {
-            to_origin.extend_from_slice(origin.output())?;
-            origin_ended = origin.is_ended();
-            to_client.extend_from_slice(origin.into_input().as_slice())?;
-        }
-        to_origin.extend_from_slice(self.client.into_input().as_slice())?;
+        let GatewayConnection {
+            alloc,
+            client,
+            origin,
+            ..
+        } = self;
+        let client_ended = client.is_ended();
+        let mut to_client = BytesMut::copy_from_slice(alloc, client.output())?;
+        let mut to_origin = BytesMut::new(alloc);
+        let origin_ended = match origin {
+            Some(origin) => hand_over(origin, &mut to_client, &mut to_origin)?,
+            None => false,
+        };
+        to_origin.extend_from_slice(client.into_input().as_slice())?;
         Ok(Tunnel {
             to_client,
             to_origin,
             client_ended,
             origin_ended,
         })
+    }
+}
+
+// Appends what waits for the origin, and what was received of it and isn't used. Says whether its input has ended.
+fn hand_over(
+    origin: OriginConnection,
+    to_client: &mut BytesMut,
+    to_origin: &mut BytesMut,
+) -> Result<bool, AllocError>
+    ensures ended { IfOk result (λ ended. ended ≡ origin.ended) }
+    ensures to_client { OnOk result (to_client.new.items ≡ to_client.old.items ++ origin.input.items) }
+    ensures to_origin { OnOk result (to_origin.new.items ≡ to_origin.old.items ++ origin.output.items) }
+{
+    let ended = origin.is_ended();
+    to_origin.extend_from_slice(origin.output())?;
+    to_client.extend_from_slice(origin.into_input().as_slice())?;
+    Ok(ended)
+}
+
+fn is_absent_content(content: ContentFraming) -> bool
+    ensures { result ≡ is_absent_content content }
+{
+    match content {
+        ContentFraming::Absent => true,
+        _ => false,
     }
 }
 

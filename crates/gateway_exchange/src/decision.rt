@@ -1,7 +1,7 @@
 //! What is done with a request, as data.
-ghost use Rattle.std.specs.Prelude.{◌≡◌, IfOk, option_map};
+ghost use Rattle.std.specs.Prelude.{◌≡◌, find, IfOk, option_map};
 ghost use Rattle.gateway_exchange.specs.Decisions.{IsDecision, IsDecisionFor, IsConnectDecision, IsOutgoing};
-ghost use Rattle.gateway_exchange.specs.Decisions.{OpensWebsocket, takes_over, version_of};
+ghost use Rattle.gateway_exchange.specs.Decisions.{OpensWebsocket, is_host_line, takes_over, value_or_none, version_of};
 
 use crate::own::Own;
 use crate::rules::{Peer, Rules, next_connection};
@@ -12,7 +12,6 @@ use gateway_messages::{Expectation, FieldLine, Framing, Protocol, ReceivedReques
 use gateway_parts::{given_authority, host_value, origin_form, protocol_of, target_of};
 use headers::HeaderValue;
 use http::Version;
-use http_header::HOST;
 use server_stream::RequestHead;
 use std::alloc::{AllocError, Global};
 use std::hash::RandomState;
@@ -41,13 +40,14 @@ pub struct AskedRequest {
 
 impl AskedRequest {
     /// The host that the request is for, and maybe a port: the Host that is sent.
-    pub fn authority(&self) -> &[u8] {
-        for field in &self.outgoing.fields {
-            if field.name == HOST {
-                return field.value.as_bytes();
-            }
+    pub fn authority(&self) -> &[u8]
+        ensures { result.now ≡ value_or_none (find is_host_line self.now.outgoing.fields.items) }
+    {
+        let mut lines = self.outgoing.fields.iter();
+        match lines.find(|field| field.name.as_str() == "host") {
+            Some(field) => field.value.as_bytes(),
+            None => &[],
         }
-        &[]
     }
 }
 

@@ -52,10 +52,10 @@ pub(crate) const CLOSE: Header<'static> = Header {
 
 impl Own {
     /// The status of the answer.
-    pub fn status(self) -> StatusCode
-        ensures { result ≡ own_status self }
+    pub fn status(&self) -> StatusCode
+        ensures { result ≡ own_status self.now }
     {
-        match self {
+        match *self {
             Own::Unread(rejection) => rejection.status(),
             Own::Rejected(rejection) => StatusCode::from_u16(rejection.status()).unwrap_or(
                 StatusCode::BAD_REQUEST,
@@ -77,10 +77,10 @@ impl Own {
     }
 
     /// Whether the client's connection closes after the answer: the request is at fault, or came late.
-    pub fn closes(self) -> bool
-        ensures { result ≡ own_closes self }
+    pub fn closes(&self) -> bool
+        ensures { result ≡ own_closes self.now }
     {
-        match self {
+        match *self {
             Own::Unread(_)
             | Own::Rejected(_)
             | Own::InvalidTarget
@@ -100,16 +100,16 @@ fn reason(status: StatusCode) -> &'static [u8]
 }
 
 // The fields of an answer, beside those that frame it.
-fn own_fields(own: Own, is_last: bool) -> &'static [Header<'static>]
-    ensures { pairs result.now ≡ own_fields own }
+fn own_fields(own: &Own, is_last: bool) -> &'static [Header<'static>]
+    ensures { pairs result.now ≡ own_fields own.now }
 {
     if is_last || own.closes() { &[CLOSE] } else { &[] }
 }
 
 /// Puts the answer, without content.
-pub(crate) fn put_own(own: Own, is_last: bool, client: &mut StreamConnection) -> Result<(), WriteError>
-    ensures { MatchResult result (λ _. PutsOwn client.old own client.new)
-        (λ error. RefusesOwn client.old own error client.new) }
+pub(crate) fn put_own(own: &Own, is_last: bool, client: &mut StreamConnection) -> Result<(), WriteError>
+    ensures { MatchResult result (λ _. PutsOwn client.old own.now client.new)
+        (λ error. RefusesOwn client.old own.now error client.new) }
 {
     let status = own.status();
     client.respond(status, reason(status), own_fields(own, is_last), BodySize::Known(0))?;
