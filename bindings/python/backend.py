@@ -193,7 +193,7 @@ def compile_extension(to: Path, words: List[str]) -> None:
         raise SystemExit(f"backend: there is no Python.h in {include}. {HELP}")
     if not shutil.which("cc"):
         raise SystemExit(f"backend: there is no C compiler. {HELP}")
-    options = ["-std=c11", "-O2", "-fPIC", "-shared", "-Wall", "-Wextra", "-Werror", "-Wl,-z,relro,-z,now"]
+    options = ["-std=c11", "-O2", "-fPIC", "-shared", "-Wall", "-Wextra", "-Wl,-z,relro,-z,now"]
     sources = [str(HERE / "native.c"), *words, "-Wl,--no-as-needed", "-lc"]
     subprocess.run(["cc", *options, f"-I{include}", "-o", str(to), *sources], check=True)
 
@@ -204,4 +204,5 @@ def build_extension(header: Path, library: Path, to: Path) -> None:
 
 
 if __name__ == "__main__":
-    build_extension(*map(Path, sys.argv[1:]))
+    # (another compiler may warn of more, and an installation goes on)
+    compile_extension(Path(sys.argv[3]), ["-Werror", f"-I{sys.argv[1]}", sys.argv[2]])

@@ -336,10 +336,16 @@ static bool read_struct(PyObject *given, const struct shape *shape, char *at) {
     return true;
 }
 
+/* Memory of zeros. (The stable ABI of Python 3.8 has no PyMem_Calloc.) */
+static void *zeroed(size_t count, size_t size) {
+    void *memory = count <= PY_SSIZE_T_MAX / size ? PyMem_Malloc(count * size) : NULL;
+    return memory ? memset(memory, 0, count * size) : NULL;
+}
+
 /* Reads a tuple of structs into memory, of which there is some also for none. */
 static bool read_list(PyObject *given, const struct shape *shape, union slot *slot) {
     const Py_ssize_t count = PyTuple_Size(given);
-    slot->list.at = count < 0 ? NULL : PyMem_Calloc((size_t)count + 1, shape->size);
+    slot->list.at = count < 0 ? NULL : zeroed((size_t)count + 1, shape->size);
     if (!slot->list.at) {
         return PyErr_Occurred() ? false : (PyErr_NoMemory(), false);
     }
@@ -394,7 +400,7 @@ static bool clear_slot(const struct parameter *it, union slot *slot) {
     case LINES: clear_lines(&slot->lines); break;
     case LIST_STRUCT: slot->list.at = NULL; break;
     case OPENED: memset(&slot->handle, 0, sizeof slot->handle); break;
-    case NEW: slot->handle.at = PyMem_Calloc(1, it->handle->size); break;
+    case NEW: slot->handle.at = zeroed(1, it->handle->size); break;
     case PIECE: slot->room.at = NULL, slot->room.written = 0; break;
     case ROOM_OF_BYTES:
     case ROOM_OF_STRUCTS:
@@ -1125,7 +1131,11 @@ static bool is_value_byte(char byte) {
     return it == '\t' || (it >= ' ' && it != 0x7F);
 }
 
-static bool is_name_byte(char byte) { return byte != ':' && byte != '\r' && byte != '\n'; }
+/* Whether a token may have the byte (RFC 9110, section 5.6.2). */
+static bool is_name_byte(char byte) {
+    const char lower = (char)(byte | ' ');
+    return (lower >= 'a' && lower <= 'z') || (byte >= '0' && byte <= '9') || (byte && strchr("!#$%&'*+-.^_`|~", byte));
+}
 
 /* A section that is being made: on the stack, or if it doesn't fit, in memory. */
 struct section_text {

@@ -85,6 +85,21 @@ class Files(unittest.TestCase):
             with self.assertRaises(UnreadableFile):
                 exchanges(wrong)
 
+    def test_what_browsers_write(self) -> None:
+        fields = [{"name": "Cache-Control", "value": "no-store"}, {"name": "Set-Cookie", "value": "a=b\nc=d"}]
+        request = {"method": "GET", "url": "u", "headers": []}
+        responses = [{"status": 200, "headers": fields}, {"status": 0, "headers": []}]
+        entries = [{"request": request, "response": response} for response in responses]
+        answered, blocked = map(findings, exchanges(json.dumps({"log": {"entries": entries}}).encode()))
+        self.assertEqual((answered["findings"], answered["fields"][1]["lines"]), ([], ["a=b", "c=d"]))
+        self.assertEqual(blocked["findings"], ["not_judged"])
+
+    def test_what_crawlers_write(self) -> None:
+        lookup = b"20210101000000\na.example.\t300\tIN\tA\t192.0.2.1\n"
+        named = b"WARC-Type: response\r\nContent-Type: text/dns\r\nContent-Length: %d\r\n" % len(lookup)
+        given = b"WARC/1.0\r\n" + named + b"\r\n" + lookup + b"\r\n\r\n" + record("response", "1", RESPONSE)
+        self.assertEqual([it.response for it in exchanges(given)], [HEAD])
+
     def test_what_curl_prints(self) -> None:
         found = exchanges(b"HTTP/2 301 \r\nLocation: /\r\n\r\n" + RESPONSE[: -len(b"HTTP/1.1 500 Not a head\r\n")])
         self.assertEqual([it.response.split(b"\r\n")[0] for it in found], [b"HTTP/2 301 ", b"HTTP/1.1 200 OK"])

@@ -92,7 +92,7 @@ class Sections(unittest.TestCase):
             with self.assertRaises(KeyError):
                 call()
         before = headers.pairs()
-        for name, value in (("a b:", "c"), ("a", "b\nc"), ("", "a")):
+        for name, value in (("a b:", "c"), ("a", "b\nc"), ("", "a"), ("Age ", "7"), (" Age", "7"), ("é", "a")):
             with self.assertRaises(InvalidField):
                 headers[name] = value
             with self.assertRaises(InvalidField):

@@ -169,6 +169,8 @@ class Parts(unittest.TestCase):
         for name, value, given in wrong:
             with self.assertRaises(HeaderError, msg=(name, value, given)):
                 SetCookie(name, value, **given)
+        with self.assertRaisesRegex(HeaderError, "a would be another cookie, by its domain and same_site$"):
+            SetCookie("a", "b", domain="A.example", same_site="lax")
 
     def test_sections(self) -> None:
         given = [("Set-Cookie", "a=b"), ("Set-Cookie", "c=d"), ("Link", "</a>; rel=b"), ("Accept-Encoding", "gzip")]

@@ -1,6 +1,8 @@
 """The cache for `requests`, over a server of this process."""
 
+import copy
 import gzip
+import pickle
 import threading
 import time
 import unittest
@@ -153,6 +155,13 @@ class Adapters(unittest.TestCase):
     def test_private_alone(self) -> None:
         with self.assertRaises(ValueError):
             CachedAdapter(Cache(shared=True))
+
+    def test_an_adapter_is_no_value(self) -> None:
+        adapter = self.session.get_adapter("http://x")
+        with self.assertRaisesRegex(TypeError, "share a storage"):
+            pickle.dumps(adapter)
+        with self.assertRaisesRegex(TypeError, "share a storage"):
+            copy.copy(adapter)
 
     def test_threads(self) -> None:
         Origin.answers = [stored(b"%d" % it) for it in range(200)]

@@ -261,7 +261,7 @@ class Messages(unittest.TestCase):
     def test_what_is_rejected(self) -> None:
         with Server(small, Quick) as server:
             for data, status in ((b"x\r\n\r\n", 400), (b"GET / HTTP/1.1\r\n\r\n", 400), (b"\x16\x03\x01", 400),
-                                 (b"GET / HTTP/1.1\r\nA: " + b"a" * 20000, 431), (b"GET /" + b"a" * 20000 + b" HTTP/1.1\r\n", 414)):
+                                 (b"GET / HTTP/1.1\r\nA: " + b"a" * 20000, 431), (b"GET /" + b"a" * 20000 + b" HTTP/1.1\r\n\r\n", 414)):
                 with self.subTest(data=data[:20]):
                     # (without an answer to what follows)
                     sent = server.ask(data, GET)

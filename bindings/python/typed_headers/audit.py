@@ -45,6 +45,7 @@ FINDINGS = {
 #: No head is read further than this. The rest of a longer one is left out.
 _LARGEST_HEAD = 1024 * 1024
 _PIECE = 64 * 1024
+_MESSAGE = "application/http"
 _START = re.compile(rb"HTTP/\d(?:\.\d)? \d{3}(?: .*)?\r?\n?")
 
 
@@ -111,7 +112,9 @@ def _warc_records(file: IO[bytes]) -> Iterator[Tuple[Headers, bytes]]:
         if not length.isdecimal():
             raise UnreadableFile(f"a record of a WARC file needs a Content-Length, not {length!r}")
         head, taken = b"", 0
-        if fields.get("warc-type") in ("request", "response"):
+        # (crawlers record answers of DNS as responses, too)
+        is_message = fields.get("content-type", _MESSAGE).lower().startswith(_MESSAGE)
+        if is_message and fields.get("warc-type") in ("request", "response"):
             head, taken = _head(file, int(length))
         _skip(file, int(length) - taken)
         if head:
@@ -153,8 +156,9 @@ def _read_warc(file: IO[bytes]) -> Iterator[Exchange]:
 
 def _read_har(file: IO[bytes]) -> Iterator[Exchange]:
     def head(start: str, fields: List[Dict[str, str]]) -> bytes:
-        # (a browser lists the fields of HTTP/2 that stand for the start line)
-        lines = [f"{it['name']}: {it['value']}" for it in fields if not it["name"].startswith(":")]
+        # (browsers list the fields of HTTP/2 that stand for the start line, and may join field lines by a line end)
+        given = [it for it in fields if not it["name"].startswith(":")]
+        lines = [f"{it['name']}: {line}" for it in given for line in it["value"].split("\n")]
         return "\r\n".join([start, *lines, ""]).encode("latin-1", "replace")
 
     try:
@@ -238,7 +242,10 @@ def _found(report: Report) -> Iterator[str]:
 
 def _inspected(exchange: Exchange) -> Report:
     text = b"\r\n\r\n".join(it.rstrip(b"\r\n") for it in (exchange.request, exchange.response) if it)
-    return inspect(text + b"\r\n\r\n", received=exchange.received)
+    report = inspect(text + b"\r\n\r\n", received=exchange.received)
+    if report.head.status is None:
+        raise HeaderError("there is no response with a status from 200 on")
+    return report
 
 
 def findings(exchange: Exchange) -> Dict[str, Any]:

@@ -114,7 +114,7 @@ def canonical_section(section: "HeadersLike") -> str:
 
 _section, _pair, _parse = _library.calls.section, _library.calls.pair, _library.calls.pairs
 # A line of a section as it is made of a name and a value.
-_FIELD = re.compile(rb"[^:\r\n]+: [\t -~\x80-\xff]*\n")
+_FIELD = re.compile(_library.TOKEN.pattern.encode() + rb": [\t -~\x80-\xff]*\n")
 
 
 def _field_of(name: Text, value: Text) -> bytes:
@@ -122,7 +122,7 @@ def _field_of(name: Text, value: Text) -> bytes:
     given, line = _library.to_bytes(name, "name"), _library.to_bytes(value, "value")
     field = b"%b: %b\n" % (given, line)
     if not _FIELD.fullmatch(field):
-        if not given or any(byte in given for byte in b":\r\n"):
+        if not _library.TOKEN.fullmatch(_library.to_str(given)):
             raise InvalidField(_library.to_str(given), "this is no field name (RFC 9110, section 5.1)")
         raise _library.rejected(_library.to_str(given).lower(), [line])
     return field

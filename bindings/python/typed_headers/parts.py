@@ -572,8 +572,10 @@ class SetCookie:
         object.__setattr__(self, "others", _to_parameters(self.others, "others"))
         if not self.is_allowed:
             raise HeaderError(f"set-cookie: {self.name} needs what its prefix promises, or Secure with SameSite=None")
-        if SetCookie.parse(str(self)) != self:
-            raise HeaderError(f"set-cookie: {self.name} would be another cookie")
+        parsed = SetCookie.parse(str(self)).__dict__
+        wrong = [name for name, member in self.__dict__.items() if parsed[name] != member]
+        if wrong:
+            raise HeaderError(f"set-cookie: {self.name} would be another cookie, by its {' and '.join(wrong)}")
 
     @classmethod
     def parse(cls, line: Text, *more: Text) -> "SetCookie":

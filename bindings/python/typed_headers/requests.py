@@ -9,7 +9,7 @@ import time
 from http.client import responses
 from io import BytesIO
 from threading import Thread
-from typing import TYPE_CHECKING, Any, Callable, List, Optional
+from typing import TYPE_CHECKING, Any, Callable, Dict, List, Optional
 from urllib.parse import urldefrag
 
 import requests
@@ -61,6 +61,9 @@ class CachedAdapter(HTTPAdapter):
         super().__init__(**options)
         own = Cache(shared=False) if cache is None else cache
         self.rules = Rules(own, largest, clock, is_shared=False, storage=storage, secret=secret)
+
+    def __getstate__(self) -> Dict[str, Any]:
+        raise TypeError("a CachedAdapter can't be copied or pickled, as its cache is this process's: share a storage")
 
     def send(
         self, request: requests.PreparedRequest, stream: bool = False, *given: Any, **named: Any
