@@ -17,10 +17,10 @@
  *   its name. No space is taken off its ends.
  * - A call that writes bytes takes room for them. `*written` says how many bytes there are, also if they don't fit: the
  *   status is TYPED_HEADERS_NO_ROOM then, and the room is as it was. Nothing is written after them.
- * - Calls keep no state, but for handles: those of caches, passes, sections, policies, resources, connections and files.
- *   They may run in several threads at once. On one handle those may overlap that take it as `const`: they only read it.
- *   Any other call on a handle overlaps with none on the same one, and the program orders it with the others, as by a
- *   lock. No call may run in a signal handler, nor in the child of a fork of a process with threads.
+ * - Calls keep no state, but for handles: of caches, passes, sections, policies, resources, connections and files. They
+ *   may run in several threads at once. On one handle those may overlap that take it as `const`: they only read it. Any
+ *   other call on a handle overlaps with none on the same one, and the program orders it with the others, as by a lock.
+ *   No call may run in a signal handler, nor in the child of a fork of a process with threads.
  * - Memory comes from malloc, realloc and free, and is given back before the call returns, but for that of a cache and
  *   of the handles.
  *   The status is TYPED_HEADERS_NO_MEMORY only if something is allocated: for lines of a field, for a section that has
@@ -307,8 +307,8 @@ struct typed_headers_cache_request {
 /*
  * A pass: one client's request through a cache, closed or open. Zero bytes are a closed one, as
  * TYPED_HEADERS_CLOSED_PASS. It is the library's as a cache is. A step of a pass is a call on its cache, too. A call
- * that takes the pass alone may overlap with any on the cache and on other passes; if it takes the pass as `const`, also
- * with others that do.
+ * that takes the pass alone may overlap with any on the cache and on other passes. If it takes the pass as `const`, it
+ * may overlap with others that do.
  */
 struct typed_headers_pass {
     void *place;
@@ -875,8 +875,8 @@ enum typed_headers_form {
 /*
  * A handle: closed, or open with what it was opened with. Zero bytes are a closed one, as TYPED_HEADERS_CLOSED. An open
  * one has memory until it is closed again, and what it has never changes. Its members are the library's: a program
- * changes none, and copies none but of a closed one. Threads may share it: a call that takes it as `const` only reads it,
- * and any number of these may overlap, without a lock. A call that opens or closes it overlaps with no other on it.
+ * changes none, and copies none but of a closed one. Threads may share it: a call that takes it as `const` only reads
+ * it, and any number of these may overlap, without a lock. One that opens or closes it overlaps with no other on it.
  *
  * Absent, of each call that reads a handle: it is closed, or is that of another struct.
  */

@@ -1,7 +1,8 @@
 /*
  * Tests that threads share handles without a lock: eight ask one section, one policy, one resource and one connection,
- * each 100,000 times or as often as the argument says, and get what a call alone gives. Meanwhile the handles, and all
- * that they have, are in memory that may only be read: a call that wrote there would end the program.
+ * each 100,000 times or as often as the argument says, and get what a call alone gives. Meanwhile the handles are in
+ * memory that may only be read: a call that wrote there would end the program. What they have is as it was in the end:
+ * calls count who uses a text (by atomic steps), and leave each count as it was.
  */
 #include "typed_headers.h"
 #include <pthread.h>
@@ -66,7 +67,8 @@ static const struct typed_headers_denial NOT_DENIED;
 static const struct typed_headers_cors_rules RULES = {
     .origins = TEXT("https://a.example\nhttps://c.example"), .exposed = TEXT("etag")};
 static const struct typed_headers_cors_exchange EXCHANGE = {.method = TEXT("GET"), .response = TEXT("Vary: accept\n")};
-static const char SECTION[] = "Host: b.example\nOrigin: https://a.example\nIf-None-Match: \"a\"\nAccept: text/html;q=0.5\n";
+static const char SECTION[] =
+    "Host: b.example\nOrigin: https://a.example\nIf-None-Match: \"a\"\nAccept: text/html;q=0.5\n";
 static const char ASKED[] = "GET /path?query HTTP/1.1\r\nHost: b.example\r\n\r\n";
 
 struct handles {
@@ -135,15 +137,17 @@ int main(int count, char **arguments) {
     if (count > 1) calls = strtoul(arguments[1], NULL, 10);
     region = mmap(NULL, REGION, PROT_READ | PROT_WRITE, MAP_PRIVATE | MAP_ANONYMOUS, -1, 0);
     if (region == MAP_FAILED) return 2;
+    shared = mmap(NULL, sizeof *shared, PROT_READ | PROT_WRITE, MAP_PRIVATE | MAP_ANONYMOUS, -1, 0);
+    if (shared == MAP_FAILED) return 2;
     is_opening = true;
-    shared = __wrap_malloc(sizeof *shared);
-    memset(shared, 0, sizeof *shared);
     if (!open_handles()) {
         puts("shared: a handle isn't opened");
         return 2;
     }
     is_opening = false;
-    mprotect(region, REGION, PROT_READ);
+    mprotect(shared, sizeof *shared, PROT_READ);
+    static uint8_t before[REGION];
+    memcpy(before, region, used);
     ask(&alone);
     for (int i = 0; i < TEXTS + 1; i++) others += alone.status[i] != TYPED_HEADERS_DONE;
     others += alone.code != 304 || alone.is_allowed != 1 || memcmp(alone.rooms[3], "/path", 5) != 0;
@@ -154,7 +158,8 @@ int main(int count, char **arguments) {
         pthread_join(threads[i], NULL);
         others += wrong[i];
     }
-    mprotect(region, REGION, PROT_READ | PROT_WRITE);
+    others += memcmp(before, region, used) != 0;
+    mprotect(shared, sizeof *shared, PROT_READ | PROT_WRITE);
     typed_headers_section_free(&shared->fields);
     typed_headers_cors_policy_free(&shared->policy);
     typed_headers_resource_handle_free(&shared->resource);

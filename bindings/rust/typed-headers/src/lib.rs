@@ -12,8 +12,8 @@
 //! # Ok::<(), typed_headers::Error>(())
 //! ```
 //!
-//! The crate needs `alloc`, and no `std` but for `Keys::random` and for caches that threads share, of the feature `std`. The
-//! library is that of the system, as `pkg-config` knows it, or the static one in the folder that the variable
+//! The crate needs `alloc`, and no `std` but for `Keys::random` and for caches that threads share, of the feature `std`.
+//! The library is that of the system, as `pkg-config` knows it, or the static one in the folder that the variable
 //! TYPED_HEADERS names.
 #![no_std]
 #![warn(missing_docs)]
