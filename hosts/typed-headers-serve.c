@@ -30,7 +30,8 @@
 enum {
     BUFFER = 64 * 1024,
     SMALL = 16 * 1024,       /* so much of a file is copied behind the head, and sent with it */
-    TURN_BYTES = 1024 * 1024, /* so much a peer sends before others have their turn */
+    LARGE = 256 * 1024,      /* so much of a file isn't put behind the head, which would cut its pages in two */
+    TURN_BYTES = 2 << 20,    /* so much a peer sends before others have their turn */
     TURN_EVENTS = 64,        /* so many things a peer does before */
     MOST_FOUND = 3,          /* the library names at most so many paths for a request */
 };
@@ -440,7 +441,7 @@ static ssize_t send_output(struct peer *peer, size_t length, uint64_t start, uin
     if (range > 0 && range <= SMALL && length + range <= BUFFER &&
         pread(peer->file, own.buffer + length, (size_t)range, (off_t)start) == (ssize_t)range)
         extra = (size_t)range;
-    ssize_t count = send_bytes(peer, length + extra, range > extra ? MSG_MORE : 0);
+    ssize_t count = send_bytes(peer, length + extra, range > extra && range < LARGE ? MSG_MORE : 0);
     if (count <= (ssize_t)length)
         return count;
     if (typed_headers_connection_sent(&peer->connection, length) != TYPED_HEADERS_DONE)
