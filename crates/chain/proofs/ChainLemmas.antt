@@ -24,6 +24,7 @@ use Rattle.gateway_messages.{specs.declared.protocol.Protocol.TheVariants.Http11
 use Rattle.gateway_messages.{specs.HopByHop.{is_hop_by_hop, is_known}, proofs.SpellingLemmas.well_spelt}
 use Rattle.decide_resource.{specs.Answers.IsAnswer, specs.Requests.{Request, get_of, head_of}, specs.Vary.AreAlike}
 use Rattle.decide_resource.{specs.Vary.ChooseAlike, specs.declared.answer.Answer.Answer}
+use Rattle.decide_resource.proofs.ExistenceLemmas.{some_answer}
 use Rattle.decide_resource.specs.declared.resource.Resource.{Resource}
 
 -- ---- carried fields
@@ -375,7 +376,7 @@ module _ (reads : ReadsNoMore) (heads : HeadIsAsGet) (sound : VaryIsSound) (memb
         c.end_to_end c.not_close (date_not_carried _ c) in
         let varies = stored (codes "vary") vary_carried ∙ said.fields (codes "vary") vary_carried in
         let asked_now = asked_first law f in
-        let now_said = server.answers t.time asked_now in
+        let now_said = some_answer (second_of t.time) (server.resource t.time) asked_now (server.fits t.time) in
         let both_alike = alike_first law f in
         let same = suited sound members (second_of t.time) (server.resource t.time) (first f) asked_now said.answer
         now_said.0 (server.own t.time (came f).reply.status) said.is now_said.1 both_alike (suits law f

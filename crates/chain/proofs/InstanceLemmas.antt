@@ -1,13 +1,14 @@
 -- A client, a gateway, a cache that answers from its store, and the server of a resource that is gone.
-use Rattle.std.proofs.Common.{◌≡◌, ◌≢◌, ◌⊎◌, ℕ, zero, suc, ◌<◌, ◌≤◌, ◌^◌, Bool, true, false, List, [], ◌∷◌, ◌++◌}
-use Rattle.std.proofs.Common.{length, map, Option, Some, None, refl, sym, ◌∙◌, ap, subst, inl, inr, arith, append-nil}
-use Rattle.std.{proofs.lemmas.Bool.cases_Bool, proofs.lemmas.Slice.Eq.bytes_eq-Decides, specs.Global.Vec}
-use Rattle.std.proofs.lemmas.{List.Elements.All-nil, Option.same_Some}
+use Rattle.std.proofs.Common.{◌≡◌, ◌≢◌, ◌⊎◌, ℕ, zero, suc, ◌<◌, ◌≤◌, true, false, List, [], ◌∷◌, ◌++◌}
+use Rattle.std.proofs.Common.{map, Some, None, refl, sym, ◌∙◌, subst, inl, inr, arith}
+use Rattle.std.proofs.lemmas.Bool.{cases_Bool}
+use Rattle.std.proofs.lemmas.Slice.Eq.{bytes_eq-Decides}
+use Rattle.std.proofs.lemmas.{List.Elements.{All-cons, All-nil}, Option.same_Some}
 use Rattle.std.specs.Prelude.{All, bytes_eq, codes, decimal, slice_get, ⊤}
-use denote.RawPtr.{null_ptr}
 use Rattle.http_header.specs.{FieldValue.{FieldValue, plain_value}, HeaderMap.Entries, Token.is_token_byte}
-use Rattle.headers.{specs.LineMap.{LineMap, fields_of, lines_at}, specs.Lines.Line, specs.Merge.merge}
-use Rattle.headers.specs.{Places.comma, declared.Encoded.Encoded}
+use Rattle.headers.specs.LineMap.{LineMap, lines_at}
+use Rattle.headers.specs.Lines.{Line}
+use Rattle.headers.specs.declared.Encoded.{Encoded}
 use Rattle.rfc_fields.specs.{Directives.directive_in, Scan.{pieces, push}, Values.{is_quoted_text, octets_from}}
 use Rattle.cache_store.specs.{Changes.{IsInserted, IsStoredAs, IsToStore}, Contents.{Contents, size_at}}
 use Rattle.cache_store.specs.{Lookups.IsAnswer as IsLookup, declared.lookup.Lookup.{TheVariants.Serve}}
@@ -20,34 +21,21 @@ use Rattle.gateway_messages.specs.{HostTests.is_reg_name}
 use Rattle.gateway_messages.specs.{Responses.{content_of}, Spellings.is_misspelt}
 use Rattle.gateway_messages.specs.declared.{field_line.FieldLine.FieldLine, gateway.Gateway.Gateway}
 use Rattle.gateway_messages.specs.declared.{framing.Framing.TheVariants.Unstated, protocol.Protocol.TheVariants.Http11}
-use Rattle.decide_resource.specs.{Answers.{GivesIf, IsAnswer, is_admitted, sent_for}, Applies.{applies, methods}}
-use Rattle.decide_resource.specs.{Applies.rule_for, Fields.{denied_fields, reason_fields, status_of}}
-use Rattle.decide_resource.specs.Fields.{vary_fields, vary_lines}
-use Rattle.decide_resource.specs.{Reasons.{Before, IsFirst, stage}, Requests.Request, declared.answer.Answer.Answer}
-use Rattle.decide_resource.specs.declared.{denied.Denied.Denied as Denial, reason.Reason.Reason}
+use Rattle.decide_cors.proofs.MadeLemmas.{vec}
+use Rattle.decide_resource.specs.{Answers.{HasFewParts, TakesFew}, Applies.{applies, rule_for}, Reasons.Before}
+use Rattle.decide_resource.specs.{Requests.Request, declared.reason.Reason.Reason}
 use Rattle.decide_resource.specs.declared.{request.RequestContent.TheVariants.Absent, resource.Resource.Resource}
 use Rattle.chain.specs.Caches.{Caching, HasComeFrom, IsFromStore, IsPlain, Origin, Reply, Act.Takes, asked, key_of}
-use Rattle.chain.specs.{Caches.{per_second, second_of}, Chains.{IsSentBack, behind}, Instances.IsInstance}
+use Rattle.chain.specs.Caches.{per_second}
+use Rattle.chain.specs.Chains.{IsSentBack, behind}
+use Rattle.chain.specs.Instances.{IsInstance}
 use Rattle.chain.{specs.{Servers.{IsSaid, IsSent, Server}, Ways.{IsSentOn}}, proofs.AgeLemmas.age_of-decimal}
 use Rattle.chain.proofs.ServingLemmas.{without_special}
 use Rattle.decide_resource.specs.declared.answer.Sends.TheVariants as sends
-use Rattle.decide_resource.specs.declared.denied.Denied.TheVariants as denied
 use Rattle.decide_resource.specs.declared.reason.Reason.TheVariants as reasons
 use Rattle.decide_resource.specs.declared.resource.State.TheVariants as state
 
 -- ---- values
-
-abbrev vec : {X : Type 0} (items : List X) → length items < 2 ^ 63 → Vec X
-vec items fits =
-    record {
-      ptr = null_ptr;
-      len = length items;
-      cap = length items;
-      alloc = record { memory = record { seal = tt } };
-      items = items;
-      ok = (refl, omega arith);
-      small = fits;
-    }
 
 abbrev encoded : List ℕ → Line → Encoded
 encoded name line = record { name = name; lines = vec (plain_value line ∷ []) (omega arith) }
@@ -102,71 +90,6 @@ gone =
       limit = None;
       cors = None;
     }
-
--- the fields of a request that is denied
-denies : (why : Option Denial)
-    → (items : List Encoded) × (length items < 2 ^ 63) × (fields_of items ≡ denied_fields why)
-denies (Some (denied.Unauthenticated challenge)) =
-    (encoded (codes "www-authenticate") challenge.bytes ∷ [], omega arith, refl)
-denies (Some (denied.TooManyRequests (Some seconds))) =
-    (encoded (codes "retry-after") (decimal seconds) ∷ [], omega arith, refl)
-denies (Some (denied.Unavailable (Some seconds))) =
-    (encoded (codes "retry-after") (decimal seconds) ∷ [], omega arith, refl)
-denies other = ([], omega arith, refl)
-
-module _ (present : ℕ) (request : Request) where
-  abbrev Answered : Type 0
-  Answered = (answer : Answer) × IsAnswer present gone request answer
-
-  stopped : (reason : Reason) (items : List Encoded) → length items < 2 ^ 63
-      → IsFirst (applies present gone request) reason → is_admitted reason ≡ false → vary_lines gone reason ≡ []
-      → fields_of items ≡ reason_fields gone request reason → Answered
-  stopped reason items few first stops none same =
-      let own = reason_fields gone request reason in
-      let status = Some (status_of state.Gone request.denied reason) in (
-        record { reason = reason; status = status; sends = sent_for reason; fields = vec items few },
-        record {
-          first = first;
-          own = own;
-          gives =
-              subst (λ (b : Bool). GivesIf b present gone request reason status (sent_for reason) own) (sym stops)
-              (record { has_status = refl; sends = refl; has_fields = refl });
-          shared = [];
-          is_shared = refl;
-          fields =
-              same ∙ sym
-              (
-              ap (λ (lines : List Line). (own ++ vary_fields lines) ++ []) none ∙ append-nil (own ++ [])
-              ∙ append-nil own
-              );
-        },
-      )
-
-  -- what comes after `Gone` never decides
-  late : (reason : Reason) → 8 < stage reason → IsFirst (applies present gone request) reason → Answered
-  late reason after first = let never : true ≡ false = first.none_before reasons.Gone after in absurd (cc never)
-
-  answer_for : (reason : Reason) → IsFirst (applies present gone request) reason → Answered
-  answer_for reasons.Denied first =
-      let said = denies request.denied in stopped reasons.Denied said.0 said.1 first refl refl said.2
-  answer_for reasons.MethodNotAllowed first =
-      stopped reasons.MethodNotAllowed
-      (encoded (codes "allow") (merge comma (methods gone.rules.items)) ∷ []) (omega arith) first refl refl refl
-  answer_for reasons.Options first = late reasons.Options (omega arith) first
-  answer_for reasons.LengthRequired first = late reasons.LengthRequired (omega arith) first
-  answer_for reasons.ContentTooLarge first = late reasons.ContentTooLarge (omega arith) first
-  answer_for reasons.UnsupportedMediaType first = late reasons.UnsupportedMediaType (omega arith) first
-  answer_for reasons.UnsupportedCoding first = late reasons.UnsupportedCoding (omega arith) first
-  answer_for reasons.NotAcceptable first = late reasons.NotAcceptable (omega arith) first
-  answer_for reasons.PreconditionRequired first = late reasons.PreconditionRequired (omega arith) first
-  answer_for reasons.Admitted first = late reasons.Admitted (omega arith) first
-  answer_for other first = stopped other [] (omega arith) first refl refl refl
-
--- what a law of a resource says
-abbrev pub HasReason : Type 0
-HasReason =
-    (present : ℕ) (resource : Resource) (request : Request)
-    → (reason : Reason) × IsFirst (applies present resource request) reason
 
 -- ---- the messages
 
@@ -526,138 +449,140 @@ found =
 
 -- ---- the chain
 
-module _ (law : HasReason) where
-  abbrev server : Server
-  server =
-      record {
-        resource = λ time. gone;
-        answers =
-            λ time request.
-            let found = law (second_of time) gone request in answer_for (second_of time) request found.0 found.1;
-        own = λ time status. before stored_lines;
-        content = λ time status sent. codes "gone";
-        frames = true;
-      }
+abbrev server : Server
+server =
+    record {
+      resource = λ time. gone;
+      fits =
+          λ time.
+          record {
+            takes = All-cons TakesFew _ [] (λ name. omega arith) (All-nil TakesFew);
+            parts = All-nil HasFewParts;
+          };
+      own = λ time status. before stored_lines;
+      content = λ time status sent. codes "gone";
+      frames = true;
+    }
 
-  abbrev origin : Origin
-  origin = behind (λ target. server) (λ hops time. false) []
+abbrev origin : Origin
+origin = behind (λ target. server) (λ hops time. false) []
 
-  none : (other : Reason) → Before other reasons.Gone → applies 0 gone next other ≡ false
-  unfolding rule_for is_reg_name
-  none reasons.InvalidHost less = refl
-  none reasons.Misdirected less = refl
-  none reasons.Preflight less = refl
-  none reasons.Denied less = refl
-  none reasons.UnknownMethod less = refl
-  none reasons.MethodNotAllowed less = refl
-  none reasons.UnmetExpectation less = refl
-  none reasons.PartialContent less = refl
-  none other less = absurd (omega (arith, less))
+none : (other : Reason) → Before other reasons.Gone → applies 0 gone next other ≡ false
+unfolding rule_for is_reg_name
+none reasons.InvalidHost less = refl
+none reasons.Misdirected less = refl
+none reasons.Preflight less = refl
+none reasons.Denied less = refl
+none reasons.UnknownMethod less = refl
+none reasons.MethodNotAllowed less = refl
+none reasons.UnmetExpectation less = refl
+none reasons.PartialContent less = refl
+none other less = absurd (omega (arith, less))
 
-  said : IsSaid server 0 next (replies (before stored_lines))
-  said =
-      record {
-        answer =
-            record { reason = reasons.Gone; status = Some 410; sends = sends.Nothing; fields = vec [] (omega arith) };
-        is =
-            record {
-              first = record { is = refl; none_before = none };
-              own = [];
-              gives = record { has_status = refl; sends = refl; has_fields = refl };
-              shared = [];
-              is_shared = refl;
-              fields = refl;
-            };
-        status = refl;
-        content = refl;
-        fields = λ name carried. refl;
-      }
+said : IsSaid server 0 next (replies (before stored_lines))
+said =
+    record {
+      answer =
+          record { reason = reasons.Gone; status = Some 410; sends = sends.Nothing; fields = vec [] (omega arith) };
+      is =
+          record {
+            first = record { is = refl; none_before = none };
+            own = [];
+            gives = record { has_status = refl; sends = refl; has_fields = refl };
+            shared = [];
+            is_shared = refl;
+            fields = refl;
+          };
+      status = refl;
+      content = refl;
+      fields = λ name carried. refl;
+    }
 
-  sends_it : IsSent server 0 next (replies (before stored_lines))
-  unfolding said
-  sends_it =
-      record { said = said; closes = false; connection = refl; framed = λ known. (Unstated, (refl, refl)) }
+sends_it : IsSent server 0 next (replies (before stored_lines))
+unfolding said
+sends_it =
+    record { said = said; closes = false; connection = refl; framed = λ known. (Unstated, (refl, refl)) }
 
-  came : HasComeFrom caching.clock origin per_second (codes "/") next stored
-  came =
-      record {
-        sent = 0;
-        received = 0;
-        reply = replies (before stored_lines);
-        answered = (0, omega arith, omega arith, sends_it);
-        noted =
-            record {
-              method = refl;
-              asked_fields = λ name. refl;
-              status = refl;
-              fields = λ name. refl;
-              content = refl;
-              requested_at = refl;
-              received_at = refl;
-            };
-        set_before = omega arith;
-        after = omega arith;
-        past = omega arith;
-      }
+came : HasComeFrom caching.clock origin per_second (codes "/") next stored
+came =
+    record {
+      sent = 0;
+      received = 0;
+      reply = replies (before stored_lines);
+      answered = (0, omega arith, omega arith, sends_it);
+      noted =
+          record {
+            method = refl;
+            asked_fields = λ name. refl;
+            status = refl;
+            fields = λ name. refl;
+            content = refl;
+            requested_at = refl;
+            received_at = refl;
+          };
+      set_before = omega arith;
+      after = omega arith;
+      past = omega arith;
+    }
 
-  from_store : IsFromStore caching origin (λ time. false) per_second per_second (codes "/") next served
-  from_store =
-      record {
-        time = per_second;
-        after = omega arith;
-        past = omega arith;
-        contents = contents;
-        lookup = Serve 0 (encoded (codes "age") age_line);
-        found =
-            record {
-              acts = Takes (codes "/") next stored Complete ∷ [];
-              before = contents;
-              has = ([], refl, (plain_request, came, inr (inl (stored, is_to_store, stored_as, inserted))));
-              sought = record { plain = plain_request; looked = refl; answer = found };
-            };
-        number = 0;
-        age = (codes "age", age_line ∷ []);
-        stored = stored;
-        at = refl;
-        serves = inl (refl, refl);
-        status = refl;
-        content = refl;
-        fields =
-            λ name.
-            each (λ (name : List ℕ). name ≢ codes "age" → before served_lines name ≡ before stored_lines name)
-            (codes "cache-control" ∷ codes "date" ∷ codes "age" ∷ []) name
-            ((λ other. refl), ((λ other. refl), ((λ other. absurd (other refl)), tt)))
-            (λ apart other. rw (apart.0, apart.1.0, apart.1.1.0) refl);
-        has_age = refl;
-      }
+from_store : IsFromStore caching origin (λ time. false) per_second per_second (codes "/") next served
+from_store =
+    record {
+      time = per_second;
+      after = omega arith;
+      past = omega arith;
+      contents = contents;
+      lookup = Serve 0 (encoded (codes "age") age_line);
+      found =
+          record {
+            acts = Takes (codes "/") next stored Complete ∷ [];
+            before = contents;
+            has = ([], refl, (plain_request, came, inr (inl (stored, is_to_store, stored_as, inserted))));
+            sought = record { plain = plain_request; looked = refl; answer = found };
+          };
+      number = 0;
+      age = (codes "age", age_line ∷ []);
+      stored = stored;
+      at = refl;
+      serves = inl (refl, refl);
+      status = refl;
+      content = refl;
+      fields =
+          λ name.
+          each (λ (name : List ℕ). name ≢ codes "age" → before served_lines name ≡ before stored_lines name)
+          (codes "cache-control" ∷ codes "date" ∷ codes "age" ∷ []) name
+          ((λ other. refl), ((λ other. refl), ((λ other. absurd (other refl)), tt)))
+          (λ apart other. rw (apart.0, apart.1.0, apart.1.1.0) refl);
+      has_age = refl;
+    }
 
-  pub instance : IsInstance
-  instance =
-      record {
-        server = server;
-        gateway = gateway;
-        caching = caching;
-        request = request;
-        reply = reply;
-        given =
-            inl (
-            record {
-              behind = served;
-              passed =
-                  record {
-                    next = next;
-                    there = there;
-                    sent = per_second;
-                    after = omega arith;
-                    came = per_second;
-                    past = omega arith;
-                    answered = inr (inl from_store);
-                  };
-              back = back;
-            }
-            );
-        age = subst (λ (n : ℕ). 1 ≤ n) (sym (age_of-decimal old)) (omega arith);
-        without_age = λ time status. refl;
-        content = refl;
-        status = refl;
-      }
+pub instance : IsInstance
+instance =
+    record {
+      server = server;
+      gateway = gateway;
+      caching = caching;
+      request = request;
+      reply = reply;
+      given =
+          inl (
+          record {
+            behind = served;
+            passed =
+                record {
+                  next = next;
+                  there = there;
+                  sent = per_second;
+                  after = omega arith;
+                  came = per_second;
+                  past = omega arith;
+                  answered = inr (inl from_store);
+                };
+            back = back;
+          }
+          );
+      age = subst (λ (n : ℕ). 1 ≤ n) (sym (age_of-decimal old)) (omega arith);
+      without_age = λ time status. refl;
+      content = refl;
+      status = refl;
+    }

@@ -7,7 +7,7 @@ use Rattle.gateway_messages.{specs.Forwarding.own_names, specs.HopByHop.is_known
 use Rattle.gateway_messages.specs.{Framing.States, declared.framing.Framing.Framing}
 use Rattle.gateway_messages.specs.declared.protocol.Protocol.TheVariants.{Http11}
 use Rattle.decide_preconditions.{specs.Plans.parts_sent, specs.declared.part.Part.Part}
-use Rattle.decide_resource.{specs.Answers.IsAnswer, specs.Requests.Request, specs.declared.answer.Answer.Answer}
+use Rattle.decide_resource.specs.{Answers.{FitsMemory, IsAnswer}, Requests.Request, declared.answer.Answer.Answer}
 use Rattle.decide_resource.specs.declared.answer.Sends.{Sends}
 use Rattle.decide_resource.specs.declared.answer.Sends.TheVariants as sends
 use Rattle.decide_resource.specs.declared.resource.Resource.{Resource}
@@ -29,13 +29,12 @@ sent_of sends.Alternatives = Alternatives
 sent_of (sends.Planned place plan) = Representation place (parts_sent plan)
 sent_of sends.Perform = Outcome
 
--- A server of one target. At each time it has a resource, and an answer to each request. The bytes that it sends are
--- those of that time, of the status and of what goes out; and the fields that it has before it sets those of the answer
--- are those of that time and of the status. It may be known that its fields frame each response (RFC 9112, section 6).
+-- A server of one target. At each time it has a resource, whose answers fit memory. The bytes that it sends are those
+-- of that time, of the status and of what goes out; and the fields that it has before it sets those of the answer are
+-- those of that time and of the status. It may be known that its fields frame each response (RFC 9112, section 6).
 pub record Server : Type 0 where
   pub resource : ℕ → Resource
-  pub answers : (time : ℕ) (request : Request)
-      → (answer : Answer) × IsAnswer (second_of time) (resource time) request answer
+  pub fits : (time : ℕ) → FitsMemory (resource time)
   pub own : ℕ → ℕ → LineMap
   pub content : ℕ → ℕ → Sent → List ℕ
   pub frames : Bool

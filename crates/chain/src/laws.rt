@@ -111,9 +111,7 @@ pub fn client_gets_what_the_resource_says()
 /// whose Age is a second or more, and not the server's: the cache has stored it.
 pub fn a_chain_serves_from_its_store()
     ensures { IsInstance }
-{
-    request_has_one_reason();
-}
+{}
 
 /// A server says of its connection at most that it is closed: a resource sets no connection option (RFC 9110,
 /// section 7.6.1).

@@ -11,13 +11,15 @@ use Rattle.decide_preconditions.specs.Contents.{divisible_len, limits_of}
 use Rattle.decide_preconditions.specs.Fields.{fields_sent, is_known_by, is_whole, keeps_encoding, lines_sent}
 use Rattle.decide_preconditions.specs.Fields.{status_of as status_of_plan}
 use Rattle.decide_preconditions.specs.Plans.{IsPlan}
-use Rattle.decide_preconditions.specs.{Plans.{Reads, SendsParts}, Responses.IsAnswered, declared.content.Content.Content}
+use Rattle.decide_preconditions.specs.{Plans.{Reads, SendsParts}, Responses.IsAnswered}
+use Rattle.decide_preconditions.specs.declared.content.Content.{Content}
 use Rattle.decide_preconditions.specs.declared.part.Part.{Part}
 use Rattle.decide_preconditions.specs.declared.plan.Plan.{Plan}
 use Rattle.decide_preconditions.specs.declared.{response.Response.Response}
 use Rattle.decide_preconditions.specs.declared.resource.{TargetState.TargetState as Target, Validators.Validators}
 use Rattle.decide_preconditions.proofs.OnePlanLemmas.{some_plan}
-use Rattle.decide_resource.specs.Answers.{FitsMemory, GivesIf, Gives, HasFewParts, IsAnswer, IsShared, TakesFew, at_place}
+use Rattle.decide_resource.specs.Answers.{FitsMemory, GivesIf, Gives, HasFewParts, IsAnswer, IsShared, TakesFew}
+use Rattle.decide_resource.specs.Answers.{at_place}
 use Rattle.decide_resource.specs.Answers.{content_of, is_admitted, is_sent, response_fields, sent_for, status_sent}
 use Rattle.decide_resource.specs.Answers.{target_of, varying, with_metadata}
 use Rattle.decide_resource.specs.Applies.{rule, rule_for}
@@ -25,7 +27,8 @@ use Rattle.decide_resource.specs.Fields.{accept_encoding_fields, codings_told}
 use Rattle.decide_resource.specs.Fields.{denied_fields, depends_on_selection, describes, line_if, lines_of_value}
 use Rattle.decide_resource.specs.Fields.{location_fields, metadata_fields, reason_fields, retry_fields}
 use Rattle.decide_resource.specs.Fields.{selecting, status_of, types_fields, vary_fields, vary_lines}
-use Rattle.decide_resource.specs.{Requests.Request, declared.{answer.{Answer.Answer, Sends.Sends}, reason.Reason.Reason}}
+use Rattle.decide_resource.specs.Requests.{Request}
+use Rattle.decide_resource.specs.declared.{answer.{Answer.Answer, Sends.Sends}, reason.Reason.Reason}
 use Rattle.decide_resource.specs.declared.representation.Representation.{Representation}
 use Rattle.decide_resource.specs.declared.{denied.Denied.Denied as Denial, resource.MethodRule.MethodRule}
 use Rattle.decide_resource.specs.declared.resource.{Resource.Resource, State.State}
@@ -62,7 +65,8 @@ codings_fit (line ∷ lines) few = few
 encodings_fit : (rule : Option MethodRule) → IfSome rule TakesFew → Fit 3 (accept_encoding_fields rule)
 encodings_fit None few = fit-none 3
 encodings_fit (Some rule) few =
-    fit-more _ (codings_fit (lines_at rule.takes (codes "accept-encoding")) (few (codes "accept-encoding"))) (fit-none 2)
+    fit-more _ (codings_fit (lines_at rule.takes (codes "accept-encoding")) (few (codes "accept-encoding")))
+    (fit-none 2)
 
 retry_fits : (seconds : Option ℕ) → Fit 3 (retry_fields seconds)
 retry_fits None = fit-none 3
@@ -86,7 +90,8 @@ value_fits text None = omega arith
 value_fits text (Some value) = omega arith
 
 metadata_fits : (describes : Bool) (representation : Representation) → Fit 2 (metadata_fields describes representation)
-metadata_fits true representation = fit-more _ (one representation.coding) (fit-more _ (one representation.language) (fit-none 0))
+metadata_fits true representation =
+    fit-more _ (one representation.coding) (fit-more _ (one representation.language) (fit-none 0))
   where
     one : (value : Option FieldValue) → length (lines_of_value value) < 2 ^ 63
     one None = omega arith
@@ -107,7 +112,8 @@ module _ (present : ℕ) (request : Request) (there : State) (representation : O
   abbrev content : Content
   content = content_of representation
 
-  plan_fits : (plan : Plan) (known : Bool) (multipart : FieldValue) → Fit 9 (fields_sent present plan known target content multipart)
+  plan_fits : (plan : Plan) (known : Bool) (multipart : FieldValue)
+      → Fit 9 (fields_sent present plan known target content multipart)
   plan_fits plan known multipart =
       fit-more _ (value_fits _ _)
       (fit-more _ (value_fits _ _)
@@ -135,13 +141,16 @@ module _ (present : ℕ) (request : Request) (there : State) (representation : O
     abbrev Planned : Plan → Type 0
     Planned = IsPlan present request.method request.fields target (divisible_len content) (limits_of content)
 
-    parted : (current : Validators) → Reads present request.method request.fields target current → (parts : List Part) → SendsParts present request.method request.fields target
+    parted : (current : Validators) → Reads present request.method request.fields target current
+        → (parts : List Part) → SendsParts present request.method request.fields target
         (divisible_len content) (limits_of content) current parts → (plan : Plan) × Planned plan
     parted current reads [] sends = absurd (omega (arith, sends.asks.asked.some))
     parted current reads (part ∷ []) sends = (plans.Single part, (current, reads, sends))
     parted current reads (part ∷ other ∷ parts) sends =
-        let few_here = few_parts (limits_of content).parts (length (part ∷ other ∷ parts)) _ sends.few (omega arith) in
-        (plans.Multiple (vec (part ∷ other ∷ parts) (omega (arith, few_here, few))), (current, reads, sends, omega arith))
+        let few_here = few_parts (limits_of content).parts (length (part ∷ other ∷ parts)) _ sends.few (omega arith) in (
+          plans.Multiple (vec (part ∷ other ∷ parts) (omega (arith, few_here, few))),
+          (current, reads, sends, omega arith),
+        )
 
     planned : (plan : Plan) → Planned plan → (multipart : FieldValue) → Responds multipart
     planned plan is multipart =
@@ -164,7 +173,8 @@ module _ (present : ℕ) (request : Request) (there : State) (representation : O
               planned plan.0 plan.1 multipart
         ]
 
-  response_fits : (multipart : FieldValue) (response : Option Response) → IsAnswered present request.method request.fields target
+  response_fits : (multipart : FieldValue) (response : Option Response)
+      → IsAnswered present request.method request.fields target
       content multipart response → Fit 11 (response_fields request.fields representation response)
   response_fits multipart None is = fit-none 11
   response_fits multipart (Some response) is = by representation
@@ -212,7 +222,8 @@ shares (Some policy) request lines few =
       fields_of answer.0.fields.items,
       (answer.0, answer.1, refl),
       subst (Fit 7) (sym answer.1.fields)
-          (policy_fits policy (is_preflight answer.0.kind) (request.fields (codes "origin")) lines (omega (arith, few))),
+          (policy_fits policy (is_preflight answer.0.kind) (request.fields (codes "origin")) lines
+          (omega (arith, few))),
     )
 
 module _ (present : ℕ) (resource : Resource) (request : Request) (fits : FitsMemory resource) where

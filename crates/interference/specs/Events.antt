@@ -75,7 +75,8 @@ found kind which node = with_number which node.stored
 
 -- a request without Authorization
 abbrev pub anonymous : Request → Request
-anonymous request = record request { fields = λ name. if bytes_eq name authorization then None else request.fields name }
+anonymous request =
+    record request { fields = λ name. if bytes_eq name authorization then None else request.fields name }
 
 abbrev pub stores : Kind → Request → Head → Bool
 stores IgnoresAuthorization request head = may_store (anonymous request) head

@@ -91,7 +91,8 @@ pub record DifferInSecrets (watches : ℕ → Bool) (secret : List ℕ → Bool)
 
 -- Two origin servers give each answer to a request of those who watch alike. Asked two requests that are alike, they
 -- give the same answer, or two that may not be stored.
-pub record DifferInPrivate (watches : ℕ → Bool) (secret : List ℕ → Bool) (clients : Clients) (origin other : Origin) : Type 0 where
+pub record DifferInPrivate (watches : ℕ → Bool) (secret : List ℕ → Bool) (clients : Clients) (origin other : Origin)
+    : Type 0 where
   pub watching : (version client number : ℕ) (told : List Dated) → watches client ≡ true
       → origin version (clients client number told) ≡ other version (clients client number told)
   pub alike : (version : ℕ) (q r : Request) → Alike secret q r

@@ -44,8 +44,8 @@ pub fn only_what_may_be_shared_is_shared()
 /// values of secret fields, but both have Authorization, or neither; and the answers to them in all
 /// that may not be stored, if no answer that may be stored varies by a secret field.
 pub fn clients_learn_nothing_of_secrets()
-    ensures { (watches : ℕ → Bool) (secret : List ℕ → Bool) (origin other : Origin) (clients others : Clients) (events : List Event)
-        (client : ℕ) → DifferInSecrets watches secret clients others
+    ensures { (watches : ℕ → Bool) (secret : List ℕ → Bool) (origin other : Origin) (clients others : Clients)
+        (events : List Event) (client : ℕ) → DifferInSecrets watches secret clients others
         → DifferInPrivate watches secret clients origin other → NoVaryNamesASecret secret origin
         → watches client ≡ true
         → told client (run (record { kind = Right; origin = origin; clients = clients }) events).received

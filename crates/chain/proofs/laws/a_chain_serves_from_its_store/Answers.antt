@@ -2,4 +2,4 @@ use Rattle.chain.proofs.InstanceLemmas.{instance}
 use Rattle.chain.proofs.laws.a_chain_serves_from_its_store.Goals as goal
 
 pub returns : goal.returns
-returns c = instance c.request_has_one_reason.ensures.some
+returns c = instance
