@@ -31,9 +31,7 @@ class Gateway:
 
 
 def ours() -> list[Gateway]:
-    """This repository's program, if it was built. Its script listens, and starts one for each connection."""
-    if "GATE_PROGRAM" not in os.environ:
-        return []
+    """This repository's program."""
     return [Gateway("ours", ["env", "PORT=@PORT@", os.environ["GATE"], "127.0.0.1:@ORIGIN@"])]
 
 

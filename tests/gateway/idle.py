@@ -114,39 +114,9 @@ class Conversation:
         self.connection.close()
 
 
-def of_session(session: int) -> list[str]:
-    """The processes of a session, but for those that ended."""
-    lines = subprocess.run(["ps", "-e", "-o", "sid=,stat=,args="], capture_output=True, text=True).stdout.split("\n")
-    return [line for line in lines if line.split()[:1] == [str(session)] and line.split()[1][0] != "Z"]
-
-
-def left_by(port: int, way: str, folder: str) -> list[str]:
-    """The processes and files that a gateway leaves of a client that was answered once."""
-    ours, theirs = socket.socketpair()
-    process = subprocess.Popen([os.environ["GATE"], f"127.0.0.1:{port}"], stdin=theirs, stdout=theirs,
-                               env=processes.environment({"TMPDIR": folder}), start_new_session=True)
-    theirs.close()
-    ours.sendall(request("GET", "/once"))
-    heard(ours, 2)
-    if way == "SIGTERM":
-        process.send_signal(signal.SIGTERM)
-    ours.close()
-    process.wait(10)
-    for _ in range(40):
-        if not (left := of_session(process.pid) + os.listdir(folder)):
-            break
-        time.sleep(0.1)
-    return left
-
-
 def run(context: Context) -> Part:
     part = Part("Idle connections")
-    if "GATE_PROGRAM" not in os.environ:
-        part.missing.append("the gateway was not built")
-        return part
-    port, folder = FIRST_PORT + 1, context.work / "pipes"
-    folder.mkdir()
-    os.environ["TMPDIR"] = str(folder)
+    port = FIRST_PORT + 1
     origin = Origin(FIRST_PORT)
     origin.start()
     with listening(port, FIRST_PORT, context.work):
@@ -187,8 +157,4 @@ def run(context: Context) -> Part:
         reset.setsockopt(socket.SOL_SOCKET, socket.SO_LINGER, struct.pack("ii", 1, 0))
         reset.close()
         time.sleep(1)
-        part.want("files that are left", os.listdir(folder), [])
-    for way in ("a client that ends", "SIGTERM"):
-        part.want(f"what is left after {way}", left_by(FIRST_PORT, way, str(folder)), [])
-    del os.environ["TMPDIR"]
     return part

@@ -172,6 +172,6 @@ def run(context: Context) -> Part:
         "of a HEAD, a 204 or a 304, which have none; or since it takes the content of a request for the next request. A",
         "client then makes two more requests on its connection, and another client makes one: what each of the three",
         "gets. A gateway should close such a connection to the origin (RFC 9112, sections 6.3 and 9.2). Of ours each",
-        "client has [one of its own](../../crates/gateway_program/README.md#what-this-doesnt-say).", ""]
+        "client has [one of its own](../../hosts/GATEWAY.md).", ""]
     part.table(["Gateway", *(way for way, *_ in WAYS)], rows)
     return part

@@ -385,7 +385,7 @@ def peak_of(names: str) -> int:
 
 def large(part: Part, through: int, folder: Path) -> None:
     """1 GiB in each direction, by its length and in chunks, and the memory of the gateway meanwhile."""
-    name, url, length = Path(os.environ["GATE_PROGRAM"]).name, f"http://127.0.0.1:{through}", 1 << 30
+    name, url, length = "typed-headers-gate", f"http://127.0.0.1:{through}", 1 << 30
     (folder / "huge").touch()
     os.truncate(folder / "huge", length)
     received = ["-o", "/dev/null", "-w", "%{size_download}"]
