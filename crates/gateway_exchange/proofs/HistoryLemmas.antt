@@ -34,7 +34,8 @@ use Rattle.gateway_exchange.specs.Steps.{EndsGiving, Fails, Faulted, Gives, Hand
 use Rattle.gateway_exchange.specs.Steps.{PassesDown, PassesEnd, PassesHead, PassesInterim, PassesPiece, PassesSwitch}
 use Rattle.gateway_exchange.specs.Steps.{PassesUp, PutsHead, ReceivesOrigin, RefusesBegin, RefusesBeginAt}
 use Rattle.gateway_exchange.specs.Steps.{RefusesContent, RefusesEnd, RefusesGiving, RefusesInGiving, Rests, Runs, Went}
-use Rattle.gateway_exchange.specs.Steps.{Says, SaysIn, Sends, Settles, Steps, StepsAt, SwitchesTo, TakesOrigin}
+use Rattle.gateway_exchange.specs.Steps.{Says, SaysIn, Sends, Settles, ShowsHead, Steps, StepsAt, SwitchesTo}
+use Rattle.gateway_exchange.specs.Steps.{TakesOrigin}
 use Rattle.gateway_exchange.specs.Steps.{TellsHead}
 use Rattle.gateway_exchange.specs.Steps.{TimesOutAt, Transfers, begun, phase_of, sent_fields, taking, with_client}
 use Rattle.gateway_exchange.specs.Steps.{with_origin}
@@ -389,10 +390,13 @@ puts_head old new h (inl p) =
     (fields_of h.sent.fields.items) (response_size h.sent.content) p.0) (same_origin p.1)
 puts_head old new h (inr p) = answers_after old new p.1 (Because.Unsendable p.0) (response_fails old p.1 h p.0 p.2) p.3
 
+shows_head : {limits : Limits} (old new : GatewayConnection) (h : Heard) → ShowsHead old h new → Goes limits old new
+shows_head old new h p = goes_then {b = p.0} (puts_head old p.0 h p.1) (kept p.2 refl refl)
+
 tells_head : {limits : Limits} (watches : Bool) (old new : GatewayConnection) (h : Heard)
     → TellsHead watches old h new → Goes limits old new
 tells_head true old new h is = kept is refl refl
-tells_head false old new h p = goes_then (puts_head old p.0 h p.1) (kept p.2 refl refl)
+tells_head false old new h p = shows_head old new h p
 
 interim_at : {limits : Limits} (old new : GatewayConnection) (response : OriginResponse) (sent : ForwardedResponse)
     → (ChangesClient (PutsInterim response sent) old new
@@ -587,7 +591,7 @@ refuses_in_giving old new refusal error (inr h) = client_alone (client_refuses h
 passes : {limits : Limits} (old new : GatewayConnection) → Passes old new → Goes limits old new
 passes old new (inl h) =
     goes_then {b = record old { heard = None }} (stays refl refl)
-    (goes_then {b = h.3} (puts_head (record old { heard = None }) h.3 h.1 h.4) (kept h.5 refl refl))
+    (shows_head (record old { heard = None }) new h.1 h.3)
 passes old new (inr h) = same h.1
 
 ends_idle_as : {limits : Limits} (old new : GatewayConnection) (event : StreamEvent) → EndsIdleAs old event new

@@ -312,18 +312,20 @@ PutsHead old h new =
     ⊎ ((error : WriteError) × (client : StreamConnection) × RefusesResponse h old.client error client
     × Answers (with_client old client) (Because.Unsendable error) new)
 
+-- it is put, and remembered for its trailer fields
+abbrev pub ShowsHead : GatewayConnection → Heard → GatewayConnection → Type 0
+ShowsHead old h new =
+    (between : GatewayConnection) × PutsHead old h between × (new ≡ record between { heard = Some h })
+
 -- it waits for the caller if that watches, and is put otherwise
 abbrev pub TellsHead : Bool → GatewayConnection → Heard → GatewayConnection → Type 0
 TellsHead true old h new = new ≡ record old { stage = At.Judging; heard = Some h }
-TellsHead false old h new =
-    (between : GatewayConnection) × PutsHead old h between × (new ≡ record between { heard = Some h })
+TellsHead false old h new = ShowsHead old h new
 
--- the response that waits is passed on
+-- the response that waits is put
 abbrev pub Passes : GatewayConnection → GatewayConnection → Type 0
 Passes old new =
-    ((old.stage ≡ At.Judging) × (h : Heard) × (old.heard ≡ Some h)
-    × (between : GatewayConnection) × PutsHead (record old { heard = None }) h between
-    × (new ≡ record between { heard = Some h }))
+    ((old.stage ≡ At.Judging) × (h : Heard) × (old.heard ≡ Some h) × ShowsHead (record old { heard = None }) h new)
     ⊎ (((old.stage ≢ At.Judging) ⊎ (old.heard ≡ None)) × (new ≡ old))
 
 abbrev pub PassesHead : Rules → ℕ → GatewayConnection → AskedRequest → OriginResponse → GatewayConnection → Type 0
@@ -505,14 +507,23 @@ EndsIdle old new =
     × Stream.Finishes old.client ended × Stream.Says ended event client
     × EndsIdleAs (with_client old client) event new
 
+-- what is done before a request, and before a response
+abbrev pub idle_phase : Bool → Bool → Phase
+idle_phase false begun = Does.Draining
+idle_phase true true = Does.Head
+idle_phase true false = Does.Idle
+
+abbrev pub waiting_phase : Bool → Phase
+waiting_phase true = Does.Response
+waiting_phase false = Does.Content
+
 -- what a connection is doing
 abbrev pub phase_at : Stage → Bool → Bool → Phase
-phase_at At.Idle false begun = Does.Draining
-phase_at At.Idle true begun = if begun then Does.Head else Does.Idle
+phase_at At.Idle whole begun = idle_phase whole begun
 phase_at At.Asking whole begun = Does.Asking
 phase_at At.Repeating whole begun = Does.Asking
-phase_at At.Forwarding whole begun = if whole then Does.Response else Does.Content
-phase_at At.Judging whole begun = if whole then Does.Response else Does.Content
+phase_at At.Forwarding whole begun = waiting_phase whole
+phase_at At.Judging whole begun = waiting_phase whole
 phase_at At.Passing whole begun = Does.Passing
 phase_at At.Ended whole begun = Does.Passing
 phase_at At.Giving whole begun = Does.Giving

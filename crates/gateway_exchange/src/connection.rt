@@ -7,8 +7,9 @@ ghost use Rattle.gateway_connection.specs.Steps as Origin;
 ghost use Rattle.server_stream.specs.Steps as Stream;
 ghost use Rattle.gateway_exchange.specs.{History.{Exchanged, IsReached, Past}, Tunnels.Begins};
 ghost use Rattle.gateway_exchange.specs.Steps.{AsksAgain, Conditions, Connects, EndsGiving, RefusesGiving, RefusesInGiving};
-ghost use Rattle.gateway_exchange.specs.Steps.{TakesOrigin, asks, is_absent, is_absent_content, is_answered};
-ghost use Rattle.gateway_exchange.specs.Steps.{is_origin_open, is_over, is_passing, wants_of};
+ghost use Rattle.gateway_exchange.specs.Steps.{ShowsHead, TakesOrigin, asks, is_absent, is_absent_content, is_answered};
+ghost use Rattle.gateway_exchange.specs.Steps.{idle_phase, is_origin_open, is_over, is_passing, waiting_phase};
+ghost use Rattle.gateway_exchange.specs.Steps.{wants_of};
 ghost use Rattle.gateway_exchange.specs.Steps.{Answers, AwaitsRequest, BeginsAt, ChangesClient, ChangesOrigin, Considers};
 ghost use Rattle.gateway_exchange.specs.Steps.{ContinuesIf, EndsIdle, Fails, Faulted, FinishesClient, Gives, HandsOutOrigin};
 ghost use Rattle.gateway_exchange.specs.Steps.{HearsClient, HearsOrigin, IsAsking, IsNew, IsNext, MayRepeat, OfAsked};
@@ -268,15 +269,13 @@ impl GatewayConnection {
     pub fn phase(&self) -> Phase
         ensures { result ≡ phase_of self.now }
     {
-        match (self.stage, self.whole) {
-            (Stage::Idle, false) => Phase::Draining,
-            (Stage::Idle, true) => if self.begun { Phase::Head } else { Phase::Idle },
-            (Stage::Asking | Stage::Repeating, _) => Phase::Asking,
-            (Stage::Forwarding | Stage::Judging, true) => Phase::Response,
-            (Stage::Forwarding | Stage::Judging, false) => Phase::Content,
-            (Stage::Passing | Stage::Ended, _) => Phase::Passing,
-            (Stage::Giving, _) => Phase::Giving,
-            (Stage::Switched | Stage::Closed | Stage::Aborted, _) => Phase::Over,
+        match self.stage {
+            Stage::Idle => idle_phase(self.whole, self.begun),
+            Stage::Asking | Stage::Repeating => Phase::Asking,
+            Stage::Forwarding | Stage::Judging => waiting_phase(self.whole),
+            Stage::Passing | Stage::Ended => Phase::Passing,
+            Stage::Giving => Phase::Giving,
+            Stage::Switched | Stage::Closed | Stage::Aborted => Phase::Over,
         }
     }
 
@@ -794,9 +793,17 @@ impl GatewayConnection {
     {
         if self.watches {
             self.stage = Stage::Judging;
+            self.heard = Some(heard);
         } else {
-            self.put_head(&heard);
+            self.show_head(heard);
         }
+    }
+
+    // Puts the head of the final response, and remembers it.
+    fn show_head(&mut self, heard: Heard)
+        ensures { ShowsHead self.old heard self.new }
+    {
+        self.put_head(&heard);
         self.heard = Some(heard);
     }
 
@@ -829,8 +836,7 @@ impl GatewayConnection {
             return;
         }
         if let Some(heard) = self.heard.take() {
-            self.put_head(&heard);
-            self.heard = Some(heard);
+            self.show_head(heard);
         }
     }
 
@@ -996,6 +1002,24 @@ fn is_absent_content(content: ContentFraming) -> bool
         ContentFraming::Absent => true,
         _ => false,
     }
+}
+
+// What is done before a request.
+fn idle_phase(whole: bool, begun: bool) -> Phase
+    ensures { result ≡ idle_phase whole begun }
+{
+    match (whole, begun) {
+        (false, _) => Phase::Draining,
+        (true, true) => Phase::Head,
+        (true, false) => Phase::Idle,
+    }
+}
+
+// What is done before a response.
+fn waiting_phase(whole: bool) -> Phase
+    ensures { result ≡ waiting_phase whole }
+{
+    if whole { Phase::Response } else { Phase::Content }
 }
 
 // Whether the gateway sends the 100 (Continue).
