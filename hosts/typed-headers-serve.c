@@ -31,7 +31,7 @@ enum {
     BUFFER = 64 * 1024,
     SMALL = 16 * 1024,       /* so much of a file is copied behind the head, and sent with it */
     LARGE = 256 * 1024,      /* so much of a file isn't put behind the head, which would cut its pages in two */
-    TURN_BYTES = 2 << 20,    /* so much a peer sends before others have their turn */
+    TURN_BYTES = 1024 * 1024, /* so much a peer sends before others have their turn */
     TURN_EVENTS = 64,        /* so many things a peer does before */
     MOST_FOUND = 3,          /* the library names at most so many paths for a request */
 };

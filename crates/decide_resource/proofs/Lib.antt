@@ -10,7 +10,7 @@ pub mod ItemLemmas
 mod MemberLemmas
 mod OneReasonLemmas
 mod OtherFieldLemmas
-pub mod OwnFieldLemmas
+mod OwnFieldLemmas
 pub mod PickLemmas
 mod PlanLemmas
 mod ReasonLemmas

@@ -290,19 +290,6 @@ module _ (present : ℕ) (resource : Resource) (request : Request) (before : Lin
       kept present resource request answer a before which
       ∙ told_by (is_admitted answer.reason) answer.reason answer.status answer.sends a.own place plan tells a.gives e
 
--- a 200 and a 304 have the tag of the representation
-pub tag_told : (present : ℕ) (resource : Resource) (request : Request) (before : LineMap) (answer : Answer)
-    → IsAnswer present resource request answer → (place : Option ℕ) (plan : Plan)
-    → (plan ≡ Full) ⊎ (plan ≡ NotModified) → answer.sends ≡ sends.Planned place plan
-    → set_all before (fields_of answer.fields.items) (codes "etag")
-    ≡ tag_lines (target_of resource.state (at_place resource.representations.items place))
-tag_told present resource request before answer is place plan (inl full) sent =
-    told present resource request before etag tag_lines answer is place Full (full_tag present)
-    (sent ∙ ap (sends.Planned place) full)
-tag_told present resource request before answer is place plan (inr same) sent =
-    told present resource request before etag tag_lines answer is place NotModified (unmodified_tag present)
-    (sent ∙ ap (sends.Planned place) same)
-
 module _ (present : ℕ) (resource : Resource) (request : Request) (a b : Answer) (p q : Option ℕ) (before : LineMap)
     (h : IsAnswer present resource request a) (k : IsAnswer present resource (unconditional request) b)
     (e : a.sends ≡ sends.Planned p NotModified) (f : b.sends ≡ sends.Planned q Full) where
