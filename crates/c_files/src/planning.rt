@@ -6,10 +6,8 @@ ghost use Rattle.c_files.specs.Plans.{IsReadyFor, PlansFor, number_of};
 
 use crate::entry::Facts;
 use crate::held::HeldFiles;
-use crate::known::KnownFiles;
-use crate::paths::{next_path, suffix_at};
-use crate::tag::is_unchanged;
-use c_parts::{Failure, HashKeys};
+use crate::paths::next_path;
+use c_parts::Failure;
 use server_connection::{Handler, ResponsePlan, ServerConnection};
 use server_files::store_path;
 use server_service::{Reader, Source};
@@ -34,25 +32,6 @@ fn path_of(connection: &ServerConnection) -> &str
     connection.request().uri().path()
 }
 
-// Makes what the plan asks for of the files at the path that the target names.
-fn learn_files(
-    alloc: Global,
-    known: &mut KnownFiles,
-    keys: &HashKeys,
-    named: &str,
-    found: &[Facts],
-    now: u64,
-) {
-    for (place, facts) in found.iter().enumerate() {
-        let Some(suffix) = suffix_at(place) else {
-            return;
-        };
-        if facts.is_file() && is_unchanged(now, facts) {
-            known.learn(alloc, keys, facts, named, suffix);
-        }
-    }
-}
-
 // Tells the service what was found. `REFUSED` if a path is left to open.
 fn tell(
     alloc: Global,
@@ -70,17 +49,6 @@ fn tell(
         return Err(Failure::Refused);
     }
     files.service.store.entries = Vec::from_slice(alloc, found)?;
-    let store = &mut files.service.store;
-    if let Some(named) = &named {
-        learn_files(
-            alloc,
-            &mut store.known,
-            &store.keys,
-            named.as_str(),
-            found,
-            now,
-        );
-    }
     files.service.store.named = named;
     files.service.store.time = now;
     files.service.left = if is_last { 1 } else { 2 };

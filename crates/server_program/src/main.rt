@@ -183,7 +183,6 @@ fn serve(
         site: Site::new(rt.alloc(), settings)?,
         left: requests,
         source: None,
-        date: None,
     };
     let (mut reader, mut writer) = (rt.stdin(), rt.stdout());
     match serve_store(
