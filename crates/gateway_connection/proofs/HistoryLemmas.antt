@@ -32,7 +32,7 @@ use Rattle.gateway_connection.specs.History.{Exchanged, IsReached, IsTold, MayFo
 use Rattle.gateway_connection.specs.History.{is_over, no_past, now_text, tell, texts, with_piece, with_trailers}
 use Rattle.gateway_connection.specs.History.{Fresh, Asked, Hears, Over, Opened, Received, Finished, Begun, Put, Closed}
 use Rattle.gateway_connection.specs.History.{Refused, Written, Said}
-use Rattle.gateway_relay.{specs.Content.{after_pieces, map_of}}
+use Rattle.gateway_connection.specs.Content.{after_pieces, map_of}
 use Rattle.gateway_connection.specs.{Responses.response_of, declared.event.OriginEvent.OriginEvent}
 use Rattle.gateway_connection.specs.declared.event.OriginFault.{OriginFault}
 use Rattle.gateway_connection.specs.declared.event.OriginResponse.{OriginResponse}

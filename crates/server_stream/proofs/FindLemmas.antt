@@ -16,7 +16,7 @@ use Rattle.http1.specs.{declared.conn.Event.Event, declared.conn.Limits.Limits}
 use Rattle.http1.specs.{declared.conn.Progress.Progress, declared.conn.Reading.Reading}
 use Rattle.http1.specs.{declared.decode.Decoder.Decoder, declared.framing.Framing.Framing}
 use Rattle.http1.specs.declared.server.Server.{Server}
-use Rattle.gateway_relay.specs.{Content.map_of, Failures.HasNoMap}
+use Rattle.gateway_connection.specs.Content.{HasNoMap, map_of}
 use Rattle.server_stream.specs.Heads.{IsFieldsRejection, IsHeadRejection, IsUnder, content_size}
 use Rattle.server_stream.specs.{declared.connection.StreamConnection.StreamConnection}
 use Rattle.server_stream.specs.declared.event.RequestHead.{RequestHead}

@@ -22,7 +22,7 @@ use Rattle.http1.specs.{declared.encode.Encoder.Encoder, declared.error.WriteErr
 use Rattle.http1.specs.{declared.error.ReadError.ReadError, declared.error.ReadError.TheVariants.{UnexpectedEof}}
 use Rattle.http1.specs.{declared.framing.Framing.Framing, declared.server.Server.Server}
 use Rattle.http1.proofs.{DecoderLemmas.decoder_for-live, OneParse.body_from_completes}
-use Rattle.gateway_relay.{specs.Content.{after_pieces, map_of}}
+use Rattle.gateway_connection.specs.Content.{after_pieces, map_of}
 use Rattle.gateway_connection.specs.Exchanges.{encoder_in, keeps_in}
 use Rattle.gateway_connection.proofs.ContentLemmas.{end_at, front_goes, front_grows, put_at, takes_data, takes_end}
 use Rattle.gateway_connection.proofs.ContentLemmas.{writing_at}

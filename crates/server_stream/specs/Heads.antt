@@ -7,7 +7,7 @@ use Rattle.http1.specs.{Conn.unread_size, Fields.Header, ReadError.status_of}
 use Rattle.http1.specs.ServerTrace.{headers_at}
 use Rattle.http1.specs.{declared.conn.BodySize.BodySize, declared.conn.BodySize.TheVariants.{Known, Unknown}}
 use Rattle.http1.specs.{declared.framing.Framing.Framing, declared.server.Server.Server}
-use Rattle.gateway_relay.specs.{Content.map_of, Failures.HasNoMap}
+use Rattle.gateway_connection.specs.Content.{HasNoMap, map_of}
 use Rattle.server_stream.specs.declared.event.RequestHead.{RequestHead}
 use Rattle.server_stream.specs.declared.rejection.Rejection.{Rejection}
 use Rattle.httparse.specs.Grammar as Grammar

@@ -6,7 +6,7 @@ use Rattle.http1.specs.{Body.{Body, ReadsBody}, Decoder.decoder_for, Fields.Head
 use Rattle.http1.specs.{declared.conn.BodySize.BodySize, declared.conn.Limits.Limits, declared.decode.Decoder.Decoder}
 use Rattle.http1.specs.{declared.framing.Framing.Framing, declared.server.Server.Server}
 use Rattle.http1.specs.Server.{may_respond}
-use Rattle.gateway_relay.specs.Content.{after_pieces, map_of}
+use Rattle.gateway_connection.specs.Content.{after_pieces, map_of}
 use Rattle.gateway_connection.specs.Exchanges.{IsFront, encoder_in}
 use Rattle.server_stream.specs.Exchanges.{Answer, Bare, Begun, Due, Exchange, Final, IsFramedFor, ReadsKept, Response}
 use Rattle.server_stream.specs.Exchanges.{Switched, answer_text, exchange_text, no_answer, plan_of}

@@ -15,7 +15,7 @@ use Rattle.http1.specs.{declared.conn.BodySize.BodySize, declared.conn.Limits.Li
 use Rattle.http1.specs.{declared.decode.Decoder.Decoder, declared.error.ReadError.ReadError}
 use Rattle.http1.specs.declared.error.ReadError.TheVariants.{UnexpectedEof}
 use Rattle.http1.specs.{declared.error.WriteError.WriteError, declared.framing.Framing.Framing}
-use Rattle.gateway_relay.specs.{Content.map_of, Failures.HasNoMap}
+use Rattle.gateway_connection.specs.Content.{HasNoMap, map_of}
 use Rattle.gateway_connection.specs.declared.head.TheConstants.{MAX_FIELDS}
 use Rattle.server_stream.specs.{Heads.told_of, declared.connection.StreamConnection.StreamConnection}
 use Rattle.server_stream.specs.declared.event.RequestHead.{RequestHead}

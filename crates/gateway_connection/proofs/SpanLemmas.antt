@@ -10,14 +10,14 @@ use Rattle.http_header.{specs.FieldName.IsFieldName, specs.Token.lowercase, spec
 use Rattle.http_header.{specs.FieldValue.plain_value, specs.HeaderMap.{Entries, RefusesAppend, append}}
 use Rattle.http1.{specs.Fields.Header, specs.ServerTrace.headers_at}
 use Rattle.http1_typed.specs.Parts.{MapError, entry_at, map_at}
-use Rattle.gateway_relay.{specs.Content.map_of, specs.Failures.{IsMapFailure, map_failure}}
+use Rattle.gateway_connection.specs.Content.{IsMapFailure, map_of}
 use Rattle.http.specs.declared.error.Error.TheVariants as Mapped
 
 -- a span of the first bytes covers what it covers of all
-pub span_bytes-take : (n : ℕ) (text : List ℕ) (s : Span) → IsWithin n s → span_bytes (take n text) s ≡ span_bytes text s
+span_bytes-take : (n : ℕ) (text : List ℕ) (s : Span) → IsWithin n s → span_bytes (take n text) s ≡ span_bytes text s
 span_bytes-take n text s within = slice_range_front (take n text) text s.start s.end n refl within.1
 
-pub header_bytes-take : (n : ℕ) (text : List ℕ) (spans : List HeaderSpan) → All (IsHeaderWithin n) spans
+header_bytes-take : (n : ℕ) (text : List ℕ) (spans : List HeaderSpan) → All (IsHeaderWithin n) spans
     → map (header_bytes (take n text)) spans ≡ map (header_bytes text) spans
 header_bytes-take n text [] all = refl
 header_bytes-take n text (h ∷ spans) all =
@@ -33,8 +33,8 @@ fold_at text (h ∷ spans) m = fold_at text spans _
 
 -- the map of the spans in the first bytes is that of the fields under them
 pub map_at-take : (n : ℕ) (text : List ℕ) (spans : List HeaderSpan) (count : ℕ)
-    → All (IsHeaderWithin n) (take count spans) → map_at (take n text) (take count spans) ≡ map_of
-    (headers_at text spans count)
+    → All (IsHeaderWithin n) (take count spans) → map_at (take n text) (take count spans)
+    ≡ map_of (headers_at text spans count)
 map_at-take n text spans count all =
     fold_at (take n text) (take count spans) [] ∙ ap map_of (header_bytes-take n text (take count spans) all)
 
@@ -62,8 +62,7 @@ module _ (n : ℕ) (text : List ℕ) (spans : List HeaderSpan) (within : All (Is
       ∙ sym (take-map (header_bytes text) count spans))
 
   -- why the fields under the spans have no map
-  pub map_fails : (e : Error) → MapError (take n text) spans e
-      → IsMapFailure (map (header_bytes text) spans) (map_failure e)
+  pub map_fails : (e : Error) → MapError (take n text) spans e → IsMapFailure (map (header_bytes text) spans) e
   map_fails Mapped.HeaderName wrong = inl (subst (λ (hs : List Header). Any (λ h. ¬ (IsFieldName h.0)) hs) under
       (any_map (header_bytes (take n text)) (λ h. ¬ (IsFieldName h.0)) spans wrong))
   map_fails Mapped.HeaderValue wrong = inr (inl (subst (λ (hs : List Header). Any (λ h. ¬ (IsFieldValue h.1)) hs) under

@@ -1,4 +1,0 @@
--- Definitions that the contracts cite.
-pub mod Choices
-pub mod Healths
-pub mod Pools
