@@ -1,5 +1,5 @@
 -- What is true after every history of calls.
-use Rattle.std.proofs.Common.{◌≡◌, ◌⊎◌, ⊤, ℕ, ◌≤◌, inl, inr, Bool, true, false, List, [], ◌++◌, length, take, min}
+use Rattle.std.proofs.Common.{◌≡◌, ◌⊎◌, ℕ, ◌≤◌, inl, inr, Bool, true, false, List, [], ◌++◌, length, take, min}
 use Rattle.std.proofs.Common.{Option, Some, None, codes, sym, refl, ap, ◌∙◌, subst, arith}
 use Rattle.http_header.{specs.FieldValue.FieldValue, specs.HeaderMap.Entries}
 use Rattle.http1.specs.{Fields.Header, declared.conn.BodySize.BodySize, declared.conn.Limits.Limits}
@@ -145,18 +145,18 @@ own_fails old new own error (inr h) =
 
 -- ---- the origin's connection
 
-abbrev OriginGoes : Limits → Option OriginConnection → Option OriginConnection → Type 0
-OriginGoes limits old new = OriginIn limits old → OriginIn limits new
+record OriginGoes (limits : Limits) (old new : Option OriginConnection) : Type 0 where
+  step : OriginIn limits old → OriginIn limits new
 
 origin_same : {limits : Limits} {old new : Option OriginConnection} → new ≡ old → OriginGoes limits old new
-origin_same {limits} same = λ held. subst (OriginIn limits) (sym same) held
+origin_same {limits} same = record { step = λ held. subst (OriginIn limits) (sym same) held }
 
 -- a step of the connection that there is
 origin_step : {limits : Limits} {old new : Option OriginConnection} {before after : OriginConnection}
     → old ≡ Some before → new ≡ Some after → (IsOriginReached limits before → IsOriginReached limits after)
     → OriginGoes limits old new
 origin_step {limits} is is_now step =
-    λ held. subst (OriginIn limits) (sym is_now) (step (subst (OriginIn limits) is held))
+    record { step = λ held. subst (OriginIn limits) (sym is_now) (step (subst (OriginIn limits) is held)) }
 
 -- nothing is put to it
 origin_refuses : {limits : Limits} {before after : OriginConnection} → OriginSteps.PutsNothing before after
@@ -167,8 +167,8 @@ origin_refuses {limits} {before} {after} nothing =
 origin_says : {limits : Limits} (old new : Option OriginConnection) (event : OriginEvent) → SaysIn old event new
     → OriginGoes limits old new
 origin_says (Some old) (Some new) event says =
-    λ r. (_, Origin.Said old new r.0 event r.1 says)
-origin_says None None event says = λ r. r
+    record { step = λ r. (_, Origin.Said old new r.0 event r.1 says) }
+origin_says None None event says = record { step = λ r. r }
 origin_says (Some old) None event says = absurd says
 origin_says None (Some new) event says = absurd says
 
@@ -180,7 +180,7 @@ record Goes (limits : Limits) (old new : GatewayConnection) : Type 0 where
   origin : OriginGoes limits old.origin new.origin
 
 goes_then : {limits : Limits} {a b c : GatewayConnection} → Goes limits a b → Goes limits b c → Goes limits a c
-goes_then f g = record { client = client_then f.client g.client; origin = λ held. g.origin (f.origin held) }
+goes_then f g = record { client = client_then f.client g.client; origin = record { step = λ held. g.origin.step (f.origin.step held) } }
 
 -- the parts stay as they are
 stays : {limits : Limits} {old new : GatewayConnection} → new.client ≡ old.client → new.origin ≡ old.origin
@@ -298,9 +298,9 @@ refuses_begin a fields old new error (inl h) = refuses_request a fields old new 
 refuses_begin a fields old new error (inr h) = λ r. origin_refuses h.2.0 (puts_request a fields old h.0 h.1 r)
 
 begins_at : {limits : Limits} (asked : Option AskedRequest) (m : GatewayConnection) (old new : OriginConnection)
-    (answers : Bool) → BeginsAt asked m old new answers → IsOriginReached limits old → IsOriginReached limits new
-begins_at (Some a) m old new answers h = begins a (sent_fields m a) m.whole old new h.0
-begins_at None m old new answers h = absurd h
+    (goes : Bool) → BeginsAt asked m old new goes → IsOriginReached limits old → IsOriginReached limits new
+begins_at (Some a) m old new goes h = begins a (sent_fields m a) m.whole old new h.0
+begins_at None m old new goes h = absurd h
 
 refuses_begin_at : {limits : Limits} (asked : Option AskedRequest) (m : GatewayConnection)
     (old new : OriginConnection) (error : WriteError) → RefusesBeginAt asked m old error new
@@ -320,11 +320,11 @@ sends : {limits : Limits} (old new : GatewayConnection) (origin : OriginConnecti
     → IsOriginReached limits origin → Sends old origin watches new → Goes limits old new
 sends old new origin watches r (inl h) =
     goes_then {b = record (taking old h.0 watches) { stage = At.Forwarding }}
-    (origin_alone (λ held. begins_at old.asked old origin h.0 h.1 h.2 r) refl)
+    (origin_alone (record { step = λ held. begins_at old.asked old origin h.0 h.1 h.2 r }) refl)
     (continues_if h.1 (record (taking old h.0 watches) { stage = At.Forwarding }) new h.3)
 sends old new origin watches r (inr h) =
     goes_then {b = taking old h.0 watches}
-    (origin_alone (λ held. refuses_begin_at old.asked old origin h.0 h.1 h.2 r) refl)
+    (origin_alone (record { step = λ held. refuses_begin_at old.asked old origin h.0 h.1 h.2 r }) refl)
     (answers (taking old h.0 watches) new (Because.Unsent h.1) h.3)
 
 -- ---- both directions
@@ -628,7 +628,7 @@ times_out Does.Draining old new is = kept is refl refl
 times_out Does.Over old new is = same is
 
 origin_gone : {limits : Limits} {old new : Option OriginConnection} → new ≡ None → OriginGoes limits old new
-origin_gone {limits} is = λ held. subst (OriginIn limits) (sym is) tt
+origin_gone {limits} is = record { step = λ held. subst (OriginIn limits) (sym is) tt }
 
 takes : {limits : Limits} (old new : GatewayConnection) (origin : Option OriginConnection)
     → TakesOrigin old origin new → Goes limits old new
@@ -646,8 +646,8 @@ conditions etags since old new (inr h) = kept h.3 refl refl
 on_origin : {limits : Limits} (P : OriginConnection → OriginConnection → Type 0) (old new : Option OriginConnection)
     → ((before after : OriginConnection) → P before after → IsOriginReached limits before
     → IsOriginReached limits after) → OnOrigin P old new → OriginGoes limits old new
-on_origin P (Some old) (Some new) step h = step old new h
-on_origin P None None step h = λ held. held
+on_origin P (Some old) (Some new) step h = record { step = step old new h }
+on_origin P None None step h = record { step = λ held. held }
 on_origin P (Some old) None step h = absurd h
 on_origin P None (Some new) step h = absurd h
 
@@ -688,7 +688,7 @@ on : {limits : Limits} {old new : GatewayConnection} {p : Past} → Goes limits 
     → Run limits new p
 on g r =
     let x = g.client r.client r.reached in
-    record { client = x.0; reached = x.1; received = x.2 ∙ r.received; sent = x.3 ∙ r.sent; origin = g.origin r.origin }
+    record { client = x.0; reached = x.1; received = x.2 ∙ r.received; sent = x.3 ∙ r.sent; origin = g.origin.step r.origin }
 
 pub run : {limits : Limits} {m : GatewayConnection} {p : Past} → IsReached limits m p → Run limits m p
 run {limits} (Opened peer m new) = record {
