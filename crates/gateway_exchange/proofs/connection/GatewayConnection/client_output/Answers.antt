@@ -10,5 +10,6 @@ returns-clause-theorem c = λ limits past reached.
       received = r.received;
       sent = r.sent;
       exchanged = c.output.ensures.theorem limits r.client r.reached;
+      served = r.served;
       origin = r.origin;
     }
