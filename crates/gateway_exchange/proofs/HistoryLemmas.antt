@@ -1,5 +1,5 @@
 -- What is true after every history of calls.
-use Rattle.std.proofs.Common.{◌≡◌, ◌≢◌, ◌⊎◌, ◌∷◌, ℕ, ◌≤◌, inl, inr, Bool, true, false, List, [], ◌++◌, length, take, min}
+use Rattle.std.proofs.Common.{◌≡◌, ◌⊎◌, ◌∷◌, ℕ, ◌≤◌, inl, inr, Bool, true, false, List, [], ◌++◌, length, take, min}
 use Rattle.std.proofs.Common.{Option, Some, None, codes, sym, refl, ap, ◌∙◌, subst, arith, append-nil, append_assoc, not}
 use Rattle.std.proofs.lemmas.List.Folds.{concat-append}
 use Rattle.std.proofs.lemmas.Bool.{and_parts}
@@ -17,7 +17,8 @@ use Rattle.gateway_connection.specs.Exchanges.{Request}
 use Rattle.gateway_connection.proofs.HistoryLemmas.{content_late, end_late, heads_once, says_final}
 use Rattle.http1.specs.Client as Http
 use Rattle.gateway_messages.specs.Responses as Responses
-use Rattle.gateway_exchange.specs.Passing.{IsTrailers, PutsResponse}
+use Rattle.gateway_exchange.specs.Passing.{IsTrailers, PutsResponse, with_conditions}
+use Rattle.gateway_exchange.specs.Decisions.{IsDecision}
 use Rattle.gateway_exchange.specs.declared.decision.Outgoing.{Outgoing}
 use Rattle.gateway_messages.specs.Responses.{is_known_to}
 use Rattle.gateway_messages.specs.declared.protocol.Protocol.{Protocol}
@@ -28,8 +29,8 @@ use Rattle.server_stream.specs.History as Stream
 use Rattle.server_stream.specs.Steps as StreamSteps
 use Rattle.server_stream.specs.declared.connection.StreamConnection.{StreamConnection}
 use Rattle.server_stream.specs.declared.{event.RequestHead.RequestHead, event.StreamEvent.StreamEvent}
-use Rattle.gateway_exchange.specs.History.{AreServed, HasHead, IsFor, IsGiven, IsHeard, IsIn, IsOwn, IsPassedOn, IsServed}
-use Rattle.gateway_exchange.specs.History.{EndsAs, GivenHead, IsFrontOf, IsServedNow, Served, Traffic, Uses, WentOver}
+use Rattle.gateway_exchange.specs.History.{AreServed, HasHead, IsFor, IsGiven, IsHeard, IsIn, IsPassedOn, IsServed}
+use Rattle.gateway_exchange.specs.History.{AreFieldsOf, EndsAs, GivenHead, IsDecided, IsFrontOf, IsServedNow, Served, Traffic, Uses, WentOver}
 use Rattle.gateway_exchange.specs.History.{goes_over, head_of, no_past, on_last, receives, traffic_of, with_given, with_rules}
 use Rattle.gateway_exchange.specs.History.{with_traffic, writes, written_of}
 use Rattle.gateway_exchange.specs.History.{IsOriginReached, IsReached, OriginIn, Past, Opened, Received, Finished}
@@ -47,14 +48,14 @@ use Rattle.gateway_exchange.specs.Passing.{RefusesResponse, RefusesSwitch}
 use Rattle.gateway_exchange.specs.Passing.{RefusesRequestEnd, RefusesResponseEnd}
 use Rattle.gateway_messages.specs.declared.{gateway.Gateway.Gateway, response.ForwardedResponse.ForwardedResponse}
 use Rattle.gateway_exchange.specs.Steps.{Answers, AsksAgain, Awaits, Begins, BeginsAt, ChangesClient, ChangesOrigin}
-use Rattle.gateway_exchange.specs.Steps.{AwaitsRequest, HearsClient, HearsOrigin, IsAsking, IsNext, PutsContent, PutsRequestEnd, is_origin_open, is_passing, output_of}
+use Rattle.gateway_exchange.specs.Steps.{IsNext, PutsContent, PutsRequestEnd, is_origin_open, is_passing}
 use Rattle.gateway_exchange.specs.Steps.{Conditions, Connects, ConnectsAs, Considers, ContinuesIf, Drops, EndsIdle}
 use Rattle.gateway_exchange.specs.Steps.{EndsIdleAs, EndsIf, Follows}
 use Rattle.gateway_exchange.specs.Steps.{EndsGiving, Fails, Faulted, Gives, HandsOutOrigin, OfAsked, OnOrigin, Passes}
 use Rattle.gateway_exchange.specs.Steps.{PassesDown, PassesEnd, PassesHead, PassesInterim, PassesPiece, PassesSwitch}
 use Rattle.gateway_exchange.specs.Steps.{PassesUp, PutsHead, ReceivesOrigin, RefusesBegin, RefusesBeginAt}
 use Rattle.gateway_exchange.specs.Steps.{RefusesContent, RefusesEnd, RefusesGiving, RefusesInGiving, Rests, Runs, Went}
-use Rattle.gateway_exchange.specs.Steps.{Says, SaysIn, Sends, Settles, ShowsHead, Steps, StepsAt, SwitchesTo}
+use Rattle.gateway_exchange.specs.Steps.{Says, SaysIn, Sends, Settles, Steps, StepsAt, SwitchesTo}
 use Rattle.gateway_exchange.specs.Steps.{TakesOrigin}
 use Rattle.gateway_exchange.specs.Steps.{TellsHead}
 use Rattle.gateway_exchange.specs.Steps.{TimesOutAt, Transfers, begun, phase_of, sent_fields, taking, with_client}
@@ -63,7 +64,7 @@ use Rattle.gateway_exchange.specs.declared.{connection.GatewayConnection.Gateway
 use Rattle.gateway_exchange.specs.declared.{decision.AskedRequest.AskedRequest}
 use Rattle.gateway_exchange.specs.declared.decision.RequestDecision.{RequestDecision}
 use Rattle.gateway_exchange.specs.declared.{event.GatewayEvent.GatewayEvent, event.Phase.Phase, own.Own.Own}
-use Rattle.gateway_exchange.specs.declared.{pass.Heard.Heard, rules.Rules.Rules}
+use Rattle.gateway_exchange.specs.declared.{pass.Heard.Heard, rules.Peer.Peer, rules.Rules.Rules}
 use Rattle.gateway_connection.specs.declared.event.OriginEvent.TheVariants as Comes
 use Rattle.gateway_connection.specs.declared.event.OriginFault.TheVariants as Faults
 use Rattle.gateway_exchange.specs.declared.event.GatewayEvent.TheVariants as Tells
@@ -351,14 +352,20 @@ origin_says None (Some new) event says = absurd says
 record Goes (limits : Limits) (uses : Uses) (old new : GatewayConnection) : Type 0 where
   client : ClientGoes limits uses old.client new.client
   origin : OriginGoes limits old.origin new.origin
+  peer : new.peer ≡ old.peer
 
-goes_then : {limits : Limits} {uses : Uses} {a b c : GatewayConnection} → Goes limits uses a b → Goes limits uses b c → Goes limits uses a c
-goes_then f g = record { client = client_then f.client g.client; origin = record { step = λ held. g.origin.step (f.origin.step held) } }
+goes_then : {limits : Limits} {uses : Uses} {a b c : GatewayConnection} → Goes limits uses a b → Goes limits uses b c
+    → Goes limits uses a c
+goes_then f g = record {
+  client = client_then f.client g.client;
+  origin = record { step = λ held. g.origin.step (f.origin.step held) };
+  peer = g.peer ∙ f.peer;
+}
 
 -- the parts stay as they are
-stays : {limits : Limits} {uses : Uses} {old new : GatewayConnection} → new.client ≡ old.client → new.origin ≡ old.origin
-    → Goes limits uses old new
-stays client origin = record { client = client_same client; origin = origin_same origin }
+stays : {limits : Limits} {uses : Uses} {old new : GatewayConnection} → new.client ≡ old.client
+    → new.origin ≡ old.origin → new.peer ≡ old.peer → Goes limits uses old new
+stays client origin peer = record { client = client_same client; origin = origin_same origin; peer = peer }
 
 same_client : {a b : GatewayConnection} → a ≡ b → a.client ≡ b.client
 same_client is = ap (λ (m : GatewayConnection). m.client) is
@@ -366,73 +373,78 @@ same_client is = ap (λ (m : GatewayConnection). m.client) is
 same_origin : {a b : GatewayConnection} → a ≡ b → a.origin ≡ b.origin
 same_origin is = ap (λ (m : GatewayConnection). m.origin) is
 
+same_peer : {a b : GatewayConnection} → a ≡ b → a.peer ≡ b.peer
+same_peer is = ap (λ (m : GatewayConnection). m.peer) is
+
 -- the new state is one with the same parts
 kept : {limits : Limits} {uses : Uses} {old new now : GatewayConnection} → new ≡ now → now.client ≡ old.client
-    → now.origin ≡ old.origin → Goes limits uses old new
-kept is client origin = stays (same_client is ∙ client) (same_origin is ∙ origin)
+    → now.origin ≡ old.origin → now.peer ≡ old.peer → Goes limits uses old new
+kept is client origin peer = stays (same_client is ∙ client) (same_origin is ∙ origin) (same_peer is ∙ peer)
 
 same : {limits : Limits} {uses : Uses} {old new : GatewayConnection} → new ≡ old → Goes limits uses old new
-same is = kept is refl refl
+same is = kept is refl refl refl
 
 -- the client's connection alone goes
-client_alone : {limits : Limits} {uses : Uses} {old new : GatewayConnection} → ClientGoes limits uses old.client new.client
-    → new.origin ≡ old.origin → Goes limits uses old new
-client_alone client origin = record { client = client; origin = origin_same origin }
+client_alone : {limits : Limits} {uses : Uses} {old new : GatewayConnection}
+    → ClientGoes limits uses old.client new.client → new.origin ≡ old.origin → new.peer ≡ old.peer
+    → Goes limits uses old new
+client_alone client origin peer = record { client = client; origin = origin_same origin; peer = peer }
 
 -- the origin's connection alone goes
 origin_alone : {limits : Limits} {uses : Uses} {old new : GatewayConnection} → OriginGoes limits old.origin new.origin
-    → new.client ≡ old.client → Goes limits uses old new
-origin_alone origin client = record { client = client_same client; origin = origin }
+    → new.client ≡ old.client → new.peer ≡ old.peer → Goes limits uses old new
+origin_alone origin client peer = record { client = client_same client; origin = origin; peer = peer }
 
-heard_client : {limits : Limits} {uses : Uses} (old : GatewayConnection) (client : StreamConnection) (event : StreamEvent)
-    → StreamSteps.Says old.client event client → Goes limits uses old (with_client old client)
-heard_client old client event says = client_alone (client_says old.client client event says) refl
+heard_client : {limits : Limits} {uses : Uses} (old : GatewayConnection) (client : StreamConnection)
+    (event : StreamEvent) → StreamSteps.Says old.client event client
+    → Goes limits uses old (with_client old client)
+heard_client old client event says = client_alone (client_says old.client client event says) refl refl
 
 -- ---- answers
 
 answers : {limits : Limits} {uses : Uses} (old new : GatewayConnection) (own : Own) → Answers old own new → Goes limits uses old new
-answers old new own (inl h) = client_alone (own_goes old.is_last old.client new.client own h.0) (same_origin h.1)
-answers old new own (inr h) = client_alone (own_fails old.is_last old.client new.client own h.0 h.1) (same_origin h.2)
+answers old new own (inl h) = client_alone (own_goes old.is_last old.client new.client own h.0) (same_origin h.1) (same_peer h.1)
+answers old new own (inr h) = client_alone (own_fails old.is_last old.client new.client own h.0 h.1) (same_origin h.2) (same_peer h.2)
 
 -- after a change of the client's connection
 answers_after : {limits : Limits} {uses : Uses} (old new : GatewayConnection) (client : StreamConnection) (own : Own)
     → ClientGoes limits uses old.client client → Answers (with_client old client) own new → Goes limits uses old new
 answers_after old new client own goes h =
-    goes_then {b = with_client old client} (client_alone goes refl) (answers (with_client old client) new own h)
+    goes_then {b = with_client old client} (client_alone goes refl refl) (answers (with_client old client) new own h)
 
 fails : {limits : Limits} {uses : Uses} (old new : GatewayConnection) (own : Own) → Fails old own new → Goes limits uses old new
-fails old new own (inl h) = kept h.1 refl refl
+fails old new own (inl h) = kept h.1 refl refl refl
 fails old new own (inr h) = answers old new own h.1
 
 fails_after : {limits : Limits} {uses : Uses} (old new : GatewayConnection) (client : StreamConnection) (own : Own)
     → ClientGoes limits uses old.client client → Fails (with_client old client) own new → Goes limits uses old new
 fails_after old new client own goes h =
-    goes_then {b = with_client old client} (client_alone goes refl) (fails (with_client old client) new own h)
+    goes_then {b = with_client old client} (client_alone goes refl refl) (fails (with_client old client) new own h)
 
 -- ---- requests
 
 follows : {limits : Limits} {uses : Uses} (old new : GatewayConnection) (head : RequestHead) (decision : RequestDecision)
     → Follows old head decision new → Goes limits uses old new
-follows old new head (Decides.Send outgoing) is = kept is refl refl
+follows old new head (Decides.Send outgoing) is = kept is refl refl refl
 follows old new head (Decides.Answer own) h = answers old new own h
 
 considers : {limits : Limits} {uses : Uses} (rules : Rules) (old new : GatewayConnection) (head : RequestHead)
     → Considers rules old head new → Goes limits uses old new
 considers rules old new head (inl h) =
-    goes_then {b = begun old} (stays refl refl) (follows (begun old) new head h.0 h.2)
+    goes_then {b = begun old} (stays refl refl refl) (follows (begun old) new head h.0 h.2)
 considers rules old new head (inr h) =
-    goes_then {b = begun old} (stays refl refl) (answers (begun old) new Because.OutOfMemory h)
+    goes_then {b = begun old} (stays refl refl refl) (answers (begun old) new Because.OutOfMemory h)
 
 awaits : {limits : Limits} {uses : Uses} (rules : Rules) (old new : GatewayConnection) (told : Option GatewayEvent)
     (event : StreamEvent) → Awaits rules old event told new → Goes limits uses old new
-awaits rules old new told Is.NeedsInput h = kept h.1 refl refl
+awaits rules old new told Is.NeedsInput h = kept h.1 refl refl refl
 awaits rules old new told (Is.Head head) h = considers rules old new head h.1
 awaits rules old new told (Is.Content piece) h = same h.1
-awaits rules old new told (Is.End trailers) h = kept h.1 refl refl
+awaits rules old new told (Is.End trailers) h = kept h.1 refl refl refl
 awaits rules old new told (Is.Rejected why) h = answers old new (Because.Unread why) h.1
-awaits rules old new told Is.Waits h = kept h.1 refl refl
-awaits rules old new told Is.Switched h = kept h.1 refl refl
-awaits rules old new told Is.Closed h = kept h.1 refl refl
+awaits rules old new told Is.Waits h = kept h.1 refl refl refl
+awaits rules old new told Is.Switched h = kept h.1 refl refl refl
+awaits rules old new told Is.Closed h = kept h.1 refl refl refl
 
 -- ---- sending
 
@@ -443,12 +455,13 @@ Asked limits t a m =
     × (p.now ≡ Origin.Asked request []) × (traffic_of p ≡ t)
 
 puts_request : {limits : Limits} (a : AskedRequest) (fields : List Header) (old new : OriginConnection)
-    → PutsRequest a fields old new → (r : IsOriginReached limits old) → Asked limits (traffic_of r.0) a new
-puts_request a fields old new puts = λ r. (
+    → AreFieldsOf a fields → PutsRequest a fields old new → (r : IsOriginReached limits old)
+    → Asked limits (traffic_of r.0) a new
+puts_request a fields old new are puts = λ r. (
   _,
   Origin.Begun old new r.0 a.head.method a.outgoing.target fields (request_size a.outgoing.framing) r.1 puts,
   Origin.asks a.head.method a.outgoing.target fields (request_size a.outgoing.framing),
-  (refl, refl),
+  (refl, refl, are),
   refl,
   refl,
 )
@@ -471,16 +484,17 @@ ends_if t a true old new h = λ x. (
   _,
   Origin.Closed old new x.0 [] x.1 h,
   Origin.with_trailers [] x.2,
-  (x.3.0, x.3.1),
+  (x.3.0, x.3.1, x.3.2),
   ap (Origin.change (Origin.with_trailers [])) x.4,
   x.5,
 )
 ends_if {limits} t a false old new h = λ x. subst (Asked limits t a) (sym h) x
 
 begins : {limits : Limits} (a : AskedRequest) (fields : List Header) (whole : Bool) (old new : OriginConnection)
-    → Begins a fields whole old new → (r : IsOriginReached limits old) → Asked limits (traffic_of r.0) a new
-begins a fields whole old new h = λ r.
-    ends_if (traffic_of r.0) a whole h.0 new h.2 (puts_request a fields old h.0 h.1 r)
+    → AreFieldsOf a fields → Begins a fields whole old new → (r : IsOriginReached limits old)
+    → Asked limits (traffic_of r.0) a new
+begins a fields whole old new are h = λ r.
+    ends_if (traffic_of r.0) a whole h.0 new h.2 (puts_request a fields old h.0 are h.1 r)
 
 refuses_request : {limits : Limits} (a : AskedRequest) (fields : List Header) (old new : OriginConnection)
     (error : WriteError) → RefusesRequest a fields old error new → IsOriginReached limits old
@@ -492,16 +506,18 @@ refuses_begin : {limits : Limits} (a : AskedRequest) (fields : List Header) (old
     (error : WriteError) → RefusesBegin a fields old error new → IsOriginReached limits old
     → IsOriginReached limits new
 refuses_begin a fields old new error (inl h) = refuses_request a fields old new error h
-refuses_begin a fields old new error (inr h) = λ r. origin_refuses h.2.0 (reached_of (traffic_of r.0) a (puts_request a fields old h.0 h.1 r))
+refuses_begin a fields old new error (inr h) = λ r. origin_refuses h.2.0 (_, Origin.Begun old h.0 r.0 a.head.method a.outgoing.target fields
+    (request_size a.outgoing.framing) r.1 h.1)
 
 begins_at : {limits : Limits} (asked : Option AskedRequest) (a : AskedRequest) (m : GatewayConnection)
-    (old new : OriginConnection) (goes : Bool) → asked ≡ Some a → BeginsAt asked m old new goes
-    → (r : IsOriginReached limits old) → Asked limits (traffic_of r.0) a new
-begins_at {limits} (Some b) a m old new goes is h =
+    (old new : OriginConnection) (goes : Bool) → asked ≡ Some a → AreFieldsOf a (sent_fields m a)
+    → BeginsAt asked m old new goes → (r : IsOriginReached limits old) → Asked limits (traffic_of r.0) a new
+begins_at {limits} (Some b) a m old new goes is are h =
     let same : b ≡ a = cc in
+    let are_b = subst (λ (x : AskedRequest). AreFieldsOf x (sent_fields m x)) (sym same) are in
     λ r. subst (λ (x : AskedRequest). Asked limits (traffic_of r.0) x new) same
-        (begins b (sent_fields m b) m.whole old new h.0 r)
-begins_at None a m old new goes is h = absurd (cc)
+        (begins b (sent_fields m b) m.whole old new are_b h.0 r)
+begins_at None a m old new goes is are h = absurd (cc)
 
 refuses_begin_at : {limits : Limits} (asked : Option AskedRequest) (m : GatewayConnection)
     (old new : OriginConnection) (error : WriteError) → RefusesBeginAt asked m old error new
@@ -515,7 +531,7 @@ refuses_content : {limits : Limits} {uses : Uses} (old new : GatewayConnection) 
     → RefusesContent old piece error new → Goes limits uses old new
 refuses_content old new piece error (inl h) = same h.2
 refuses_content old new piece error (inr h) =
-    origin_alone (origin_step h.2 (same_origin h.4) (origin_refuses h.3.0)) (same_client h.4)
+    origin_alone (origin_step h.2 (same_origin h.4) (origin_refuses h.3.0)) (same_client h.4) (same_peer h.4)
 
 refuses_request_end : {limits : Limits} (gateway : Gateway) (a : AskedRequest) (trailers : Entries FieldValue)
     (old new : OriginConnection) (error : WriteError) → RefusesRequestEnd gateway a trailers old error new
@@ -528,24 +544,24 @@ refuses_end : {limits : Limits} {uses : Uses} (rules : Rules) (old new : Gateway
 refuses_end rules old new trailers error (inl h) = same h.1
 refuses_end rules old new trailers error (inr h) =
     origin_alone (origin_step h.4 (same_origin h.6)
-    (refuses_request_end rules.gateway h.0 trailers h.1 h.2 error h.5)) (same_client h.6)
+    (refuses_request_end rules.gateway h.0 trailers h.1 h.2 error h.5)) (same_client h.6) (same_peer h.6)
 
 passes_up : {limits : Limits} {uses : Uses} (rules : Rules) (old new : GatewayConnection) (event : StreamEvent)
     → PassesUp rules old event new → Goes limits uses old new
-passes_up rules old new Is.NeedsInput is = kept is refl refl
+passes_up rules old new Is.NeedsInput is = kept is refl refl refl
 passes_up rules old new (Is.Content piece) (inl h) =
-    origin_alone (origin_step h.2 (same_origin h.4) (λ r. (_, Origin.Put h.0 h.1 r.0 piece r.1 h.3))) (same_client h.4)
+    origin_alone (origin_step h.2 (same_origin h.4) (λ r. (_, Origin.Put h.0 h.1 r.0 piece r.1 h.3))) (same_client h.4) (same_peer h.4)
 passes_up rules old new (Is.Content piece) (inr h) =
     goes_then (refuses_content old h.1 piece h.0 h.2) (fails h.1 new (Because.Unsent h.0) h.3)
 passes_up rules old new (Is.End trailers) (inl h) =
-    origin_alone (origin_step h.4 (same_origin h.6) (ends_origin h.1 h.2 h.5.0 h.5.2)) (same_client h.6)
+    origin_alone (origin_step h.4 (same_origin h.6) (ends_origin h.1 h.2 h.5.0 h.5.2)) (same_client h.6) (same_peer h.6)
 passes_up rules old new (Is.End trailers) (inr h) =
     goes_then (refuses_end rules old h.1 trailers h.0 h.2) (fails h.1 new (Because.Unsent h.0) h.3)
 passes_up rules old new (Is.Rejected why) h = fails old new (Because.Unread why) h
-passes_up rules old new (Is.Head head) is = kept is refl refl
-passes_up rules old new Is.Waits is = kept is refl refl
-passes_up rules old new Is.Switched is = kept is refl refl
-passes_up rules old new Is.Closed is = kept is refl refl
+passes_up rules old new (Is.Head head) is = kept is refl refl refl
+passes_up rules old new Is.Waits is = kept is refl refl refl
+passes_up rules old new Is.Switched is = kept is refl refl refl
+passes_up rules old new Is.Closed is = kept is refl refl refl
 
 -- ---- responses
 
@@ -569,7 +585,7 @@ switch_fails old client response fields error (inr p) = client_refuses p.0
 switches_to : {limits : Limits} {uses : Uses} (old new : GatewayConnection) (response : OriginResponse) (fields : List Header)
     → SwitchesTo old response fields new → Goes limits uses old new
 switches_to old new response fields (inl h) =
-    client_alone (client_switches old.client new.client response.status response.reason fields h.0) (same_origin h.1)
+    client_alone (client_switches old.client new.client response.status response.reason fields h.0) (same_origin h.1) (same_peer h.1)
 switches_to old new response fields (inr h) =
     fails_after old new h.1 (Because.Unsendable h.0) (switch_fails old h.1 response fields h.0 h.2) h.3
 
@@ -582,23 +598,23 @@ passes_switch rules date old new a response (inr h) = fails old new h.0 h.2
 
 settles : {limits : Limits} {uses : Uses} (old new : GatewayConnection) → Settles old new → Goes limits uses old new
 settles old new (inl h) = same h.1
-settles old new (inr h) = origin_alone (origin_says old.origin new.origin h.1 h.2) (same_client h.3)
+settles old new (inr h) = origin_alone (origin_says old.origin new.origin h.1 h.2) (same_client h.3) (same_peer h.3)
 
 connects_as : {limits : Limits} {uses : Uses} (old new : GatewayConnection) → ConnectsAs old new → Goes limits uses old new
 connects_as old new (inl h) =
-    client_alone (client_switches old.client new.client 200 (codes "OK") [] h.0) (same_origin h.1)
+    client_alone (client_switches old.client new.client 200 (codes "OK") [] h.0) (same_origin h.1) (same_peer h.1)
 connects_as old new (inr h) = answers_after old new h.1 (Because.Unsendable h.0) (client_refuses h.2.0) h.3
 
 ends_idle_as : {limits : Limits} {uses : Uses} (old new : GatewayConnection) (event : StreamEvent) → EndsIdleAs old event new
     → Goes limits uses old new
 ends_idle_as old new (Is.Rejected why) h = answers old new Because.LateRequest h
-ends_idle_as old new Is.NeedsInput is = kept is refl refl
-ends_idle_as old new (Is.Head head) is = kept is refl refl
-ends_idle_as old new (Is.Content piece) is = kept is refl refl
-ends_idle_as old new (Is.End trailers) is = kept is refl refl
-ends_idle_as old new Is.Waits is = kept is refl refl
-ends_idle_as old new Is.Switched is = kept is refl refl
-ends_idle_as old new Is.Closed is = kept is refl refl
+ends_idle_as old new Is.NeedsInput is = kept is refl refl refl
+ends_idle_as old new (Is.Head head) is = kept is refl refl refl
+ends_idle_as old new (Is.Content piece) is = kept is refl refl refl
+ends_idle_as old new (Is.End trailers) is = kept is refl refl refl
+ends_idle_as old new Is.Waits is = kept is refl refl refl
+ends_idle_as old new Is.Switched is = kept is refl refl refl
+ends_idle_as old new Is.Closed is = kept is refl refl refl
 
 abbrev client_finishes : {limits : Limits} {uses : Uses} (old new : StreamConnection) → StreamSteps.Finishes old new
     → ClientGoes limits uses old new
@@ -613,7 +629,7 @@ client_finishes {limits} old new is = λ p r s. record {
 ends_idle : {limits : Limits} {uses : Uses} (old new : GatewayConnection) → EndsIdle old new → Goes limits uses old new
 ends_idle old new h =
     goes_then {b = with_client old h.2} (client_alone
-    (client_then (client_finishes old.client h.0 h.3) (client_says h.0 h.2 h.1 h.4)) refl)
+    (client_then (client_finishes old.client h.0 h.3) (client_says h.0 h.2 h.1 h.4)) refl refl)
     (ends_idle_as (with_client old h.2) new h.1 h.5)
 
 origin_gone : {limits : Limits} {old new : Option OriginConnection} → new ≡ None → OriginGoes limits old new
@@ -674,6 +690,7 @@ now_in (Telling response content) request interim = Origin.Hears request interim
 record Carries (limits : Limits) (uses : Uses) (m : GatewayConnection) (p : Stream.Past) (a : AskedRequest) (t : Told) : Type 0 where
   asked : m.asked ≡ Some a
   head : head_of p.heard ≡ Some a.head
+  decided : IsDecided uses a
   origin : OriginConnection
   is : m.origin ≡ Some origin
   past : Origin.Past
@@ -686,10 +703,12 @@ record Carries (limits : Limits) (uses : Uses) (m : GatewayConnection) (p : Stre
   traffic : uses.traffic ≡ traffic_of past ∷ older
 
 -- the request that was told of the client waits
-record Waiting (m : GatewayConnection) (p : Stream.Past) : Type 0 where
+record Waiting (uses : Uses) (m : GatewayConnection) (p : Stream.Past) : Type 0 where
   a : AskedRequest
   asked : m.asked ≡ Some a
   head : head_of p.heard ≡ Some a.head
+  decided : IsDecided uses a
+  fields : AreFieldsOf a (sent_fields m a)
 
 -- the head of its response waits
 record Judged (limits : Limits) (uses : Uses) (m : GatewayConnection) (p : Stream.Past) : Type 0 where
@@ -719,9 +738,10 @@ record Giving (uses : Uses) (p : Stream.Past) : Type 0 where
   given : IsGiven uses response
 
 abbrev TiedAt : Limits → Uses → Stage → GatewayConnection → Stream.Past → Type 0
-TiedAt limits uses At.Asking m p = Waiting m p
-TiedAt limits uses At.Repeating m p = Waiting m p
-TiedAt limits uses At.Forwarding m p = (a : AskedRequest) × Carries limits uses m p a Silent
+TiedAt limits uses At.Asking m p = Waiting uses m p
+TiedAt limits uses At.Repeating m p = Waiting uses m p
+TiedAt limits uses At.Forwarding m p =
+    (a : AskedRequest) × Carries limits uses m p a Silent × AreFieldsOf a (sent_fields m a)
 TiedAt limits uses At.Judging m p = Judged limits uses m p
 TiedAt limits uses At.Passing m p = Passing limits uses m p
 TiedAt limits uses At.Giving m p = Giving uses p
@@ -729,6 +749,7 @@ TiedAt limits uses stage m p = Unit {0}
 
 -- the parts were reached by calls of their own
 record Loose (limits : Limits) (uses : Uses) (m : GatewayConnection) (p : Stream.Past) : Type 0 where
+  peer : m.peer ≡ uses.peer
   reached : Stream.IsReached limits m.client p
   served : Served limits uses p
   origin : OriginIn limits m.origin
@@ -785,7 +806,12 @@ to_free {limits} {uses} {old} {new} p g free h =
     record {
       past = x.past;
       held = record {
-        loose = record { reached = x.reached; served = x.served; origin = g.origin.step h.origin };
+        loose = record {
+          peer = g.peer ∙ h.peer;
+          reached = x.reached;
+          served = x.served;
+          origin = g.origin.step h.origin;
+        };
         tied = free_tied limits uses new.stage new x.past free;
       };
       received = x.received;
@@ -815,6 +841,7 @@ carries_by {limits} {uses} {old} {new} {p} {q} {a} {t} {now} {before} {after} g 
     record {
       asked = asked ∙ c.asked;
       head = head ∙ c.head;
+      decided = c.decided;
       origin = after;
       is = is_now;
       past = x.0;
@@ -833,6 +860,7 @@ carries_kept : {limits : Limits} {uses : Uses} {old new : GatewayConnection} {p 
 carries_kept asked head origin c = record {
   asked = asked ∙ c.asked;
   head = head ∙ c.head;
+  decided = c.decided;
   origin = c.origin;
   is = origin ∙ c.is;
   past = c.past;
@@ -849,21 +877,22 @@ carries_kept asked head origin c = record {
 
 -- what was passed in before is among what was by now
 record Grows (old new : Uses) : Type 0 where
+  peer : new.peer ≡ old.peer
   rules : (r : Rules) → IsIn r old.rules → IsIn r new.rules
   given : (head : GivenHead) → IsIn head old.given → IsIn head new.given
   traffic : (t : Traffic) → WentOver t old.traffic → WentOver t new.traffic
 
 grows_same : (uses : Uses) → Grows uses uses
-grows_same uses = record { rules = λ r h. h; given = λ head h. h; traffic = λ t h. h }
+grows_same uses = record { peer = refl; rules = λ r h. h; given = λ head h. h; traffic = λ t h. h }
 
 grows_rules : (rules : Rules) (uses : Uses) → Grows uses (with_rules rules uses)
-grows_rules rules uses = record { rules = λ r h. inr h; given = λ head h. h; traffic = λ t h. h }
+grows_rules rules uses = record { peer = refl; rules = λ r h. inr h; given = λ head h. h; traffic = λ t h. h }
 
 grows_given : (head : GivenHead) (uses : Uses) → Grows uses (with_given head uses)
-grows_given head uses = record { rules = λ r h. h; given = λ head h. inr h; traffic = λ t h. h }
+grows_given head uses = record { peer = refl; rules = λ r h. h; given = λ head h. inr h; traffic = λ t h. h }
 
 grows_traffic : (line : Traffic) (uses : Uses) → Grows uses (with_traffic line uses)
-grows_traffic line uses = record { rules = λ r h. h; given = λ head h. h; traffic = λ t h. inr h }
+grows_traffic line uses = record { peer = refl; rules = λ r h. h; given = λ head h. h; traffic = λ t h. inr h }
 
 on_last_grows : (f : Traffic → Traffic) → ((t all : Traffic) → IsFrontOf t all → IsFrontOf t (f all))
     → (lines : List Traffic) (t : Traffic) → WentOver t lines → WentOver t (on_last f lines)
@@ -874,6 +903,7 @@ on_last_grows f step (first ∷ older) t (inr h) = inr h
 grows_over : (f : Traffic → Traffic) → ((t all : Traffic) → IsFrontOf t all → IsFrontOf t (f all)) → (uses : Uses)
     → Grows uses (goes_over f uses)
 grows_over f step uses = record {
+  peer = refl;
   rules = λ r h. h;
   given = λ head h. h;
   traffic = on_last_grows f step uses.traffic;
@@ -892,6 +922,13 @@ receives_front false bytes t all h = h
 writes_front : (bytes : List ℕ) (t all : Traffic) → IsFrontOf t all → IsFrontOf t (writes bytes all)
 writes_front bytes t all h =
     (h.0, h.1, h.2 ++ bytes, sym (append_assoc t.sent h.2 bytes) ∙ ap (λ (l : List ℕ). l ++ bytes) h.3)
+
+decided_grows : {old new : Uses} (a : AskedRequest) → Grows old new → IsDecided old a → IsDecided new a
+decided_grows a grows x = (
+  x.0,
+  grows.rules x.0 x.1,
+  subst (λ (peer : Peer). IsDecision x.0 peer a.head (Decides.Send a.outgoing)) (sym grows.peer) x.2,
+)
 
 heard_grows : {old new : Uses} (a : AskedRequest) (h : Heard) → Grows old new → IsHeard old a h → IsHeard new a h
 heard_grows a h grows x = (x.0, grows.rules x.0 x.1, x.2, x.3)
@@ -913,6 +950,7 @@ response_grows head r grows (inr (inl given)) = inr (inl (given_grows r grows gi
 response_grows head r grows (inr (inr x)) = inr (inr (record {
   asked = x.asked;
   head_is = x.head_is;
+  decided = decided_grows x.asked grows x.decided;
   heard = x.heard;
   forwarded = heard_grows x.asked x.heard grows x.forwarded;
   content = x.content;
@@ -950,23 +988,36 @@ served_grows {limits} {old} {new} {p} grows served = record {
 }
 
 tied_on : (limits : Limits) (uses now : Uses) (stage : Stage) (old new : GatewayConnection) (p q : Stream.Past)
-    → Grows uses now → new.asked ≡ old.asked → new.heard ≡ old.heard → head_of q.heard ≡ head_of p.heard
+    → Grows uses now
+    → ((a : AskedRequest) → old.asked ≡ Some a → AreFieldsOf a (sent_fields old a) → AreFieldsOf a (sent_fields new a))
+    → new.asked ≡ old.asked → new.heard ≡ old.heard → head_of q.heard ≡ head_of p.heard
     → q.answer.final ≡ p.answer.final
     → ((a : AskedRequest) (t : Told) → Carries limits uses old p a t → Carries limits now new q a t)
     → TiedAt limits uses stage old p → TiedAt limits now stage new q
-tied_on limits uses now At.Asking old new p q grows asked heard head final carry x =
-    record { a = x.a; asked = asked ∙ x.asked; head = head ∙ x.head }
-tied_on limits uses now At.Repeating old new p q grows asked heard head final carry x =
-    record { a = x.a; asked = asked ∙ x.asked; head = head ∙ x.head }
-tied_on limits uses now At.Forwarding old new p q grows asked heard head final carry x = (x.0, carry x.0 Silent x.1)
-tied_on limits uses now At.Judging old new p q grows asked heard head final carry x = record {
+tied_on limits uses now At.Asking old new p q grows are asked heard head final carry x = record {
+  a = x.a;
+  asked = asked ∙ x.asked;
+  head = head ∙ x.head;
+  decided = decided_grows x.a grows x.decided;
+  fields = are x.a x.asked x.fields;
+}
+tied_on limits uses now At.Repeating old new p q grows are asked heard head final carry x = record {
+  a = x.a;
+  asked = asked ∙ x.asked;
+  head = head ∙ x.head;
+  decided = decided_grows x.a grows x.decided;
+  fields = are x.a x.asked x.fields;
+}
+tied_on limits uses now At.Forwarding old new p q grows are asked heard head final carry x =
+    (x.0, carry x.0 Silent x.1, are x.0 x.1.asked x.2)
+tied_on limits uses now At.Judging old new p q grows are asked heard head final carry x = record {
   a = x.a;
   heard = x.heard;
   is = heard ∙ x.is;
   forwarded = heard_grows x.a x.heard grows x.forwarded;
   carries = carry x.a (Telling x.heard.response []) x.carries;
 }
-tied_on limits uses now At.Passing old new p q grows asked heard head final carry x = record {
+tied_on limits uses now At.Passing old new p q grows are asked heard head final carry x = record {
   a = x.a;
   heard = x.heard;
   is = heard ∙ x.is;
@@ -978,24 +1029,39 @@ tied_on limits uses now At.Passing old new p q grows asked heard head final carr
   puts = x.puts;
   carries = carry x.a (Telling x.heard.response x.content) x.carries;
 }
-tied_on limits uses now At.Giving old new p q grows asked heard head final carry x =
+tied_on limits uses now At.Giving old new p q grows are asked heard head final carry x =
     record { response = x.response; final = final ∙ x.final; given = given_grows x.response grows x.given }
-tied_on limits uses now At.Idle old new p q grows asked heard head final carry x = tt
-tied_on limits uses now At.Ended old new p q grows asked heard head final carry x = tt
-tied_on limits uses now At.Switched old new p q grows asked heard head final carry x = tt
-tied_on limits uses now At.Closed old new p q grows asked heard head final carry x = tt
-tied_on limits uses now At.Aborted old new p q grows asked heard head final carry x = tt
+tied_on limits uses now At.Idle old new p q grows are asked heard head final carry x = tt
+tied_on limits uses now At.Ended old new p q grows are asked heard head final carry x = tt
+tied_on limits uses now At.Switched old new p q grows are asked heard head final carry x = tt
+tied_on limits uses now At.Closed old new p q grows are asked heard head final carry x = tt
+tied_on limits uses now At.Aborted old new p q grows are asked heard head final carry x = tt
 
 -- the stage, the request and the response that waits stay as they are
 record Frame (old new : GatewayConnection) : Type 0 where
   stage : new.stage ≡ old.stage
   asked : new.asked ≡ old.asked
   heard : new.heard ≡ old.heard
+  peer : new.peer ≡ old.peer
+  fields : (a : AskedRequest) → sent_fields new a ≡ sent_fields old a
+
+same_fields : {x y : GatewayConnection} (a : AskedRequest) → x ≡ y → sent_fields x a ≡ sent_fields y a
+same_fields a is = ap (λ (m : GatewayConnection). sent_fields m a) is
 
 frame : {old new now : GatewayConnection} → new ≡ now → now.stage ≡ old.stage → now.asked ≡ old.asked
-    → now.heard ≡ old.heard → Frame old new
-frame is stage asked heard =
-    record { stage = same_stage is ∙ stage; asked = same_asked is ∙ asked; heard = same_heard is ∙ heard }
+    → now.heard ≡ old.heard → now.peer ≡ old.peer → ((a : AskedRequest) → sent_fields now a ≡ sent_fields old a)
+    → Frame old new
+frame is stage asked heard peer fields = record {
+  stage = same_stage is ∙ stage;
+  asked = same_asked is ∙ asked;
+  heard = same_heard is ∙ heard;
+  peer = same_peer is ∙ peer;
+  fields = λ a. same_fields a is ∙ fields a;
+}
+
+frame_fields : {old new : GatewayConnection} → Frame old new → (a : AskedRequest) → old.asked ≡ Some a
+    → AreFieldsOf a (sent_fields old a) → AreFieldsOf a (sent_fields new a)
+frame_fields f a is x = subst (AreFieldsOf a) (sym (f.fields a)) x
 
 tied_by : (limits : Limits) (uses : Uses) (old new : GatewayConnection) (p q : Stream.Past) → Frame old new
     → head_of q.heard ≡ head_of p.heard → q.answer.final ≡ p.answer.final
@@ -1003,7 +1069,7 @@ tied_by : (limits : Limits) (uses : Uses) (old new : GatewayConnection) (p q : S
     → TiedAt limits uses old.stage old p → TiedAt limits uses new.stage new q
 tied_by limits uses old new p q f head final carry x =
     subst (λ (s : Stage). TiedAt limits uses s new q) (sym f.stage)
-    (tied_on limits uses uses old.stage old new p q (grows_same uses) f.asked f.heard head final carry x)
+    (tied_on limits uses uses old.stage old new p q (grows_same uses) (frame_fields f) f.asked f.heard head final carry x)
 
 -- the origin's connection alone goes
 origin_moves : {limits : Limits} {uses : Uses} {old new : GatewayConnection} → new.client ≡ old.client → Frame old new
@@ -1014,6 +1080,7 @@ origin_moves {limits} {uses} {old} {new} client f goes carry = λ p h. record {
   past = p;
   held = record {
     loose = record {
+      peer = f.peer ∙ h.loose.peer;
       reached = subst (λ (m : StreamConnection). Stream.IsReached limits m p) (sym client) h.loose.reached;
       served = h.loose.served;
       origin = goes.step h.loose.origin;
@@ -1036,13 +1103,14 @@ client_moves : {limits : Limits} {uses : Uses} {old new : GatewayConnection} →
     → ((p : Stream.Past) (r : Stream.IsReached limits old.client p) (s : Served limits uses p)
     → (head_of (goes p r s).past.heard ≡ head_of p.heard) × ((goes p r s).past.answer.final ≡ p.answer.final))
     → Leads limits uses old new
-client_moves {limits} {uses} {old} {new} origin f goes kept = λ p h.
+client_moves {limits} {uses} {old} {new} origin f goes keeps = λ p h.
     let x = goes p h.loose.reached h.loose.served in
-    let k = kept p h.loose.reached h.loose.served in
+    let k = keeps p h.loose.reached h.loose.served in
     record {
       past = x.past;
       held = record {
         loose = record {
+          peer = f.peer ∙ h.loose.peer;
           reached = x.reached;
           served = x.served;
           origin = subst (OriginIn limits) (sym origin) h.loose.origin;
@@ -1064,20 +1132,20 @@ hears_content : {limits : Limits} {uses : Uses} (old : GatewayConnection) (clien
     (piece : List ℕ) → StreamSteps.Says old.client (Is.Content piece) client
     → Leads limits uses old (with_client old client)
 hears_content {limits} {uses} old client piece says =
-    client_moves refl (frame refl refl refl refl) (client_says old.client client (Is.Content piece) says)
+    client_moves refl (frame refl refl refl refl refl (λ a. refl)) (client_says old.client client (Is.Content piece) says)
     (λ p r s. (content_head limits uses piece p.heard, refl))
 
 hears_end : {limits : Limits} {uses : Uses} (old : GatewayConnection) (client : StreamConnection)
     (trailers : Entries FieldValue) → StreamSteps.Says old.client (Is.End trailers) client
     → Leads limits uses old (with_client old client)
 hears_end {limits} {uses} old client trailers says =
-    client_moves refl (frame refl refl refl refl) (client_says old.client client (Is.End trailers) says)
+    client_moves refl (frame refl refl refl refl refl (λ a. refl)) (client_says old.client client (Is.End trailers) says)
     (λ p r s. (end_head limits uses trailers p.heard, refl))
 
 hears_nothing : {limits : Limits} {uses : Uses} (old : GatewayConnection) (client : StreamConnection)
     → StreamSteps.Says old.client Is.NeedsInput client → Leads limits uses old (with_client old client)
 hears_nothing old client says =
-    client_moves refl (frame refl refl refl refl) (client_says old.client client Is.NeedsInput says)
+    client_moves refl (frame refl refl refl refl refl (λ a. refl)) (client_says old.client client Is.NeedsInput says)
     (λ p r s. (refl, refl))
 
 change_in : (f : Request → Request) (t : Told) (r : Request) (interim : List OriginResponse)
@@ -1088,24 +1156,24 @@ change_in f (Telling response content) r interim = refl
 puts_content : {limits : Limits} {uses : Uses} (old new : GatewayConnection) (piece : List ℕ)
     → PutsContent old piece new → Leads limits uses old new
 puts_content {limits} old new piece h =
-    origin_moves (same_client h.4) (frame h.4 refl refl refl)
+    origin_moves (same_client h.4) (frame h.4 refl refl refl refl (λ a. refl))
     (origin_step h.2 (same_origin h.4) (λ r. (_, Origin.Put h.0 h.1 r.0 piece r.1 h.3)))
     (λ p a t c. carries_by (Origin.change (Origin.with_piece piece)) c (same_asked h.4) refl h.2 (same_origin h.4)
     (λ o r. (_, Origin.Put h.0 h.1 o piece r h.3, refl, refl))
-    (λ r interim is_for. (Origin.with_piece piece r, interim, (is_for.0, is_for.1), change_in (Origin.with_piece piece) t r interim)))
+    (λ r interim is_for. (Origin.with_piece piece r, interim, (is_for.0, is_for.1, is_for.2), change_in (Origin.with_piece piece) t r interim)))
 
 puts_request_end : {limits : Limits} {uses : Uses} (rules : Rules) (old new : GatewayConnection)
     (trailers : Entries FieldValue) → PutsRequestEnd rules old trailers new → Leads limits uses old new
 puts_request_end {limits} rules old new trailers h =
     let sent = h.5.0 in
-    origin_moves (same_client h.6) (frame h.6 refl refl refl)
+    origin_moves (same_client h.6) (frame h.6 refl refl refl refl (λ a. refl))
     (origin_step h.4 (same_origin h.6) (ends_origin h.1 h.2 sent h.5.2))
     (λ p a t c. carries_by (Origin.change (Origin.with_trailers sent)) c (same_asked h.6) refl h.4 (same_origin h.6)
     (λ o r. (_, Origin.Closed h.1 h.2 o sent r h.5.2, refl, refl))
     (λ r interim is_for. (
       Origin.with_trailers sent r,
       interim,
-      (is_for.0, is_for.1),
+      (is_for.0, is_for.1, is_for.2),
       change_in (Origin.with_trailers sent) t r interim,
     )))
 
@@ -1121,7 +1189,7 @@ hears_client_at : {limits : Limits} {uses : Uses} (rules : Rules) (old new : Gat
     → PassesUp rules (with_client old client) event new → Leads limits uses old new
 hears_client_at rules old new client Is.NeedsInput says is =
     leads_then (hears_nothing old client says)
-    (rests (same_client is) (same_origin is) (frame is refl refl refl))
+    (rests (same_client is) (same_origin is) (frame is refl refl refl refl (λ a. refl)))
 hears_client_at rules old new client (Is.Content piece) says (inl h) =
     leads_then (hears_content old client piece says) (puts_content (with_client old client) new piece h)
 hears_client_at rules old new client (Is.Content piece) says (inr h) =
@@ -1197,7 +1265,7 @@ said_quietly : {limits : Limits} {uses : Uses} (old : GatewayConnection) (origin
     (event : OriginEvent) → IsQuiet event → SaysIn old.origin event origin
     → Leads limits uses old (with_origin old origin)
 said_quietly old origin event quiet says =
-    origin_moves refl (frame refl refl refl refl) (origin_says old.origin origin event says)
+    origin_moves refl (frame refl refl refl refl refl (λ a. refl)) (origin_says old.origin origin event says)
     (λ p a t c. carries_said origin event says (quiet_turns event t quiet) c)
 
 -- what was heard of the origin, and then ends the exchange
@@ -1205,13 +1273,13 @@ said_freely : {limits : Limits} {uses : Uses} (old new : GatewayConnection) (ori
     (event : OriginEvent) → SaysIn old.origin event origin → Goes limits uses (with_origin old origin) new
     → IsFree new.stage → Leads limits uses old new
 said_freely old new origin event says goes free =
-    freely (goes_then {b = with_origin old origin} (origin_alone (origin_says old.origin origin event says) refl) goes)
+    freely (goes_then {b = with_origin old origin} (origin_alone (origin_says old.origin origin event says) refl refl) goes)
     free
 
 of_asked : {limits : Limits} {uses : Uses} (old new : GatewayConnection) (P : AskedRequest → Type 0)
     → ((a : AskedRequest) → P a → Leads limits uses old new) → OfAsked old P new → Leads limits uses old new
 of_asked old new P leads (inl h) = leads h.0 h.2
-of_asked old new P leads (inr h) = freely (kept h.1 refl refl) (free_at (same_stage h.1) tt)
+of_asked old new P leads (inr h) = freely (kept h.1 refl refl refl) (free_at (same_stage h.1) tt)
 
 interim_at : {limits : Limits} {uses : Uses} (old new : GatewayConnection) (response : OriginResponse)
     (sent : ForwardedResponse)
@@ -1220,7 +1288,7 @@ interim_at : {limits : Limits} {uses : Uses} (old new : GatewayConnection) (resp
     × Fails (with_client old client) (Because.Unsendable error) new))
     → Leads limits uses old new
 interim_at old new response sent (inl h) =
-    client_moves (same_origin h.1) (frame h.1 refl refl refl)
+    client_moves (same_origin h.1) (frame h.1 refl refl refl refl (λ a. refl))
     (client_informs old.client new.client response.status response.reason (fields_of sent.fields.items) h.0)
     (λ p r s. (refl, refl))
 interim_at old new response sent (inr h) =
@@ -1241,18 +1309,25 @@ faulted : {limits : Limits} {uses : Uses} (old new : GatewayConnection) (fault :
     → Leads limits uses old new
 faulted {limits} {uses} old new fault (inl h) = λ p x.
     let c = subst (λ (s : Stage). TiedAt limits uses s old p) h.0.1 x.tied in
-    let g : Goes limits uses old new = kept h.1 refl refl in
+    let g : Goes limits uses old new = kept h.1 refl refl refl in
     record {
       past = p;
       held = record {
         loose = record {
+          peer = same_peer h.1 ∙ x.loose.peer;
           reached = subst (λ (m : StreamConnection). Stream.IsReached limits m p) (sym (same_client h.1))
               x.loose.reached;
           served = x.loose.served;
           origin = g.origin.step x.loose.origin;
         };
         tied = subst (λ (s : Stage). TiedAt limits uses s new p) (sym (same_stage h.1))
-            (record { a = c.0; asked = same_asked h.1 ∙ c.1.asked; head = c.1.head });
+            (record {
+              a = c.0;
+              asked = same_asked h.1 ∙ c.1.asked;
+              head = c.1.head;
+              decided = c.1.decided;
+              fields = subst (AreFieldsOf c.0) (sym (same_fields c.0 h.1)) c.2;
+            });
       };
       received = refl;
       sent = refl;
@@ -1277,7 +1352,7 @@ switch_freely : {limits : Limits} {uses : Uses} (rules : Rules) (date : ℕ) (ol
     (response : OriginResponse) → OfAsked old (λ a. PassesSwitch rules date old a response new) new
     → Goes limits uses old new × IsFree new.stage
 switch_freely rules date old new response (inl h) = passes_switch_freely rules date old new h.0 response h.2
-switch_freely rules date old new response (inr h) = (kept h.1 refl refl, free_at (same_stage h.1) tt)
+switch_freely rules date old new response (inr h) = (kept h.1 refl refl refl, free_at (same_stage h.1) tt)
 
 -- ---- the head of a response
 
@@ -1292,6 +1367,7 @@ passed_on : {limits : Limits} {uses : Uses} {m : GatewayConnection} {p : Stream.
 passed_on {limits} {uses} {m} {p} {a} h content r c forwarded puts whole = record {
   asked = a;
   head_is = refl;
+  decided = c.decided;
   heard = h;
   forwarded = forwarded;
   content = content;
@@ -1339,6 +1415,7 @@ shows_put {limits} {uses} old between new h a p puts is last x c forwarded =
       past = q;
       held = record {
         loose = record {
+          peer = same_peer last ∙ (same_peer is ∙ x.peer);
           reached = subst (λ (m : StreamConnection). Stream.IsReached limits m q) (sym client)
               (Stream.Responded old.client between.client p h.response.status h.response.reason
               (closing old.is_last (fields_of h.sent.fields.items)) (response_size h.sent.content) x.reached puts);
@@ -1374,7 +1451,7 @@ shows old between new h a p (inl puts) last x c forwarded =
     shows_put old between new h a p puts.0 puts.1 last x c forwarded
 shows old between new h a p (inr f) last x c forwarded =
     to_free p (goes_then {b = between} (answers_after old between f.1 (Because.Unsendable f.0)
-    (response_fails old f.1 h f.0 f.2) f.3) (kept last refl refl))
+    (response_fails old f.1 h f.0 f.2) f.3) (kept last refl refl refl))
     (free_at (same_stage last) (answers_free (with_client old f.1) between (Because.Unsendable f.0) f.3)) x
 
 tells_head : {limits : Limits} {uses : Uses} (watches : Bool) (old new : GatewayConnection) (h : Heard)
@@ -1384,6 +1461,7 @@ tells_head {limits} {uses} true old new h a p is x c forwarded = record {
   past = p;
   held = record {
     loose = record {
+      peer = same_peer is ∙ x.peer;
       reached = subst (λ (m : StreamConnection). Stream.IsReached limits m p) (sym (same_client is)) x.reached;
       served = x.served;
       origin = subst (OriginIn limits) (sym (same_origin is)) x.origin;
@@ -1437,14 +1515,14 @@ head_of_asked rules date old new a response p among final (inl h) x c =
     head_at rules date old new a response p among final
     (subst (λ (b : AskedRequest). PassesHead rules date old b response new) same h.2) x c
 head_of_asked rules date old new a response p among final (inr h) x c =
-    to_free p (kept h.1 refl refl) (free_at (same_stage h.1) tt) x
+    to_free p (kept h.1 refl refl refl) (free_at (same_stage h.1) tt) x
 
 loose_said : {limits : Limits} {uses : Uses} (old : GatewayConnection) (origin : Option OriginConnection)
     (event : OriginEvent) (p : Stream.Past) → SaysIn old.origin event origin → Loose limits uses old p
     → Loose limits uses (with_origin old origin) p
 loose_said {limits} old origin event p says x =
     let goes : OriginGoes limits old.origin origin = origin_says old.origin origin event says in
-    record { reached = x.reached; served = x.served; origin = goes.step x.origin }
+    record { peer = x.peer; reached = x.reached; served = x.served; origin = goes.step x.origin }
 
 hears_head : {limits : Limits} {uses : Uses} (rules : Rules) (date : ℕ) (stage : Stage) (old new : GatewayConnection)
     (origin : Option OriginConnection) (response : OriginResponse) → old.stage ≡ stage → IsStreaming stage
@@ -1498,6 +1576,7 @@ shown {limits} {uses} old new origin piece is says puts f = λ p x.
       past = q;
       held = record {
         loose = record {
+          peer = f.kept.peer ∙ x.loose.peer;
           reached = Stream.Put old.client new.client p piece x.loose.reached puts;
           served = record {
             before = x.loose.served.before;
@@ -1528,8 +1607,8 @@ shown_frame : (old new : GatewayConnection) (piece : List ℕ) (told : Option Ga
     → (((old.watches ≡ true) × (told ≡ Some Tells.Piece)
     × (new ≡ record old { client = new.client; piece = piece }))
     ⊎ ((old.watches ≡ false) × (told ≡ None) × (new ≡ record old { client = new.client }))) → Shown old new
-shown_frame old new piece told (inl h) = record { kept = frame h.2 refl refl refl; origin = same_origin h.2 }
-shown_frame old new piece told (inr h) = record { kept = frame h.2 refl refl refl; origin = same_origin h.2 }
+shown_frame old new piece told (inl h) = record { kept = frame h.2 refl refl refl refl (λ a. refl); origin = same_origin h.2 }
+shown_frame old new piece told (inr h) = record { kept = frame h.2 refl refl refl refl (λ a. refl); origin = same_origin h.2 }
 
 passes_piece : {limits : Limits} {uses : Uses} (old new : GatewayConnection) (origin : Option OriginConnection)
     (piece : List ℕ) (told : Option GatewayEvent) → old.stage ≡ At.Passing
@@ -1538,7 +1617,7 @@ passes_piece : {limits : Limits} {uses : Uses} (old new : GatewayConnection) (or
 passes_piece old new origin piece told is says (inl h) =
     shown old new origin piece is says h.0 (shown_frame (with_origin old origin) new piece told h.1)
 passes_piece old new origin piece told is says (inr h) =
-    said_freely old new origin (Comes.Content piece) says (client_alone (client_refuses h.1.0) (same_origin h.3))
+    said_freely old new origin (Comes.Content piece) says (client_alone (client_refuses h.1.0) (same_origin h.3) (same_peer h.3))
     (free_at (same_stage h.3) tt)
 
 hears_piece : {limits : Limits} {uses : Uses} (stage : Stage) (old new : GatewayConnection)
@@ -1574,6 +1653,7 @@ ended {limits} {uses} rules old new origin trailers h sent is among says heard f
     let passed : IsPassedOn limits uses t.a.head (Stream.with_trailers sent t.response) = record {
       asked = t.a;
       head_is = refl;
+      decided = c.decided;
       heard = t.heard;
       forwarded = t.forwarded;
       content = t.content;
@@ -1605,6 +1685,7 @@ ended {limits} {uses} rules old new origin trailers h sent is among says heard f
       past = q;
       held = record {
         loose = record {
+          peer = same_peer over ∙ x.loose.peer;
           reached = Stream.Ended old.client new.client p sent x.loose.reached ends;
           served = record {
             before = x.loose.served.before;
@@ -1637,7 +1718,7 @@ passes_end_of rules old new origin trailers h is among says heard (inl e) =
     ended rules old new origin trailers h e.0.0 is among says heard e.0.1 e.0.2 e.1
 passes_end_of rules old new origin trailers h is among says heard (inr e) =
     said_freely old new origin (Comes.End trailers) says
-    (client_alone (end_refused rules h trailers old.client new.client e.0 e.1) (same_origin e.2))
+    (client_alone (end_refused rules h trailers old.client new.client e.0 e.1) (same_origin e.2) (same_peer e.2))
     (free_at (same_stage e.2) tt)
 
 passes_end : {limits : Limits} {uses : Uses} (rules : Rules) (old new : GatewayConnection)
@@ -1647,7 +1728,7 @@ passes_end : {limits : Limits} {uses : Uses} (rules : Rules) (old new : GatewayC
 passes_end rules old new origin trailers is among says (inl h) =
     passes_end_of rules old new origin trailers h.0 is among says h.1 h.2
 passes_end rules old new origin trailers is among says (inr h) =
-    said_freely old new origin (Comes.End trailers) says (kept h.1 refl refl) (free_at (same_stage h.1) tt)
+    said_freely old new origin (Comes.End trailers) says (kept h.1 refl refl refl) (free_at (same_stage h.1) tt)
 
 hears_response_end : {limits : Limits} {uses : Uses} (rules : Rules) (stage : Stage) (old new : GatewayConnection)
     (origin : Option OriginConnection) (trailers : Entries FieldValue) → old.stage ≡ stage → IsStreaming stage
@@ -1669,7 +1750,7 @@ hears_origin_at : {limits : Limits} {uses : Uses} (rules : Rules) (date : ℕ) (
     → PassesDown rules date (with_origin old origin) event told new → Leads limits uses old new
 hears_origin_at rules date old new told origin Comes.NeedsInput streaming among says h =
     leads_then (said_quietly old origin Comes.NeedsInput tt says)
-    (rests (same_client h.1) (same_origin h.1) (frame h.1 refl refl refl))
+    (rests (same_client h.1) (same_origin h.1) (frame h.1 refl refl refl refl (λ a. refl)))
 hears_origin_at rules date old new told origin (Comes.Interim response) streaming among says h =
     leads_then (said_quietly old origin (Comes.Interim response) tt says)
     (of_asked (with_origin old origin) new (λ a. PassesInterim rules date (with_origin old origin) a response new)
@@ -1702,45 +1783,68 @@ transfers rules date old new told streaming among (inr (inr h)) = unchanged h.1
 
 -- a request is asked
 asks_for : {limits : Limits} {uses : Uses} (old new : GatewayConnection) (client : StreamConnection)
-    (head : RequestHead) (outgoing : Outgoing) → StreamSteps.Says old.client (Is.Head head) client
+    (head : RequestHead) (outgoing : Outgoing) (rules : Rules) → IsIn rules uses.rules
+    → IsDecision rules old.peer head (Decides.Send outgoing) → StreamSteps.Says old.client (Is.Head head) client
     → new ≡ record (begun (with_client old client)) {
       asked = Some (record { head = head; outgoing = outgoing });
       stage = At.Asking;
     } → Leads limits uses old new
-asks_for {limits} {uses} old new client head outgoing says is = λ p x.
+asks_for {limits} {uses} old new client head outgoing rules among decided says is = λ p x.
+    let a : AskedRequest = record { head = head; outgoing = outgoing } in
     let q : Stream.Past = Stream.tell (Is.Head head) p in
     record {
       past = q;
       held = record {
         loose = record {
+          peer = same_peer is ∙ x.loose.peer;
           reached = subst (λ (m : StreamConnection). Stream.IsReached limits m q) (sym (same_client is))
               (Stream.Said old.client client p (Is.Head head) x.loose.reached says);
           served = tell_served limits uses (Is.Head head) p x.loose.served;
           origin = subst (OriginIn limits) (sym (same_origin is)) x.loose.origin;
         };
         tied = subst (λ (s : Stage). TiedAt limits uses s new q) (sym (same_stage is))
-            (record { a = record { head = head; outgoing = outgoing }; asked = same_asked is; head = refl });
+            (record {
+              a = a;
+              asked = same_asked is;
+              head = refl;
+              decided = (
+                rules,
+                among,
+                subst (λ (peer : Peer). IsDecision rules peer head (Decides.Send outgoing)) x.loose.peer decided,
+              );
+              fields = inl (same_fields a is);
+            });
       };
       received = refl;
       sent = refl;
     }
 
-follows_head : {limits : Limits} {uses : Uses} (old new : GatewayConnection) (client : StreamConnection)
-    (head : RequestHead) (decision : RequestDecision) → StreamSteps.Says old.client (Is.Head head) client
-    → Follows (begun (with_client old client)) head decision new → Leads limits uses old new
-follows_head old new client head (Decides.Send outgoing) says is = asks_for old new client head outgoing says is
-follows_head old new client head (Decides.Answer own) says h =
+answers_head : {limits : Limits} {uses : Uses} (old new : GatewayConnection) (client : StreamConnection)
+    (head : RequestHead) (own : Own) → StreamSteps.Says old.client (Is.Head head) client
+    → Answers (begun (with_client old client)) own new → Leads limits uses old new
+answers_head old new client head own says h =
     freely (goes_then {b = with_client old client} (heard_client old client (Is.Head head) says)
-    (goes_then {b = begun (with_client old client)} (stays refl refl)
+    (goes_then {b = begun (with_client old client)} (stays refl refl refl)
     (answers (begun (with_client old client)) new own h)))
     (answers_free (begun (with_client old client)) new own h)
 
+follows_head : {limits : Limits} {uses : Uses} (old new : GatewayConnection) (client : StreamConnection)
+    (head : RequestHead) (rules : Rules) (decision : RequestDecision) → IsIn rules uses.rules
+    → IsDecision rules old.peer head decision → StreamSteps.Says old.client (Is.Head head) client
+    → Follows (begun (with_client old client)) head decision new → Leads limits uses old new
+follows_head old new client head rules (Decides.Send outgoing) among decided says is =
+    asks_for old new client head outgoing rules among decided says is
+follows_head old new client head rules (Decides.Answer own) among decided says h =
+    answers_head old new client head own says h
+
 considers_head : {limits : Limits} {uses : Uses} (rules : Rules) (old new : GatewayConnection)
-    (client : StreamConnection) (head : RequestHead) → StreamSteps.Says old.client (Is.Head head) client
-    → Considers rules (with_client old client) head new → Leads limits uses old new
-considers_head rules old new client head says (inl h) = follows_head old new client head h.0 says h.2
-considers_head rules old new client head says (inr h) =
-    follows_head old new client head (Decides.Answer Because.OutOfMemory) says h
+    (client : StreamConnection) (head : RequestHead) → IsIn rules uses.rules
+    → StreamSteps.Says old.client (Is.Head head) client → Considers rules (with_client old client) head new
+    → Leads limits uses old new
+considers_head rules old new client head among says (inl h) =
+    follows_head old new client head rules h.0 among h.1 says h.2
+considers_head rules old new client head among says (inr h) =
+    answers_head old new client head Because.OutOfMemory says h
 
 awaits_freely : {limits : Limits} {uses : Uses} (rules : Rules) (old new : GatewayConnection)
     (told : Option GatewayEvent) (client : StreamConnection) (event : StreamEvent)
@@ -1751,28 +1855,28 @@ awaits_freely rules old new told client event says goes free =
 
 awaits_request : {limits : Limits} {uses : Uses} (rules : Rules) (old new : GatewayConnection)
     (told : Option GatewayEvent) (client : StreamConnection) (event : StreamEvent) → old.stage ≡ At.Idle
-    → StreamSteps.Says old.client event client → Awaits rules (with_client old client) event told new
+    → IsIn rules uses.rules → StreamSteps.Says old.client event client → Awaits rules (with_client old client) event told new
     → Leads limits uses old new
-awaits_request rules old new told client Is.NeedsInput is says h =
-    awaits_freely rules old new told client Is.NeedsInput says (kept h.1 refl refl)
+awaits_request rules old new told client Is.NeedsInput is among says h =
+    awaits_freely rules old new told client Is.NeedsInput says (kept h.1 refl refl refl)
     (free_at (same_stage h.1 ∙ is) tt)
-awaits_request rules old new told client (Is.Head head) is says h =
-    considers_head rules old new client head says h.1
-awaits_request rules old new told client (Is.Content piece) is says h =
+awaits_request rules old new told client (Is.Head head) is among says h =
+    considers_head rules old new client head among says h.1
+awaits_request rules old new told client (Is.Content piece) is among says h =
     awaits_freely rules old new told client (Is.Content piece) says (same h.1) (free_at (same_stage h.1 ∙ is) tt)
-awaits_request rules old new told client (Is.End trailers) is says h =
-    awaits_freely rules old new told client (Is.End trailers) says (kept h.1 refl refl)
+awaits_request rules old new told client (Is.End trailers) is among says h =
+    awaits_freely rules old new told client (Is.End trailers) says (kept h.1 refl refl refl)
     (free_at (same_stage h.1 ∙ is) tt)
-awaits_request rules old new told client (Is.Rejected why) is says h =
+awaits_request rules old new told client (Is.Rejected why) is among says h =
     awaits_freely rules old new told client (Is.Rejected why) says
     (answers (with_client old client) new (Because.Unread why) h.1)
     (answers_free (with_client old client) new (Because.Unread why) h.1)
-awaits_request rules old new told client Is.Waits is says h =
-    awaits_freely rules old new told client Is.Waits says (kept h.1 refl refl) (free_at (same_stage h.1) tt)
-awaits_request rules old new told client Is.Switched is says h =
-    awaits_freely rules old new told client Is.Switched says (kept h.1 refl refl) (free_at (same_stage h.1) tt)
-awaits_request rules old new told client Is.Closed is says h =
-    awaits_freely rules old new told client Is.Closed says (kept h.1 refl refl) (free_at (same_stage h.1) tt)
+awaits_request rules old new told client Is.Waits is among says h =
+    awaits_freely rules old new told client Is.Waits says (kept h.1 refl refl refl) (free_at (same_stage h.1) tt)
+awaits_request rules old new told client Is.Switched is among says h =
+    awaits_freely rules old new told client Is.Switched says (kept h.1 refl refl refl) (free_at (same_stage h.1) tt)
+awaits_request rules old new told client Is.Closed is among says h =
+    awaits_freely rules old new told client Is.Closed says (kept h.1 refl refl refl) (free_at (same_stage h.1) tt)
 
 next_free : (old : GatewayConnection) (stage : Stage) → IsNext old stage → IsFree stage
 next_free old stage (inl h) = free_at h.1 tt
@@ -1780,7 +1884,7 @@ next_free old stage (inr h) = free_at h.1 tt
 
 -- a request waits again
 waits_again : {limits : Limits} {uses : Uses} (old new : GatewayConnection) (p : Stream.Past)
-    → ((new.stage ≡ At.Asking) ⊎ (new.stage ≡ At.Repeating)) → Loose limits uses new p → Waiting new p
+    → ((new.stage ≡ At.Asking) ⊎ (new.stage ≡ At.Repeating)) → Loose limits uses new p → Waiting uses new p
     → After limits uses new p
 waits_again {limits} {uses} old new p (inl is) x w = record {
   past = p;
@@ -1801,16 +1905,23 @@ repeats_again {limits} {uses} old new at is = λ p x.
     let w = subst (λ (s : Stage). TiedAt limits uses s old p) at x.tied in
     waits_again old new p (inl (same_stage is))
     (record {
+      peer = same_peer is ∙ x.loose.peer;
       reached = subst (λ (m : StreamConnection). Stream.IsReached limits m p) (sym (same_client is)) x.loose.reached;
       served = x.loose.served;
       origin = subst (OriginIn limits) (sym (same_origin is)) x.loose.origin;
     })
-    (record { a = w.a; asked = same_asked is ∙ w.asked; head = w.head })
+    (record {
+      a = w.a;
+      asked = same_asked is ∙ w.asked;
+      head = w.head;
+      decided = w.decided;
+      fields = subst (AreFieldsOf w.a) (sym (same_fields w.a is)) w.fields;
+    })
 
 steps : {limits : Limits} {uses : Uses} (rules : Rules) (date : ℕ) (stage : Stage) (old new : GatewayConnection)
     (told : Option GatewayEvent) → old.stage ≡ stage → IsIn rules uses.rules → StepsAt stage rules date old told new
     → Leads limits uses old new
-steps rules date At.Idle old new told is among h = awaits_request rules old new told h.1 h.0 is h.2 h.3
+steps rules date At.Idle old new told is among h = awaits_request rules old new told h.1 h.0 is among h.2 h.3
 steps rules date At.Asking old new told is among h = unchanged h.1
 steps rules date At.Forwarding old new told is among h =
     transfers rules date old new told (subst IsStreaming (sym is) tt) among h
@@ -1818,7 +1929,7 @@ steps rules date At.Passing old new told is among h =
     transfers rules date old new told (subst IsStreaming (sym is) tt) among h
 steps rules date At.Judging old new told is among h = unchanged h.1
 steps rules date At.Giving old new told is among h = unchanged h.1
-steps rules date At.Ended old new told is among h = freely (kept h.2 refl refl) (next_free old new.stage h.1)
+steps rules date At.Ended old new told is among h = freely (kept h.2 refl refl refl) (next_free old new.stage h.1)
 steps rules date At.Repeating old new told is among h = repeats_again old new is h.1
 steps rules date At.Switched old new told is among h = unchanged h.1
 steps rules date At.Closed old new told is among h = unchanged h.1
@@ -1848,15 +1959,16 @@ says rules date old new event among h =
 -- the request that waits is sent
 sent_on : {limits : Limits} {uses : Uses} (old new : GatewayConnection) (origin after : OriginConnection)
     (watches : Bool) (t : Traffic) (older : List Traffic) → uses.traffic ≡ t ∷ older → old.stage ≡ At.Asking
-    → ((a : AskedRequest) → old.asked ≡ Some a → Asked limits t a after)
+    → ((a : AskedRequest) → old.asked ≡ Some a → AreFieldsOf a (sent_fields old a) → Asked limits t a after)
     → new ≡ record (taking old after watches) { stage = At.Forwarding } → Leads limits uses old new
 sent_on {limits} {uses} old new origin after watches t older line at asks is = λ p x.
     let w = subst (λ (s : Stage). TiedAt limits uses s old p) at x.tied in
-    let o = asks w.a w.asked in
+    let o = asks w.a w.asked w.fields in
     record {
       past = p;
       held = record {
         loose = record {
+          peer = same_peer is ∙ x.loose.peer;
           reached = subst (λ (m : StreamConnection). Stream.IsReached limits m p) (sym (same_client is))
               x.loose.reached;
           served = x.loose.served;
@@ -1867,6 +1979,7 @@ sent_on {limits} {uses} old new origin after watches t older line at asks is = �
           record {
             asked = same_asked is ∙ w.asked;
             head = w.head;
+            decided = w.decided;
             origin = after;
             is = same_origin is;
             past = o.0;
@@ -1878,6 +1991,7 @@ sent_on {limits} {uses} old new origin after watches t older line at asks is = �
             older = older;
             traffic = line ∙ ap (λ (l : Traffic). l ∷ older) (sym o.5);
           },
+          subst (AreFieldsOf w.a) (sym (same_fields w.a is)) w.fields,
         );
       };
       received = refl;
@@ -1888,7 +2002,7 @@ continues_if : {limits : Limits} {uses : Uses} (goes : Bool) (old new : GatewayC
     → Leads limits uses old new
 continues_if false old new h = unchanged h
 continues_if true old new (inl h) =
-    client_moves (same_origin h.1) (frame h.1 refl refl refl)
+    client_moves (same_origin h.1) (frame h.1 refl refl refl refl (λ a. refl))
     (client_informs old.client new.client 100 (codes "Continue") [] h.0) (λ p r s. (refl, refl))
 continues_if true old new (inr h) =
     freely (answers_after old new h.1 (Because.Unsendable h.0) (client_refuses h.2.0) h.3)
@@ -1901,17 +2015,21 @@ sends : {limits : Limits} {uses : Uses} (old new : GatewayConnection) (origin : 
 sends old new origin watches older at r line (inl h) =
     leads_then {b = record (taking old h.0 watches) { stage = At.Forwarding }}
     (sent_on old (record (taking old h.0 watches) { stage = At.Forwarding }) origin h.0 watches (traffic_of r.0)
-    older line at (λ a is. begins_at old.asked a old origin h.0 h.1 is h.2 r) refl)
+    older line at (λ a is are. begins_at old.asked a old origin h.0 h.1 is are h.2 r) refl)
     (continues_if h.1 (record (taking old h.0 watches) { stage = At.Forwarding }) new h.3)
 sends old new origin watches older at r line (inr h) =
     freely (goes_then {b = taking old h.0 watches}
-    (origin_alone (record { step = λ held. refuses_begin_at old.asked old origin h.0 h.1 h.2 r }) refl)
+    (origin_alone (record { step = λ held. refuses_begin_at old.asked old origin h.0 h.1 h.2 r }) refl refl)
     (answers (taking old h.0 watches) new (Because.Unsent h.1) h.3))
     (answers_free (taking old h.0 watches) new (Because.Unsent h.1) h.3)
 
 settles_asked : (old new : GatewayConnection) → Settles old new → new.asked ≡ old.asked
 settles_asked old new (inl h) = same_asked h.1
 settles_asked old new (inr h) = same_asked h.3
+
+settles_peer : (old new : GatewayConnection) → Settles old new → new.peer ≡ old.peer
+settles_peer old new (inl h) = same_peer h.1
+settles_peer old new (inr h) = same_peer h.3
 
 settles_client : (old new : GatewayConnection) → Settles old new → new.client ≡ old.client
 settles_client old new (inl h) = same_client h.1
@@ -1932,6 +2050,7 @@ drops {limits} {uses} old between new at settled (inr h) = λ p x.
     let goes : OriginGoes limits old.origin between.origin = settles_origin old between settled in
     waits_again old new p (inr (same_stage h.1))
     (record {
+      peer = same_peer h.1 ∙ (settles_peer old between settled ∙ x.loose.peer);
       reached = subst (λ (m : StreamConnection). Stream.IsReached limits m p)
           (sym (same_client h.1 ∙ settles_client old between settled)) x.loose.reached;
       served = x.loose.served;
@@ -1941,6 +2060,8 @@ drops {limits} {uses} old between new at settled (inr h) = λ p x.
       a = j.a;
       asked = same_asked h.1 ∙ (settles_asked old between settled ∙ j.carries.asked);
       head = j.carries.head;
+      decided = j.carries.decided;
+      fields = inl (same_fields j.a h.1);
     })
 
 asks_again : {limits : Limits} {uses : Uses} (old new : GatewayConnection) → AsksAgain old new
@@ -1977,6 +2098,7 @@ gives {limits} {uses} old new status reason fields size among h = λ p x.
       past = q;
       held = record {
         loose = record {
+          peer = same_peer h.5 ∙ (settles_peer (with_client old h.1) h.3 h.4 ∙ x.loose.peer);
           reached = subst (λ (m : StreamConnection). Stream.IsReached limits m q)
               (sym (same_client h.5 ∙ settles_client (with_client old h.1) h.3 h.4))
               (Stream.Responded old.client h.1 p status reason (closing old.is_last fields) size x.loose.reached h.2);
@@ -2006,6 +2128,7 @@ gives_piece {limits} {uses} old new piece at puts is = λ p x.
       past = q;
       held = record {
         loose = record {
+          peer = same_peer is ∙ x.loose.peer;
           reached = Stream.Put old.client new.client p piece x.loose.reached puts;
           served = record {
             before = x.loose.served.before;
@@ -2032,6 +2155,7 @@ gives_end {limits} {uses} old new trailers h = λ p x.
       past = q;
       held = record {
         loose = record {
+          peer = same_peer h.2 ∙ x.loose.peer;
           reached = Stream.Ended old.client new.client p trailers x.loose.reached h.1;
           served = record {
             before = x.loose.served.before;
@@ -2051,13 +2175,13 @@ refuses_giving : {limits : Limits} {uses : Uses} (old new : GatewayConnection) (
 refuses_giving old new status reason fields size error (inl h) = unchanged h.2
 refuses_giving old new status reason fields size error (inr (inl h)) = unchanged h.1
 refuses_giving old new status reason fields size error (inr (inr h)) =
-    nothing_put (same_origin h.1) (frame h.1 refl refl refl) h.0.0
+    nothing_put (same_origin h.1) (frame h.1 refl refl refl refl (λ a. refl)) h.0.0
 
 refuses_in_giving : {limits : Limits} {uses : Uses} (old new : GatewayConnection) (refusal : Option WriteError)
     (error : WriteError) → RefusesInGiving refusal old error new → Leads limits uses old new
 refuses_in_giving old new refusal error (inl h) = unchanged h.2
 refuses_in_giving old new refusal error (inr h) =
-    nothing_put (same_origin h.1) (frame h.1 refl refl refl) h.0.0
+    nothing_put (same_origin h.1) (frame h.1 refl refl refl refl (λ a. refl)) h.0.0
 
 passes : {limits : Limits} {uses : Uses} (old new : GatewayConnection) → Passes old new → Leads limits uses old new
 passes {limits} {uses} old new (inl h) = λ p x.
@@ -2066,7 +2190,12 @@ passes {limits} {uses} old new (inl h) = λ p x.
     let taken : GatewayConnection = record old { heard = None } in
     let c : Carries limits uses taken p j.a (Telling j.heard.response []) = carries_kept refl refl refl j.carries in
     let loose : Loose limits uses taken p =
-        record { reached = x.loose.reached; served = x.loose.served; origin = x.loose.origin } in
+        record {
+          peer = x.loose.peer;
+          reached = x.loose.reached;
+          served = x.loose.served;
+          origin = x.loose.origin;
+        } in
     shows taken h.3.0 new h.1 j.a p h.3.1 h.3.2 loose
     (subst (λ (g : Heard). Carries limits uses taken p j.a (Telling g.response [])) same c)
     (subst (λ (g : Heard). IsHeard uses j.a g) same j.forwarded)
@@ -2095,27 +2224,39 @@ times_out Does.Content old new h =
     freely (answers old new Because.LateRequest h) (answers_free old new Because.LateRequest h)
 times_out Does.Response old new h =
     freely (answers old new Because.LateResponse h) (answers_free old new Because.LateResponse h)
-times_out Does.Passing old new is = freely (kept is refl refl) (free_at (same_stage is) tt)
-times_out Does.Giving old new is = freely (kept is refl refl) (free_at (same_stage is) tt)
-times_out Does.Draining old new is = freely (kept is refl refl) (free_at (same_stage is) tt)
+times_out Does.Passing old new is = freely (kept is refl refl refl) (free_at (same_stage is) tt)
+times_out Does.Giving old new is = freely (kept is refl refl refl) (free_at (same_stage is) tt)
+times_out Does.Draining old new is = freely (kept is refl refl refl) (free_at (same_stage is) tt)
 times_out Does.Over old new is = unchanged is
 
 -- the origin's connection is taken while none is needed
 taken_tied : (limits : Limits) (uses : Uses) (stage : Stage) (old new : GatewayConnection) (p : Stream.Past)
-    → is_passing stage ≡ false → new.asked ≡ old.asked → TiedAt limits uses stage old p
+    → is_passing stage ≡ false → new.asked ≡ old.asked
+    → ((a : AskedRequest) → sent_fields new a ≡ sent_fields old a) → TiedAt limits uses stage old p
     → TiedAt limits uses stage new p
-taken_tied limits uses At.Asking old new p still asked x = record { a = x.a; asked = asked ∙ x.asked; head = x.head }
-taken_tied limits uses At.Repeating old new p still asked x =
-    record { a = x.a; asked = asked ∙ x.asked; head = x.head }
-taken_tied limits uses At.Forwarding old new p still asked x = absurd (cc)
-taken_tied limits uses At.Judging old new p still asked x = absurd (cc)
-taken_tied limits uses At.Passing old new p still asked x = absurd (cc)
-taken_tied limits uses At.Giving old new p still asked x = x
-taken_tied limits uses At.Idle old new p still asked x = tt
-taken_tied limits uses At.Ended old new p still asked x = tt
-taken_tied limits uses At.Switched old new p still asked x = tt
-taken_tied limits uses At.Closed old new p still asked x = tt
-taken_tied limits uses At.Aborted old new p still asked x = tt
+taken_tied limits uses At.Asking old new p still asked fields x = record {
+  a = x.a;
+  asked = asked ∙ x.asked;
+  head = x.head;
+  decided = x.decided;
+  fields = subst (AreFieldsOf x.a) (sym (fields x.a)) x.fields;
+}
+taken_tied limits uses At.Repeating old new p still asked fields x = record {
+  a = x.a;
+  asked = asked ∙ x.asked;
+  head = x.head;
+  decided = x.decided;
+  fields = subst (AreFieldsOf x.a) (sym (fields x.a)) x.fields;
+}
+taken_tied limits uses At.Forwarding old new p still asked fields x = absurd (cc)
+taken_tied limits uses At.Judging old new p still asked fields x = absurd (cc)
+taken_tied limits uses At.Passing old new p still asked fields x = absurd (cc)
+taken_tied limits uses At.Giving old new p still asked fields x = x
+taken_tied limits uses At.Idle old new p still asked fields x = tt
+taken_tied limits uses At.Ended old new p still asked fields x = tt
+taken_tied limits uses At.Switched old new p still asked fields x = tt
+taken_tied limits uses At.Closed old new p still asked fields x = tt
+taken_tied limits uses At.Aborted old new p still asked fields x = tt
 
 taken : {limits : Limits} {uses : Uses} (old new : GatewayConnection) → is_passing old.stage ≡ false
     → new ≡ record old { origin = None; origin_hungry = false } → Leads limits uses old new
@@ -2125,13 +2266,14 @@ taken {limits} {uses} old new still is = λ p x.
       past = p;
       held = record {
         loose = record {
+          peer = same_peer is ∙ x.loose.peer;
           reached = subst (λ (m : StreamConnection). Stream.IsReached limits m p) (sym (same_client is))
               x.loose.reached;
           served = x.loose.served;
           origin = gone.step x.loose.origin;
         };
         tied = subst (λ (s : Stage). TiedAt limits uses s new p) (sym (same_stage is))
-            (taken_tied limits uses old.stage old new p still (same_asked is) x.tied);
+            (taken_tied limits uses old.stage old new p still (same_asked is) (λ a. same_fields a is) x.tied);
       };
       received = refl;
       sent = refl;
@@ -2143,11 +2285,34 @@ takes old new (Some origin) h = taken old new h.0 h.3
 takes old new None (inl h) = unchanged h.1
 takes old new None (inr h) = taken old new h.0 h.2
 
+-- the conditions of the request that waits are put
+conditioned : (etags since : Option FieldValue) (old new : GatewayConnection) (b : AskedRequest) → old.asked ≡ Some b
+    → sent_fields new b ≡ with_conditions etags since (fields_of b.outgoing.fields.items) → (a : AskedRequest)
+    → old.asked ≡ Some a → AreFieldsOf a (sent_fields old a) → AreFieldsOf a (sent_fields new a)
+conditioned etags since old new b is_b put a is x =
+    let same : b ≡ a = cc (sym is_b ∙ is) in
+    subst (λ (c : AskedRequest). AreFieldsOf c (sent_fields new c)) same (inr (etags, since, put))
+
 conditions : {limits : Limits} {uses : Uses} (etags since : Option FieldValue) (old new : GatewayConnection)
     → Conditions etags since old new → Leads limits uses old new
 conditions etags since old new (inl h) = unchanged h.1
-conditions etags since old new (inr h) =
-    rests (same_client h.3) (same_origin h.3) (frame h.3 refl refl refl)
+conditions {limits} {uses} etags since old new (inr h) = λ p x. record {
+  past = p;
+  held = record {
+    loose = record {
+      peer = same_peer h.3 ∙ x.loose.peer;
+      reached = subst (λ (m : StreamConnection). Stream.IsReached limits m p) (sym (same_client h.3)) x.loose.reached;
+      served = x.loose.served;
+      origin = subst (OriginIn limits) (sym (same_origin h.3)) x.loose.origin;
+    };
+    tied = subst (λ (s : Stage). TiedAt limits uses s new p) (sym (same_stage h.3))
+        (tied_on limits uses uses old.stage old new p p (grows_same uses)
+        (conditioned etags since old new h.0 h.1 h.2) (same_asked h.3) (same_heard h.3) refl refl
+        (λ a t c. carries_kept (same_asked h.3) refl (same_origin h.3) c) x.tied);
+  };
+  received = refl;
+  sent = refl;
+}
 
 -- ---- the origin's bytes
 
@@ -2173,21 +2338,23 @@ changes_origin : (limits : Limits) (uses now : Uses) (P : OriginConnection → O
 changes_origin limits uses now P old new p grows step h held =
     let goes : OriginGoes limits old.origin new.origin = on_origin P old.origin new.origin
         (λ before after x r. let n = step before after r.0 x r.1 in (n.0, n.1)) h.0 in
-    let f : Frame old new = frame h.1 refl refl refl in
+    let f : Frame old new = frame h.1 refl refl refl refl (λ a. refl) in
     record {
       loose = record {
+        peer = f.peer ∙ (held.loose.peer ∙ sym grows.peer);
         reached = subst (λ (m : StreamConnection). Stream.IsReached limits m p) (sym (same_client h.1))
             held.loose.reached;
         served = served_grows grows held.loose.served;
         origin = goes.step held.loose.origin;
       };
       tied = subst (λ (s : Stage). TiedAt limits now s new p) (sym f.stage)
-          (tied_on limits uses now old.stage old new p p grows f.asked f.heard refl refl (λ a t c.
+          (tied_on limits uses now old.stage old new p p grows (frame_fields f) f.asked f.heard refl refl (λ a t c.
           let x = on_some P old.origin new.origin c.origin c.is h.0 in
           let n = step c.origin x.0 c.past x.2 c.reached in
           record {
             asked = f.asked ∙ c.asked;
             head = c.head;
+            decided = decided_grows a grows c.decided;
             origin = x.0;
             is = x.1;
             past = n.0;
@@ -2279,6 +2446,7 @@ client_bytes : (limits : Limits) (uses : Uses) (old new : GatewayConnection) (p 
     → Held limits uses new q
 client_bytes limits uses old new p q reached served origin f head final h = record {
   loose = record {
+    peer = f.peer ∙ h.loose.peer;
     reached = reached;
     served = served;
     origin = subst (OriginIn limits) (sym origin) h.loose.origin;
@@ -2286,17 +2454,33 @@ client_bytes limits uses old new p q reached served origin f head final h = reco
   tied = tied_by limits uses old new p q f head final (λ a t c. carries_kept f.asked head origin c) h.tied;
 }
 
+waiting_grows : {old new : Uses} {m : GatewayConnection} {p : Stream.Past} → Grows old new → Waiting old m p
+    → Waiting new m p
+waiting_grows grows x = record {
+  a = x.a;
+  asked = x.asked;
+  head = x.head;
+  decided = decided_grows x.a grows x.decided;
+  fields = x.fields;
+}
+
 loose_grows : {limits : Limits} {old new : Uses} {m : GatewayConnection} {p : Stream.Past} → Grows old new
     → Loose limits old m p → Loose limits new m p
-loose_grows grows x = record { reached = x.reached; served = served_grows grows x.served; origin = x.origin }
+loose_grows grows x = record {
+  peer = x.peer ∙ sym grows.peer;
+  reached = x.reached;
+  served = served_grows grows x.served;
+  origin = x.origin;
+}
 
 held_grows : {limits : Limits} {old new : Uses} {m : GatewayConnection} {p : Stream.Past} → Grows old new
     → new.traffic ≡ old.traffic → Held limits old m p → Held limits new m p
 held_grows {limits} {old} {new} {m} {p} grows same h = record {
   loose = loose_grows grows h.loose;
-  tied = tied_on limits old new m.stage m m p p grows refl refl refl refl (λ a t c. record {
+  tied = tied_on limits old new m.stage m m p p grows (λ a is x. x) refl refl refl refl (λ a t c. record {
     asked = c.asked;
     head = c.head;
+    decided = decided_grows a grows c.decided;
     origin = c.origin;
     is = c.is;
     past = c.past;
@@ -2316,11 +2500,12 @@ runs {limits} (Opened peer m new) = record {
   client = Stream.no_past;
   held = record {
     loose = record {
+      peer = new.peer_is;
       reached = Stream.Opened m.client new.client;
       served = record { before = tt; now = tt };
       origin = subst (OriginIn limits) (sym new.origin) tt;
     };
-    tied = free_tied limits no_past.uses m.stage m Stream.no_past (free_at new.stage tt);
+    tied = free_tied limits (no_past peer).uses m.stage m Stream.no_past (free_at new.stage tt);
   };
   received = refl;
   sent = refl;
@@ -2333,12 +2518,12 @@ runs {limits} (Received old new p bytes before going h) =
       held = client_bytes limits p.uses old new r.client q
           (Stream.Received old.client new.client r.client bytes r.held.loose.reached going h.0)
           (record { before = r.held.loose.served.before; now = r.held.loose.served.now }) (same_origin h.1)
-          (frame h.1 refl refl refl) refl refl r.held;
+          (frame h.1 refl refl refl refl (λ a. refl)) refl refl r.held;
       received = ap (λ (t : List ℕ). t ++ bytes) r.received;
       sent = r.sent;
     }
 runs (Finished old new p before h) =
-    on (client_moves (same_origin h.1) (frame h.1 refl refl refl) (client_finishes old.client new.client h.0)
+    on (client_moves (same_origin h.1) (frame h.1 refl refl refl refl (λ a. refl)) (client_finishes old.client new.client h.0)
     (λ p r s. (refl, refl))) (runs before)
 runs {limits} (Written old new p count before within h) =
     let r = runs before in
@@ -2348,7 +2533,7 @@ runs {limits} (Written old new p count before within h) =
       held = client_bytes limits p.uses old new r.client q
           (Stream.Written old.client new.client r.client count r.held.loose.reached within h.0)
           (record { before = r.held.loose.served.before; now = r.held.loose.served.now }) (same_origin h.1)
-          (frame h.1 refl refl refl) refl refl r.held;
+          (frame h.1 refl refl refl refl (λ a. refl)) refl refl r.held;
       received = r.received;
       sent = ap (λ (t : List ℕ). t ++ take count old.client.output.items) r.sent;
     }
@@ -2399,7 +2584,8 @@ runs {limits} (Sent old new p origin o watches before at reached h) =
       held = record {
         loose = loose_grows (grows_traffic (traffic_of o) p.uses) r.held.loose;
         tied = subst (λ (s : Stage). TiedAt limits uses s old r.client) (sym at)
-            (subst (λ (s : Stage). TiedAt limits p.uses s old r.client) at r.held.tied);
+            (waiting_grows (grows_traffic (traffic_of o) p.uses)
+            (subst (λ (s : Stage). TiedAt limits p.uses s old r.client) at r.held.tied));
       };
       received = r.received;
       sent = r.sent;
@@ -2428,7 +2614,7 @@ runs (Passed old new p before h) = on (passes old new h) (runs before)
 runs (TimedOut old new p before h) = on (times_out (phase_of old) old new h) (runs before)
 runs (Taken old new p origin before h) = on (takes old new origin h) (runs before)
 runs (Closing old new p before is) =
-    on (rests (same_client is) (same_origin is) (frame is refl refl refl)) (runs before)
+    on (rests (same_client is) (same_origin is) (frame is refl refl refl refl (λ a. refl))) (runs before)
 
 pub record Ran (limits : Limits) (m : GatewayConnection) (p : Past) : Type 0 where
   pub client : Stream.Past

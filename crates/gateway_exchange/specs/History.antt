@@ -20,7 +20,9 @@ use Rattle.server_stream.specs.Steps as StreamSteps
 use Rattle.server_stream.specs.Exchanges.{Exchange, Final, Response, Begun}
 use Rattle.server_stream.specs.declared.event.RequestHead.{RequestHead}
 use Rattle.gateway_exchange.specs.Own.{closing, own_fields, own_status}
-use Rattle.gateway_exchange.specs.Passing.{IsTrailers, answered}
+use Rattle.gateway_exchange.specs.Decisions.{IsDecision}
+use Rattle.gateway_exchange.specs.Passing.{IsTrailers, answered, with_conditions}
+use Rattle.gateway_exchange.specs.declared.decision.RequestDecision.TheVariants.{Send}
 use Rattle.gateway_exchange.specs.Steps.{Answers, AsksAgain, ChangesClient, ChangesOrigin, Conditions, Connects}
 use Rattle.gateway_exchange.specs.Steps.{EndsGiving, FinishesClient, Gives, HandsOutOrigin, IsNew, Passes, RefusesGiving}
 use Rattle.gateway_exchange.specs.Steps.{ReceivesOrigin, RefusesInGiving, Says, Sends, Settles, TakesClient, TakesOrigin}
@@ -44,9 +46,10 @@ pub record Traffic : Type 0 where
   pub received : List ℕ
   pub sent : List ℕ
 
--- what the caller passed in: the rules of its calls, the heads of the responses that it gave, and what went over each
--- connection to an origin, of which the last one that was handed in is the first here
+-- what the caller passed in: who the client is, the rules of its calls, the heads of the responses that it gave, and
+-- what went over each connection to an origin, of which the last one that was handed in is the first here
 pub record Uses : Type 0 where
+  pub peer : Peer
   pub rules : List Rules
   pub given : List GivenHead
   pub traffic : List Traffic
@@ -57,8 +60,9 @@ pub record Past : Type 0 where
   pub sent : List ℕ
   pub uses : Uses
 
-abbrev pub no_past : Past
-no_past = record { received = []; sent = []; uses = record { rules = []; given = []; traffic = [] } }
+abbrev pub no_past : Peer → Past
+no_past peer =
+    record { received = []; sent = []; uses = record { peer = peer; rules = []; given = []; traffic = [] } }
 
 abbrev pub with_rules : Rules → Uses → Uses
 with_rules rules uses = record uses { rules = rules ∷ uses.rules }
@@ -103,7 +107,7 @@ IsOriginReached limits origin = (p : Origin.Past) × Origin.IsReached limits ori
 -- a history of calls led to this connection, and this was received and written in it; each connection to an origin that
 -- was handed in had such a history too
 pub data IsReached (limits : Limits) : GatewayConnection → Past → Type 0 where
-  Opened : (peer : Peer) (m : GatewayConnection) → IsNew limits peer m → IsReached limits m no_past
+  Opened : (peer : Peer) (m : GatewayConnection) → IsNew limits peer m → IsReached limits m (no_past peer)
   Received : (old new : GatewayConnection) (p : Past) (bytes : List ℕ) → IsReached limits old p
       → old.client.ended ≡ false → TakesClient old bytes new
       → IsReached limits new (record p { received = p.received ++ bytes })
@@ -180,9 +184,21 @@ IsGiven uses r =
     (is_last : Bool) × (fields : List Header) × (r.headers ≡ closing is_last fields)
     × IsIn (record { status = r.status; reason = r.reason; fields = fields; size = r.size }) uses.given
 
--- a request for a server is the one that is sent for this
+-- the request is sent so by rules that were passed in
+abbrev pub IsDecided : Uses → AskedRequest → Type 0
+IsDecided uses a = (rules : Rules) × IsIn rules uses.rules × IsDecision rules uses.peer a.head (Send a.outgoing)
+
+-- these are the fields of the request as it is sent, maybe with conditions that the caller puts
+abbrev pub AreFieldsOf : AskedRequest → List Header → Type 0
+AreFieldsOf a fields =
+    (fields ≡ fields_of a.outgoing.fields.items)
+    ⊎ ((etags : Option FieldValue) × (since : Option FieldValue)
+    × (fields ≡ with_conditions etags since (fields_of a.outgoing.fields.items)))
+
+-- what was sent to the origin is this request
 abbrev pub IsFor : AskedRequest → Request → Type 0
-IsFor a request = (request.method ≡ a.head.method) × (request.target ≡ a.outgoing.target)
+IsFor a request =
+    (request.method ≡ a.head.method) × (request.target ≡ a.outgoing.target) × AreFieldsOf a request.headers
 
 -- what went over a connection is a first part of this
 abbrev pub IsFrontOf : Traffic → Traffic → Type 0
@@ -232,6 +248,7 @@ EndsAs uses h trailers sent = ⊥
 pub record IsPassedOn (limits : Limits) (uses : Uses) (head : RequestHead) (r : Response) : Type 0 where
   pub asked : AskedRequest
   pub head_is : asked.head ≡ head
+  pub decided : IsDecided uses asked
   pub heard : Heard
   pub forwarded : IsHeard uses asked heard
   pub content : List ℕ
