@@ -17,11 +17,11 @@ use Rattle.gateway_connection.specs.Steps as OriginSteps
 use Rattle.gateway_connection.specs.declared.origin.OriginConnection.{OriginConnection}
 use Rattle.server_stream.specs.History as Stream
 use Rattle.server_stream.specs.Steps as StreamSteps
-use Rattle.server_stream.specs.Exchanges.{Bare, Exchange, Final, Response, Begun}
+use Rattle.server_stream.specs.Exchanges.{Bare, Exchange, Final, Response, Begun, Switched}
 use Rattle.server_stream.specs.declared.event.RequestHead.{RequestHead}
 use Rattle.gateway_exchange.specs.Own.{closing, own_fields, own_status}
 use Rattle.gateway_exchange.specs.Decisions.{IsDecision}
-use Rattle.gateway_exchange.specs.Passing.{IsTrailers, answered, with_conditions}
+use Rattle.gateway_exchange.specs.Passing.{IsSwitched, IsTrailers, answered, with_conditions}
 use Rattle.gateway_exchange.specs.declared.decision.RequestDecision.TheVariants.{Send}
 use Rattle.gateway_exchange.specs.Steps.{Answers, AsksAgain, ChangesClient, ChangesOrigin, Conditions, Connects}
 use Rattle.gateway_exchange.specs.Steps.{EndsGiving, FinishesClient, Gives, HandsOutOrigin, IsNew, Passes, RefusesGiving}
@@ -307,6 +307,35 @@ AreServed limits uses [] = ⊤
 AreServed limits uses (e ∷ later) =
     IsServed limits uses e.head e.response × AreInterim limits uses e.head e.interim × AreServed limits uses later
 
+-- The response that ends HTTP is forwarded: one of the connections to an origin that were handed in told it of this
+-- request.
+pub record IsSwitchPassedOn (limits : Limits) (uses : Uses) (head : RequestHead) (b : Bare) : Type 0 where
+  pub asked : AskedRequest
+  pub head_is : asked.head ≡ head
+  pub decided : IsDecided uses asked
+  pub rules : Rules
+  pub among : IsIn rules uses.rules
+  pub date : ℕ
+  pub response : OriginResponse
+  pub fields : List Header
+  pub switches : IsSwitched rules.gateway date asked response fields
+  pub status : b.status ≡ response.status
+  pub reason : b.reason ≡ response.reason
+  pub headers : b.headers ≡ fields
+  pub origin : OriginConnection
+  pub past : Origin.Past
+  pub reached : Origin.IsReached limits origin past
+  pub traffic : WentOver (traffic_of past) uses.traffic
+  pub request : Request
+  pub sends : IsFor asked request
+  pub interim : List OriginResponse
+  pub told : past.now ≡ now_of (Some []) request interim response []
+
+-- it is that, or the 200 with which the caller answers a CONNECT
+abbrev pub IsSwitch : Limits → Uses → RequestHead → Bare → Type 0
+IsSwitch limits uses head b =
+    ((b.status ≡ 200) × (b.reason ≡ codes "OK") × (b.headers ≡ [])) ⊎ IsSwitchPassedOn limits uses head b
+
 -- the head of the request now, if one was told
 abbrev pub head_of : Stream.Heard → Option RequestHead
 head_of Stream.Nothing = None
@@ -315,6 +344,7 @@ head_of (Stream.Whole head content trailers) = Some head
 
 abbrev pub IsServedNow : Limits → Uses → Option RequestHead → Final → Type 0
 IsServedNow limits uses (Some head) (Begun r) = IsServed limits uses head r
+IsServedNow limits uses (Some head) (Switched b) = IsSwitch limits uses head b
 IsServedNow limits uses head final = ⊤
 
 abbrev pub AreInterimNow : Limits → Uses → Option RequestHead → List Bare → Type 0
