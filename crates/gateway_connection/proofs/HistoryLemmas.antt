@@ -805,3 +805,20 @@ pub end_late : {limits : Limits} {old : OriginConnection} {p : Past} (new : Orig
 end_late {limits} {old} {p} new r interim trailers reached is says =
     let found = found_at old.fault old new (Is.End trailers) says (λ fault is. absurd (cc)) in
     end_found old new trailers found.1 (reads_when (Asked r interim) reached found.0 is)
+
+-- an interim response isn't told after a final one, and nor is one that ends HTTP
+pub interim_late : {limits : Limits} {old : OriginConnection} {p : Past} (new : OriginConnection) (r : Request)
+    (interim : List OriginResponse) (response next : OriginResponse) (content : List ℕ) → IsReached limits old p
+    → p.now ≡ Hears r interim response content → ¬ (SaysAt old.fault old (Is.Interim next) new)
+interim_late {limits} {old} {p} new r interim response next content reached is says =
+    let found = found_at old.fault old new (Is.Interim next) says (λ fault is. absurd (cc)) in
+    let body = reads_when (Hears r interim response content) reached found.0 is in
+    let clash : Reads.Body body.0 ≡ Reads.Head = sym body.1 ∙ found.1.1.due.0 in absurd (cc)
+
+pub switch_late : {limits : Limits} {old : OriginConnection} {p : Past} (new : OriginConnection) (r : Request)
+    (interim : List OriginResponse) (response next : OriginResponse) (content : List ℕ) → IsReached limits old p
+    → p.now ≡ Hears r interim response content → ¬ (SaysAt old.fault old (Is.Switched next) new)
+switch_late {limits} {old} {p} new r interim response next content reached is says =
+    let found = found_at old.fault old new (Is.Switched next) says (λ fault is. absurd (cc)) in
+    let body = reads_when (Hears r interim response content) reached found.0 is in
+    let clash : Reads.Body body.0 ≡ Reads.Head = sym body.1 ∙ found.1.2.due.0 in absurd (cc)

@@ -14,13 +14,14 @@ use Rattle.gateway_connection.specs.declared.origin.OriginConnection.{OriginConn
 use Rattle.gateway_connection.specs.declared.{event.OriginEvent.OriginEvent, event.OriginResponse.OriginResponse}
 use Rattle.gateway_connection.specs.declared.event.OriginFault.{OriginFault}
 use Rattle.gateway_connection.specs.Exchanges.{Request}
-use Rattle.gateway_connection.proofs.HistoryLemmas.{content_late, end_late, heads_once, says_final}
+use Rattle.gateway_connection.proofs.HistoryLemmas.{content_late, end_late, heads_once, interim_late}
+use Rattle.gateway_connection.proofs.HistoryLemmas.{says_final, switch_late}
 use Rattle.http1.specs.Client as Http
 use Rattle.gateway_messages.specs.Responses as Responses
-use Rattle.gateway_exchange.specs.Passing.{IsTrailers, PutsResponse, with_conditions}
+use Rattle.gateway_exchange.specs.Passing.{IsSwitched, IsTrailers, PutsResponse, answered, with_conditions}
 use Rattle.gateway_exchange.specs.Decisions.{IsDecision}
 use Rattle.gateway_exchange.specs.declared.decision.Outgoing.{Outgoing}
-use Rattle.gateway_messages.specs.Responses.{is_known_to}
+use Rattle.gateway_messages.specs.Responses.{IsForwardedResponse, is_known_to}
 use Rattle.gateway_messages.specs.declared.protocol.Protocol.{Protocol}
 use Rattle.gateway_messages.specs.declared.protocol.Protocol.TheVariants as Speaks
 use Rattle.gateway_parts.specs.Messages.{protocol_of}
@@ -30,7 +31,8 @@ use Rattle.server_stream.specs.Steps as StreamSteps
 use Rattle.server_stream.specs.declared.connection.StreamConnection.{StreamConnection}
 use Rattle.server_stream.specs.declared.{event.RequestHead.RequestHead, event.StreamEvent.StreamEvent}
 use Rattle.gateway_exchange.specs.History.{AreServed, HasHead, IsFor, IsGiven, IsHeard, IsIn, IsPassedOn, IsServed}
-use Rattle.gateway_exchange.specs.History.{AreFieldsOf, EndsAs, GivenHead, IsDecided, IsFrontOf, IsServedNow, Served, Traffic, Uses, WentOver}
+use Rattle.gateway_exchange.specs.History.{AreFieldsOf, AreInterim, AreInterimNow, IsInterim, IsSwitch, own_interim}
+use Rattle.gateway_exchange.specs.History.{EndsAs, GivenHead, IsDecided, IsFrontOf, IsServedNow, Served, Traffic, Uses, WentOver}
 use Rattle.gateway_exchange.specs.History.{goes_over, head_of, no_past, on_last, receives, traffic_of, with_given, with_rules}
 use Rattle.gateway_exchange.specs.History.{with_traffic, writes, written_of}
 use Rattle.gateway_exchange.specs.History.{IsOriginReached, IsReached, OriginIn, Past, Opened, Received, Finished}
@@ -112,37 +114,54 @@ module _ (limits : Limits) (uses : Uses) where
   all_append : (es later : List Exchange) → AreServed limits uses es → AreServed limits uses later
       → AreServed limits uses (es ++ later)
   all_append [] later before after = after
-  all_append (e ∷ es) later before after = (before.0, all_append es later before.1 after)
+  all_append (e ∷ es) later before after = (before.0, before.1, all_append es later before.2 after)
 
   over_with_served : (head : RequestHead) (content : List ℕ) (trailers : Entries FieldValue) (interim : List Bare)
-      (final : Final) → IsServedNow limits uses (Some head) final
+      (final : Final) → AreInterim limits uses head interim → IsServedNow limits uses (Some head) final
       → AreServed limits uses (Stream.over_with head content trailers interim final)
-  over_with_served head content trailers interim (Begun r) served = (served, tt)
-  over_with_served head content trailers interim Due served = tt
-  over_with_served head content trailers interim (Switched b) served = tt
+  over_with_served head content trailers interim (Begun r) first served = (served, first, tt)
+  over_with_served head content trailers interim Due first served = tt
+  over_with_served head content trailers interim (Switched b) first served = tt
 
-  over_served : (heard : Stream.Heard) (a : Answer) → IsServedNow limits uses (head_of heard) a.final
-      → AreServed limits uses (Stream.over heard a)
-  over_served (Stream.Whole head content trailers) a served =
-      over_with_served head content trailers a.interim a.final served
-  over_served Stream.Nothing a served = tt
-  over_served (Stream.Part head content) a served = tt
+  over_served : (heard : Stream.Heard) (a : Answer) → AreInterimNow limits uses (head_of heard) a.interim
+      → IsServedNow limits uses (head_of heard) a.final → AreServed limits uses (Stream.over heard a)
+  over_served (Stream.Whole head content trailers) a first served =
+      over_with_served head content trailers a.interim a.final first served
+  over_served Stream.Nothing a first served = tt
+  over_served (Stream.Part head content) a first served = tt
 
   -- the responses up to the one now
   before_next : (p : Stream.Past) → Served limits uses p
       → AreServed limits uses (p.before ++ Stream.over p.heard p.answer)
-  before_next p served = all_append p.before _ served.before (over_served p.heard p.answer served.now)
+  before_next p served = all_append p.before _ served.before (over_served p.heard p.answer served.interim served.now)
 
   reject_served : (heard : Stream.Heard) (p : Stream.Past) → Served limits uses p
       → Served limits uses (Stream.reject_at heard p)
   reject_served Stream.Nothing p served = served
   reject_served (Stream.Part head content) p served = served
-  reject_served (Stream.Whole head content trailers) p served = record { before = before_next p served; now = tt }
+  reject_served (Stream.Whole head content trailers) p served =
+      record { before = before_next p served; interim = tt; now = tt }
 
   now_stays : (old new : Option RequestHead) (final : Final) → new ≡ old → IsServedNow limits uses old final
       → IsServedNow limits uses new final
   now_stays old new final is served =
       subst (λ (head : Option RequestHead). IsServedNow limits uses head final) (sym is) served
+
+  interim_stays : (old new : Option RequestHead) (interim : List Bare) → new ≡ old
+      → AreInterimNow limits uses old interim → AreInterimNow limits uses new interim
+  interim_stays old new interim is told =
+      subst (λ (head : Option RequestHead). AreInterimNow limits uses head interim) (sym is) told
+
+  interim_append : (head : RequestHead) (interim : List Bare) (b : Bare) → AreInterim limits uses head interim
+      → IsInterim limits uses head b → AreInterim limits uses head (interim ++ b ∷ [])
+  interim_append head [] b before is = (is, tt)
+  interim_append head (first ∷ later) b before is = (before.0, interim_append head later b before.1 is)
+
+  interim_more : (head : Option RequestHead) (interim : List Bare) (b : Bare) → AreInterimNow limits uses head interim
+      → ((asked : RequestHead) → head ≡ Some asked → IsInterim limits uses asked b)
+      → AreInterimNow limits uses head (interim ++ b ∷ [])
+  interim_more (Some head) interim b before is = interim_append head interim b before (is head refl)
+  interim_more None interim b before is = tt
 
   content_head : (piece : List ℕ) (heard : Stream.Heard) → head_of (Stream.with_content piece heard) ≡ head_of heard
   content_head piece Stream.Nothing = refl
@@ -158,14 +177,19 @@ module _ (limits : Limits) (uses : Uses) where
   tell_served : (event : StreamEvent) (p : Stream.Past) → Served limits uses p
       → Served limits uses (Stream.tell event p)
   tell_served Is.NeedsInput p served = served
-  tell_served (Is.Head head) p served = record { before = before_next p served; now = tt }
+  tell_served (Is.Head head) p served =
+      record { before = before_next p served; interim = tt; now = tt }
   tell_served (Is.Content piece) p served = record {
     before = served.before;
+    interim = interim_stays (head_of p.heard) (head_of (Stream.with_content piece p.heard)) p.answer.interim
+        (content_head piece p.heard) served.interim;
     now = now_stays (head_of p.heard) (head_of (Stream.with_content piece p.heard)) p.answer.final
         (content_head piece p.heard) served.now;
   }
   tell_served (Is.End trailers) p served = record {
     before = served.before;
+    interim = interim_stays (head_of p.heard) (head_of (Stream.with_end trailers p.heard)) p.answer.interim
+        (end_head trailers p.heard) served.interim;
     now = now_stays (head_of p.heard) (head_of (Stream.with_end trailers p.heard)) p.answer.final
         (end_head trailers p.heard) served.now;
   }
@@ -174,9 +198,11 @@ module _ (limits : Limits) (uses : Uses) where
   tell_served Is.Closed p served = served
   tell_served (Is.Rejected why) p served = reject_served p.heard p served
 
-  now_switched : (head : Option RequestHead) (b : Bare) → IsServedNow limits uses head (Switched b)
-  now_switched (Some head) b = tt
-  now_switched None b = tt
+  now_switched : (head : Option RequestHead) (b : Bare)
+      → ((asked : RequestHead) → head ≡ Some asked → IsSwitch limits uses asked b)
+      → IsServedNow limits uses head (Switched b)
+  now_switched (Some head) b is = is head refl
+  now_switched None b is = tt
 
   now_begun : (head : Option RequestHead) (r : Response)
       → ((asked : RequestHead) → head ≡ Some asked → IsServed limits uses asked r)
@@ -237,29 +263,32 @@ client_says {limits} {uses} old new event says = λ p r s. record {
   sent = tell_sent event p;
 }
 
-abbrev client_informs : {limits : Limits} {uses : Uses} (old new : StreamConnection) (status : ℕ) (reason : List ℕ)
-    (headers : List Header) → StreamSteps.Informs old status reason headers new → ClientGoes limits uses old new
-client_informs {limits} old new status reason headers informs = λ p r s. record {
-  past = Stream.informs (record { minor = 1; status = status; reason = reason; headers = headers }) p;
-  reached = Stream.Informed old new p status reason headers r informs;
-  served = record { before = s.before; now = s.now };
+abbrev client_continues : {limits : Limits} {uses : Uses} (old new : StreamConnection)
+    → StreamSteps.Informs old 100 (codes "Continue") [] new → ClientGoes limits uses old new
+client_continues {limits} {uses} old new informs = λ p r s. record {
+  past = Stream.informs own_interim p;
+  reached = Stream.Informed old new p 100 (codes "Continue") [] r informs;
+  served = record {
+    before = s.before;
+    interim = interim_more limits uses (head_of p.heard) p.answer.interim own_interim s.interim (λ head is. inl refl);
+    now = s.now;
+  };
   received = refl;
   sent = refl;
 }
 
-client_switches : {limits : Limits} {uses : Uses} (old new : StreamConnection) (status : ℕ) (reason : List ℕ)
-    (headers : List Header) → StreamSteps.Switches old status reason headers new → ClientGoes limits uses old new
-client_switches {limits} {uses} old new status reason headers switches = λ p r s.
-    let b : Bare = record {
-      minor = old.server.request.minor;
-      status = status;
-      reason = reason;
-      headers = headers;
-    } in
+client_connects : {limits : Limits} {uses : Uses} (old new : StreamConnection)
+    → StreamSteps.Switches old 200 (codes "OK") [] new → ClientGoes limits uses old new
+client_connects {limits} {uses} old new switches = λ p r s.
+    let b : Bare = record { minor = old.server.request.minor; status = 200; reason = codes "OK"; headers = [] } in
     record {
       past = Stream.answers (Switched b) p;
-      reached = Stream.Handed old new p status reason headers r switches;
-      served = record { before = s.before; now = now_switched limits uses (head_of p.heard) b };
+      reached = Stream.Handed old new p 200 (codes "OK") [] r switches;
+      served = record {
+        before = s.before;
+        interim = s.interim;
+        now = now_switched limits uses (head_of p.heard) b (λ head is. inl (refl, refl, refl));
+      };
       received = refl;
       sent = refl;
     }
@@ -287,6 +316,7 @@ own_begins {limits} {uses} is_last old new own responds = λ p r s. record {
       responds;
   served = record {
     before = s.before;
+    interim = s.interim;
     now = now_begun limits uses (head_of p.heard) (own_response is_last old own)
         (λ head is. inl (own, is_last, refl, refl, refl, refl, refl));
   };
@@ -306,6 +336,7 @@ own_goes {limits} {uses} is_last old new own h = λ p r s.
           h.2;
       served = record {
         before = s.before;
+        interim = s.interim;
         now = now_begun limits uses (head_of p.heard) b (λ head is. inl (own, is_last, refl, refl, refl, refl, refl));
       };
       received = refl;
@@ -506,8 +537,11 @@ refuses_begin : {limits : Limits} (a : AskedRequest) (fields : List Header) (old
     (error : WriteError) → RefusesBegin a fields old error new → IsOriginReached limits old
     → IsOriginReached limits new
 refuses_begin a fields old new error (inl h) = refuses_request a fields old new error h
-refuses_begin a fields old new error (inr h) = λ r. origin_refuses h.2.0 (_, Origin.Begun old h.0 r.0 a.head.method a.outgoing.target fields
-    (request_size a.outgoing.framing) r.1 h.1)
+refuses_begin a fields old new error (inr h) = λ r. origin_refuses h.2.0 (
+  _,
+  Origin.Begun old h.0 r.0 a.head.method a.outgoing.target fields
+      (request_size a.outgoing.framing) r.1 h.1,
+)
 
 begins_at : {limits : Limits} (asked : Option AskedRequest) (a : AskedRequest) (m : GatewayConnection)
     (old new : OriginConnection) (goes : Bool) → asked ≡ Some a → AreFieldsOf a (sent_fields m a)
@@ -516,7 +550,7 @@ begins_at {limits} (Some b) a m old new goes is are h =
     let same : b ≡ a = cc in
     let are_b = subst (λ (x : AskedRequest). AreFieldsOf x (sent_fields m x)) (sym same) are in
     λ r. subst (λ (x : AskedRequest). Asked limits (traffic_of r.0) x new) same
-        (begins b (sent_fields m b) m.whole old new are_b h.0 r)
+    (begins b (sent_fields m b) m.whole old new are_b h.0 r)
 begins_at None a m old new goes is are h = absurd (cc)
 
 refuses_begin_at : {limits : Limits} (asked : Option AskedRequest) (m : GatewayConnection)
@@ -582,18 +616,6 @@ switch_fails : {limits : Limits} {uses : Uses} (old : GatewayConnection) (client
 switch_fails old client response fields error (inl p) = client_same p.0
 switch_fails old client response fields error (inr p) = client_refuses p.0
 
-switches_to : {limits : Limits} {uses : Uses} (old new : GatewayConnection) (response : OriginResponse) (fields : List Header)
-    → SwitchesTo old response fields new → Goes limits uses old new
-switches_to old new response fields (inl h) =
-    client_alone (client_switches old.client new.client response.status response.reason fields h.0) (same_origin h.1) (same_peer h.1)
-switches_to old new response fields (inr h) =
-    fails_after old new h.1 (Because.Unsendable h.0) (switch_fails old h.1 response fields h.0 h.2) h.3
-
-passes_switch : {limits : Limits} {uses : Uses} (rules : Rules) (date : ℕ) (old new : GatewayConnection) (a : AskedRequest)
-    (response : OriginResponse) → PassesSwitch rules date old a response new → Goes limits uses old new
-passes_switch rules date old new a response (inl h) = switches_to old new response h.0 h.2
-passes_switch rules date old new a response (inr h) = fails old new h.0 h.2
-
 -- ---- the caller's calls
 
 settles : {limits : Limits} {uses : Uses} (old new : GatewayConnection) → Settles old new → Goes limits uses old new
@@ -602,7 +624,7 @@ settles old new (inr h) = origin_alone (origin_says old.origin new.origin h.1 h.
 
 connects_as : {limits : Limits} {uses : Uses} (old new : GatewayConnection) → ConnectsAs old new → Goes limits uses old new
 connects_as old new (inl h) =
-    client_alone (client_switches old.client new.client 200 (codes "OK") [] h.0) (same_origin h.1) (same_peer h.1)
+    client_alone (client_connects old.client new.client h.0) (same_origin h.1) (same_peer h.1)
 connects_as old new (inr h) = answers_after old new h.1 (Because.Unsendable h.0) (client_refuses h.2.0) h.3
 
 ends_idle_as : {limits : Limits} {uses : Uses} (old new : GatewayConnection) (event : StreamEvent) → EndsIdleAs old event new
@@ -967,23 +989,84 @@ response_grows head r grows (inr (inr x)) = inr (inr (record {
   told = x.told;
 }))
 
+one_grows : (limits : Limits) (old new : Uses) (head : RequestHead) (b : Bare) → Grows old new
+    → IsInterim limits old head b → IsInterim limits new head b
+one_grows limits old new head b grows (inl own) = inl own
+one_grows limits old new head b grows (inr x) = inr (record {
+  asked = x.asked;
+  head_is = x.head_is;
+  decided = decided_grows x.asked grows x.decided;
+  heard = x.heard;
+  forwarded = heard_grows x.asked x.heard grows x.forwarded;
+  puts = x.puts;
+  origin = x.origin;
+  past = x.past;
+  reached = x.reached;
+  traffic = grows.traffic (traffic_of x.past) x.traffic;
+  request = x.request;
+  sends = x.sends;
+  before = x.before;
+  told = x.told;
+})
+
+interim_grows : (limits : Limits) (old new : Uses) (head : RequestHead) (interim : List Bare) → Grows old new
+    → AreInterim limits old head interim → AreInterim limits new head interim
+interim_grows limits old new head [] grows told = tt
+interim_grows limits old new head (b ∷ later) grows told =
+    (one_grows limits old new head b grows told.0, interim_grows limits old new head later grows told.1)
+
+interim_now_grows : (limits : Limits) (old new : Uses) (head : Option RequestHead) (interim : List Bare)
+    → Grows old new → AreInterimNow limits old head interim → AreInterimNow limits new head interim
+interim_now_grows limits old new (Some head) interim grows told = interim_grows limits old new head interim grows told
+interim_now_grows limits old new None interim grows told = tt
+
 all_grow : (limits : Limits) (old new : Uses) (es : List Exchange) → Grows old new → AreServed limits old es
     → AreServed limits new es
 all_grow limits old new [] grows served = tt
-all_grow limits old new (e ∷ es) grows served =
-    (response_grows e.head e.response grows served.0, all_grow limits old new es grows served.1)
+all_grow limits old new (e ∷ es) grows served = (
+  response_grows e.head e.response grows served.0,
+  interim_grows limits old new e.head e.interim grows served.1,
+  all_grow limits old new es grows served.2,
+)
+
+switch_grows : (limits : Limits) (old new : Uses) (head : RequestHead) (b : Bare) → Grows old new
+    → IsSwitch limits old head b → IsSwitch limits new head b
+switch_grows limits old new head b grows (inl own) = inl own
+switch_grows limits old new head b grows (inr x) = inr (record {
+  asked = x.asked;
+  head_is = x.head_is;
+  decided = decided_grows x.asked grows x.decided;
+  rules = x.rules;
+  among = grows.rules x.rules x.among;
+  date = x.date;
+  response = x.response;
+  fields = x.fields;
+  switches = x.switches;
+  status = x.status;
+  reason = x.reason;
+  headers = x.headers;
+  origin = x.origin;
+  past = x.past;
+  reached = x.reached;
+  traffic = grows.traffic (traffic_of x.past) x.traffic;
+  request = x.request;
+  sends = x.sends;
+  interim = x.interim;
+  told = x.told;
+})
 
 now_grows : (limits : Limits) (old new : Uses) (head : Option RequestHead) (final : Final) → Grows old new
     → IsServedNow limits old head final → IsServedNow limits new head final
 now_grows limits old new (Some head) (Begun r) grows served = response_grows head r grows served
 now_grows limits old new (Some head) Due grows served = tt
-now_grows limits old new (Some head) (Switched b) grows served = tt
+now_grows limits old new (Some head) (Switched b) grows served = switch_grows limits old new head b grows served
 now_grows limits old new None final grows served = tt
 
 served_grows : {limits : Limits} {old new : Uses} {p : Stream.Past} → Grows old new → Served limits old p
     → Served limits new p
 served_grows {limits} {old} {new} {p} grows served = record {
   before = all_grow limits old new p.before grows served.before;
+  interim = interim_now_grows limits old new (head_of p.heard) p.answer.interim grows served.interim;
   now = now_grows limits old new (head_of p.heard) p.answer.final grows served.now;
 }
 
@@ -1276,34 +1359,86 @@ said_freely old new origin event says goes free =
     freely (goes_then {b = with_origin old origin} (origin_alone (origin_says old.origin origin event says) refl refl) goes)
     free
 
-of_asked : {limits : Limits} {uses : Uses} (old new : GatewayConnection) (P : AskedRequest → Type 0)
-    → ((a : AskedRequest) → P a → Leads limits uses old new) → OfAsked old P new → Leads limits uses old new
-of_asked old new P leads (inl h) = leads h.0 h.2
-of_asked old new P leads (inr h) = freely (kept h.1 refl refl refl) (free_at (same_stage h.1) tt)
+abbrev interim_of : OriginResponse → ForwardedResponse → Bare
+interim_of response sent = record {
+  minor = 1;
+  status = response.status;
+  reason = response.reason;
+  headers = fields_of sent.fields.items;
+}
 
-interim_at : {limits : Limits} {uses : Uses} (old new : GatewayConnection) (response : OriginResponse)
-    (sent : ForwardedResponse)
+-- an interim response is put to the client
+informs_of : {limits : Limits} {uses : Uses} (old new : GatewayConnection) (a : AskedRequest)
+    (response : OriginResponse) (sent : ForwardedResponse) → old.stage ≡ At.Forwarding → old.asked ≡ Some a
+    → IsInterim limits uses a.head (interim_of response sent)
+    → StreamSteps.Informs old.client response.status response.reason (fields_of sent.fields.items) new.client
+    → new ≡ record old { client = new.client } → Leads limits uses old new
+informs_of {limits} {uses} old new a response sent at asked is informs last = λ p x.
+    let t = subst (λ (s : Stage). TiedAt limits uses s old p) at x.tied in
+    let same : t.0 ≡ a = cc (sym t.1.asked ∙ asked) in
+    let head : head_of p.heard ≡ Some a.head = t.1.head ∙ ap (λ (b : AskedRequest). Some b.head) same in
+    let q : Stream.Past = Stream.informs (interim_of response sent) p in
+    record {
+      past = q;
+      held = record {
+        loose = record {
+          peer = same_peer last ∙ x.loose.peer;
+          reached = Stream.Informed old.client new.client p response.status response.reason
+              (fields_of sent.fields.items) x.loose.reached informs;
+          served = record {
+            before = x.loose.served.before;
+            interim = interim_more limits uses (head_of p.heard) p.answer.interim (interim_of response sent)
+                x.loose.served.interim (λ b is_b.
+                let heads : a.head ≡ b = cc (sym head ∙ is_b) in
+                subst (λ (h : RequestHead). IsInterim limits uses h (interim_of response sent)) heads is);
+            now = x.loose.served.now;
+          };
+          origin = subst (OriginIn limits) (sym (same_origin last)) x.loose.origin;
+        };
+        tied = tied_by limits uses old new p q (frame last refl refl refl refl (λ b. refl)) refl refl
+            (λ b t c. carries_kept (same_asked last) refl (same_origin last) c) x.tied;
+      };
+      received = refl;
+      sent = refl;
+    }
+
+interim_at : {limits : Limits} {uses : Uses} (old new : GatewayConnection) (a : AskedRequest)
+    (response : OriginResponse) (sent : ForwardedResponse) → old.stage ≡ At.Forwarding → old.asked ≡ Some a
+    → IsInterim limits uses a.head (interim_of response sent)
     → (ChangesClient (PutsInterim response sent) old new
     ⊎ ((error : WriteError) × (client : StreamConnection) × RefusesInterim response sent old.client error client
     × Fails (with_client old client) (Because.Unsendable error) new))
     → Leads limits uses old new
-interim_at old new response sent (inl h) =
-    client_moves (same_origin h.1) (frame h.1 refl refl refl refl (λ a. refl))
-    (client_informs old.client new.client response.status response.reason (fields_of sent.fields.items) h.0)
-    (λ p r s. (refl, refl))
-interim_at old new response sent (inr h) =
+interim_at old new a response sent at asked is (inl h) =
+    informs_of old new a response sent at asked is h.0 h.1
+interim_at old new a response sent at asked is (inr h) =
     freely (fails_after old new h.1 (Because.Unsendable h.0) (interim_fails old h.1 response sent h.0 h.2) h.3)
     (fails_free (with_client old h.1) new (Because.Unsendable h.0) h.3)
 
 passes_interim : {limits : Limits} {uses : Uses} (rules : Rules) (date : ℕ) (old new : GatewayConnection)
-    (a : AskedRequest) (response : OriginResponse) → PassesInterim rules date old a response new
-    → Leads limits uses old new
-passes_interim rules date old new a response (inl h) = interim_at old new response h.0 h.2
-passes_interim rules date old new a response (inr (inl h)) = unchanged h.1
-passes_interim rules date old new a response (inr (inr (inl h))) =
+    (a : AskedRequest) (response : OriginResponse) → old.stage ≡ At.Forwarding → old.asked ≡ Some a
+    → ((sent : ForwardedResponse)
+    → IsForwardedResponse rules.gateway date (answered a response.status response) sent
+    → IsInterim limits uses a.head (interim_of response sent))
+    → PassesInterim rules date old a response new → Leads limits uses old new
+passes_interim rules date old new a response at asked is (inl h) =
+    interim_at old new a response h.0 at asked (is h.0 h.1) h.2
+passes_interim rules date old new a response at asked is (inr (inl h)) = unchanged h.1
+passes_interim rules date old new a response at asked is (inr (inr (inl h))) =
     freely (fails old new (Because.Response h.0) h.2) (fails_free old new (Because.Response h.0) h.2)
-passes_interim rules date old new a response (inr (inr (inr h))) =
+passes_interim rules date old new a response at asked is (inr (inr (inr h))) =
     freely (fails old new Because.OutOfMemory h) (fails_free old new Because.OutOfMemory h)
+
+interim_of_asked : {limits : Limits} {uses : Uses} (rules : Rules) (date : ℕ) (old new : GatewayConnection)
+    (response : OriginResponse) → old.stage ≡ At.Forwarding
+    → ((a : AskedRequest) → old.asked ≡ Some a → (sent : ForwardedResponse)
+    → IsForwardedResponse rules.gateway date (answered a response.status response) sent
+    → IsInterim limits uses a.head (interim_of response sent))
+    → OfAsked old (λ a. PassesInterim rules date old a response new) new → Leads limits uses old new
+interim_of_asked rules date old new response at is (inl h) =
+    passes_interim rules date old new h.0 response at h.1 (is h.0 h.1) h.2
+interim_of_asked rules date old new response at is (inr h) =
+    freely (kept h.1 refl refl refl) (free_at (same_stage h.1) tt)
 
 faulted : {limits : Limits} {uses : Uses} (old new : GatewayConnection) (fault : OriginFault) → Faulted old fault new
     → Leads limits uses old new
@@ -1340,19 +1475,6 @@ switches_free : (old new : GatewayConnection) (response : OriginResponse) (field
 switches_free old new response fields (inl h) = free_at (same_stage h.1) tt
 switches_free old new response fields (inr h) =
     fails_free (with_client old h.1) new (Because.Unsendable h.0) h.3
-
-passes_switch_freely : {limits : Limits} {uses : Uses} (rules : Rules) (date : ℕ) (old new : GatewayConnection)
-    (a : AskedRequest) (response : OriginResponse) → PassesSwitch rules date old a response new
-    → Goes limits uses old new × IsFree new.stage
-passes_switch_freely rules date old new a response (inl h) =
-    (switches_to old new response h.0 h.2, switches_free old new response h.0 h.2)
-passes_switch_freely rules date old new a response (inr h) = (fails old new h.0 h.2, fails_free old new h.0 h.2)
-
-switch_freely : {limits : Limits} {uses : Uses} (rules : Rules) (date : ℕ) (old new : GatewayConnection)
-    (response : OriginResponse) → OfAsked old (λ a. PassesSwitch rules date old a response new) new
-    → Goes limits uses old new × IsFree new.stage
-switch_freely rules date old new response (inl h) = passes_switch_freely rules date old new h.0 response h.2
-switch_freely rules date old new response (inr h) = (kept h.1 refl refl refl, free_at (same_stage h.1) tt)
 
 -- ---- the head of a response
 
@@ -1399,7 +1521,7 @@ shows_put : {limits : Limits} {uses : Uses} (old between new : GatewayConnection
     → After limits uses new p
 shows_put {limits} {uses} old between new h a p puts is last x c forwarded =
     let r : Response = Stream.begins old.client.server h.response.status h.response.reason
-        (closing old.is_last (fields_of h.sent.fields.items)) (response_size h.sent.content) in
+    (closing old.is_last (fields_of h.sent.fields.items)) (response_size h.sent.content) in
     let begins : HasHead h [] r = record {
       status = refl;
       reason = refl;
@@ -1421,6 +1543,7 @@ shows_put {limits} {uses} old between new h a p puts is last x c forwarded =
               (closing old.is_last (fields_of h.sent.fields.items)) (response_size h.sent.content) x.reached puts);
           served = record {
             before = x.served.before;
+            interim = x.served.interim;
             now = now_passed limits uses (head_of p.heard) a.head (Begun r) r c.head refl
                 (passed_on h [] r c forwarded begins refl);
           };
@@ -1524,6 +1647,162 @@ loose_said {limits} old origin event p says x =
     let goes : OriginGoes limits old.origin origin = origin_says old.origin origin event says in
     record { peer = x.peer; reached = x.reached; served = x.served; origin = goes.step x.origin }
 
+-- what an origin's connection tells of an interim response
+interim_passed : {limits : Limits} {uses : Uses} {m : GatewayConnection} {p : Stream.Past} (rules : Rules) (date : ℕ)
+    (a : AskedRequest) (response : OriginResponse) (sent : ForwardedResponse) (after : OriginConnection)
+    → IsIn rules uses.rules → (c : Carries limits uses m p a Silent)
+    → OriginSteps.Says c.origin (Comes.Interim response) after
+    → IsForwardedResponse rules.gateway date (answered a response.status response) sent
+    → IsInterim limits uses a.head (interim_of response sent)
+interim_passed rules date a response sent after among c says forwards = inr (record {
+  asked = a;
+  head_is = refl;
+  decided = c.decided;
+  heard = record { response = response; sent = sent };
+  forwarded = (rules, among, date, forwards);
+  puts = refl;
+  origin = after;
+  past = record (c.past) { now = Origin.tell (Comes.Interim response) c.past.now };
+  reached = Origin.Said c.origin after c.past (Comes.Interim response) c.reached says;
+  traffic = went_over c.traffic;
+  request = c.request;
+  sends = c.sends;
+  before = c.interim;
+  told = ap (Origin.tell (Comes.Interim response)) c.now;
+})
+
+hears_interim : {limits : Limits} {uses : Uses} (rules : Rules) (date : ℕ) (stage : Stage)
+    (old new : GatewayConnection) (origin : Option OriginConnection) (response : OriginResponse) → old.stage ≡ stage
+    → IsStreaming stage → IsIn rules uses.rules → SaysIn old.origin (Comes.Interim response) origin
+    → OfAsked (with_origin old origin) (λ a. PassesInterim rules date (with_origin old origin) a response new) new
+    → Leads limits uses old new
+hears_interim {limits} {uses} rules date At.Forwarding old new origin response is streaming among says h = λ p x.
+    let c = subst (λ (s : Stage). TiedAt limits uses s old p) is x.tied in
+    leads_then (said_quietly old origin (Comes.Interim response) tt says)
+    (interim_of_asked rules date (with_origin old origin) new response is (λ a asked sent forwards.
+    let same : c.0 ≡ a = cc (sym c.1.asked ∙ asked) in
+    let d = subst (λ (b : AskedRequest). Carries limits uses old p b Silent) same c.1 in
+    let t = says_in old.origin origin d.origin (Comes.Interim response) d.is says in
+    interim_passed rules date a response sent t.0 among d t.2 forwards) h) p x
+hears_interim {limits} {uses} rules date At.Passing old new origin response is streaming among says h = λ p x.
+    let c = subst (λ (s : Stage). TiedAt limits uses s old p) is x.tied in
+    let s = says_in old.origin origin c.carries.origin (Comes.Interim response) c.carries.is says in
+    absurd (interim_late s.0 c.carries.request c.carries.interim c.heard.response response c.content
+    c.carries.reached c.carries.now s.2)
+hears_interim rules date stage old new origin response is streaming among says h = absurd streaming
+
+-- the response that ends HTTP is put to the client
+switched_to : {limits : Limits} {uses : Uses} (old new : GatewayConnection) (a : AskedRequest)
+    (response : OriginResponse) (fields : List Header) (p : Stream.Past) → Loose limits uses old p
+    → head_of p.heard ≡ Some a.head
+    → ((b : Bare) → b.status ≡ response.status → b.reason ≡ response.reason → b.headers ≡ fields
+    → IsSwitch limits uses a.head b)
+    → SwitchesTo old response fields new → After limits uses new p
+switched_to {limits} {uses} old new a response fields p x head is (inl h) =
+    let b : Bare = record {
+      minor = old.client.server.request.minor;
+      status = response.status;
+      reason = response.reason;
+      headers = fields;
+    } in
+    let q : Stream.Past = Stream.answers (Switched b) p in
+    record {
+      past = q;
+      held = record {
+        loose = record {
+          peer = same_peer h.1 ∙ x.peer;
+          reached = Stream.Handed old.client new.client p response.status response.reason fields x.reached h.0;
+          served = record {
+            before = x.served.before;
+            interim = x.served.interim;
+            now = now_switched limits uses (head_of p.heard) b (λ c is_c.
+                let heads : a.head ≡ c = cc (sym head ∙ is_c) in
+                subst (λ (g : RequestHead). IsSwitch limits uses g b) heads (is b refl refl refl));
+          };
+          origin = subst (OriginIn limits) (sym (same_origin h.1)) x.origin;
+        };
+        tied = free_tied limits uses new.stage new q (free_at (same_stage h.1) tt);
+      };
+      received = refl;
+      sent = refl;
+    }
+switched_to old new a response fields p x head is (inr h) =
+    to_free p (fails_after old new h.1 (Because.Unsendable h.0) (switch_fails old h.1 response fields h.0 h.2) h.3)
+    (fails_free (with_client old h.1) new (Because.Unsendable h.0) h.3) x
+
+switch_of : {limits : Limits} {uses : Uses} (rules : Rules) (date : ℕ) (old new : GatewayConnection)
+    (a : AskedRequest) (response : OriginResponse) (p : Stream.Past) → Loose limits uses old p
+    → head_of p.heard ≡ Some a.head
+    → ((fields : List Header) → IsSwitched rules.gateway date a response fields → (b : Bare)
+    → b.status ≡ response.status → b.reason ≡ response.reason → b.headers ≡ fields
+    → IsSwitch limits uses a.head b)
+    → PassesSwitch rules date old a response new → After limits uses new p
+switch_of rules date old new a response p x head is (inl h) =
+    switched_to old new a response h.0 p x head (is h.0 h.1) h.2
+switch_of rules date old new a response p x head is (inr h) =
+    to_free p (fails old new h.0 h.2) (fails_free old new h.0 h.2) x
+
+switch_of_asked : {limits : Limits} {uses : Uses} (rules : Rules) (date : ℕ) (old new : GatewayConnection)
+    (a : AskedRequest) (response : OriginResponse) (p : Stream.Past) → Loose limits uses old p
+    → old.asked ≡ Some a → head_of p.heard ≡ Some a.head
+    → ((fields : List Header) → IsSwitched rules.gateway date a response fields → (b : Bare)
+    → b.status ≡ response.status → b.reason ≡ response.reason → b.headers ≡ fields
+    → IsSwitch limits uses a.head b)
+    → OfAsked old (λ c. PassesSwitch rules date old c response new) new → After limits uses new p
+switch_of_asked rules date old new a response p x asked head is (inl h) =
+    let same : h.0 ≡ a = cc (sym h.1 ∙ asked) in
+    switch_of rules date old new a response p x head is
+    (subst (λ (b : AskedRequest). PassesSwitch rules date old b response new) same h.2)
+switch_of_asked rules date old new a response p x asked head is (inr h) =
+    to_free p (kept h.1 refl refl refl) (free_at (same_stage h.1) tt) x
+
+-- what an origin's connection tells of a response that ends HTTP
+switch_passed : {limits : Limits} {uses : Uses} {m : GatewayConnection} {p : Stream.Past} (rules : Rules) (date : ℕ)
+    (a : AskedRequest) (response : OriginResponse) (after : OriginConnection) → IsIn rules uses.rules
+    → (c : Carries limits uses m p a Silent) → OriginSteps.Says c.origin (Comes.Switched response) after
+    → (fields : List Header) → IsSwitched rules.gateway date a response fields → (b : Bare)
+    → b.status ≡ response.status → b.reason ≡ response.reason → b.headers ≡ fields → IsSwitch limits uses a.head b
+switch_passed rules date a response after among c says fields switches b status reason headers = inr (record {
+  asked = a;
+  head_is = refl;
+  decided = c.decided;
+  rules = rules;
+  among = among;
+  date = date;
+  response = response;
+  fields = fields;
+  switches = switches;
+  status = status;
+  reason = reason;
+  headers = headers;
+  origin = after;
+  past = record (c.past) { now = Origin.tell (Comes.Switched response) c.past.now };
+  reached = Origin.Said c.origin after c.past (Comes.Switched response) c.reached says;
+  traffic = went_over c.traffic;
+  request = c.request;
+  sends = c.sends;
+  interim = c.interim;
+  told = ap (Origin.tell (Comes.Switched response)) c.now;
+})
+
+hears_switch : {limits : Limits} {uses : Uses} (rules : Rules) (date : ℕ) (stage : Stage)
+    (old new : GatewayConnection) (origin : Option OriginConnection) (response : OriginResponse) → old.stage ≡ stage
+    → IsStreaming stage → IsIn rules uses.rules → SaysIn old.origin (Comes.Switched response) origin
+    → OfAsked (with_origin old origin) (λ a. PassesSwitch rules date (with_origin old origin) a response new) new
+    → Leads limits uses old new
+hears_switch {limits} {uses} rules date At.Forwarding old new origin response is streaming among says h = λ p x.
+    let c = subst (λ (s : Stage). TiedAt limits uses s old p) is x.tied in
+    let s = says_in old.origin origin c.1.origin (Comes.Switched response) c.1.is says in
+    switch_of_asked rules date (with_origin old origin) new c.0 response p
+    (loose_said old origin (Comes.Switched response) p says x.loose) c.1.asked c.1.head
+    (switch_passed rules date c.0 response s.0 among c.1 s.2) h
+hears_switch {limits} {uses} rules date At.Passing old new origin response is streaming among says h = λ p x.
+    let c = subst (λ (s : Stage). TiedAt limits uses s old p) is x.tied in
+    let s = says_in old.origin origin c.carries.origin (Comes.Switched response) c.carries.is says in
+    absurd (switch_late s.0 c.carries.request c.carries.interim c.heard.response response c.content c.carries.reached
+    c.carries.now s.2)
+hears_switch rules date stage old new origin response is streaming among says h = absurd streaming
+
 hears_head : {limits : Limits} {uses : Uses} (rules : Rules) (date : ℕ) (stage : Stage) (old new : GatewayConnection)
     (origin : Option OriginConnection) (response : OriginResponse) → old.stage ≡ stage → IsStreaming stage
     → IsIn rules uses.rules → SaysIn old.origin (Comes.Head response) origin
@@ -1567,9 +1846,9 @@ shown {limits} {uses} old new origin piece is says puts f = λ p x.
     let t = subst (λ (s : Stage). TiedAt limits uses s old p) is x.tied in
     let said = loose_said old origin (Comes.Content piece) p says x.loose in
     let c : Carries limits uses (with_origin old origin) p t.a (Telling t.heard.response (t.content ++ piece)) =
-        carries_said origin (Comes.Content piece) says (λ r interim. (interim, refl)) t.carries in
+    carries_said origin (Comes.Content piece) says (λ r interim. (interim, refl)) t.carries in
     let final : Stream.change (Stream.with_piece piece) p.answer.final ≡ Begun (Stream.with_piece piece t.response) =
-        ap (Stream.change (Stream.with_piece piece)) t.final in
+    ap (Stream.change (Stream.with_piece piece)) t.final in
     let put = with_piece_put t.heard t.content piece t.response t.puts in
     let q : Stream.Past = Stream.answers (Stream.change (Stream.with_piece piece) p.answer.final) p in
     record {
@@ -1580,6 +1859,7 @@ shown {limits} {uses} old new origin piece is says puts f = λ p x.
           reached = Stream.Put old.client new.client p piece x.loose.reached puts;
           served = record {
             before = x.loose.served.before;
+            interim = x.loose.served.interim;
             now = now_passed limits uses (head_of p.heard) t.a.head q.answer.final (Stream.with_piece piece t.response)
                 c.head final (passed_on t.heard (t.content ++ piece) (Stream.with_piece piece t.response) c
                 t.forwarded put t.whole);
@@ -1647,7 +1927,7 @@ ended {limits} {uses} rules old new origin trailers h sent is among says heard f
     let s = says_in old.origin origin c.origin (Comes.End trailers) c.is says in
     let same : h ≡ t.heard = cc (sym heard ∙ t.is) in
     let final : Stream.change (Stream.with_trailers sent) p.answer.final ≡ Begun (Stream.with_trailers sent t.response) =
-        ap (Stream.change (Stream.with_trailers sent)) t.final in
+    ap (Stream.change (Stream.with_trailers sent)) t.final in
     let q : Stream.Past = Stream.answers (Stream.change (Stream.with_trailers sent) p.answer.final) p in
     let o : Origin.Past = record (c.past) { now = Origin.tell (Comes.End trailers) c.past.now } in
     let passed : IsPassedOn limits uses t.a.head (Stream.with_trailers sent t.response) = record {
@@ -1670,7 +1950,7 @@ ended {limits} {uses} rules old new origin trailers h sent is among says heard f
         rules,
         among,
         subst (λ (g : Heard). IsTrailers rules.gateway g.sent.framing (lines_at g.response.fields) trailers sent) same
-        forwards,
+            forwards,
       );
       origin = s.0;
       past = o;
@@ -1689,6 +1969,7 @@ ended {limits} {uses} rules old new origin trailers h sent is among says heard f
           reached = Stream.Ended old.client new.client p sent x.loose.reached ends;
           served = record {
             before = x.loose.served.before;
+            interim = x.loose.served.interim;
             now = now_passed limits uses (head_of p.heard) t.a.head q.answer.final
                 (Stream.with_trailers sent t.response) c.head final passed;
           };
@@ -1752,9 +2033,7 @@ hears_origin_at rules date old new told origin Comes.NeedsInput streaming among 
     leads_then (said_quietly old origin Comes.NeedsInput tt says)
     (rests (same_client h.1) (same_origin h.1) (frame h.1 refl refl refl refl (λ a. refl)))
 hears_origin_at rules date old new told origin (Comes.Interim response) streaming among says h =
-    leads_then (said_quietly old origin (Comes.Interim response) tt says)
-    (of_asked (with_origin old origin) new (λ a. PassesInterim rules date (with_origin old origin) a response new)
-    (λ a x. passes_interim rules date (with_origin old origin) new a response x) h.1)
+    hears_interim rules date old.stage old new origin response refl streaming among says h.1
 hears_origin_at rules date old new told origin (Comes.Head response) streaming among says h =
     hears_head rules date old.stage old new origin response refl streaming among says h.1
 hears_origin_at rules date old new told origin (Comes.Content piece) streaming among says h =
@@ -1762,8 +2041,7 @@ hears_origin_at rules date old new told origin (Comes.Content piece) streaming a
 hears_origin_at rules date old new told origin (Comes.End trailers) streaming among says h =
     hears_response_end rules old.stage old new origin trailers refl streaming among says h.1
 hears_origin_at rules date old new told origin (Comes.Switched response) streaming among says h =
-    let x = switch_freely rules date (with_origin old origin) new response h.1 in
-    said_freely old new origin (Comes.Switched response) says x.0 x.1
+    hears_switch rules date old.stage old new origin response refl streaming among says h.1
 hears_origin_at rules date old new told origin Comes.Closed streaming among says h =
     said_freely old new origin Comes.Closed says
     (fails (with_origin old origin) new (Because.Origin Faults.CutShort) h.1)
@@ -2003,7 +2281,7 @@ continues_if : {limits : Limits} {uses : Uses} (goes : Bool) (old new : GatewayC
 continues_if false old new h = unchanged h
 continues_if true old new (inl h) =
     client_moves (same_origin h.1) (frame h.1 refl refl refl refl (λ a. refl))
-    (client_informs old.client new.client 100 (codes "Continue") [] h.0) (λ p r s. (refl, refl))
+    (client_continues old.client new.client h.0) (λ p r s. (refl, refl))
 continues_if true old new (inr h) =
     freely (answers_after old new h.1 (Because.Unsendable h.0) (client_refuses h.2.0) h.3)
     (answers_free (with_client old h.1) new (Because.Unsendable h.0) h.3)
@@ -2104,6 +2382,7 @@ gives {limits} {uses} old new status reason fields size among h = λ p x.
               (Stream.Responded old.client h.1 p status reason (closing old.is_last fields) size x.loose.reached h.2);
           served = record {
             before = x.loose.served.before;
+            interim = x.loose.served.interim;
             now = given_now limits uses (head_of p.heard) (Begun r) r refl given;
           };
           origin = subst (OriginIn limits) (sym (same_origin h.5)) (goes.step x.loose.origin);
@@ -2132,6 +2411,7 @@ gives_piece {limits} {uses} old new piece at puts is = λ p x.
           reached = Stream.Put old.client new.client p piece x.loose.reached puts;
           served = record {
             before = x.loose.served.before;
+            interim = x.loose.served.interim;
             now = given_now limits uses (head_of p.heard) q.answer.final r final given;
           };
           origin = subst (OriginIn limits) (sym (same_origin is)) x.loose.origin;
@@ -2159,6 +2439,7 @@ gives_end {limits} {uses} old new trailers h = λ p x.
           reached = Stream.Ended old.client new.client p trailers x.loose.reached h.1;
           served = record {
             before = x.loose.served.before;
+            interim = x.loose.served.interim;
             now = given_now limits uses (head_of p.heard) q.answer.final r final given;
           };
           origin = subst (OriginIn limits) (sym (same_origin h.2)) x.loose.origin;
@@ -2190,12 +2471,12 @@ passes {limits} {uses} old new (inl h) = λ p x.
     let taken : GatewayConnection = record old { heard = None } in
     let c : Carries limits uses taken p j.a (Telling j.heard.response []) = carries_kept refl refl refl j.carries in
     let loose : Loose limits uses taken p =
-        record {
-          peer = x.loose.peer;
-          reached = x.loose.reached;
-          served = x.loose.served;
-          origin = x.loose.origin;
-        } in
+    record {
+      peer = x.loose.peer;
+      reached = x.loose.reached;
+      served = x.loose.served;
+      origin = x.loose.origin;
+    } in
     shows taken h.3.0 new h.1 j.a p h.3.1 h.3.2 loose
     (subst (λ (g : Heard). Carries limits uses taken p j.a (Telling g.response [])) same c)
     (subst (λ (g : Heard). IsHeard uses j.a g) same j.forwarded)
@@ -2337,7 +2618,7 @@ changes_origin : (limits : Limits) (uses now : Uses) (P : OriginConnection → O
     → ChangesOrigin P old new → Held limits uses old p → Held limits now new p
 changes_origin limits uses now P old new p grows step h held =
     let goes : OriginGoes limits old.origin new.origin = on_origin P old.origin new.origin
-        (λ before after x r. let n = step before after r.0 x r.1 in (n.0, n.1)) h.0 in
+    (λ before after x r. let n = step before after r.0 x r.1 in (n.0, n.1)) h.0 in
     let f : Frame old new = frame h.1 refl refl refl refl (λ a. refl) in
     record {
       loose = record {
@@ -2502,7 +2783,7 @@ runs {limits} (Opened peer m new) = record {
     loose = record {
       peer = new.peer_is;
       reached = Stream.Opened m.client new.client;
-      served = record { before = tt; now = tt };
+      served = record { before = tt; interim = tt; now = tt };
       origin = subst (OriginIn limits) (sym new.origin) tt;
     };
     tied = free_tied limits (no_past peer).uses m.stage m Stream.no_past (free_at new.stage tt);
@@ -2517,7 +2798,11 @@ runs {limits} (Received old new p bytes before going h) =
       client = q;
       held = client_bytes limits p.uses old new r.client q
           (Stream.Received old.client new.client r.client bytes r.held.loose.reached going h.0)
-          (record { before = r.held.loose.served.before; now = r.held.loose.served.now }) (same_origin h.1)
+          (record {
+            before = r.held.loose.served.before;
+            interim = r.held.loose.served.interim;
+            now = r.held.loose.served.now;
+          }) (same_origin h.1)
           (frame h.1 refl refl refl refl (λ a. refl)) refl refl r.held;
       received = ap (λ (t : List ℕ). t ++ bytes) r.received;
       sent = r.sent;
@@ -2532,7 +2817,11 @@ runs {limits} (Written old new p count before within h) =
       client = q;
       held = client_bytes limits p.uses old new r.client q
           (Stream.Written old.client new.client r.client count r.held.loose.reached within h.0)
-          (record { before = r.held.loose.served.before; now = r.held.loose.served.now }) (same_origin h.1)
+          (record {
+            before = r.held.loose.served.before;
+            interim = r.held.loose.served.interim;
+            now = r.held.loose.served.now;
+          }) (same_origin h.1)
           (frame h.1 refl refl refl refl (λ a. refl)) refl refl r.held;
       received = r.received;
       sent = ap (λ (t : List ℕ). t ++ take count old.client.output.items) r.sent;

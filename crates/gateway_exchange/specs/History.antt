@@ -1,6 +1,6 @@
 -- Every history of calls on a gateway's connection, and what is true after it.
 use Rattle.std.specs.Prelude.{◌≡◌, ◌⊎◌, ⊤, ℕ, ◌≤◌, min, Bool, true, false, List, [], ◌∷◌, ◌++◌, length, take, Option, Some}
-use Rattle.std.specs.Prelude.{None}
+use Rattle.std.specs.Prelude.{None, codes}
 use Rattle.std.specs.List.{concat}
 use Rattle.headers.specs.LineMap.{lines_at}
 use Rattle.http_header.{specs.FieldValue.FieldValue, specs.HeaderMap.Entries}
@@ -17,11 +17,11 @@ use Rattle.gateway_connection.specs.Steps as OriginSteps
 use Rattle.gateway_connection.specs.declared.origin.OriginConnection.{OriginConnection}
 use Rattle.server_stream.specs.History as Stream
 use Rattle.server_stream.specs.Steps as StreamSteps
-use Rattle.server_stream.specs.Exchanges.{Exchange, Final, Response, Begun}
+use Rattle.server_stream.specs.Exchanges.{Bare, Exchange, Final, Response, Begun, Switched}
 use Rattle.server_stream.specs.declared.event.RequestHead.{RequestHead}
 use Rattle.gateway_exchange.specs.Own.{closing, own_fields, own_status}
 use Rattle.gateway_exchange.specs.Decisions.{IsDecision}
-use Rattle.gateway_exchange.specs.Passing.{IsTrailers, answered, with_conditions}
+use Rattle.gateway_exchange.specs.Passing.{IsSwitched, IsTrailers, answered, with_conditions}
 use Rattle.gateway_exchange.specs.declared.decision.RequestDecision.TheVariants.{Send}
 use Rattle.gateway_exchange.specs.Steps.{Answers, AsksAgain, ChangesClient, ChangesOrigin, Conditions, Connects}
 use Rattle.gateway_exchange.specs.Steps.{EndsGiving, FinishesClient, Gives, HandsOutOrigin, IsNew, Passes, RefusesGiving}
@@ -268,9 +268,73 @@ pub record IsPassedOn (limits : Limits) (uses : Uses) (head : RequestHead) (r : 
 abbrev pub IsServed : Limits → Uses → RequestHead → Response → Type 0
 IsServed limits uses head r = IsOwn r ⊎ IsGiven uses r ⊎ IsPassedOn limits uses head r
 
+-- An interim response is forwarded: one of the connections to an origin that were handed in told it of this request. Its
+-- head is what is forwarded of the origin's.
+pub record IsInterimPassedOn (limits : Limits) (uses : Uses) (head : RequestHead) (b : Bare) : Type 0 where
+  pub asked : AskedRequest
+  pub head_is : asked.head ≡ head
+  pub decided : IsDecided uses asked
+  pub heard : Heard
+  pub forwarded : IsHeard uses asked heard
+  pub puts : b ≡ record {
+    minor = 1;
+    status = heard.response.status;
+    reason = heard.response.reason;
+    headers = fields_of heard.sent.fields.items;
+  }
+  pub origin : OriginConnection
+  pub past : Origin.Past
+  pub reached : Origin.IsReached limits origin past
+  pub traffic : WentOver (traffic_of past) uses.traffic
+  pub request : Request
+  pub sends : IsFor asked request
+  pub before : List OriginResponse
+  pub told : past.now ≡ Origin.Asked request (before ++ heard.response ∷ [])
+
+-- the 100 (Continue) that the gateway sends itself
+abbrev pub own_interim : Bare
+own_interim = record { minor = 1; status = 100; reason = codes "Continue"; headers = [] }
+
+abbrev pub IsInterim : Limits → Uses → RequestHead → Bare → Type 0
+IsInterim limits uses head b = (b ≡ own_interim) ⊎ IsInterimPassedOn limits uses head b
+
+abbrev pub AreInterim : Limits → Uses → RequestHead → List Bare → Type 0
+AreInterim limits uses head [] = ⊤
+AreInterim limits uses head (b ∷ later) = IsInterim limits uses head b × AreInterim limits uses head later
+
 abbrev pub AreServed : Limits → Uses → List Exchange → Type 0
 AreServed limits uses [] = ⊤
-AreServed limits uses (e ∷ later) = IsServed limits uses e.head e.response × AreServed limits uses later
+AreServed limits uses (e ∷ later) =
+    IsServed limits uses e.head e.response × AreInterim limits uses e.head e.interim × AreServed limits uses later
+
+-- The response that ends HTTP is forwarded: one of the connections to an origin that were handed in told it of this
+-- request.
+pub record IsSwitchPassedOn (limits : Limits) (uses : Uses) (head : RequestHead) (b : Bare) : Type 0 where
+  pub asked : AskedRequest
+  pub head_is : asked.head ≡ head
+  pub decided : IsDecided uses asked
+  pub rules : Rules
+  pub among : IsIn rules uses.rules
+  pub date : ℕ
+  pub response : OriginResponse
+  pub fields : List Header
+  pub switches : IsSwitched rules.gateway date asked response fields
+  pub status : b.status ≡ response.status
+  pub reason : b.reason ≡ response.reason
+  pub headers : b.headers ≡ fields
+  pub origin : OriginConnection
+  pub past : Origin.Past
+  pub reached : Origin.IsReached limits origin past
+  pub traffic : WentOver (traffic_of past) uses.traffic
+  pub request : Request
+  pub sends : IsFor asked request
+  pub interim : List OriginResponse
+  pub told : past.now ≡ now_of (Some []) request interim response []
+
+-- it is that, or the 200 with which the caller answers a CONNECT
+abbrev pub IsSwitch : Limits → Uses → RequestHead → Bare → Type 0
+IsSwitch limits uses head b =
+    ((b.status ≡ 200) × (b.reason ≡ codes "OK") × (b.headers ≡ [])) ⊎ IsSwitchPassedOn limits uses head b
 
 -- the head of the request now, if one was told
 abbrev pub head_of : Stream.Heard → Option RequestHead
@@ -280,18 +344,24 @@ head_of (Stream.Whole head content trailers) = Some head
 
 abbrev pub IsServedNow : Limits → Uses → Option RequestHead → Final → Type 0
 IsServedNow limits uses (Some head) (Begun r) = IsServed limits uses head r
+IsServedNow limits uses (Some head) (Switched b) = IsSwitch limits uses head b
 IsServedNow limits uses head final = ⊤
+
+abbrev pub AreInterimNow : Limits → Uses → Option RequestHead → List Bare → Type 0
+AreInterimNow limits uses (Some head) interim = AreInterim limits uses head interim
+AreInterimNow limits uses None interim = ⊤
 
 -- each response, also the one now, as far as it was put
 pub record Served (limits : Limits) (uses : Uses) (p : Stream.Past) : Type 0 where
   pub before : AreServed limits uses p.before
+  pub interim : AreInterimNow limits uses (head_of p.heard) p.answer.interim
   pub now : IsServedNow limits uses (head_of p.heard) p.answer.final
 
 -- The theorem. The client's connection was reached by calls of its own, by which the same bytes were received and
 -- written: so what was written to the client, and then waits for it, is one response for each of its requests, in order,
 -- literally and to its end, but for the last one, which may be cut off. Each of these responses is the gateway's own, or
--- given by the caller, or what is forwarded of the response of an origin to that request. The origin's connection was
--- reached by calls of its own too: so it was sent whole requests, and then maybe a first part of one.
+-- given by the caller, or what is forwarded of the response of an origin to that request; an interim one is the
+-- gateway's 100 (Continue), or an origin's. The origin's connection was reached by calls of its own too: so it was sent whole requests, and then maybe a first part of one.
 pub record Exchanged (limits : Limits) (m : GatewayConnection) (p : Past) : Type 0 where
   pub client : Stream.Past
   pub reached : Stream.IsReached limits m.client client
