@@ -844,8 +844,28 @@ freely : {limits : Limits} {uses : Uses} {old new : GatewayConnection} → Goes 
     → Leads limits uses old new
 freely g free = λ p h. to_free p g free h.loose
 
-joins : {a b c d : Origin.Now} → a ≡ b → b ≡ c → c ≡ d → a ≡ d
-joins p q r = p ∙ q ∙ r
+carries_to : {limits : Limits} {uses : Uses} {old new : GatewayConnection} {p q : Stream.Past} {a : AskedRequest}
+    {t now : Told} {after : OriginConnection} (g : Origin.Now → Origin.Now) (c : Carries limits uses old p a t)
+    → new.asked ≡ old.asked → head_of q.heard ≡ head_of p.heard → new.origin ≡ Some after → (n : Origin.Past)
+    → Origin.IsReached limits after n → n.now ≡ g c.past.now → traffic_of n ≡ traffic_of c.past → (s : Request)
+    → (later : List OriginResponse) → IsFor a s → g (now_in t c.request c.interim) ≡ now_in now s later
+    → Carries limits uses new q a now
+carries_to {limits} {uses} {old} {new} {p} {q} {a} {t} {now} {after} g c asked head is n reached goes line s later
+    is_for turns = record {
+      asked = asked ∙ c.asked;
+      head = head ∙ c.head;
+      decided = c.decided;
+      origin = after;
+      is = is;
+      past = n;
+      reached = reached;
+      request = s;
+      sends = is_for;
+      interim = later;
+      now = goes ∙ (ap g c.now ∙ turns);
+      older = c.older;
+      traffic = c.traffic ∙ ap (λ (l : Traffic). l ∷ c.older) (sym line);
+    }
 
 carries_by : {limits : Limits} {uses : Uses} {old new : GatewayConnection} {p q : Stream.Past} {a : AskedRequest} {t now : Told}
     {before after : OriginConnection} (g : Origin.Now → Origin.Now) → Carries limits uses old p a t
@@ -859,22 +879,7 @@ carries_by {limits} {uses} {old} {new} {p} {q} {a} {t} {now} {before} {after} g 
     let same : c.origin ≡ before = cc (sym c.is ∙ is) in
     let x = step c.past (subst (λ (o : OriginConnection). Origin.IsReached limits o c.past) same c.reached) in
     let y = turns c.request c.interim c.sends in
-    let turned : x.0.now ≡ now_in now y.0 y.1 = joins x.2 (ap g c.now) y.3 in
-    record {
-      asked = asked ∙ c.asked;
-      head = head ∙ c.head;
-      decided = c.decided;
-      origin = after;
-      is = is_now;
-      past = x.0;
-      reached = x.1;
-      request = y.0;
-      sends = y.2;
-      interim = y.1;
-      now = turned;
-      older = c.older;
-      traffic = c.traffic ∙ ap (λ (l : Traffic). l ∷ c.older) (sym x.3);
-    }
+    carries_to g c asked head is_now x.0 x.1 x.2 x.3 y.0 y.1 y.2 y.3
 
 carries_kept : {limits : Limits} {uses : Uses} {old new : GatewayConnection} {p q : Stream.Past} {a : AskedRequest} {t : Told}
     → new.asked ≡ old.asked → head_of q.heard ≡ head_of p.heard → new.origin ≡ old.origin → Carries limits uses old p a t
