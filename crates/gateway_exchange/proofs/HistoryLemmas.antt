@@ -674,8 +674,11 @@ at_most a b = omega arith
 origin_hands : {limits : Limits} (count : ℕ) (before after : OriginConnection) → HandsOutOrigin count before after
     → IsOriginReached limits before → IsOriginReached limits after
 origin_hands count before after out =
-    λ r. (_, Origin.Written before after r.0 (min count (length before.output.items)) r.1
-    (at_most count (length before.output.items)) out)
+    λ r. (
+      _,
+      Origin.Written before after r.0 (min count (length before.output.items)) r.1
+          (at_most count (length before.output.items)) out,
+    )
 
 -- ---- histories
 
