@@ -4,7 +4,6 @@ use Rattle.std.specs.Prelude.{Option, Some, None, codes, if◌then◌else◌, mi
 use Rattle.http_header.{specs.FieldValue.FieldValue, specs.HeaderMap.Entries}
 use Rattle.http1.specs.{Conn.{data_refusal, finish_refusal}, Fields.Header}
 use Rattle.http1.specs.Server.{informational_refusal, response_refusal, upgrade_refusal}
-
 use Rattle.http1.specs.{declared.conn.BodySize.BodySize, declared.conn.Limits.Limits, declared.error.WriteError.WriteError}
 use Rattle.gateway_messages.specs.FieldLines.{fields_of}
 use Rattle.gateway_messages.specs.Responses.{IsDiscarded, IsForwardableResponse, IsForwardedResponse, RejectsResponse}

@@ -1020,7 +1020,11 @@ fn idle_phase(whole: bool, begun: bool) -> Phase
 fn waiting_phase(whole: bool) -> Phase
     ensures { result ≡ waiting_phase whole }
 {
-    if whole { Phase::Response } else { Phase::Content }
+    if whole {
+        Phase::Response
+    } else {
+        Phase::Content
+    }
 }
 
 // Whether the gateway sends the 100 (Continue).

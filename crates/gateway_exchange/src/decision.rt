@@ -1,5 +1,5 @@
 //! What is done with a request, as data.
-ghost use Rattle.std.specs.Prelude.{◌≡◌, find, IfOk, option_map};
+ghost use Rattle.std.specs.Prelude.{◌≡◌, find, IfOk, option_copied, option_map};
 ghost use Rattle.gateway_exchange.specs.Decisions.{IsDecision, IsDecisionFor, IsConnectDecision, IsOutgoing};
 ghost use Rattle.gateway_exchange.specs.Decisions.{OpensWebsocket, is_host_line, takes_over, value_or_none, version_of};
 
@@ -43,12 +43,18 @@ impl AskedRequest {
     pub fn authority(&self) -> &[u8]
         ensures { result.now ≡ value_or_none (find is_host_line self.now.outgoing.fields.items) }
     {
-        let mut lines = self.outgoing.fields.iter();
-        match lines.find(|field| field.name.as_str() == "host") {
+        match host_line(self.outgoing.fields.as_slice()) {
             Some(field) => field.value.as_bytes(),
             None => &[],
         }
     }
+}
+
+// The first field line of Host.
+fn host_line(fields: &[FieldLine]) -> Option<&FieldLine>
+    ensures { option_copied result ≡ find is_host_line fields.now }
+{
+    fields.iter().find(|field| field.name.as_str() == "host")
 }
 
 /// What is done with a request.

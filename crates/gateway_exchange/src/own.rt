@@ -104,7 +104,11 @@ fn reason(status: StatusCode) -> &'static [u8]
 fn own_fields(own: &Own, is_last: bool) -> &'static [Header<'static>]
     ensures { pairs result.now ≡ own_fields is_last own.now }
 {
-    if is_last || own.closes() { &[CLOSE] } else { &[] }
+    if is_last || own.closes() {
+        &[CLOSE]
+    } else {
+        &[]
+    }
 }
 
 /// Appends the field that says that the connection ends, if this is the last response.
@@ -118,11 +122,20 @@ pub(crate) fn close_if(is_last: bool, fields: &mut Vec<Header<'_>>) -> Result<()
 }
 
 /// Puts the answer, without content.
-pub(crate) fn put_own(own: &Own, is_last: bool, client: &mut StreamConnection) -> Result<(), WriteError>
+pub(crate) fn put_own(
+    own: &Own,
+    is_last: bool,
+    client: &mut StreamConnection,
+) -> Result<(), WriteError>
     ensures { MatchResult result (λ _. PutsOwn is_last client.old own.now client.new)
         (λ error. RefusesOwn is_last client.old own.now error client.new) }
 {
     let status = own.status();
-    client.respond(status, reason(status), own_fields(own, is_last), BodySize::Known(0))?;
+    client.respond(
+        status,
+        reason(status),
+        own_fields(own, is_last),
+        BodySize::Known(0),
+    )?;
     client.end(&[])
 }
