@@ -1,7 +1,9 @@
 //! What is done with a request, as data.
-ghost use Rattle.std.specs.Prelude.{◌≡◌, find, IfOk, option_copied, option_map};
+ghost use Rattle.std.specs.Prelude.{◌≡◌, find, IfOk, None, Some, if◌then◌else◌, option_copied, option_map};
+ghost use Rattle.gateway_hops.specs.Sent.{IsHopOutcome};
 ghost use Rattle.gateway_exchange.specs.Decisions.{IsDecision, IsDecisionFor, IsConnectDecision, IsOutgoing};
-ghost use Rattle.gateway_exchange.specs.Decisions.{OpensWebsocket, is_host_line, takes_over, value_or_none, version_of};
+ghost use Rattle.gateway_exchange.specs.Decisions.{OpensWebsocket, asked, is_host_line, next_hop, takes_over};
+ghost use Rattle.gateway_exchange.specs.Decisions.{value_or_none, version_of};
 
 use crate::own::Own;
 use crate::rules::{Peer, Rules, next_connection};
@@ -134,17 +136,18 @@ fn outgoing_of(
     })
 }
 
-// What is done with a request that has this target and this authority, if it is sent so.
-fn decide_for<'a>(
+// What goes on the next connection, which offers this protocol, if there is one.
+fn outcome_of(
     alloc: Global,
-    rules: &'a Rules,
-    peer: &'a Peer,
-    request: &'a RequestHead,
-    authority: Option<&'a HeaderValue>,
-    target: Bytes,
-) -> Result<RequestDecision, AllocError>
-    ensures { IfOk result (IsDecisionFor rules.now peer.now request.now
-        (option_map (λ value. value.now.bytes) authority.entry) target) }
+    rules: &Rules,
+    peer: &Peer,
+    request: &RequestHead,
+    authority: Option<&HeaderValue>,
+    upgrade: Option<&HeaderValue>,
+) -> Result<HopOutcome, AllocError>
+    ensures { IfOk result (IsHopOutcome rules.now.gateway
+        (next_hop rules.now peer.now (option_map (λ value. value.now.bytes) upgrade.entry))
+        (asked rules.now request.now (option_map (λ value. value.now.bytes) authority.entry))) }
 {
     let head = ReceivedRequest {
         protocol: protocol_of(request.minor),
@@ -152,10 +155,7 @@ fn decide_for<'a>(
         authority: given_authority(&rules.authority, &request.fields, authority),
         fields: &request.fields,
     };
-    let websocket = HeaderValue::from_static("websocket");
-    let opens = opens_websocket(alloc, rules, request)?;
-    let upgrade = opens.then_some(&websocket);
-    let outcome = send_request(
+    send_request(
         alloc,
         &rules.gateway,
         Protocol::Http11,
@@ -163,7 +163,32 @@ fn decide_for<'a>(
         rules.forwarding,
         &peer.arrival(),
         &head,
-    )?;
+    )
+}
+
+// The protocol that the next connection offers.
+fn offered(opens: bool, websocket: &HeaderValue) -> Option<&HeaderValue>
+    ensures { option_map (λ value. value.now.bytes) result ≡ (if opens then Some websocket.now.bytes else None) }
+{
+    if opens { Some(websocket) } else { None }
+}
+
+// What is done with a request that has this target and this authority, if it is sent so.
+fn decide_for(
+    alloc: Global,
+    rules: &Rules,
+    peer: &Peer,
+    request: &RequestHead,
+    authority: Option<&HeaderValue>,
+    target: Bytes,
+) -> Result<RequestDecision, AllocError>
+    ensures { IfOk result (IsDecisionFor rules.now peer.now request.now
+        (option_map (λ value. value.now.bytes) authority.entry) target) }
+{
+    let websocket = HeaderValue::from_static("websocket");
+    let opens = opens_websocket(alloc, rules, request)?;
+    let upgrade = offered(opens, &websocket);
+    let outcome = outcome_of(alloc, rules, peer, request, authority, upgrade)?;
     match outcome {
         HopOutcome::Send(sent) => Ok(RequestDecision::Send(outgoing_of(
             alloc, rules, target, sent,
