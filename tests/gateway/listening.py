@@ -56,7 +56,9 @@ def listening(port: int, origin: int, work: Path, *words: str) -> Iterator[None]
     home.mkdir(exist_ok=True)
     for name in (".bashrc", ".profile", ".bash_profile", "env"):
         (home / name).write_text("echo INJECTED\n")
-    environment = {**processes.environment(), "HOME": str(home), "BASH_ENV": str(home / "env"), "PORT": str(port)}
+    cache = os.environ.get("XDG_CACHE_HOME", str(Path.home() / ".cache"))  # which has the program
+    environment = {**processes.environment(), "HOME": str(home), "XDG_CACHE_HOME": cache,
+                   "BASH_ENV": str(home / "env"), "PORT": str(port)}
     environment.pop("SHLVL", None)
     with open(work / f"{port}.log", "wb") as log:
         process = subprocess.Popen([os.environ["GATE"], *words, f"127.0.0.1:{origin}"], stdin=subprocess.DEVNULL,
