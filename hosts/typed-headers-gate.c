@@ -655,6 +655,7 @@ static void release(struct exchange *exchange) {
 static void close_exchange(struct exchange *exchange, bool is_cut) {
     struct end *client = &exchange->end;
     if (is_cut && !exchange->is_own) {
+        /* (if it can't be reset, it ends) */
         setsockopt(client->source.socket, SOL_SOCKET, SO_LINGER, &(struct linger){1, 0}, sizeof(struct linger));
         if (client->tls)
             tls_cut(client->tls);
