@@ -206,6 +206,7 @@ static const struct table table = {
 /* ---- The whole ---- */
 
 static bool read_file(struct gateway *gateway) {
+    errno = 0;
     FILE *file = fopen(gateway->file, "re");
     char *lines = calloc(1, MOST_FILE);
     size_t length = file && lines ? fread(lines, 1, MOST_FILE - 1, file) : 0;

@@ -17,7 +17,7 @@ static const struct {
 } plain[] = {
     {CONNECTIONS, "connections_total", "Connections of clients that were accepted."},
     {CLOSED_CONNECTIONS, "closed_connections_total", "Those of them that have ended."},
-    {REQUESTS, "requests_total", "Requests that a gateway forwards."},
+    {REQUESTS, "requests_total", "Requests of clients, also those of metrics."},
     {RECEIVED_BYTES, "received_bytes_total", "Bytes of clients, without TLS."},
     {SENT_BYTES, "sent_bytes_total", "Bytes to clients, without TLS."},
     {ORIGIN_CONNECTIONS, "origin_connections_total", "Connections to origins that were begun."},

@@ -116,7 +116,7 @@ static struct {
 } own;
 
 static void drive(struct exchange *exchange);
-static void start_validation(const struct exchange *exchange);
+static void start_validation(struct exchange *of);
 static void follow(struct exchange *exchange, const struct typed_headers_pass_facts *facts);
 
 /* ---- The log ---- */
@@ -655,6 +655,7 @@ static void release(struct exchange *exchange) {
 static void close_exchange(struct exchange *exchange, bool is_cut) {
     struct end *client = &exchange->end;
     if (is_cut && !exchange->is_own) {
+        /* (if it can't be reset, it ends) */
         setsockopt(client->source.socket, SOL_SOCKET, SO_LINGER, &(struct linger){1, 0}, sizeof(struct linger));
         if (client->tls)
             tls_cut(client->tls);
@@ -709,7 +710,8 @@ static void begin_request(struct exchange *exchange) {
     exchange->cached = NO_CACHE;
     exchange->repeats = false;
     exchange->is_asked = true;
-    count_event(REQUESTS);
+    if (!exchange->is_own)
+        count_event(REQUESTS);
     if (worker.is_stopping && typed_headers_gate_close_after(&exchange->gate))
         exchange->is_over = true;
     if (exchange->entrance->is_metrics)
@@ -944,15 +946,15 @@ void begin_connection(int socket, const struct address *client, size_t listener)
 }
 
 /* Validates, for nobody, the response that an exchange gives (RFC 5861, section 3). */
-static void start_validation(const struct exchange *exchange) {
+static void start_validation(struct exchange *of) {
     enum { FIELDS = 0, TARGET = BUFFER / 2, METHOD = BUFFER - 1024 };
-    struct exchange *made = calloc(1, sizeof *made), *of = (struct exchange *)exchange;
+    struct exchange *made = calloc(1, sizeof *made);
     size_t fields, target, method;
     if (!made)
         return;
     made->end.source.socket = -1;
     made->is_own = true;
-    made->entrance = exchange->entrance;
+    made->entrance = of->entrance;
     if (!begin_exchange(made))
         return;
     if (typed_headers_pass_validation(&of->pass, own.buffer + FIELDS, TARGET - FIELDS, &fields) ||

@@ -111,6 +111,7 @@ static void log_rest(struct peer *peer, size_t start, uint16_t status, uint64_t 
 /* Logs the request that waits, and what was planned for it. */
 static void log_request(struct peer *peer) {
     size_t length;
+    uint8_t version = 0;
     uint16_t status = 0;
     uint64_t planned = 0;
     bool is_json = options.hosting.log == JSON_LOG, is_head = false;
@@ -130,7 +131,10 @@ static void log_request(struct peer *peer) {
         log_text("?");
         log_escaped(own.buffer, length);
     }
-    log_text(is_json ? "\"" : " HTTP/1.1");
+    if (is_json)
+        log_text("\"");
+    else if (typed_headers_connection_version(&peer->connection, &version) == TYPED_HEADERS_DONE)
+        log_text(" HTTP/%u.%u", version / 10u, version % 10u);
     if (typed_headers_connection_planned(&peer->connection, &status, &planned) != TYPED_HEADERS_DONE)
         complain("a plan is missing");
     log_rest(peer, start, status, planned, planned > 0 && !is_head);

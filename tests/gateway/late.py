@@ -152,7 +152,7 @@ def outcomes_of(gateway: Gateway, place: int, work: Path) -> list[Outcome]:
 
 def run(context: Context) -> Part:
     part = Part("Bytes that nobody asked for")
-    asked = gateways.ours() + gateways.OTHERS
+    asked = [gateways.OURS, *gateways.OTHERS]
     rows: list[list[object]] = []
     for place, gateway in enumerate(asked):
         try:
@@ -165,7 +165,7 @@ def run(context: Context) -> Part:
         other = [f"{way}: another client gets {it.other}" for (way, *_), it in zip(WAYS, found) if it.other not in RIGHT]
         part.counts.append(f"{gateway.title()}: {same} of {len(WAYS)} taken for an answer to the same client (SHOULD NOT), "
                            f"{len(other)} to another one")
-        if gateway in gateways.ours():
+        if gateway is gateways.OURS:
             part.faults += other
     part.section += [
         "An origin server sends a second response that nobody asked for: late, or right behind the first; as the content",

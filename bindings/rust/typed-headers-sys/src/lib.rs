@@ -347,6 +347,66 @@ pub struct Connection {
     pub is_open: bool,
 }
 
+/// What a gateway does with each request. Zero bytes are a closed handle.
+#[repr(C)]
+#[derive(Debug)]
+pub struct GateRules {
+    pub place: *mut core::ffi::c_void,
+    pub is_open: bool,
+}
+
+/// A gateway's connection to a client, and at most one to an origin. Zero bytes are a closed one.
+#[repr(C)]
+#[derive(Debug)]
+pub struct Gate {
+    pub place: *mut core::ffi::c_void,
+    pub is_open: bool,
+}
+
+/// A connection to an origin by itself. Zero bytes are a closed one.
+#[repr(C)]
+#[derive(Debug)]
+pub struct GateOrigin {
+    pub place: *mut core::ffi::c_void,
+    pub is_open: bool,
+}
+
+/// What a gateway does beside what it is to messages.
+#[repr(C)]
+#[derive(Clone, Copy, Debug)]
+pub struct GateOptions {
+    pub authority: Text,
+    pub writes_forwarded: bool,
+    pub writes_x_forwarded: bool,
+    pub answers_expect: bool,
+    pub passes_websocket: bool,
+}
+
+/// The client of a gateway's connection.
+#[repr(C)]
+#[derive(Clone, Copy, Debug)]
+pub struct GatePeer {
+    pub node: Text,
+    pub port: u16,
+    pub is_secure: bool,
+    pub is_trusted: bool,
+}
+
+/// What comes next on a gateway's connection, and what to wait for.
+#[repr(C)]
+#[derive(Clone, Copy, Debug, Default)]
+pub struct GateFacts {
+    pub piece: u64,
+    pub event: u8,
+    pub phase: u8,
+    pub client_input: bool,
+    pub client_output: bool,
+    pub origin_input: bool,
+    pub origin_output: bool,
+    pub ends_client: bool,
+    pub ends_origin: bool,
+}
+
 /// A pass through a cache. Zero bytes are a closed one.
 #[repr(C)]
 #[derive(Debug)]
