@@ -17,8 +17,8 @@ use Rattle.gateway_exchange.specs.History.{IsOriginReached, IsReached, OriginIn,
 use Rattle.gateway_exchange.specs.History.{Written, OriginReceived, OriginFinished, OriginWritten, Said, Sent}
 use Rattle.gateway_exchange.specs.History.{Conditioned}
 use Rattle.gateway_exchange.specs.History.{Answered, Again, Connected, Given, GivenPiece, GivenEnd, NotGiven, NotBegun}
-use Rattle.gateway_exchange.specs.History.{Passed, TimedOut, Taken}
-use Rattle.gateway_exchange.specs.Own.{PutsOwn, RefusesOwn, own_fields, own_status}
+use Rattle.gateway_exchange.specs.History.{Passed, TimedOut, Taken, Closing}
+use Rattle.gateway_exchange.specs.Own.{PutsOwn, RefusesOwn, closing, own_fields, own_status}
 use Rattle.http1_typed.specs.Parts.{reason_of}
 use Rattle.http1.specs.declared.conn.BodySize.TheVariants.{Known}
 use Rattle.gateway_messages.specs.FieldLines.{fields_of}
@@ -131,17 +131,18 @@ client_refuses : {limits : Limits} {old new : StreamConnection} → StreamSteps.
     → ClientGoes limits old new
 client_refuses {limits} {old} {new} nothing = λ p r. (p, Stream.Refused old new p r nothing, refl, refl)
 
-own_goes : {limits : Limits} (old new : StreamConnection) (own : Own) → PutsOwn old own new → ClientGoes limits old new
-own_goes old new own h =
-    client_then (client_responds old h.0 (own_status own) (reason_of (own_status own)) (own_fields own) (Known 0) h.1)
-    (client_ends h.0 new [] h.2)
+own_goes : {limits : Limits} (is_last : Bool) (old new : StreamConnection) (own : Own) → PutsOwn is_last old own new
+    → ClientGoes limits old new
+own_goes is_last old new own h =
+    client_then (client_responds old h.0 (own_status own) (reason_of (own_status own)) (own_fields is_last own) (Known 0)
+    h.1) (client_ends h.0 new [] h.2)
 
-own_fails : {limits : Limits} (old new : StreamConnection) (own : Own) (error : WriteError)
-    → RefusesOwn old own error new → ClientGoes limits old new
-own_fails old new own error (inl h) = client_refuses h.0
-own_fails old new own error (inr h) =
-    client_then (client_responds old h.0 (own_status own) (reason_of (own_status own)) (own_fields own) (Known 0) h.1)
-    (client_refuses h.2.0)
+own_fails : {limits : Limits} (is_last : Bool) (old new : StreamConnection) (own : Own) (error : WriteError)
+    → RefusesOwn is_last old own error new → ClientGoes limits old new
+own_fails is_last old new own error (inl h) = client_refuses h.0
+own_fails is_last old new own error (inr h) =
+    client_then (client_responds old h.0 (own_status own) (reason_of (own_status own)) (own_fields is_last own) (Known 0)
+    h.1) (client_refuses h.2.0)
 
 -- ---- the origin's connection
 
@@ -218,8 +219,8 @@ heard_client old client event says = client_alone (client_says old.client client
 -- ---- answers
 
 answers : {limits : Limits} (old new : GatewayConnection) (own : Own) → Answers old own new → Goes limits old new
-answers old new own (inl h) = client_alone (own_goes old.client new.client own h.0) (same_origin h.1)
-answers old new own (inr h) = client_alone (own_fails old.client new.client own h.0 h.1) (same_origin h.2)
+answers old new own (inl h) = client_alone (own_goes old.is_last old.client new.client own h.0) (same_origin h.1)
+answers old new own (inr h) = client_alone (own_fails old.is_last old.client new.client own h.0 h.1) (same_origin h.2)
 
 -- after a change of the client's connection
 answers_after : {limits : Limits} (old new : GatewayConnection) (client : StreamConnection) (own : Own)
@@ -368,7 +369,7 @@ passes_up rules old new Is.Closed is = kept is refl refl
 -- ---- responses
 
 response_fails : {limits : Limits} (old : GatewayConnection) (client : StreamConnection) (h : Heard)
-    (error : WriteError) → RefusesResponse h old.client error client → ClientGoes limits old.client client
+    (error : WriteError) → RefusesResponse old.is_last h old.client error client → ClientGoes limits old.client client
 response_fails old client h error (inl p) = client_same p.0
 response_fails old client h error (inr p) = client_refuses p.0
 
@@ -387,7 +388,7 @@ switch_fails old client response fields error (inr p) = client_refuses p.0
 puts_head : {limits : Limits} (old new : GatewayConnection) (h : Heard) → PutsHead old h new → Goes limits old new
 puts_head old new h (inl p) =
     client_alone (client_responds old.client new.client h.response.status h.response.reason
-    (fields_of h.sent.fields.items) (response_size h.sent.content) p.0) (same_origin p.1)
+    (closing old.is_last (fields_of h.sent.fields.items)) (response_size h.sent.content) p.0) (same_origin p.1)
 puts_head old new h (inr p) = answers_after old new p.1 (Because.Unsendable p.0) (response_fails old p.1 h p.0 p.2) p.3
 
 shows_head : {limits : Limits} (old new : GatewayConnection) (h : Heard) → ShowsHead old h new → Goes limits old new
@@ -574,14 +575,16 @@ gives : {limits : Limits} (old new : GatewayConnection) (status : ℕ) (reason :
     (size : BodySize) → Gives old status reason fields size new → Goes limits old new
 gives old new status reason fields size h =
     goes_then {b = with_client old h.1}
-    (client_alone (client_responds old.client h.1 status reason fields size h.2) refl)
+    (client_alone (client_responds old.client h.1 status reason (closing old.is_last fields) size h.2) refl)
     (goes_then {b = h.3} (settles (with_client old h.1) h.3 h.4) (kept h.5 refl refl))
 
 refuses_giving : {limits : Limits} (old new : GatewayConnection) (status : ℕ) (reason : List ℕ)
     (fields : List Header) (size : BodySize) (error : WriteError)
     → RefusesGiving old status reason fields size error new → Goes limits old new
 refuses_giving old new status reason fields size error (inl h) = same h.2
-refuses_giving old new status reason fields size error (inr h) = client_alone (client_refuses h.0.0) (same_origin h.1)
+refuses_giving old new status reason fields size error (inr (inl h)) = same h.1
+refuses_giving old new status reason fields size error (inr (inr h)) =
+    client_alone (client_refuses h.0.0) (same_origin h.1)
 
 refuses_in_giving : {limits : Limits} (old new : GatewayConnection) (refusal : Option WriteError)
     (error : WriteError) → RefusesInGiving refusal old error new → Goes limits old new
@@ -744,3 +747,4 @@ run (NotBegun old new p status reason fields size error before h) =
 run (Passed old new p before h) = on (passes old new h) (run before)
 run (TimedOut old new p before h) = on (times_out (phase_of old) old new h) (run before)
 run (Taken old new p origin before h) = on (takes old new origin h) (run before)
+run (Closing old new p before is) = on (kept is refl refl) (run before)

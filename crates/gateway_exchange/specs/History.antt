@@ -1,5 +1,5 @@
 -- Every history of calls on a gateway's connection, and what is true after it.
-use Rattle.std.specs.Prelude.{◌≡◌, ⊤, ℕ, ◌≤◌, Bool, false, List, [], ◌++◌, length, take, Option, Some, None}
+use Rattle.std.specs.Prelude.{◌≡◌, ⊤, ℕ, ◌≤◌, Bool, true, false, List, [], ◌++◌, length, take, Option, Some, None}
 use Rattle.http_header.specs.FieldValue.{FieldValue}
 use Rattle.http1.specs.{Fields.Header, declared.conn.BodySize.BodySize, declared.conn.Limits.Limits}
 use Rattle.http1.specs.{declared.error.WriteError.WriteError}
@@ -77,6 +77,8 @@ pub data IsReached (limits : Limits) : GatewayConnection → Past → Type 0 whe
       → IsReached limits new p
   Taken : (old new : GatewayConnection) (p : Past) (origin : Option OriginConnection) → IsReached limits old p
       → TakesOrigin old origin new → IsReached limits new p
+  Closing : (old new : GatewayConnection) (p : Past) → IsReached limits old p → new ≡ record old { is_last = true }
+      → IsReached limits new p
 
 -- ---- what is true after every history
 

@@ -1,5 +1,5 @@
 -- The gateway's own responses (RFC 9110, sections 15.5 and 15.6).
-use Rattle.std.specs.Prelude.{◌≡◌, ◌⊎◌, ℕ, Bool, true, false, List, [], ◌∷◌, codes, if◌then◌else◌}
+use Rattle.std.specs.Prelude.{◌≡◌, ◌⊎◌, ℕ, Bool, true, false, ◌||◌, List, [], ◌∷◌, ◌++◌, codes, if◌then◌else◌}
 use Rattle.http1.specs.{Conn.finish_refusal, Fields.Header, Server.response_refusal, declared.conn.BodySize.BodySize}
 use Rattle.http1.specs.{declared.conn.BodySize.TheVariants.Known, declared.error.WriteError.WriteError}
 use Rattle.http1_typed.specs.Parts.{reason_of}
@@ -53,21 +53,26 @@ own_closes own = false
 abbrev pub close_field : Header
 close_field = (codes "connection", codes "close")
 
-abbrev pub own_fields : Own → List Header
-own_fields own = if own_closes own then close_field ∷ [] else []
+-- these fields, of the last message too, which says so
+abbrev pub closing : Bool → List Header → List Header
+closing true fields = fields ++ close_field ∷ []
+closing false fields = fields
+
+abbrev pub own_fields : Bool → Own → List Header
+own_fields is_last own = if is_last || own_closes own then close_field ∷ [] else []
 
 -- a response without content is put to its end
-abbrev pub PutsOwn : StreamConnection → Own → StreamConnection → Type 0
-PutsOwn old own new =
+abbrev pub PutsOwn : Bool → StreamConnection → Own → StreamConnection → Type 0
+PutsOwn is_last old own new =
     (between : StreamConnection)
-    × Responds old (own_status own) (reason_of (own_status own)) (own_fields own) (Known 0) between
+    × Responds old (own_status own) (reason_of (own_status own)) (own_fields is_last own) (Known 0) between
     × Ends between [] new
 
 -- nothing of it is put, or its head alone
-abbrev pub RefusesOwn : StreamConnection → Own → WriteError → StreamConnection → Type 0
-RefusesOwn old own error new =
-    RefusesWrite (response_refusal old.server (own_status own) (reason_of (own_status own)) (Known 0) (own_fields own))
-    old error new
+abbrev pub RefusesOwn : Bool → StreamConnection → Own → WriteError → StreamConnection → Type 0
+RefusesOwn is_last old own error new =
+    RefusesWrite (response_refusal old.server (own_status own) (reason_of (own_status own)) (Known 0)
+    (own_fields is_last own)) old error new
     ⊎ ((between : StreamConnection)
-    × Responds old (own_status own) (reason_of (own_status own)) (own_fields own) (Known 0) between
+    × Responds old (own_status own) (reason_of (own_status own)) (own_fields is_last own) (Known 0) between
     × RefusesWrite (finish_refusal between.server.writing []) between error new)

@@ -20,7 +20,7 @@ use Rattle.gateway_connection.specs.Steps as Origin
 use Rattle.server_stream.specs.Steps as Stream
 use Rattle.server_stream.specs.declared.connection.StreamConnection.{StreamConnection}
 use Rattle.gateway_parts.specs.Messages.{protocol_of, request_size, response_size}
-use Rattle.gateway_exchange.specs.{Decisions.offering, declared.decision.AskedRequest.AskedRequest}
+use Rattle.gateway_exchange.specs.{Decisions.offering, Own.closing, declared.decision.AskedRequest.AskedRequest}
 use Rattle.gateway_exchange.specs.declared.{own.Own.Own, pass.Heard.Heard}
 use Rattle.gateway_exchange.specs.declared.own.Own.TheVariants as Because
 
@@ -81,17 +81,17 @@ RefusesInterim response sent old error new =
     ⊎ Stream.RefusesWrite (informational_refusal old.server response.status response.reason
     (fields_of sent.fields.items)) old error new
 
--- the head of the final response is put to the client
-abbrev pub PutsResponse : Heard → StreamConnection → StreamConnection → Type 0
-PutsResponse h old new =
-    Stream.Responds old h.response.status h.response.reason (fields_of h.sent.fields.items)
+-- the head of the final response is put to the client; that of the last says so
+abbrev pub PutsResponse : Bool → Heard → StreamConnection → StreamConnection → Type 0
+PutsResponse is_last h old new =
+    Stream.Responds old h.response.status h.response.reason (closing is_last (fields_of h.sent.fields.items))
     (response_size h.sent.content) new
 
-abbrev pub RefusesResponse : Heard → StreamConnection → WriteError → StreamConnection → Type 0
-RefusesResponse h old error new =
+abbrev pub RefusesResponse : Bool → Heard → StreamConnection → WriteError → StreamConnection → Type 0
+RefusesResponse is_last h old error new =
     ((new ≡ old) × (error ≡ Write.OutOfMemory))
     ⊎ Stream.RefusesWrite (response_refusal old.server h.response.status h.response.reason
-    (response_size h.sent.content) (fields_of h.sent.fields.items)) old error new
+    (response_size h.sent.content) (closing is_last (fields_of h.sent.fields.items))) old error new
 
 -- the end of the response is put to the client
 abbrev pub EndsResponse : Gateway → Heard → Entries FieldValue → StreamConnection → StreamConnection → Type 0

@@ -18,7 +18,7 @@ use Rattle.gateway_connection.specs.declared.event.OriginFault.TheVariants as Fa
 use Rattle.server_stream.specs.Steps as Stream
 use Rattle.server_stream.specs.declared.{connection.StreamConnection.StreamConnection, event.RequestHead.RequestHead}
 use Rattle.server_stream.specs.declared.event.StreamEvent.{StreamEvent}
-use Rattle.gateway_exchange.specs.{Decisions.IsDecision, Own.{PutsOwn, RefusesOwn}}
+use Rattle.gateway_exchange.specs.{Decisions.IsDecision, Own.{PutsOwn, RefusesOwn, closing}}
 use Rattle.gateway_exchange.specs.Passing.{EndsRequest, EndsResponse, IsSwitched, IsUnswitched, PutsInterim, PutsRequest}
 use Rattle.gateway_exchange.specs.Passing.{PutsResponse, PutsSwitch, RefusesInterim, RefusesRequest, RefusesRequestEnd}
 use Rattle.gateway_exchange.specs.Passing.{RefusesResponse, RefusesResponseEnd, RefusesSwitch, answered, with_conditions}
@@ -46,6 +46,7 @@ pub record IsNew (limits : Limits) (peer : Peer) (m : GatewayConnection) : Type 
   pub asked : m.asked ≡ None
   pub heard : m.heard ≡ None
   pub own : m.own ≡ None
+  pub is_last : m.is_last ≡ false
 
 -- ---- bytes
 
@@ -104,9 +105,9 @@ output_of None = []
 -- it is put, and the exchange is over; or that fails, and the client's connection is cut off
 abbrev pub Answers : GatewayConnection → Own → GatewayConnection → Type 0
 Answers old own new =
-    (PutsOwn old.client own new.client
+    (PutsOwn old.is_last old.client own new.client
     × (new ≡ record old { client = new.client; own = Some own; stage = At.Ended }))
-    ⊎ ((error : WriteError) × RefusesOwn old.client own error new.client
+    ⊎ ((error : WriteError) × RefusesOwn old.is_last old.client own error new.client
     × (new ≡ record old { client = new.client; own = Some own; stage = At.Aborted }))
 
 -- the head of a response was put, so it is cut off; or none was, and the gateway answers
@@ -308,8 +309,8 @@ PassesInterim rules date old a response new =
 -- the head of the response that waits is put to the client, or the gateway answers
 abbrev pub PutsHead : GatewayConnection → Heard → GatewayConnection → Type 0
 PutsHead old h new =
-    (PutsResponse h old.client new.client × (new ≡ record old { client = new.client; stage = At.Passing }))
-    ⊎ ((error : WriteError) × (client : StreamConnection) × RefusesResponse h old.client error client
+    (PutsResponse old.is_last h old.client new.client × (new ≡ record old { client = new.client; stage = At.Passing }))
+    ⊎ ((error : WriteError) × (client : StreamConnection) × RefusesResponse old.is_last h old.client error client
     × Answers (with_client old client) (Because.Unsendable error) new)
 
 -- it is put, and remembered for its trailer fields
@@ -468,10 +469,11 @@ Connects old new =
     ⊎ ((old.stage ≡ At.Asking) × (event : StreamEvent) × (client : StreamConnection)
     × Stream.Says old.client event client × ConnectsAs (with_client old client) new)
 
--- the head of a response that the caller gives is put
+-- the head of a response that the caller gives is put; that of the last says so
 abbrev pub Gives : GatewayConnection → ℕ → List ℕ → List Header → BodySize → GatewayConnection → Type 0
 Gives old status reason fields size new =
-    IsAsking old × (client : StreamConnection) × Stream.Responds old.client status reason fields size client
+    IsAsking old × (client : StreamConnection)
+    × Stream.Responds old.client status reason (closing old.is_last fields) size client
     × (between : GatewayConnection) × Settles (with_client old client) between
     × (new ≡ record between { stage = At.Giving })
 
@@ -479,8 +481,9 @@ abbrev pub RefusesGiving : GatewayConnection → ℕ → List ℕ → List Heade
     → Type 0
 RefusesGiving old status reason fields size error new =
     (¬ (IsAsking old) × (error ≡ Write.State) × (new ≡ old))
-    ⊎ ChangesClient (λ before after. Stream.RefusesWrite (response_refusal before.server status reason size fields)
-    before error after) old new
+    ⊎ ((error ≡ Write.OutOfMemory) × (new ≡ old))
+    ⊎ ChangesClient (λ before after. Stream.RefusesWrite (response_refusal before.server status reason size
+    (closing old.is_last fields)) before error after) old new
 
 -- its end is put
 abbrev pub EndsGiving : GatewayConnection → List Header → GatewayConnection → Type 0

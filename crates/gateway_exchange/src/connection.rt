@@ -1,5 +1,6 @@
 //! A gateway's connection.
-ghost use Rattle.std.specs.Prelude.{◌≡◌, ◌≢◌, ◌↔◌, ◌≤◌, ◌++◌, [], length, option_map, IfOk, IsTrue, MatchResult, OnErr, OnOk};
+ghost use Rattle.std.specs.Prelude.{◌≡◌, ◌≢◌, ◌↔◌, ◌≤◌, ◌++◌, [], length, option_map, true, IfOk, IsTrue, MatchResult};
+ghost use Rattle.std.specs.Prelude.{OnErr, OnOk};
 ghost use Rattle.http1.specs.{Conn.{data_refusal, finish_refusal}, Head.pairs, Server.response_refusal};
 ghost use Rattle.http1.specs.{declared.conn.Limits.Limits};
 ghost use Rattle.gateway_messages.specs.FieldLines.{fields_of};
@@ -20,7 +21,7 @@ ghost use Rattle.gateway_exchange.specs.Steps.{Steps, SwitchesTo, TellsHead, Tim
 
 use crate::decision::{AskedRequest, RequestDecision, decide};
 use crate::event::{GatewayEvent, Phase, Wants};
-use crate::own::{CLOSE, Own, put_own};
+use crate::own::{Own, close_if, put_own};
 use crate::pass::{
     Heard, begin_request, end_request, end_response, judge, put_interim, put_response, put_switch,
     switched_fields, with_conditions,
@@ -604,9 +605,7 @@ impl GatewayConnection {
         }
         let mut list = Vec::new(self.alloc);
         list.extend_from_slice(fields)?;
-        if self.is_last && list.push(CLOSE).is_err() {
-            return Err(WriteError::OutOfMemory);
-        }
+        close_if(self.is_last, &mut list)?;
         self.client.respond(status, reason, &list, size)?;
         self.settle();
         self.stage = Stage::Giving;
@@ -614,7 +613,9 @@ impl GatewayConnection {
     }
 
     /// Says that the connection ends after the next response, which says so.
-    pub fn close_after(&mut self) {
+    pub fn close_after(&mut self)
+        ensures { self.new ≡ record self.old { is_last = true } }
+    {
         self.is_last = true;
     }
 

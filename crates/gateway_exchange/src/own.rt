@@ -1,15 +1,16 @@
 //! Why a gateway answers a request itself.
-ghost use Rattle.std.specs.Prelude.{◌≡◌, MatchResult};
+ghost use Rattle.std.specs.Prelude.{◌≡◌, IfOk, MatchResult};
 ghost use Rattle.http_header.specs.FieldValue.{IsFieldValue};
 ghost use Rattle.http1.specs.Head.{header_parts, pairs};
 ghost use Rattle.http1_typed.specs.Parts.{reason_of};
-ghost use Rattle.gateway_exchange.specs.Own.{PutsOwn, RefusesOwn, own_closes, own_fields, own_status};
+ghost use Rattle.gateway_exchange.specs.Own.{PutsOwn, RefusesOwn, closing, own_closes, own_fields, own_status};
 
 use gateway_connection::OriginFault;
 use gateway_messages::Rejection;
 use http::StatusCode;
 use http1::{BodySize, Header, WriteError};
 use server_stream::{Rejection as Unread, StreamConnection};
+use std::alloc::AllocError;
 
 /// Why a gateway answers a request itself (RFC 9110, sections 15.5 and 15.6).
 #[derive(Clone, Copy, Debug, PartialEq, Eq)]
@@ -45,7 +46,7 @@ pub enum Own {
 }
 
 /// The field that says that the connection ends after the message (RFC 9112, section 9.6).
-pub(crate) const CLOSE: Header<'static> = Header {
+const CLOSE: Header<'static> = Header {
     name: b"connection",
     value: b"close",
 };
@@ -101,15 +102,25 @@ fn reason(status: StatusCode) -> &'static [u8]
 
 // The fields of an answer, beside those that frame it.
 fn own_fields(own: &Own, is_last: bool) -> &'static [Header<'static>]
-    ensures { pairs result.now ≡ own_fields own.now }
+    ensures { pairs result.now ≡ own_fields is_last own.now }
 {
     if is_last || own.closes() { &[CLOSE] } else { &[] }
 }
 
+/// Appends the field that says that the connection ends, if this is the last response.
+pub(crate) fn close_if(is_last: bool, fields: &mut Vec<Header<'_>>) -> Result<(), AllocError>
+    ensures { IfOk result (λ _. pairs fields.new.items ≡ closing is_last (pairs fields.old.items)) }
+{
+    if is_last {
+        fields.push(CLOSE)?;
+    }
+    Ok(())
+}
+
 /// Puts the answer, without content.
 pub(crate) fn put_own(own: &Own, is_last: bool, client: &mut StreamConnection) -> Result<(), WriteError>
-    ensures { MatchResult result (λ _. PutsOwn client.old own.now client.new)
-        (λ error. RefusesOwn client.old own.now error client.new) }
+    ensures { MatchResult result (λ _. PutsOwn is_last client.old own.now client.new)
+        (λ error. RefusesOwn is_last client.old own.now error client.new) }
 {
     let status = own.status();
     client.respond(status, reason(status), own_fields(own, is_last), BodySize::Known(0))?;

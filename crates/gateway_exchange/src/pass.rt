@@ -11,7 +11,7 @@ ghost use Rattle.gateway_exchange.specs.Passing.{PutsRequest, RefusesRequest};
 ghost use Rattle.gateway_exchange.specs.Steps.{Begins, RefusesBegin};
 
 use crate::decision::AskedRequest;
-use crate::own::{CLOSE, Own};
+use crate::own::{Own, close_if};
 use crate::rules::next_connection;
 use decide_handshake::{Checked, check};
 use gateway_connection::{OriginConnection, OriginResponse};
@@ -138,13 +138,11 @@ pub(crate) fn put_response(
     is_last: bool,
     client: &mut StreamConnection,
 ) -> Result<(), WriteError>
-    ensures { MatchResult result (λ _. PutsResponse heard.now client.old client.new)
-        (λ error. RefusesResponse heard.now client.old error client.new) }
+    ensures { MatchResult result (λ _. PutsResponse is_last heard.now client.old client.new)
+        (λ error. RefusesResponse is_last heard.now client.old error client.new) }
 {
     let mut headers = header_list(alloc, &heard.sent.fields)?;
-    if is_last && headers.push(CLOSE).is_err() {
-        return Err(WriteError::OutOfMemory);
-    }
+    close_if(is_last, &mut headers)?;
     client.respond(
         heard.response.status,
         heard.response.reason.as_slice(),
