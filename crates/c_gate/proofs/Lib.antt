@@ -1,0 +1,3 @@
+mod ForwardLemmas
+mod SideLemmas
+mod TunnelLemmas
