@@ -1,3 +1,2 @@
-mod ForwardLemmas
-mod SideLemmas
-mod TunnelLemmas
+mod AnswerLemmas
+mod CallLemmas

@@ -41,7 +41,8 @@ Becomes P old new = P old.connection new.connection × (new.scheme ≡ old.schem
 -- a call that makes this step, and never fails
 abbrev pub Does : (GatewayConnection → GatewayConnection → Type 0) → HeldGate → HeldGate → Result (Unit {0}) Failure
     → Type 0
-Does P old new answer = (answer ≡ Ok tt) × Becomes P old new
+Does P old new (Ok tt) = Becomes P old new
+Does P old new (Err failure) = ⊥
 
 -- all of the bytes are received, or none if out of memory
 abbrev pub AllOrNone : {X : Type 0} → (List ℕ → X → X → Type 0) → List ℕ → X → X → Result (Unit {0}) Failure → Type 0

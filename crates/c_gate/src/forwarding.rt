@@ -1,9 +1,10 @@
 //! How a request goes to an origin.
-ghost use Rattle.std.specs.Prelude.{◌≡◌, IfOk, Some};
+ghost use Rattle.std.specs.Prelude.{◌≡◌, IfOk, None, Some};
 ghost use Rattle.http_header.specs.HeaderMap.{get};
 ghost use Rattle.gateway_exchange.specs.Steps.{AsksAgain};
 ghost use Rattle.c_gate.specs.Calls.{Does, OnGate};
-ghost use Rattle.c_gate.specs.Origins.{Forwards, ForwardsIn, IsTaken, LastAfterNext, SetsConditions, TakesOver, fits};
+ghost use Rattle.c_gate.specs.Origins.{Forwards, ForwardsIn, IsOpenedWith, IsTaken, LastAfterNext, SetsConditions};
+ghost use Rattle.c_gate.specs.Origins.{TakesOver, fits};
 
 use crate::calling::change;
 use c_handles::{Handle, Held, HeldGate};
@@ -132,6 +133,18 @@ fn take_in(gate: &mut HeldGate) -> Result<OriginConnection, Failure>
     }
 }
 
+fn put_origin(
+    alloc: Global,
+    handle: &mut Handle,
+    connection: OriginConnection,
+) -> Result<(), Failure>
+    requires { handle.old.held ≡ None }
+    ensures { IsOpenedWith (Some connection) handle.new.held result }
+{
+    handle.put(Box::new(alloc, Held::GateOrigin(connection))?);
+    Ok(())
+}
+
 /// Opens a closed handle with the origin's connection, once the exchange is over. `Absent` if no further request may go
 /// over it. Rejected if the handle is open.
 pub fn take_origin(alloc: Global, handle: &mut Handle, origin: &mut Handle) -> Result<(), Failure>
@@ -142,6 +155,5 @@ pub fn take_origin(alloc: Global, handle: &mut Handle, origin: &mut Handle) -> R
         return Err(Failure::Refused);
     }
     let connection = change(alloc, handle, take_in)?;
-    origin.put(Box::new(alloc, Held::GateOrigin(connection))?);
-    Ok(())
+    put_origin(alloc, origin, connection)
 }
