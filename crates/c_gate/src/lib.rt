@@ -15,4 +15,6 @@ pub use crate::answering::{answer, end, pass, push, respond};
 pub use crate::forwarding::{again, closes_after, forward, set_conditions, take_origin};
 pub use crate::moving::{GateFacts, ask_for, finish, next, open_tunnel, receive, sent, timed_out};
 pub use crate::opening::{GatePeer, GateRules, open_gate, open_origin, open_rules};
-pub use crate::reading::{GateText, fields_of, key_of, own_of, response_of, write_text};
+pub use crate::reading::{
+    GateText, fields_of, key_of, own_of, response_of, write_output, write_text,
+};

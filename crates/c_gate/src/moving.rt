@@ -1,10 +1,19 @@
 //! The bytes of either side, and what comes next.
+ghost use Rattle.std.specs.Prelude.{◌≡◌, ◌++◌, IfOk, OnOk, Some};
+ghost use Rattle.headers_section.specs.Section.{input_lines};
+ghost use Rattle.gateway_exchange.specs.Steps.{TimesOut};
+ghost use Rattle.c_gate.specs.Calls.{Does, OnGate, rules_in};
+ghost use Rattle.c_gate.specs.Moves.{Asks, ClientHandsOut, Finishes, GateFinishes, GateHandsOut, GateReceives};
+ghost use Rattle.c_gate.specs.Moves.{GateTells, IsTunnelOf, OpensTunnel, OriginHandsOut, Receives, Sent, TellsNext};
+ghost use Rattle.c_gate.specs.Moves.{TunnelClientHandsOut, TunnelFinishes, TunnelHandsOut, TunnelOriginHandsOut};
+ghost use Rattle.c_gate.specs.Moves.{TunnelReceives, crlf_line, is_gate, lines_text, request_text};
+ghost use Rattle.c_gate.specs.Numbers.{event_number, facts_of, phase_number, piece_len, tunnel_facts};
 
-use crate::calling::change;
+use crate::calling::{change, change_either};
 use c_gateway::read_date;
-use c_handles::{Handle, Held};
-use c_parts::Failure;
-use gateway_exchange::{GatewayEvent, Phase, Rules, Tunnel, Wants};
+use c_handles::{Handle, Held, HeldGate};
+use c_parts::{Failure, cut_line};
+use gateway_exchange::{GatewayConnection, GatewayEvent, Phase, Rules, Tunnel, Wants};
 use std::alloc::{AllocError, Global};
 
 /// What comes next on a connection, what it does, and what to wait for.
@@ -31,103 +40,149 @@ pub struct GateFacts {
     pub ends_origin: bool,
 }
 
-// Whether the bytes are the origin's, by the number of the side: 0 for the client, 1 for the origin.
-fn is_of_origin(side: u8) -> Result<bool, Failure> {
+fn gate_receive(gate: &mut HeldGate, side: u8, bytes: &[u8]) -> Result<(), Failure>
+    ensures { GateReceives side bytes.now gate.old gate.new result }
+{
     match side {
-        0 => Ok(false),
-        1 => Ok(true),
+        0 => Ok(gate.connection.client_receive(bytes)?),
+        1 => Ok(gate.connection.origin_receive(bytes)?),
         _ => Err(Failure::Refused),
     }
 }
 
-fn ended(received: Result<(), AllocError>) -> Result<(), Failure> {
-    match received {
-        Ok(()) => Ok(()),
-        Err(_) => Err(Failure::Memory),
+fn tunnel_receive(tunnel: &mut Tunnel, side: u8, bytes: &[u8]) -> Result<(), Failure>
+    ensures { TunnelReceives side bytes.now tunnel.old tunnel.new result }
+{
+    match side {
+        0 => Ok(tunnel.client_receive(bytes)?),
+        1 => Ok(tunnel.origin_receive(bytes)?),
+        _ => Err(Failure::Refused),
     }
 }
 
-fn receive_in(held: &mut Held, is_of_origin: bool, bytes: &[u8]) -> Result<(), Failure> {
-    match held {
-        Held::Gate(gate) if is_of_origin => ended(gate.connection.origin_receive(bytes)),
-        Held::Gate(gate) => ended(gate.connection.client_receive(bytes)),
-        Held::Tunnel(tunnel) if is_of_origin => ended(tunnel.origin_receive(bytes)),
-        Held::Tunnel(tunnel) => ended(tunnel.client_receive(bytes)),
-        _ => Err(Failure::Absent),
-    }
+/// Receives all of these bytes, or none, as those of the side of this number: 0 for the client, 1 for the origin.
+/// Rejected if it is another.
+pub fn receive(alloc: Global, handle: &mut Handle, side: u8, bytes: &[u8]) -> Result<(), Failure>
+    ensures { Receives side bytes.now handle.old.held handle.new.held result }
+{
+    change_either(
+        alloc,
+        handle,
+        |gate| gate_receive(gate, side, bytes),
+        |tunnel| tunnel_receive(tunnel, side, bytes),
+    )
 }
 
-/// Receives all of these bytes, or none.
-pub fn receive(alloc: Global, handle: &mut Handle, side: u8, bytes: &[u8]) -> Result<(), Failure> {
-    let is_of_origin = is_of_origin(side)?;
-    let Some(mut held) = handle.take(alloc) else {
-        return Err(Failure::Absent);
-    };
-    let answer = receive_in(&mut held, is_of_origin, bytes);
-    handle.put(held);
-    answer
-}
-
-fn finish_in(held: &mut Held, is_of_origin: bool) -> Result<(), Failure> {
-    match held {
-        Held::Gate(gate) if is_of_origin => gate.connection.origin_finish(),
-        Held::Gate(gate) => gate.connection.client_finish(),
-        Held::Tunnel(tunnel) if is_of_origin => tunnel.origin_finish(),
-        Held::Tunnel(tunnel) => tunnel.client_finish(),
-        _ => return Err(Failure::Absent),
+fn gate_finish(gate: &mut HeldGate, side: u8) -> Result<(), Failure>
+    ensures { GateFinishes side gate.old gate.new result }
+{
+    match side {
+        0 => gate.connection.client_finish(),
+        1 => gate.connection.origin_finish(),
+        _ => return Err(Failure::Refused),
     }
     Ok(())
 }
 
-/// Says that the input of a side ends here.
-pub fn finish(alloc: Global, handle: &mut Handle, side: u8) -> Result<(), Failure> {
-    let is_of_origin = is_of_origin(side)?;
-    let Some(mut held) = handle.take(alloc) else {
-        return Err(Failure::Absent);
-    };
-    let answer = finish_in(&mut held, is_of_origin);
-    handle.put(held);
-    answer
-}
-
-/// What waits to be written to a side.
-pub(crate) fn output_of(held: &Held, side: u8) -> Result<&[u8], Failure> {
-    let is_of_origin = is_of_origin(side)?;
-    match held {
-        Held::Gate(gate) if is_of_origin => Ok(gate.connection.origin_output()),
-        Held::Gate(gate) => Ok(gate.connection.client_output()),
-        Held::Tunnel(tunnel) if is_of_origin => Ok(tunnel.origin_output()),
-        Held::Tunnel(tunnel) => Ok(tunnel.client_output()),
-        _ => Err(Failure::Absent),
+fn tunnel_finish(tunnel: &mut Tunnel, side: u8) -> Result<(), Failure>
+    ensures { TunnelFinishes side tunnel.old tunnel.new result }
+{
+    match side {
+        0 => tunnel.client_finish(),
+        1 => tunnel.origin_finish(),
+        _ => return Err(Failure::Refused),
     }
+    Ok(())
 }
 
-fn sent_in(held: &mut Held, side: u8, count: u64) -> Result<(), Failure> {
-    if count > output_of(held, side)?.len() as u64 {
+/// Says that the input of the side of this number ends here. Rejected if there is no such side.
+pub fn finish(alloc: Global, handle: &mut Handle, side: u8) -> Result<(), Failure>
+    ensures { Finishes side handle.old.held handle.new.held result }
+{
+    change_either(
+        alloc,
+        handle,
+        |gate| gate_finish(gate, side),
+        |tunnel| tunnel_finish(tunnel, side),
+    )
+}
+
+fn client_sent(gate: &mut HeldGate, count: u64) -> Result<(), Failure>
+    ensures { ClientHandsOut count gate.old gate.new result }
+{
+    if count > gate.connection.client_output().len() as u64 {
         return Err(Failure::Refused);
     }
-    let count = count as usize;
-    match held {
-        Held::Gate(gate) if side == 1 => gate.connection.origin_sent(count),
-        Held::Gate(gate) => gate.connection.client_sent(count),
-        Held::Tunnel(tunnel) if side == 1 => tunnel.origin_sent(count),
-        Held::Tunnel(tunnel) => tunnel.client_sent(count),
-        _ => return Err(Failure::Absent),
-    }
+    gate.connection.client_sent(count as usize);
     Ok(())
 }
 
-/// Says that so many of the bytes that wait for a side were written. Rejected if fewer wait.
-pub fn sent(alloc: Global, handle: &mut Handle, side: u8, count: u64) -> Result<(), Failure> {
-    let Some(mut held) = handle.take(alloc) else {
-        return Err(Failure::Absent);
-    };
-    let answer = sent_in(&mut held, side, count);
-    handle.put(held);
-    answer
+fn origin_sent(gate: &mut HeldGate, count: u64) -> Result<(), Failure>
+    ensures { OriginHandsOut count gate.old gate.new result }
+{
+    if count > gate.connection.origin_output().len() as u64 {
+        return Err(Failure::Refused);
+    }
+    gate.connection.origin_sent(count as usize);
+    Ok(())
 }
 
-fn event_number(event: GatewayEvent) -> u8 {
+fn gate_sent(gate: &mut HeldGate, side: u8, count: u64) -> Result<(), Failure>
+    ensures { GateHandsOut side count gate.old gate.new result }
+{
+    match side {
+        0 => client_sent(gate, count),
+        1 => origin_sent(gate, count),
+        _ => Err(Failure::Refused),
+    }
+}
+
+fn tunnel_client_sent(tunnel: &mut Tunnel, count: u64) -> Result<(), Failure>
+    ensures { TunnelClientHandsOut count tunnel.old tunnel.new result }
+{
+    if count > tunnel.client_output().len() as u64 {
+        return Err(Failure::Refused);
+    }
+    tunnel.client_sent(count as usize);
+    Ok(())
+}
+
+fn tunnel_origin_sent(tunnel: &mut Tunnel, count: u64) -> Result<(), Failure>
+    ensures { TunnelOriginHandsOut count tunnel.old tunnel.new result }
+{
+    if count > tunnel.origin_output().len() as u64 {
+        return Err(Failure::Refused);
+    }
+    tunnel.origin_sent(count as usize);
+    Ok(())
+}
+
+fn tunnel_sent(tunnel: &mut Tunnel, side: u8, count: u64) -> Result<(), Failure>
+    ensures { TunnelHandsOut side count tunnel.old tunnel.new result }
+{
+    match side {
+        0 => tunnel_client_sent(tunnel, count),
+        1 => tunnel_origin_sent(tunnel, count),
+        _ => Err(Failure::Refused),
+    }
+}
+
+/// Says that so many of the bytes that wait for the side of this number were written. Rejected if fewer wait, or there
+/// is no such side.
+pub fn sent(alloc: Global, handle: &mut Handle, side: u8, count: u64) -> Result<(), Failure>
+    ensures { Sent side count handle.old.held handle.new.held result }
+{
+    change_either(
+        alloc,
+        handle,
+        |gate| gate_sent(gate, side, count),
+        |tunnel| tunnel_sent(tunnel, side, count),
+    )
+}
+
+fn event_number(event: GatewayEvent) -> u8
+    ensures { result ≡ event_number event }
+{
     match event {
         GatewayEvent::Waits => 0,
         GatewayEvent::Request => 1,
@@ -141,7 +196,9 @@ fn event_number(event: GatewayEvent) -> u8 {
     }
 }
 
-fn phase_number(phase: Phase) -> u8 {
+fn phase_number(phase: Phase) -> u8
+    ensures { result ≡ phase_number phase }
+{
     match phase {
         Phase::Idle => 0,
         Phase::Head => 1,
@@ -155,7 +212,9 @@ fn phase_number(phase: Phase) -> u8 {
     }
 }
 
-fn facts_of(event: GatewayEvent, phase: Phase, wants: Wants) -> GateFacts {
+fn facts_of(event: GatewayEvent, phase: Phase, wants: Wants) -> GateFacts
+    ensures { result ≡ facts_of event phase wants }
+{
     GateFacts {
         piece: 0,
         event: event_number(event),
@@ -169,85 +228,125 @@ fn facts_of(event: GatewayEvent, phase: Phase, wants: Wants) -> GateFacts {
     }
 }
 
-fn tunnel_facts(tunnel: &Tunnel) -> GateFacts {
+// How long the piece is that was passed to the client, if the event is that one was.
+fn piece_len(event: GatewayEvent, connection: &GatewayConnection) -> u64
+    ensures { result ≡ piece_len event connection.now }
+{
+    match event {
+        GatewayEvent::Piece => connection.piece().len() as u64,
+        _ => 0,
+    }
+}
+
+fn next_in(gate: &mut HeldGate, rules: &Rules, now: u64) -> Result<GateFacts, Failure>
+    ensures { GateTells rules.now now gate.old gate.new result }
+{
+    let date = read_date(now)?;
+    let connection = &mut gate.connection;
+    let event = connection.next(rules, date);
+    let mut facts = facts_of(event, connection.phase(), connection.wants());
+    facts.piece = piece_len(event, connection);
+    Ok(facts)
+}
+
+fn tunnel_facts(tunnel: &Tunnel) -> GateFacts
+    ensures { result ≡ tunnel_facts tunnel.now }
+{
     let mut facts = facts_of(GatewayEvent::Waits, Phase::Over, tunnel.wants());
     facts.ends_client = tunnel.ends_client();
     facts.ends_origin = tunnel.ends_origin();
     facts
 }
 
-fn next_by(held: &mut Held, rules: &Rules, now: u64) -> Result<GateFacts, Failure> {
-    match held {
-        Held::Gate(gate) => {
-            let connection = &mut gate.connection;
-            let event = connection.next(rules, read_date(now)?);
-            let mut facts = facts_of(event, connection.phase(), connection.wants());
-            if event == GatewayEvent::Piece {
-                facts.piece = connection.piece().len() as u64;
-            }
-            Ok(facts)
-        }
-        Held::Tunnel(tunnel) => Ok(tunnel_facts(tunnel)),
-        _ => Err(Failure::Absent),
-    }
+fn next_by(alloc: Global, handle: &mut Handle, rules: &Held, now: u64) -> Result<GateFacts, Failure>
+    ensures { TellsNext now (rules_in (Some rules.now)) handle.old.held handle.new.held result }
+{
+    let Held::GateRules(rules) = rules else {
+        return Err(Failure::Absent);
+    };
+    change_either(
+        alloc,
+        handle,
+        |gate| next_in(gate, rules, now),
+        |tunnel| Ok(tunnel_facts(tunnel)),
+    )
 }
 
-fn next_in(held: &mut Held, rules: &Held, now: u64) -> Result<GateFacts, Failure> {
-    match rules {
-        Held::GateRules(rules) => next_by(held, rules, now),
-        _ => Err(Failure::Absent),
-    }
-}
-
-/// Says what comes next on a connection with these rules. A tunnel always waits.
+/// Says what comes next on a connection with these rules. A tunnel always waits. Rejected if the second lies past the
+/// year 9999.
 pub fn next(
     alloc: Global,
     handle: &mut Handle,
     rules: &mut Handle,
     now: u64,
-) -> Result<GateFacts, Failure> {
+) -> Result<GateFacts, Failure>
+    ensures same { rules.new.held ≡ rules.old.held }
+    ensures next { TellsNext now (rules_in rules.old.held) handle.old.held handle.new.held result }
+{
     let Some(by) = rules.take(alloc) else {
         return Err(Failure::Absent);
     };
-    let Some(mut held) = handle.take(alloc) else {
-        rules.put(by);
-        return Err(Failure::Absent);
-    };
-    let facts = next_in(&mut held, &by, now);
+    let facts = next_by(alloc, handle, &by, now);
     rules.put(by);
-    handle.put(held);
     facts
 }
 
-/// Says that the time limit of the phase is over.
-pub fn timed_out(alloc: Global, handle: &mut Handle) -> Result<(), Failure> {
-    change(alloc, handle, |gate| {
-        gate.connection.timed_out();
-        Ok(())
-    })
+fn is_gate(held: &Held) -> bool
+    ensures { result ≡ is_gate held.now }
+{
+    match held {
+        Held::Gate(_) => true,
+        _ => false,
+    }
 }
 
-fn tunnel_of(held: Held) -> Result<Tunnel, Failure> {
+fn tunnel_of(held: Held) -> Result<Tunnel, Failure>
+    ensures { IsTunnelOf held result }
+{
     match held {
         Held::Gate(gate) => Ok(gate.connection.into_tunnel()?),
         _ => Err(Failure::Absent),
     }
 }
 
-/// Goes on with the bytes of the other protocol, once the event says so. The handle is closed if it has no connection,
-/// and if an allocation fails.
-pub fn open_tunnel(alloc: Global, handle: &mut Handle) -> Result<(), Failure> {
+/// Goes on with the bytes of the other protocol, once the event says so. The handle is closed if an allocation fails.
+pub fn open_tunnel(alloc: Global, handle: &mut Handle) -> Result<(), Failure>
+    ensures { OpensTunnel handle.old.held handle.new.held result }
+{
     let Some(held) = handle.take(alloc) else {
         return Err(Failure::Absent);
     };
+    if !is_gate(&held) {
+        handle.put(held);
+        return Err(Failure::Absent);
+    }
     let tunnel = tunnel_of(Box::into_inner(held))?;
     handle.put(Box::new(alloc, Held::Tunnel(tunnel))?);
     Ok(())
 }
 
-fn push_line(text: &mut Vec<u8>, line: &[u8]) -> Result<(), AllocError> {
+fn push_line(text: &mut Vec<u8>, line: &[u8]) -> Result<(), AllocError>
+    ensures { OnOk result (text.new.items ≡ text.old.items ++ crlf_line line.now) }
+{
     text.extend_from_slice(line)?;
     text.extend_from_slice(b"\r\n")
+}
+
+// Adds the lines of a section that aren't empty.
+fn push_section(text: &mut Vec<u8>, section: &[u8]) -> Result<(), AllocError>
+    ensures { OnOk result (text.new.items ≡ text.old.items ++ lines_text (input_lines section.now)) }
+{
+    let mut rest = section;
+    loop {
+        let (line, after) = cut_line(rest);
+        if !line.is_empty() {
+            push_line(text, line)?;
+        }
+        match after {
+            Some(after) => rest = after,
+            None => return Ok(()),
+        }
+    }
 }
 
 // A request without content, as a client sends it.
@@ -256,19 +355,30 @@ fn request_text(
     method: &[u8],
     target: &[u8],
     section: &[u8],
-) -> Result<Vec<u8>, AllocError> {
+) -> Result<Vec<u8>, AllocError>
+    ensures { IfOk result (λ text. text.items ≡ request_text method.now target.now section.now) }
+{
     let mut text = Vec::new(alloc);
     text.extend_from_slice(method)?;
-    text.push(b' ')?;
+    text.extend_from_slice(b" ")?;
     text.extend_from_slice(target)?;
-    push_line(&mut text, b" HTTP/1.1")?;
-    for line in section.split(|byte| *byte == b'\n') {
-        if !line.is_empty() {
-            push_line(&mut text, line)?;
-        }
-    }
-    push_line(&mut text, b"")?;
+    text.extend_from_slice(b" HTTP/1.1\r\n")?;
+    push_section(&mut text, section)?;
+    text.extend_from_slice(b"\r\n")?;
     Ok(text)
+}
+
+fn ask_in(
+    alloc: Global,
+    gate: &mut HeldGate,
+    method: &[u8],
+    target: &[u8],
+    section: &[u8],
+) -> Result<(), Failure>
+    ensures { Asks method.now target.now section.now gate.old gate.new result }
+{
+    let text = request_text(alloc, method, target, section)?;
+    Ok(gate.connection.client_receive(text.as_slice())?)
 }
 
 /// Receives a request without content as the client's, as for a validation that answers nobody.
@@ -278,7 +388,26 @@ pub fn ask_for(
     method: &[u8],
     target: &[u8],
     section: &[u8],
-) -> Result<(), Failure> {
-    let text = request_text(alloc, method, target, section)?;
-    receive(alloc, handle, 0, text.as_slice())
+) -> Result<(), Failure>
+    ensures { OnGate (Asks method.now target.now section.now) handle.old.held handle.new.held result }
+{
+    change(
+        alloc,
+        handle,
+        |gate| ask_in(alloc, gate, method, target, section),
+    )
+}
+
+fn timed_out_in(gate: &mut HeldGate) -> Result<(), Failure>
+    ensures { Does TimesOut gate.old gate.new result }
+{
+    gate.connection.timed_out();
+    Ok(())
+}
+
+/// Says that the time limit of the phase is over.
+pub fn timed_out(alloc: Global, handle: &mut Handle) -> Result<(), Failure>
+    ensures { OnGate (Does TimesOut) handle.old.held handle.new.held result }
+{
+    change(alloc, handle, timed_out_in)
 }

@@ -1,4 +1,8 @@
 //! How the handles are opened.
+ghost use Rattle.std.specs.Prelude.{◌≡◌};
+ghost use Rattle.c_gateway.specs.Hops.{scheme_of};
+ghost use Rattle.c_handles.specs.Handles.{Opens};
+ghost use Rattle.c_gate.specs.Openings.{IsGateHeld, IsOriginHeld, IsRulesHeld, IsValueOf, limits_of};
 
 use c_gateway::{GatewayOptions, read_gateway, read_node};
 use c_handles::{Handle, Held, HeldGate};
@@ -42,7 +46,9 @@ pub struct GatePeer<'a> {
     pub is_trusted: bool,
 }
 
-fn value_of(alloc: Global, text: &[u8]) -> Result<HeaderValue, Failure> {
+fn value_of(alloc: Global, text: &[u8]) -> Result<HeaderValue, Failure>
+    ensures { IsValueOf text.now result }
+{
     match HeaderValue::from_bytes(alloc, text) {
         Ok(value) => Ok(value),
         Err(HeaderValueError::OutOfMemory) => Err(Failure::Memory),
@@ -54,10 +60,14 @@ fn rules_of(
     alloc: Global,
     gateway: &GatewayOptions<'_>,
     rules: &GateRules<'_>,
-) -> Result<Held, Failure> {
+) -> Result<Held, Failure>
+    ensures { IsRulesHeld gateway.entry.now rules.entry.now result }
+{
+    let gateway = read_gateway(alloc, gateway)?;
+    let authority = value_of(alloc, rules.authority)?;
     Ok(Held::GateRules(Rules {
-        gateway: read_gateway(alloc, gateway)?,
-        authority: value_of(alloc, rules.authority)?,
+        gateway,
+        authority,
         forwarding: Forwarding {
             received: Received::KeptFromTrusted,
             writes_forwarded: rules.writes_forwarded,
@@ -76,17 +86,23 @@ pub fn open_rules(
     handle: &mut Handle,
     gateway: &GatewayOptions<'_>,
     rules: &GateRules<'_>,
-) -> Result<(), Failure> {
+) -> Result<(), Failure>
+    ensures { Opens (IsRulesHeld gateway.entry.now rules.entry.now) handle.old.held handle.new.held result }
+{
     c_handles::open(alloc, handle, rules_of(alloc, gateway, rules))
 }
 
-fn limits_of(most_head: usize) -> Limits {
+fn limits_of(most_head: usize) -> Limits
+    ensures { result ≡ limits_of most_head }
+{
     let mut limits = Limits::default();
     limits.max_head_len = most_head;
     limits
 }
 
-fn scheme_of(is_secure: bool) -> Scheme {
+fn scheme_of(is_secure: bool) -> Scheme
+    ensures { result ≡ scheme_of is_secure }
+{
     if is_secure {
         Scheme::Https
     } else {
@@ -99,7 +115,9 @@ fn gate_of(
     peer: &GatePeer<'_>,
     most_head: usize,
     keys: &HashKeys,
-) -> Result<Held, Failure> {
+) -> Result<Held, Failure>
+    ensures { IsGateHeld peer.entry.now most_head result }
+{
     // The keys are always given.
     let Ok(keys) = RandomState::new(keys) else {
         return Err(Failure::Memory);
@@ -122,11 +140,15 @@ pub fn open_gate(
     peer: &GatePeer<'_>,
     most_head: usize,
     keys: &HashKeys,
-) -> Result<(), Failure> {
+) -> Result<(), Failure>
+    ensures { Opens (IsGateHeld peer.entry.now most_head) handle.old.held handle.new.held result }
+{
     c_handles::open(alloc, handle, gate_of(alloc, peer, most_head, keys))
 }
 
-fn origin_of(alloc: Global, most_head: usize, keys: &HashKeys) -> Result<Held, Failure> {
+fn origin_of(alloc: Global, most_head: usize, keys: &HashKeys) -> Result<Held, Failure>
+    ensures { IsOriginHeld most_head result }
+{
     // The keys are always given.
     let Ok(keys) = RandomState::new(keys) else {
         return Err(Failure::Memory);
@@ -140,6 +162,8 @@ pub fn open_origin(
     handle: &mut Handle,
     most_head: usize,
     keys: &HashKeys,
-) -> Result<(), Failure> {
+) -> Result<(), Failure>
+    ensures { Opens (IsOriginHeld most_head) handle.old.held handle.new.held result }
+{
     c_handles::open(alloc, handle, origin_of(alloc, most_head, keys))
 }

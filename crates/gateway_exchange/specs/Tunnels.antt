@@ -1,8 +1,9 @@
 -- A tunnel, and every history of calls on it.
-use Rattle.std.specs.Prelude.{◌≡◌, ℕ, ◌≤◌, Bool, true, false, List, [], ◌++◌, length, drop, take, Option, Some, None}
+use Rattle.std.specs.Prelude.{◌≡◌, ℕ, ◌≤◌, ◌==◌, nat_lt, Bool, true, false, not, ◌&&◌, List, [], ◌++◌, length, drop, take}
+use Rattle.std.specs.Prelude.{Option, Some, None}
 use Rattle.gateway_connection.specs.declared.origin.OriginConnection.{OriginConnection}
 use Rattle.gateway_exchange.specs.{Steps.output_of, declared.connection.GatewayConnection.GatewayConnection}
-use Rattle.gateway_exchange.specs.declared.tunnel.Tunnel.{Tunnel}
+use Rattle.gateway_exchange.specs.declared.{event.Wants.Wants, tunnel.TheConstants.MOST_WAITING, tunnel.Tunnel.Tunnel}
 
 -- ---- its begin
 
@@ -38,6 +39,15 @@ pub record WritesClient (old : Tunnel) (count : ℕ) (new : Tunnel) : Type 0 whe
 pub record WritesOrigin (old : Tunnel) (count : ℕ) (new : Tunnel) : Type 0 where
   pub to_origin : new.to_origin.items ≡ drop count old.to_origin.items
   pub rest : new ≡ record old { to_origin = new.to_origin }
+
+-- a side is read while its input goes on, and less than 64 KiB wait for the other
+abbrev pub tunnel_wants : Tunnel → Wants
+tunnel_wants t = record {
+  client_input = not t.client_ended && nat_lt (length t.to_origin.items) MOST_WAITING;
+  client_output = not (length t.to_client.items == 0);
+  origin_input = not t.origin_ended && nat_lt (length t.to_client.items) MOST_WAITING;
+  origin_output = not (length t.to_origin.items == 0);
+}
 
 -- ---- every history
 

@@ -1,7 +1,7 @@
 //! What follows HTTP on a connection: bytes in both directions.
 ghost use Rattle.std.specs.Prelude.{◌≡◌, ◌≤◌, ◌&&◌, ◌==◌, [], length, true, OnErr, OnOk};
 ghost use Rattle.gateway_exchange.specs.Tunnels.{Conveyed, IsReached, Past, ReceivesClient, ReceivesOrigin};
-ghost use Rattle.gateway_exchange.specs.Tunnels.{WritesClient, WritesOrigin};
+ghost use Rattle.gateway_exchange.specs.Tunnels.{WritesClient, WritesOrigin, tunnel_wants};
 ghost use Rattle.gateway_exchange.specs.declared.tunnel.Tunnel.{Tunnel};
 
 use crate::event::Wants;
@@ -104,7 +104,9 @@ impl Tunnel {
     }
 
     /// What to wait for. A side isn't read while 64 KiB or more wait for the other.
-    pub fn wants(&self) -> Wants {
+    pub fn wants(&self) -> Wants
+        ensures { result ≡ tunnel_wants self.now }
+    {
         Wants {
             client_input: !self.client_ended && self.to_origin.len() < MOST_WAITING,
             client_output: !self.to_client.is_empty(),
