@@ -1,6 +1,6 @@
 -- What a call on a handle does to the gateway's connection, or to the tunnel, that the handle has.
 use Rattle.std.specs.Prelude.{◌≡◌, ◌≢◌, ℕ, List, [], Option, Some, None, Result, Ok, Err}
-use Rattle.gateway_exchange.specs.declared.{connection.GatewayConnection.GatewayConnection, rules.Rules.Rules}
+use Rattle.gateway_exchange.specs.declared.{connection.GatewayConnection.GatewayConnection, rules.GatewayRules.GatewayRules}
 use Rattle.gateway_exchange.specs.declared.{tunnel.Tunnel.Tunnel}
 use Rattle.c_parts.{specs.declared.status.Failure.Failure}
 use Rattle.c_parts.specs.declared.status.Failure.TheVariants.{Refused, Memory, Absent}
@@ -13,7 +13,7 @@ gate_in (Some (held.Gate gate)) = Some gate
 gate_in other = None
 
 -- the rules that a handle has
-abbrev pub rules_in : Option Held → Option Rules
+abbrev pub rules_in : Option Held → Option GatewayRules
 rules_in (Some (held.GateRules rules)) = Some rules
 rules_in other = None
 

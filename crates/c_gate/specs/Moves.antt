@@ -8,7 +8,7 @@ use Rattle.gateway_connection.specs.Steps as Origin
 use Rattle.gateway_exchange.specs.Steps.{ChangesClient, ChangesOrigin, FinishesClient, HandsOutOrigin, ReceivesClient}
 use Rattle.gateway_exchange.specs.{Steps.{ReceivesOrigin, Says, is_empty, output_of}, Tunnels.Begins}
 use Rattle.gateway_exchange.specs.Tunnels as Tunneled
-use Rattle.gateway_exchange.specs.declared.{event.GatewayEvent.GatewayEvent, rules.Rules.Rules, tunnel.Tunnel.Tunnel}
+use Rattle.gateway_exchange.specs.declared.{event.GatewayEvent.GatewayEvent, rules.GatewayRules.GatewayRules, tunnel.Tunnel.Tunnel}
 use Rattle.c_parts.{specs.declared.status.Failure.Failure}
 use Rattle.c_parts.specs.declared.status.Failure.TheVariants.{Refused, Memory, Absent}
 use Rattle.c_handles.{specs.declared.held.Held.Held, specs.declared.held.HeldGate.HeldGate}
@@ -84,7 +84,7 @@ Sent side count = OnEither (GateHandsOut side count) (TunnelHandsOut side count)
 
 -- The connection took steps, and says what came, what it does then, and what it waits for. If the second lies past the
 -- year 9999 nothing changes.
-abbrev pub GateTells : Rules → ℕ → HeldGate → HeldGate → Result GateFacts Failure → Type 0
+abbrev pub GateTells : GatewayRules → ℕ → HeldGate → HeldGate → Result GateFacts Failure → Type 0
 GateTells rules now old new (Ok facts) =
     IsDated now × (event : GatewayEvent) × Becomes (λ before after. Says rules now before event after) old new
     × (facts ≡ gate_facts event new.connection)
@@ -94,7 +94,7 @@ abbrev pub TunnelTells : Tunnel → Tunnel → Result GateFacts Failure → Type
 TunnelTells old new answer = (answer ≡ Ok (tunnel_facts old)) × (new ≡ old)
 
 -- the same of two handles: `Absent`, and nothing changes, if the one has no rules
-abbrev pub TellsNext : ℕ → Option Rules → (old new : Option Held) → Result GateFacts Failure → Type 0
+abbrev pub TellsNext : ℕ → Option GatewayRules → (old new : Option Held) → Result GateFacts Failure → Type 0
 TellsNext now None old new answer = (answer ≡ Err Absent) × (new ≡ old)
 TellsNext now (Some rules) old new answer = OnEither (GateTells rules now) TunnelTells old new answer
 

@@ -3,9 +3,9 @@ use Rattle.std.specs.Prelude.{ℕ, ◌&&◌, ◌==◌, false, length}
 use Rattle.gateway_exchange.specs.Steps.{phase_of, wants_of}
 use Rattle.gateway_exchange.specs.Tunnels.{tunnel_wants}
 use Rattle.gateway_exchange.specs.declared.{connection.GatewayConnection.GatewayConnection, tunnel.Tunnel.Tunnel}
-use Rattle.gateway_exchange.specs.declared.{event.GatewayEvent.GatewayEvent, event.Phase.Phase, event.Wants.Wants}
+use Rattle.gateway_exchange.specs.declared.{event.GatewayEvent.GatewayEvent, event.ExchangePhase.ExchangePhase, event.Wants.Wants}
 use Rattle.gateway_exchange.specs.declared.event.GatewayEvent.TheVariants as Tells
-use Rattle.gateway_exchange.specs.declared.event.Phase.TheVariants as Does
+use Rattle.gateway_exchange.specs.declared.event.ExchangePhase.TheVariants as Does
 use Rattle.c_gate.specs.declared.moving.GateFacts.{GateFacts}
 
 abbrev pub event_number : GatewayEvent → ℕ
@@ -19,7 +19,7 @@ event_number Tells.Tunnel = 6
 event_number Tells.Closed = 7
 event_number Tells.Aborted = 8
 
-abbrev pub phase_number : Phase → ℕ
+abbrev pub phase_number : ExchangePhase → ℕ
 phase_number Does.Idle = 0
 phase_number Does.Head = 1
 phase_number Does.Asking = 2
@@ -31,7 +31,7 @@ phase_number Does.Draining = 7
 phase_number Does.Over = 8
 
 -- no piece, and nothing ends
-abbrev pub facts_of : GatewayEvent → Phase → Wants → GateFacts
+abbrev pub facts_of : GatewayEvent → ExchangePhase → Wants → GateFacts
 facts_of event phase wants = record {
   piece = 0;
   event = event_number event;

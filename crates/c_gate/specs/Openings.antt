@@ -6,7 +6,7 @@ use Rattle.gateway_hops.specs.declared.fields.{Forwarding.Forwarding, Received.T
 use Rattle.gateway_hops.specs.declared.node.Node.{Node}
 use Rattle.gateway_connection.specs.Steps as Origin
 use Rattle.gateway_exchange.specs.Steps.{IsNew}
-use Rattle.gateway_exchange.specs.declared.{rules.Peer.Peer, rules.Rules.Rules}
+use Rattle.gateway_exchange.specs.declared.{rules.Peer.Peer, rules.GatewayRules.GatewayRules}
 use Rattle.c_gateway.{specs.Gateways.IsGatewayOf, specs.Hops.scheme_of, specs.Nodes.IsNodeOf}
 use Rattle.c_gateway.specs.declared.gateway.GatewayOptions.{GatewayOptions}
 use Rattle.c_parts.{specs.declared.status.Failure.Failure}
@@ -34,7 +34,7 @@ forwarding_of given = record {
 }
 
 -- the rules of these settings; no CONNECT is passed on
-abbrev pub IsRulesOf : GatewayOptions → GateRules → Rules → Type 0
+abbrev pub IsRulesOf : GatewayOptions → GateRules → GatewayRules → Type 0
 IsRulesOf gateway given rules =
     IsGatewayOf gateway (Ok rules.gateway) × IsValueOf given.authority.now (Ok rules.authority)
     × (rules.forwarding ≡ forwarding_of given) × (rules.answers_expect ≡ given.answers_expect)

@@ -13,7 +13,9 @@ use crate::calling::{change, change_either};
 use c_gateway::read_date;
 use c_handles::{Handle, Held, HeldGate};
 use c_parts::{Failure, cut_line};
-use gateway_exchange::{GatewayConnection, GatewayEvent, Phase, Rules, Tunnel, Wants};
+use gateway_exchange::{
+    ExchangePhase, GatewayConnection, GatewayEvent, GatewayRules, Tunnel, Wants,
+};
 use std::alloc::{AllocError, Global};
 
 /// What comes next on a connection, what it does, and what to wait for.
@@ -196,23 +198,23 @@ fn event_number(event: GatewayEvent) -> u8
     }
 }
 
-fn phase_number(phase: Phase) -> u8
+fn phase_number(phase: ExchangePhase) -> u8
     ensures { result ≡ phase_number phase }
 {
     match phase {
-        Phase::Idle => 0,
-        Phase::Head => 1,
-        Phase::Asking => 2,
-        Phase::Content => 3,
-        Phase::Response => 4,
-        Phase::Passing => 5,
-        Phase::Giving => 6,
-        Phase::Draining => 7,
-        Phase::Over => 8,
+        ExchangePhase::Idle => 0,
+        ExchangePhase::Head => 1,
+        ExchangePhase::Asking => 2,
+        ExchangePhase::Content => 3,
+        ExchangePhase::Response => 4,
+        ExchangePhase::Passing => 5,
+        ExchangePhase::Giving => 6,
+        ExchangePhase::Draining => 7,
+        ExchangePhase::Over => 8,
     }
 }
 
-fn facts_of(event: GatewayEvent, phase: Phase, wants: Wants) -> GateFacts
+fn facts_of(event: GatewayEvent, phase: ExchangePhase, wants: Wants) -> GateFacts
     ensures { result ≡ facts_of event phase wants }
 {
     GateFacts {
@@ -238,7 +240,7 @@ fn piece_len(event: GatewayEvent, connection: &GatewayConnection) -> u64
     }
 }
 
-fn next_in(gate: &mut HeldGate, rules: &Rules, now: u64) -> Result<GateFacts, Failure>
+fn next_in(gate: &mut HeldGate, rules: &GatewayRules, now: u64) -> Result<GateFacts, Failure>
     ensures { GateTells rules.now now gate.old gate.new result }
 {
     let date = read_date(now)?;
@@ -252,7 +254,7 @@ fn next_in(gate: &mut HeldGate, rules: &Rules, now: u64) -> Result<GateFacts, Fa
 fn tunnel_facts(tunnel: &Tunnel) -> GateFacts
     ensures { result ≡ tunnel_facts tunnel.now }
 {
-    let mut facts = facts_of(GatewayEvent::Waits, Phase::Over, tunnel.wants());
+    let mut facts = facts_of(GatewayEvent::Waits, ExchangePhase::Over, tunnel.wants());
     facts.ends_client = tunnel.ends_client();
     facts.ends_origin = tunnel.ends_origin();
     facts

@@ -8,7 +8,7 @@ use c_gateway::{GatewayOptions, read_gateway, read_node};
 use c_handles::{Handle, Held, HeldGate};
 use c_parts::{Failure, HashKeys};
 use gateway_connection::OriginConnection;
-use gateway_exchange::{GatewayConnection, Peer, Rules};
+use gateway_exchange::{GatewayConnection, GatewayRules, Peer};
 use gateway_hops::{Forwarding, Received, Scheme};
 use headers::HeaderValue;
 use http_header::HeaderValueError;
@@ -65,7 +65,7 @@ fn rules_of(
 {
     let gateway = read_gateway(alloc, gateway)?;
     let authority = value_of(alloc, rules.authority)?;
-    Ok(Held::GateRules(Rules {
+    Ok(Held::GateRules(GatewayRules {
         gateway,
         authority,
         forwarding: Forwarding {

@@ -5,7 +5,7 @@ use c_pass::{Shared, Stepped};
 use decide_cors::CorsPolicy;
 use decide_resource::Resource;
 use gateway_connection::OriginConnection;
-use gateway_exchange::{GatewayConnection, Rules, Tunnel};
+use gateway_exchange::{GatewayConnection, GatewayRules, Tunnel};
 use gateway_hops::Scheme;
 use headers::HeaderMap;
 use server_connection::{ResponsePlan, ServerConnection};
@@ -54,7 +54,7 @@ pub enum Held {
     /// What became of one that is no longer HTTP.
     Tunnel(Tunnel),
     /// What a gateway does with each request.
-    GateRules(Rules),
+    GateRules(GatewayRules),
     /// A connection to an origin.
     GateOrigin(OriginConnection),
 }

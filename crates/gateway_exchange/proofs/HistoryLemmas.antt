@@ -29,7 +29,7 @@ use Rattle.server_stream.specs.Exchanges.{Answer, Bare, Begun, Due, Exchange, Fi
 use Rattle.server_stream.specs.History as Stream
 use Rattle.server_stream.specs.Steps as StreamSteps
 use Rattle.server_stream.specs.declared.connection.StreamConnection.{StreamConnection}
-use Rattle.server_stream.specs.declared.{event.RequestHead.RequestHead, event.StreamEvent.StreamEvent}
+use Rattle.server_stream.specs.declared.{event.StreamRequest.StreamRequest, event.StreamEvent.StreamEvent}
 use Rattle.gateway_exchange.specs.History.{AreServed, HasHead, IsFor, IsGiven, IsHeard, IsIn, IsPassedOn, IsServed}
 use Rattle.gateway_exchange.specs.History.{AreFieldsOf, AreInterim, AreInterimNow, IsInterim, IsSwitch, own_interim}
 use Rattle.gateway_exchange.specs.History.{EndsAs, GivenHead, IsDecided, IsFrontOf, IsServedNow, Served, Traffic, Uses, WentOver}
@@ -65,15 +65,15 @@ use Rattle.gateway_exchange.specs.Steps.{with_origin}
 use Rattle.gateway_exchange.specs.declared.{connection.GatewayConnection.GatewayConnection, connection.Stage.Stage}
 use Rattle.gateway_exchange.specs.declared.{decision.AskedRequest.AskedRequest}
 use Rattle.gateway_exchange.specs.declared.decision.RequestDecision.{RequestDecision}
-use Rattle.gateway_exchange.specs.declared.{event.GatewayEvent.GatewayEvent, event.Phase.Phase, own.Own.Own}
-use Rattle.gateway_exchange.specs.declared.{pass.Heard.Heard, rules.Peer.Peer, rules.Rules.Rules}
+use Rattle.gateway_exchange.specs.declared.{event.GatewayEvent.GatewayEvent, event.ExchangePhase.ExchangePhase, own.Own.Own}
+use Rattle.gateway_exchange.specs.declared.{pass.Heard.Heard, rules.Peer.Peer, rules.GatewayRules.GatewayRules}
 use Rattle.gateway_connection.specs.declared.event.OriginEvent.TheVariants as Comes
 use Rattle.gateway_connection.specs.declared.event.OriginFault.TheVariants as Faults
 use Rattle.gateway_exchange.specs.declared.event.GatewayEvent.TheVariants as Tells
 use Rattle.gateway_exchange.specs.declared.own.Own.TheVariants as Because
 use Rattle.gateway_exchange.specs.declared.connection.Stage.TheVariants as At
 use Rattle.gateway_exchange.specs.declared.decision.RequestDecision.TheVariants as Decides
-use Rattle.gateway_exchange.specs.declared.event.Phase.TheVariants as Does
+use Rattle.gateway_exchange.specs.declared.event.ExchangePhase.TheVariants as Does
 use Rattle.server_stream.specs.declared.event.StreamEvent.TheVariants as Is
 
 -- ---- what was told and put
@@ -116,7 +116,7 @@ module _ (limits : Limits) (uses : Uses) where
   all_append [] later before after = after
   all_append (e ∷ es) later before after = (before.0, before.1, all_append es later before.2 after)
 
-  over_with_served : (head : RequestHead) (content : List ℕ) (trailers : Entries FieldValue) (interim : List Bare)
+  over_with_served : (head : StreamRequest) (content : List ℕ) (trailers : Entries FieldValue) (interim : List Bare)
       (final : Final) → AreInterim limits uses head interim → IsServedNow limits uses (Some head) final
       → AreServed limits uses (Stream.over_with head content trailers interim final)
   over_with_served head content trailers interim (Begun r) first served = (served, first, tt)
@@ -142,23 +142,23 @@ module _ (limits : Limits) (uses : Uses) where
   reject_served (Stream.Whole head content trailers) p served =
       record { before = before_next p served; interim = tt; now = tt }
 
-  now_stays : (old new : Option RequestHead) (final : Final) → new ≡ old → IsServedNow limits uses old final
+  now_stays : (old new : Option StreamRequest) (final : Final) → new ≡ old → IsServedNow limits uses old final
       → IsServedNow limits uses new final
   now_stays old new final is served =
-      subst (λ (head : Option RequestHead). IsServedNow limits uses head final) (sym is) served
+      subst (λ (head : Option StreamRequest). IsServedNow limits uses head final) (sym is) served
 
-  interim_stays : (old new : Option RequestHead) (interim : List Bare) → new ≡ old
+  interim_stays : (old new : Option StreamRequest) (interim : List Bare) → new ≡ old
       → AreInterimNow limits uses old interim → AreInterimNow limits uses new interim
   interim_stays old new interim is told =
-      subst (λ (head : Option RequestHead). AreInterimNow limits uses head interim) (sym is) told
+      subst (λ (head : Option StreamRequest). AreInterimNow limits uses head interim) (sym is) told
 
-  interim_append : (head : RequestHead) (interim : List Bare) (b : Bare) → AreInterim limits uses head interim
+  interim_append : (head : StreamRequest) (interim : List Bare) (b : Bare) → AreInterim limits uses head interim
       → IsInterim limits uses head b → AreInterim limits uses head (interim ++ b ∷ [])
   interim_append head [] b before is = (is, tt)
   interim_append head (first ∷ later) b before is = (before.0, interim_append head later b before.1 is)
 
-  interim_more : (head : Option RequestHead) (interim : List Bare) (b : Bare) → AreInterimNow limits uses head interim
-      → ((asked : RequestHead) → head ≡ Some asked → IsInterim limits uses asked b)
+  interim_more : (head : Option StreamRequest) (interim : List Bare) (b : Bare) → AreInterimNow limits uses head interim
+      → ((asked : StreamRequest) → head ≡ Some asked → IsInterim limits uses asked b)
       → AreInterimNow limits uses head (interim ++ b ∷ [])
   interim_more (Some head) interim b before is = interim_append head interim b before (is head refl)
   interim_more None interim b before is = tt
@@ -198,21 +198,21 @@ module _ (limits : Limits) (uses : Uses) where
   tell_served Is.Closed p served = served
   tell_served (Is.Rejected why) p served = reject_served p.heard p served
 
-  now_switched : (head : Option RequestHead) (b : Bare)
-      → ((asked : RequestHead) → head ≡ Some asked → IsSwitch limits uses asked b)
+  now_switched : (head : Option StreamRequest) (b : Bare)
+      → ((asked : StreamRequest) → head ≡ Some asked → IsSwitch limits uses asked b)
       → IsServedNow limits uses head (Switched b)
   now_switched (Some head) b is = is head refl
   now_switched None b is = tt
 
-  now_begun : (head : Option RequestHead) (r : Response)
-      → ((asked : RequestHead) → head ≡ Some asked → IsServed limits uses asked r)
+  now_begun : (head : Option StreamRequest) (r : Response)
+      → ((asked : StreamRequest) → head ≡ Some asked → IsServed limits uses asked r)
       → IsServedNow limits uses head (Begun r)
   now_begun (Some head) r served = served head refl
   now_begun None r served = tt
 
   -- the response now is this one
-  now_is : (head : Option RequestHead) (final : Final) (r : Response) → final ≡ Begun r
-      → ((asked : RequestHead) → head ≡ Some asked → IsServed limits uses asked r)
+  now_is : (head : Option StreamRequest) (final : Final) (r : Response) → final ≡ Begun r
+      → ((asked : StreamRequest) → head ≡ Some asked → IsServed limits uses asked r)
       → IsServedNow limits uses head final
   now_is head final r is served =
       subst (λ (f : Final). IsServedNow limits uses head f) (sym is) (now_begun head r served)
@@ -454,19 +454,19 @@ fails_after old new client own goes h =
 
 -- ---- requests
 
-follows : {limits : Limits} {uses : Uses} (old new : GatewayConnection) (head : RequestHead) (decision : RequestDecision)
+follows : {limits : Limits} {uses : Uses} (old new : GatewayConnection) (head : StreamRequest) (decision : RequestDecision)
     → Follows old head decision new → Goes limits uses old new
 follows old new head (Decides.Send outgoing) is = kept is refl refl refl
 follows old new head (Decides.Answer own) h = answers old new own h
 
-considers : {limits : Limits} {uses : Uses} (rules : Rules) (old new : GatewayConnection) (head : RequestHead)
+considers : {limits : Limits} {uses : Uses} (rules : GatewayRules) (old new : GatewayConnection) (head : StreamRequest)
     → Considers rules old head new → Goes limits uses old new
 considers rules old new head (inl h) =
     goes_then {b = begun old} (stays refl refl refl) (follows (begun old) new head h.0 h.2)
 considers rules old new head (inr h) =
     goes_then {b = begun old} (stays refl refl refl) (answers (begun old) new Because.OutOfMemory h)
 
-awaits : {limits : Limits} {uses : Uses} (rules : Rules) (old new : GatewayConnection) (told : Option GatewayEvent)
+awaits : {limits : Limits} {uses : Uses} (rules : GatewayRules) (old new : GatewayConnection) (told : Option GatewayEvent)
     (event : StreamEvent) → Awaits rules old event told new → Goes limits uses old new
 awaits rules old new told Is.NeedsInput h = kept h.1 refl refl refl
 awaits rules old new told (Is.Head head) h = considers rules old new head h.1
@@ -573,14 +573,14 @@ refuses_request_end : {limits : Limits} (gateway : Gateway) (a : AskedRequest) (
 refuses_request_end gateway a trailers old new error (inl h) = origin_stays h.0
 refuses_request_end gateway a trailers old new error (inr h) = origin_refuses h.2.0
 
-refuses_end : {limits : Limits} {uses : Uses} (rules : Rules) (old new : GatewayConnection) (trailers : Entries FieldValue)
+refuses_end : {limits : Limits} {uses : Uses} (rules : GatewayRules) (old new : GatewayConnection) (trailers : Entries FieldValue)
     (error : WriteError) → RefusesEnd rules old trailers error new → Goes limits uses old new
 refuses_end rules old new trailers error (inl h) = same h.1
 refuses_end rules old new trailers error (inr h) =
     origin_alone (origin_step h.4 (same_origin h.6)
     (refuses_request_end rules.gateway h.0 trailers h.1 h.2 error h.5)) (same_client h.6) (same_peer h.6)
 
-passes_up : {limits : Limits} {uses : Uses} (rules : Rules) (old new : GatewayConnection) (event : StreamEvent)
+passes_up : {limits : Limits} {uses : Uses} (rules : GatewayRules) (old new : GatewayConnection) (event : StreamEvent)
     → PassesUp rules old event new → Goes limits uses old new
 passes_up rules old new Is.NeedsInput is = kept is refl refl refl
 passes_up rules old new (Is.Content piece) (inl h) =
@@ -905,14 +905,14 @@ carries_kept asked head origin c = record {
 -- what was passed in before is among what was by now
 record Grows (old new : Uses) : Type 0 where
   peer : new.peer ≡ old.peer
-  rules : (r : Rules) → IsIn r old.rules → IsIn r new.rules
+  rules : (r : GatewayRules) → IsIn r old.rules → IsIn r new.rules
   given : (head : GivenHead) → IsIn head old.given → IsIn head new.given
   traffic : (t : Traffic) → WentOver t old.traffic → WentOver t new.traffic
 
 grows_same : (uses : Uses) → Grows uses uses
 grows_same uses = record { peer = refl; rules = λ r h. h; given = λ head h. h; traffic = λ t h. h }
 
-grows_rules : (rules : Rules) (uses : Uses) → Grows uses (with_rules rules uses)
+grows_rules : (rules : GatewayRules) (uses : Uses) → Grows uses (with_rules rules uses)
 grows_rules rules uses = record { peer = refl; rules = λ r h. inr h; given = λ head h. h; traffic = λ t h. h }
 
 grows_given : (head : GivenHead) (uses : Uses) → Grows uses (with_given head uses)
@@ -970,7 +970,7 @@ ends_grows h (Some trailers) (Some sent) grows x = (x.0, grows.rules x.0 x.1, x.
 ends_grows h None (Some sent) grows x = absurd x
 ends_grows h (Some trailers) None grows x = absurd x
 
-response_grows : {limits : Limits} {old new : Uses} (head : RequestHead) (r : Response) → Grows old new
+response_grows : {limits : Limits} {old new : Uses} (head : StreamRequest) (r : Response) → Grows old new
     → IsServed limits old head r → IsServed limits new head r
 response_grows head r grows (inl own) = inl own
 response_grows head r grows (inr (inl given)) = inr (inl (given_grows r grows given))
@@ -994,7 +994,7 @@ response_grows head r grows (inr (inr x)) = inr (inr (record {
   told = x.told;
 }))
 
-one_grows : (limits : Limits) (old new : Uses) (head : RequestHead) (b : Bare) → Grows old new
+one_grows : (limits : Limits) (old new : Uses) (head : StreamRequest) (b : Bare) → Grows old new
     → IsInterim limits old head b → IsInterim limits new head b
 one_grows limits old new head b grows (inl own) = inl own
 one_grows limits old new head b grows (inr x) = inr (record {
@@ -1014,13 +1014,13 @@ one_grows limits old new head b grows (inr x) = inr (record {
   told = x.told;
 })
 
-interim_grows : (limits : Limits) (old new : Uses) (head : RequestHead) (interim : List Bare) → Grows old new
+interim_grows : (limits : Limits) (old new : Uses) (head : StreamRequest) (interim : List Bare) → Grows old new
     → AreInterim limits old head interim → AreInterim limits new head interim
 interim_grows limits old new head [] grows told = tt
 interim_grows limits old new head (b ∷ later) grows told =
     (one_grows limits old new head b grows told.0, interim_grows limits old new head later grows told.1)
 
-interim_now_grows : (limits : Limits) (old new : Uses) (head : Option RequestHead) (interim : List Bare)
+interim_now_grows : (limits : Limits) (old new : Uses) (head : Option StreamRequest) (interim : List Bare)
     → Grows old new → AreInterimNow limits old head interim → AreInterimNow limits new head interim
 interim_now_grows limits old new (Some head) interim grows told = interim_grows limits old new head interim grows told
 interim_now_grows limits old new None interim grows told = tt
@@ -1034,7 +1034,7 @@ all_grow limits old new (e ∷ es) grows served = (
   all_grow limits old new es grows served.2,
 )
 
-switch_grows : (limits : Limits) (old new : Uses) (head : RequestHead) (b : Bare) → Grows old new
+switch_grows : (limits : Limits) (old new : Uses) (head : StreamRequest) (b : Bare) → Grows old new
     → IsSwitch limits old head b → IsSwitch limits new head b
 switch_grows limits old new head b grows (inl own) = inl own
 switch_grows limits old new head b grows (inr x) = inr (record {
@@ -1060,7 +1060,7 @@ switch_grows limits old new head b grows (inr x) = inr (record {
   told = x.told;
 })
 
-now_grows : (limits : Limits) (old new : Uses) (head : Option RequestHead) (final : Final) → Grows old new
+now_grows : (limits : Limits) (old new : Uses) (head : Option StreamRequest) (final : Final) → Grows old new
     → IsServedNow limits old head final → IsServedNow limits new head final
 now_grows limits old new (Some head) (Begun r) grows served = response_grows head r grows served
 now_grows limits old new (Some head) Due grows served = tt
@@ -1250,7 +1250,7 @@ puts_content {limits} old new piece h =
     (λ o r. (_, Origin.Put h.0 h.1 o piece r h.3, refl, refl))
     (λ r interim is_for. (Origin.with_piece piece r, interim, (is_for.0, is_for.1, is_for.2), change_in (Origin.with_piece piece) t r interim)))
 
-puts_request_end : {limits : Limits} {uses : Uses} (rules : Rules) (old new : GatewayConnection)
+puts_request_end : {limits : Limits} {uses : Uses} (rules : GatewayRules) (old new : GatewayConnection)
     (trailers : Entries FieldValue) → PutsRequestEnd rules old trailers new → Leads limits uses old new
 puts_request_end {limits} rules old new trailers h =
     let sent = h.5.0 in
@@ -1265,14 +1265,14 @@ puts_request_end {limits} rules old new trailers h =
       change_in (Origin.with_trailers sent) t r interim,
     )))
 
-passes_up_freely : {limits : Limits} {uses : Uses} (rules : Rules) (old new : GatewayConnection)
+passes_up_freely : {limits : Limits} {uses : Uses} (rules : GatewayRules) (old new : GatewayConnection)
     (client : StreamConnection) (event : StreamEvent) → StreamSteps.Says old.client event client
     → PassesUp rules (with_client old client) event new → IsFree new.stage → Leads limits uses old new
 passes_up_freely rules old new client event says up free =
     freely (goes_then {b = with_client old client} (heard_client old client event says)
     (passes_up rules (with_client old client) new event up)) free
 
-hears_client_at : {limits : Limits} {uses : Uses} (rules : Rules) (old new : GatewayConnection)
+hears_client_at : {limits : Limits} {uses : Uses} (rules : GatewayRules) (old new : GatewayConnection)
     (client : StreamConnection) (event : StreamEvent) → StreamSteps.Says old.client event client
     → PassesUp rules (with_client old client) event new → Leads limits uses old new
 hears_client_at rules old new client Is.NeedsInput says is =
@@ -1395,7 +1395,7 @@ informs_of {limits} {uses} old new a response sent at asked is informs last = λ
             interim = interim_more limits uses (head_of p.heard) p.answer.interim (interim_of response sent)
                 x.loose.served.interim (λ b is_b.
                 let heads : a.head ≡ b = cc (sym head ∙ is_b) in
-                subst (λ (h : RequestHead). IsInterim limits uses h (interim_of response sent)) heads is);
+                subst (λ (h : StreamRequest). IsInterim limits uses h (interim_of response sent)) heads is);
             now = x.loose.served.now;
           };
           origin = subst (OriginIn limits) (sym (same_origin last)) x.loose.origin;
@@ -1420,7 +1420,7 @@ interim_at old new a response sent at asked is (inr h) =
     freely (fails_after old new h.1 (Because.Unsendable h.0) (interim_fails old h.1 response sent h.0 h.2) h.3)
     (fails_free (with_client old h.1) new (Because.Unsendable h.0) h.3)
 
-passes_interim : {limits : Limits} {uses : Uses} (rules : Rules) (date : ℕ) (old new : GatewayConnection)
+passes_interim : {limits : Limits} {uses : Uses} (rules : GatewayRules) (date : ℕ) (old new : GatewayConnection)
     (a : AskedRequest) (response : OriginResponse) → old.stage ≡ At.Forwarding → old.asked ≡ Some a
     → ((sent : ForwardedResponse)
     → IsForwardedResponse rules.gateway date (answered a response.status response) sent
@@ -1434,7 +1434,7 @@ passes_interim rules date old new a response at asked is (inr (inr (inl h))) =
 passes_interim rules date old new a response at asked is (inr (inr (inr h))) =
     freely (fails old new Because.OutOfMemory h) (fails_free old new Because.OutOfMemory h)
 
-interim_of_asked : {limits : Limits} {uses : Uses} (rules : Rules) (date : ℕ) (old new : GatewayConnection)
+interim_of_asked : {limits : Limits} {uses : Uses} (rules : GatewayRules) (date : ℕ) (old new : GatewayConnection)
     (response : OriginResponse) → old.stage ≡ At.Forwarding
     → ((a : AskedRequest) → old.asked ≡ Some a → (sent : ForwardedResponse)
     → IsForwardedResponse rules.gateway date (answered a response.status response) sent
@@ -1512,12 +1512,12 @@ passed_on {limits} {uses} {m} {p} {a} h content r c forwarded puts whole = recor
 }
 
 -- the request now is this one
-now_passed : (limits : Limits) (uses : Uses) (head : Option RequestHead) (asked : RequestHead) (final : Final)
+now_passed : (limits : Limits) (uses : Uses) (head : Option StreamRequest) (asked : StreamRequest) (final : Final)
     (r : Response) → head ≡ Some asked → final ≡ Begun r → IsPassedOn limits uses asked r
     → IsServedNow limits uses head final
 now_passed limits uses head asked final r is begun passed = now_is limits uses head final r begun (λ other is_other.
     let same : asked ≡ other = cc (sym is ∙ is_other) in
-    inr (inr (subst (λ (h : RequestHead). IsPassedOn limits uses h r) same passed)))
+    inr (inr (subst (λ (h : StreamRequest). IsPassedOn limits uses h r) same passed)))
 
 shows_put : {limits : Limits} {uses : Uses} (old between new : GatewayConnection) (h : Heard) (a : AskedRequest)
     (p : Stream.Past) → PutsResponse old.is_last h old.client between.client
@@ -1620,7 +1620,7 @@ known_final Speaks.Http10 status unknown other final =
     let clash : true ≡ false = rw (low.1, other) at final in absurd (cc)
 known_final Speaks.Http11 status unknown other final = absurd (cc)
 
-head_at : {limits : Limits} {uses : Uses} (rules : Rules) (date : ℕ) (old new : GatewayConnection)
+head_at : {limits : Limits} {uses : Uses} (rules : GatewayRules) (date : ℕ) (old new : GatewayConnection)
     (a : AskedRequest) (response : OriginResponse) (p : Stream.Past) → IsIn rules uses.rules
     → Http.is_interim response.status ≡ false → PassesHead rules date old a response new → Loose limits uses old p
     → Carries limits uses old p a (Telling response []) → After limits uses new p
@@ -1634,7 +1634,7 @@ head_at rules date old new a response p among final (inr (inr (inl h))) x c =
 head_at rules date old new a response p among final (inr (inr (inr h))) x c =
     to_free p (fails old new Because.OutOfMemory h) (fails_free old new Because.OutOfMemory h) x
 
-head_of_asked : {limits : Limits} {uses : Uses} (rules : Rules) (date : ℕ) (old new : GatewayConnection)
+head_of_asked : {limits : Limits} {uses : Uses} (rules : GatewayRules) (date : ℕ) (old new : GatewayConnection)
     (a : AskedRequest) (response : OriginResponse) (p : Stream.Past) → IsIn rules uses.rules
     → Http.is_interim response.status ≡ false → OfAsked old (λ b. PassesHead rules date old b response new) new
     → Loose limits uses old p → Carries limits uses old p a (Telling response []) → After limits uses new p
@@ -1653,7 +1653,7 @@ loose_said {limits} old origin event p says x =
     record { peer = x.peer; reached = x.reached; served = x.served; origin = goes.step x.origin }
 
 -- what an origin's connection tells of an interim response
-interim_passed : {limits : Limits} {uses : Uses} {m : GatewayConnection} {p : Stream.Past} (rules : Rules) (date : ℕ)
+interim_passed : {limits : Limits} {uses : Uses} {m : GatewayConnection} {p : Stream.Past} (rules : GatewayRules) (date : ℕ)
     (a : AskedRequest) (response : OriginResponse) (sent : ForwardedResponse) (after : OriginConnection)
     → IsIn rules uses.rules → (c : Carries limits uses m p a Silent)
     → OriginSteps.Says c.origin (Comes.Interim response) after
@@ -1676,7 +1676,7 @@ interim_passed rules date a response sent after among c says forwards = inr (rec
   told = ap (Origin.tell (Comes.Interim response)) c.now;
 })
 
-hears_interim : {limits : Limits} {uses : Uses} (rules : Rules) (date : ℕ) (stage : Stage)
+hears_interim : {limits : Limits} {uses : Uses} (rules : GatewayRules) (date : ℕ) (stage : Stage)
     (old new : GatewayConnection) (origin : Option OriginConnection) (response : OriginResponse) → old.stage ≡ stage
     → IsStreaming stage → IsIn rules uses.rules → SaysIn old.origin (Comes.Interim response) origin
     → OfAsked (with_origin old origin) (λ a. PassesInterim rules date (with_origin old origin) a response new) new
@@ -1722,7 +1722,7 @@ switched_to {limits} {uses} old new a response fields p x head is (inl h) =
             interim = x.served.interim;
             now = now_switched limits uses (head_of p.heard) b (λ c is_c.
                 let heads : a.head ≡ c = cc (sym head ∙ is_c) in
-                subst (λ (g : RequestHead). IsSwitch limits uses g b) heads (is b refl refl refl));
+                subst (λ (g : StreamRequest). IsSwitch limits uses g b) heads (is b refl refl refl));
           };
           origin = subst (OriginIn limits) (sym (same_origin h.1)) x.origin;
         };
@@ -1735,7 +1735,7 @@ switched_to old new a response fields p x head is (inr h) =
     to_free p (fails_after old new h.1 (Because.Unsendable h.0) (switch_fails old h.1 response fields h.0 h.2) h.3)
     (fails_free (with_client old h.1) new (Because.Unsendable h.0) h.3) x
 
-switch_of : {limits : Limits} {uses : Uses} (rules : Rules) (date : ℕ) (old new : GatewayConnection)
+switch_of : {limits : Limits} {uses : Uses} (rules : GatewayRules) (date : ℕ) (old new : GatewayConnection)
     (a : AskedRequest) (response : OriginResponse) (p : Stream.Past) → Loose limits uses old p
     → head_of p.heard ≡ Some a.head
     → ((fields : List Header) → IsSwitched rules.gateway date a response fields → (b : Bare)
@@ -1747,7 +1747,7 @@ switch_of rules date old new a response p x head is (inl h) =
 switch_of rules date old new a response p x head is (inr h) =
     to_free p (fails old new h.0 h.2) (fails_free old new h.0 h.2) x
 
-switch_of_asked : {limits : Limits} {uses : Uses} (rules : Rules) (date : ℕ) (old new : GatewayConnection)
+switch_of_asked : {limits : Limits} {uses : Uses} (rules : GatewayRules) (date : ℕ) (old new : GatewayConnection)
     (a : AskedRequest) (response : OriginResponse) (p : Stream.Past) → Loose limits uses old p
     → old.asked ≡ Some a → head_of p.heard ≡ Some a.head
     → ((fields : List Header) → IsSwitched rules.gateway date a response fields → (b : Bare)
@@ -1762,7 +1762,7 @@ switch_of_asked rules date old new a response p x asked head is (inr h) =
     to_free p (kept h.1 refl refl refl) (free_at (same_stage h.1) tt) x
 
 -- what an origin's connection tells of a response that ends HTTP
-switch_passed : {limits : Limits} {uses : Uses} {m : GatewayConnection} {p : Stream.Past} (rules : Rules) (date : ℕ)
+switch_passed : {limits : Limits} {uses : Uses} {m : GatewayConnection} {p : Stream.Past} (rules : GatewayRules) (date : ℕ)
     (a : AskedRequest) (response : OriginResponse) (after : OriginConnection) → IsIn rules uses.rules
     → (c : Carries limits uses m p a Silent) → OriginSteps.Says c.origin (Comes.Switched response) after
     → (fields : List Header) → IsSwitched rules.gateway date a response fields → (b : Bare)
@@ -1790,7 +1790,7 @@ switch_passed rules date a response after among c says fields switches b status 
   told = ap (Origin.tell (Comes.Switched response)) c.now;
 })
 
-hears_switch : {limits : Limits} {uses : Uses} (rules : Rules) (date : ℕ) (stage : Stage)
+hears_switch : {limits : Limits} {uses : Uses} (rules : GatewayRules) (date : ℕ) (stage : Stage)
     (old new : GatewayConnection) (origin : Option OriginConnection) (response : OriginResponse) → old.stage ≡ stage
     → IsStreaming stage → IsIn rules uses.rules → SaysIn old.origin (Comes.Switched response) origin
     → OfAsked (with_origin old origin) (λ a. PassesSwitch rules date (with_origin old origin) a response new) new
@@ -1808,7 +1808,7 @@ hears_switch {limits} {uses} rules date At.Passing old new origin response is st
     c.carries.now s.2)
 hears_switch rules date stage old new origin response is streaming among says h = absurd streaming
 
-hears_head : {limits : Limits} {uses : Uses} (rules : Rules) (date : ℕ) (stage : Stage) (old new : GatewayConnection)
+hears_head : {limits : Limits} {uses : Uses} (rules : GatewayRules) (date : ℕ) (stage : Stage) (old new : GatewayConnection)
     (origin : Option OriginConnection) (response : OriginResponse) → old.stage ≡ stage → IsStreaming stage
     → IsIn rules uses.rules → SaysIn old.origin (Comes.Head response) origin
     → OfAsked (with_origin old origin) (λ a. PassesHead rules date (with_origin old origin) a response new) new
@@ -1919,7 +1919,7 @@ hears_piece stage old new origin piece told is streaming says h = absurd streami
 
 -- ---- the end
 
-ended : {limits : Limits} {uses : Uses} (rules : Rules) (old new : GatewayConnection)
+ended : {limits : Limits} {uses : Uses} (rules : GatewayRules) (old new : GatewayConnection)
     (origin : Option OriginConnection) (trailers : Entries FieldValue) (h : Heard) (sent : List Header)
     → old.stage ≡ At.Passing → IsIn rules uses.rules → SaysIn old.origin (Comes.End trailers) origin
     → old.heard ≡ Some h → IsTrailers rules.gateway h.sent.framing (lines_at h.response.fields) trailers sent
@@ -1986,13 +1986,13 @@ ended {limits} {uses} rules old new origin trailers h sent is among says heard f
       sent = refl;
     }
 
-end_refused : {limits : Limits} {uses : Uses} (rules : Rules) (h : Heard) (trailers : Entries FieldValue)
+end_refused : {limits : Limits} {uses : Uses} (rules : GatewayRules) (h : Heard) (trailers : Entries FieldValue)
     (old new : StreamConnection) (error : WriteError) → RefusesResponseEnd rules.gateway h trailers old error new
     → ClientGoes limits uses old new
 end_refused rules h trailers old new error (inl p) = client_same p.0
 end_refused rules h trailers old new error (inr p) = client_refuses p.2.0
 
-passes_end_of : {limits : Limits} {uses : Uses} (rules : Rules) (old new : GatewayConnection)
+passes_end_of : {limits : Limits} {uses : Uses} (rules : GatewayRules) (old new : GatewayConnection)
     (origin : Option OriginConnection) (trailers : Entries FieldValue) (h : Heard) → old.stage ≡ At.Passing
     → IsIn rules uses.rules → SaysIn old.origin (Comes.End trailers) origin → old.heard ≡ Some h
     → ((EndsResponse rules.gateway h trailers old.client new.client
@@ -2007,7 +2007,7 @@ passes_end_of rules old new origin trailers h is among says heard (inr e) =
     (client_alone (end_refused rules h trailers old.client new.client e.0 e.1) (same_origin e.2) (same_peer e.2))
     (free_at (same_stage e.2) tt)
 
-passes_end : {limits : Limits} {uses : Uses} (rules : Rules) (old new : GatewayConnection)
+passes_end : {limits : Limits} {uses : Uses} (rules : GatewayRules) (old new : GatewayConnection)
     (origin : Option OriginConnection) (trailers : Entries FieldValue) → old.stage ≡ At.Passing
     → IsIn rules uses.rules → SaysIn old.origin (Comes.End trailers) origin
     → PassesEnd rules (with_origin old origin) trailers new → Leads limits uses old new
@@ -2016,7 +2016,7 @@ passes_end rules old new origin trailers is among says (inl h) =
 passes_end rules old new origin trailers is among says (inr h) =
     said_freely old new origin (Comes.End trailers) says (kept h.1 refl refl refl) (free_at (same_stage h.1) tt)
 
-hears_response_end : {limits : Limits} {uses : Uses} (rules : Rules) (stage : Stage) (old new : GatewayConnection)
+hears_response_end : {limits : Limits} {uses : Uses} (rules : GatewayRules) (stage : Stage) (old new : GatewayConnection)
     (origin : Option OriginConnection) (trailers : Entries FieldValue) → old.stage ≡ stage → IsStreaming stage
     → IsIn rules uses.rules → SaysIn old.origin (Comes.End trailers) origin
     → PassesEnd rules (with_origin old origin) trailers new → Leads limits uses old new
@@ -2030,7 +2030,7 @@ hears_response_end rules stage old new origin trailers is streaming among says h
 
 -- ---- steps
 
-hears_origin_at : {limits : Limits} {uses : Uses} (rules : Rules) (date : ℕ) (old new : GatewayConnection)
+hears_origin_at : {limits : Limits} {uses : Uses} (rules : GatewayRules) (date : ℕ) (old new : GatewayConnection)
     (told : Option GatewayEvent) (origin : Option OriginConnection) (event : OriginEvent) → IsStreaming old.stage
     → IsIn rules uses.rules → SaysIn old.origin event origin
     → PassesDown rules date (with_origin old origin) event told new → Leads limits uses old new
@@ -2055,7 +2055,7 @@ hears_origin_at rules date old new told origin (Comes.Broken fault) streaming am
     leads_then (said_quietly old origin (Comes.Broken fault) tt says)
     (faulted (with_origin old origin) new fault h.1)
 
-transfers : {limits : Limits} {uses : Uses} (rules : Rules) (date : ℕ) (old new : GatewayConnection)
+transfers : {limits : Limits} {uses : Uses} (rules : GatewayRules) (date : ℕ) (old new : GatewayConnection)
     (told : Option GatewayEvent) → IsStreaming old.stage → IsIn rules uses.rules → Transfers rules date old told new
     → Leads limits uses old new
 transfers rules date old new told streaming among (inl h) =
@@ -2066,7 +2066,7 @@ transfers rules date old new told streaming among (inr (inr h)) = unchanged h.1
 
 -- a request is asked
 asks_for : {limits : Limits} {uses : Uses} (old new : GatewayConnection) (client : StreamConnection)
-    (head : RequestHead) (outgoing : Outgoing) (rules : Rules) → IsIn rules uses.rules
+    (head : StreamRequest) (outgoing : Outgoing) (rules : GatewayRules) → IsIn rules uses.rules
     → IsDecision rules old.peer head (Decides.Send outgoing) → StreamSteps.Says old.client (Is.Head head) client
     → new ≡ record (begun (with_client old client)) {
       asked = Some (record { head = head; outgoing = outgoing });
@@ -2103,7 +2103,7 @@ asks_for {limits} {uses} old new client head outgoing rules among decided says i
     }
 
 answers_head : {limits : Limits} {uses : Uses} (old new : GatewayConnection) (client : StreamConnection)
-    (head : RequestHead) (own : Own) → StreamSteps.Says old.client (Is.Head head) client
+    (head : StreamRequest) (own : Own) → StreamSteps.Says old.client (Is.Head head) client
     → Answers (begun (with_client old client)) own new → Leads limits uses old new
 answers_head old new client head own says h =
     freely (goes_then {b = with_client old client} (heard_client old client (Is.Head head) says)
@@ -2112,7 +2112,7 @@ answers_head old new client head own says h =
     (answers_free (begun (with_client old client)) new own h)
 
 follows_head : {limits : Limits} {uses : Uses} (old new : GatewayConnection) (client : StreamConnection)
-    (head : RequestHead) (rules : Rules) (decision : RequestDecision) → IsIn rules uses.rules
+    (head : StreamRequest) (rules : GatewayRules) (decision : RequestDecision) → IsIn rules uses.rules
     → IsDecision rules old.peer head decision → StreamSteps.Says old.client (Is.Head head) client
     → Follows (begun (with_client old client)) head decision new → Leads limits uses old new
 follows_head old new client head rules (Decides.Send outgoing) among decided says is =
@@ -2120,8 +2120,8 @@ follows_head old new client head rules (Decides.Send outgoing) among decided say
 follows_head old new client head rules (Decides.Answer own) among decided says h =
     answers_head old new client head own says h
 
-considers_head : {limits : Limits} {uses : Uses} (rules : Rules) (old new : GatewayConnection)
-    (client : StreamConnection) (head : RequestHead) → IsIn rules uses.rules
+considers_head : {limits : Limits} {uses : Uses} (rules : GatewayRules) (old new : GatewayConnection)
+    (client : StreamConnection) (head : StreamRequest) → IsIn rules uses.rules
     → StreamSteps.Says old.client (Is.Head head) client → Considers rules (with_client old client) head new
     → Leads limits uses old new
 considers_head rules old new client head among says (inl h) =
@@ -2129,14 +2129,14 @@ considers_head rules old new client head among says (inl h) =
 considers_head rules old new client head among says (inr h) =
     answers_head old new client head Because.OutOfMemory says h
 
-awaits_freely : {limits : Limits} {uses : Uses} (rules : Rules) (old new : GatewayConnection)
+awaits_freely : {limits : Limits} {uses : Uses} (rules : GatewayRules) (old new : GatewayConnection)
     (told : Option GatewayEvent) (client : StreamConnection) (event : StreamEvent)
     → StreamSteps.Says old.client event client → Goes limits uses (with_client old client) new → IsFree new.stage
     → Leads limits uses old new
 awaits_freely rules old new told client event says goes free =
     freely (goes_then {b = with_client old client} (heard_client old client event says) goes) free
 
-awaits_request : {limits : Limits} {uses : Uses} (rules : Rules) (old new : GatewayConnection)
+awaits_request : {limits : Limits} {uses : Uses} (rules : GatewayRules) (old new : GatewayConnection)
     (told : Option GatewayEvent) (client : StreamConnection) (event : StreamEvent) → old.stage ≡ At.Idle
     → IsIn rules uses.rules → StreamSteps.Says old.client event client → Awaits rules (with_client old client) event told new
     → Leads limits uses old new
@@ -2201,7 +2201,7 @@ repeats_again {limits} {uses} old new at is = λ p x.
       fields = subst (AreFieldsOf w.a) (sym (same_fields w.a is)) w.fields;
     })
 
-steps : {limits : Limits} {uses : Uses} (rules : Rules) (date : ℕ) (stage : Stage) (old new : GatewayConnection)
+steps : {limits : Limits} {uses : Uses} (rules : GatewayRules) (date : ℕ) (stage : Stage) (old new : GatewayConnection)
     (told : Option GatewayEvent) → old.stage ≡ stage → IsIn rules uses.rules → StepsAt stage rules date old told new
     → Leads limits uses old new
 steps rules date At.Idle old new told is among h = awaits_request rules old new told h.1 h.0 is among h.2 h.3
@@ -2218,13 +2218,13 @@ steps rules date At.Switched old new told is among h = unchanged h.1
 steps rules date At.Closed old new told is among h = unchanged h.1
 steps rules date At.Aborted old new told is among h = unchanged h.1
 
-runs_on : {limits : Limits} {uses : Uses} {rules : Rules} {date : ℕ} {old new : GatewayConnection}
+runs_on : {limits : Limits} {uses : Uses} {rules : GatewayRules} {date : ℕ} {old new : GatewayConnection}
     → IsIn rules uses.rules → Runs rules date old new → Leads limits uses old new
 runs_on among Rests = unchanged refl
 runs_on {limits} {uses} {rules} {date} among (Went between last before step) =
     leads_then (runs_on among before) (steps rules date between.stage between last None refl among step)
 
-says_at : {limits : Limits} {uses : Uses} (rules : Rules) (date : ℕ) (between new : GatewayConnection)
+says_at : {limits : Limits} {uses : Uses} (rules : GatewayRules) (date : ℕ) (between new : GatewayConnection)
     (event : GatewayEvent) → IsIn rules uses.rules
     → (Steps rules date between (Some event) new ⊎ ((event ≡ Tells.Waits) × (new ≡ between)))
     → Leads limits uses between new
@@ -2232,7 +2232,7 @@ says_at rules date between new event among (inl h) =
     steps rules date between.stage between new (Some event) refl among h
 says_at rules date between new event among (inr h) = unchanged h.1
 
-says : {limits : Limits} {uses : Uses} (rules : Rules) (date : ℕ) (old new : GatewayConnection)
+says : {limits : Limits} {uses : Uses} (rules : GatewayRules) (date : ℕ) (old new : GatewayConnection)
     (event : GatewayEvent) → IsIn rules uses.rules → Says rules date old event new → Leads limits uses old new
 says rules date old new event among h =
     leads_then (runs_on among h.1) (says_at rules date h.0 new event among h.2)
@@ -2363,7 +2363,7 @@ connects old new (inr h) =
     freely (goes_then {b = with_client old h.2} (heard_client old h.2 h.1 h.3) (connects_as (with_client old h.2) new h.4))
     (connects_free (with_client old h.2) new h.4)
 
-given_now : (limits : Limits) (uses : Uses) (head : Option RequestHead) (final : Final) (r : Response)
+given_now : (limits : Limits) (uses : Uses) (head : Option StreamRequest) (final : Final) (r : Response)
     → final ≡ Begun r → IsGiven uses r → IsServedNow limits uses head final
 given_now limits uses head final r is given =
     now_is limits uses head final r is (λ asked is_asked. inr (inl given))
@@ -2500,7 +2500,7 @@ ends_idle_free old new Is.Closed is = free_at (same_stage is) tt
 idles : {limits : Limits} {uses : Uses} (old new : GatewayConnection) → EndsIdle old new → Leads limits uses old new
 idles old new h = freely (ends_idle old new h) (ends_idle_free (with_client old h.2) new h.1 h.5)
 
-times_out : {limits : Limits} {uses : Uses} (phase : Phase) (old new : GatewayConnection) → TimesOutAt phase old new
+times_out : {limits : Limits} {uses : Uses} (phase : ExchangePhase) (old new : GatewayConnection) → TimesOutAt phase old new
     → Leads limits uses old new
 times_out Does.Idle old new h = idles old new h
 times_out Does.Head old new h = idles old new h

@@ -17,11 +17,11 @@ use Rattle.gateway_messages.specs.declared.{field_line.FieldLine.FieldLine, fram
 use Rattle.gateway_messages.specs.declared.protocol.Protocol.TheVariants.{Http11}
 use Rattle.gateway_parts.specs.Authorities.{IsAuthority, given_host}
 use Rattle.gateway_parts.{specs.Messages.protocol_of, specs.Targets.{Parts, origin_form, target_of}}
-use Rattle.server_stream.specs.declared.event.RequestHead.{RequestHead}
+use Rattle.server_stream.specs.declared.event.StreamRequest.{StreamRequest}
 use Rattle.gateway_exchange.specs.declared.decision.{Outgoing.Outgoing, RequestDecision.RequestDecision}
 use Rattle.gateway_exchange.specs.declared.decision.RequestDecision.TheVariants.{Answer, Send}
 use Rattle.gateway_exchange.specs.declared.own.Own.{Own}
-use Rattle.gateway_exchange.specs.declared.{rules.Peer.Peer, rules.Rules.Rules}
+use Rattle.gateway_exchange.specs.declared.{rules.Peer.Peer, rules.GatewayRules.GatewayRules}
 use Rattle.gateway_exchange.specs.declared.own.Own.TheVariants as Because
 
 -- ---- the next connection
@@ -29,12 +29,12 @@ use Rattle.gateway_exchange.specs.declared.own.Own.TheVariants as Because
 abbrev pub version_of : ℕ → Version
 version_of minor = if minor == 0 then HTTP_10 else HTTP_11
 
-abbrev pub IsHandshakeAnswer : RequestHead → HandshakeAnswer → Type 0
+abbrev pub IsHandshakeAnswer : StreamRequest → HandshakeAnswer → Type 0
 IsHandshakeAnswer request answer =
     Answers request.method (version_of request.minor) (lines_at request.fields) None [] answer
 
 -- whether a request is an opening handshake that goes on as one
-abbrev pub OpensWebsocket : Rules → RequestHead → Bool → Type 0
+abbrev pub OpensWebsocket : GatewayRules → StreamRequest → Bool → Type 0
 OpensWebsocket rules request true =
     (rules.passes_websocket ≡ true) × (answer : HandshakeAnswer) × IsHandshakeAnswer request answer × IsSwitch answer
 OpensWebsocket rules request false =
@@ -53,7 +53,7 @@ abbrev pub websocket_if : Bool → Option Line
 websocket_if opens = if opens then Some (codes "websocket") else None
 
 -- the next connection: the origin server speaks HTTP/1.1
-abbrev pub next_hop : Rules → Peer → Option Line → Hop
+abbrev pub next_hop : GatewayRules → Peer → Option Line → Hop
 next_hop rules peer upgrade =
     record {
       server = Http11;
@@ -65,7 +65,7 @@ next_hop rules peer upgrade =
 -- ---- what is sent
 
 -- the request as `gateway_messages` sees it, by the authority of its target
-abbrev pub asked : Rules → RequestHead → Option Line → Forwarding.Request
+abbrev pub asked : GatewayRules → StreamRequest → Option Line → Forwarding.Request
 asked rules request authority =
     record {
       protocol = protocol_of request.minor;
@@ -80,7 +80,7 @@ takes_over true Forwarded = true
 takes_over answers expectation = false
 
 -- what is sent: what `gateway_hops` sends, without Expect if the gateway answers that
-pub record IsOutgoing (rules : Rules) (sent : SentRequest) (to : List ℕ) (outgoing : Outgoing) : Type 0 where
+pub record IsOutgoing (rules : GatewayRules) (sent : SentRequest) (to : List ℕ) (outgoing : Outgoing) : Type 0 where
   pub target : outgoing.target ≡ to
   pub framing : outgoing.framing ≡ sent.framing
   pub expectation : outgoing.expectation
@@ -90,7 +90,7 @@ pub record IsOutgoing (rules : Rules) (sent : SentRequest) (to : List ℕ) (outg
       then replaced_by (expect_fields Answered) (fields_of sent.fields.items) else fields_of sent.fields.items)
 
 -- the request may be sent so
-pub record IsSentOn (rules : Rules) (peer : Peer) (request : RequestHead) (authority : Option Line) (to : List ℕ)
+pub record IsSentOn (rules : GatewayRules) (peer : Peer) (request : StreamRequest) (authority : Option Line) (to : List ℕ)
     (outgoing : Outgoing) : Type 0 where
   pub opens : Bool
   pub handshake : OpensWebsocket rules request opens
@@ -109,7 +109,7 @@ value_or_none None = []
 -- ---- decisions
 
 -- why the gateway answers a request with a valid target itself
-abbrev pub IsAnswered : Rules → Peer → RequestHead → Option Line → Own → Type 0
+abbrev pub IsAnswered : GatewayRules → Peer → StreamRequest → Option Line → Own → Type 0
 IsAnswered rules peer request authority (Because.Rejected why) =
     Rejects rules.gateway (asked rules request authority) why
 IsAnswered rules peer request authority Because.FinalRecipient =
@@ -119,31 +119,31 @@ IsAnswered rules peer request authority Because.LengthRequired =
 IsAnswered rules peer request authority own = ⊥
 
 -- what is done with a request of this authority, whose target is sent so
-abbrev pub IsDecisionFor : Rules → Peer → RequestHead → Option Line → List ℕ → RequestDecision → Type 0
+abbrev pub IsDecisionFor : GatewayRules → Peer → StreamRequest → Option Line → List ℕ → RequestDecision → Type 0
 IsDecisionFor rules peer request authority target (Answer own) = IsAnswered rules peer request authority own
 IsDecisionFor rules peer request authority target (Send outgoing) =
     IsSentOn rules peer request authority target outgoing
 
 -- an authority has to be a host
-abbrev pub IsDecisionAt : Rules → Peer → RequestHead → Option (List ℕ) → List ℕ → RequestDecision → Type 0
+abbrev pub IsDecisionAt : GatewayRules → Peer → StreamRequest → Option (List ℕ) → List ℕ → RequestDecision → Type 0
 IsDecisionAt rules peer request None target decision = IsDecisionFor rules peer request None target decision
 IsDecisionAt rules peer request (Some authority) target decision =
     (IsAuthority authority × IsDecisionFor rules peer request (Some authority) target decision)
     ⊎ (¬ (IsAuthority authority) × (decision ≡ Answer Because.InvalidTarget))
 
 -- the parts of the target decide
-abbrev pub IsDecisionOf : Rules → Peer → RequestHead → Bool → Option Parts → RequestDecision → Type 0
+abbrev pub IsDecisionOf : GatewayRules → Peer → StreamRequest → Bool → Option Parts → RequestDecision → Type 0
 IsDecisionOf rules peer request is_options None decision = decision ≡ Answer Because.InvalidTarget
 IsDecisionOf rules peer request is_options (Some parts) decision =
     IsDecisionAt rules peer request parts.authority (origin_form is_options parts.path) decision
 
 -- the target of CONNECT is the authority, if the gateway implements it (RFC 9112, section 3.2.3)
-abbrev pub IsConnectDecision : Bool → Rules → Peer → RequestHead → RequestDecision → Type 0
+abbrev pub IsConnectDecision : Bool → GatewayRules → Peer → StreamRequest → RequestDecision → Type 0
 IsConnectDecision true rules peer request decision =
     IsDecisionAt rules peer request (Some request.target) request.target decision
 IsConnectDecision false rules peer request decision = decision ≡ Answer Because.Connect
 
-abbrev pub IsDecision : Rules → Peer → RequestHead → RequestDecision → Type 0
+abbrev pub IsDecision : GatewayRules → Peer → StreamRequest → RequestDecision → Type 0
 IsDecision rules peer request decision =
     MatchBool (bytes_eq request.method (codes "CONNECT"))
     (IsConnectDecision rules.passes_connect rules peer request decision)

@@ -18,7 +18,7 @@ use Rattle.gateway_connection.specs.declared.origin.OriginConnection.{OriginConn
 use Rattle.server_stream.specs.History as Stream
 use Rattle.server_stream.specs.Steps as StreamSteps
 use Rattle.server_stream.specs.Exchanges.{Bare, Exchange, Final, Response, Begun, Switched}
-use Rattle.server_stream.specs.declared.event.RequestHead.{RequestHead}
+use Rattle.server_stream.specs.declared.event.StreamRequest.{StreamRequest}
 use Rattle.gateway_exchange.specs.Own.{closing, own_fields, own_status}
 use Rattle.gateway_exchange.specs.Decisions.{IsDecision}
 use Rattle.gateway_exchange.specs.Passing.{IsSwitched, IsTrailers, answered, with_conditions}
@@ -30,7 +30,7 @@ use Rattle.gateway_exchange.specs.Steps.{TimesOut, is_origin_open, output_of}
 use Rattle.gateway_exchange.specs.declared.{connection.GatewayConnection.GatewayConnection}
 use Rattle.gateway_exchange.specs.declared.{decision.AskedRequest.AskedRequest, pass.Heard.Heard}
 use Rattle.gateway_exchange.specs.declared.{event.GatewayEvent.GatewayEvent, own.Own.Own, rules.Peer.Peer}
-use Rattle.gateway_exchange.specs.declared.{rules.Rules.Rules}
+use Rattle.gateway_exchange.specs.declared.{rules.GatewayRules.GatewayRules}
 use Rattle.gateway_exchange.specs.declared.own.Own.TheVariants as Because
 use Rattle.gateway_exchange.specs.declared.connection.Stage.TheVariants as At
 
@@ -50,7 +50,7 @@ pub record Traffic : Type 0 where
 -- what went over each connection to an origin, of which the last one that was handed in is the first here
 pub record Uses : Type 0 where
   pub peer : Peer
-  pub rules : List Rules
+  pub rules : List GatewayRules
   pub given : List GivenHead
   pub traffic : List Traffic
 
@@ -64,7 +64,7 @@ abbrev pub no_past : Peer → Past
 no_past peer =
     record { received = []; sent = []; uses = record { peer = peer; rules = []; given = []; traffic = [] } }
 
-abbrev pub with_rules : Rules → Uses → Uses
+abbrev pub with_rules : GatewayRules → Uses → Uses
 with_rules rules uses = record uses { rules = rules ∷ uses.rules }
 
 abbrev pub with_given : GivenHead → Uses → Uses
@@ -126,7 +126,7 @@ pub data IsReached (limits : Limits) : GatewayConnection → Past → Type 0 whe
   OriginWritten : (old new : GatewayConnection) (p : Past) (count : ℕ) → IsReached limits old p
       → ChangesOrigin (HandsOutOrigin count) old new
       → IsReached limits new (record p { uses = goes_over (writes (written_of count old.origin)) p.uses })
-  Said : (old new : GatewayConnection) (p : Past) (rules : Rules) (date : ℕ) (event : GatewayEvent)
+  Said : (old new : GatewayConnection) (p : Past) (rules : GatewayRules) (date : ℕ) (event : GatewayEvent)
       → IsReached limits old p → Says rules date old event new
       → IsReached limits new (record p { uses = with_rules rules p.uses })
   Sent : (old new : GatewayConnection) (p : Past) (origin : OriginConnection) (o : Origin.Past) (watches : Bool)
@@ -186,7 +186,7 @@ IsGiven uses r =
 
 -- the request is sent so by rules that were passed in
 abbrev pub IsDecided : Uses → AskedRequest → Type 0
-IsDecided uses a = (rules : Rules) × IsIn rules uses.rules × IsDecision rules uses.peer a.head (Send a.outgoing)
+IsDecided uses a = (rules : GatewayRules) × IsIn rules uses.rules × IsDecision rules uses.peer a.head (Send a.outgoing)
 
 -- these are the fields of the request as it is sent, maybe with conditions that the caller puts
 abbrev pub AreFieldsOf : AskedRequest → List Header → Type 0
@@ -213,7 +213,7 @@ WentOver t (first ∷ later) = IsFrontOf t first ⊎ WentOver t later
 -- what is forwarded of a response to this request, by rules that the caller passed in
 abbrev pub IsHeard : Uses → AskedRequest → Heard → Type 0
 IsHeard uses a h =
-    (rules : Rules) × IsIn rules uses.rules × (date : ℕ)
+    (rules : GatewayRules) × IsIn rules uses.rules × (date : ℕ)
     × IsForwardedResponse rules.gateway date (answered a h.response.status h.response) h.sent
 
 -- the response has the head that is sent of this one, and this content; the head of the last response says so too
@@ -239,13 +239,13 @@ now_of (Some trailers) request interim response content =
 abbrev pub EndsAs : Uses → Heard → Option (Entries FieldValue) → Option (List Header) → Type 0
 EndsAs uses h None None = ⊤
 EndsAs uses h (Some trailers) (Some sent) =
-    (rules : Rules) × IsIn rules uses.rules
+    (rules : GatewayRules) × IsIn rules uses.rules
     × IsTrailers rules.gateway h.sent.framing (lines_at h.response.fields) trailers sent
 EndsAs uses h trailers sent = ⊥
 
 -- The response is forwarded: one of the connections to an origin that were handed in told it of this request. Its head
 -- and its trailer fields are what is forwarded of the origin's, and its content is the origin's.
-pub record IsPassedOn (limits : Limits) (uses : Uses) (head : RequestHead) (r : Response) : Type 0 where
+pub record IsPassedOn (limits : Limits) (uses : Uses) (head : StreamRequest) (r : Response) : Type 0 where
   pub asked : AskedRequest
   pub head_is : asked.head ≡ head
   pub decided : IsDecided uses asked
@@ -265,12 +265,12 @@ pub record IsPassedOn (limits : Limits) (uses : Uses) (head : RequestHead) (r : 
   pub told : past.now ≡ now_of trailers request interim heard.response content
 
 -- the response to a request: the gateway's own, or the caller's, or an origin's
-abbrev pub IsServed : Limits → Uses → RequestHead → Response → Type 0
+abbrev pub IsServed : Limits → Uses → StreamRequest → Response → Type 0
 IsServed limits uses head r = IsOwn r ⊎ IsGiven uses r ⊎ IsPassedOn limits uses head r
 
 -- An interim response is forwarded: one of the connections to an origin that were handed in told it of this request. Its
 -- head is what is forwarded of the origin's.
-pub record IsInterimPassedOn (limits : Limits) (uses : Uses) (head : RequestHead) (b : Bare) : Type 0 where
+pub record IsInterimPassedOn (limits : Limits) (uses : Uses) (head : StreamRequest) (b : Bare) : Type 0 where
   pub asked : AskedRequest
   pub head_is : asked.head ≡ head
   pub decided : IsDecided uses asked
@@ -295,10 +295,10 @@ pub record IsInterimPassedOn (limits : Limits) (uses : Uses) (head : RequestHead
 abbrev pub own_interim : Bare
 own_interim = record { minor = 1; status = 100; reason = codes "Continue"; headers = [] }
 
-abbrev pub IsInterim : Limits → Uses → RequestHead → Bare → Type 0
+abbrev pub IsInterim : Limits → Uses → StreamRequest → Bare → Type 0
 IsInterim limits uses head b = (b ≡ own_interim) ⊎ IsInterimPassedOn limits uses head b
 
-abbrev pub AreInterim : Limits → Uses → RequestHead → List Bare → Type 0
+abbrev pub AreInterim : Limits → Uses → StreamRequest → List Bare → Type 0
 AreInterim limits uses head [] = ⊤
 AreInterim limits uses head (b ∷ later) = IsInterim limits uses head b × AreInterim limits uses head later
 
@@ -309,11 +309,11 @@ AreServed limits uses (e ∷ later) =
 
 -- The response that ends HTTP is forwarded: one of the connections to an origin that were handed in told it of this
 -- request.
-pub record IsSwitchPassedOn (limits : Limits) (uses : Uses) (head : RequestHead) (b : Bare) : Type 0 where
+pub record IsSwitchPassedOn (limits : Limits) (uses : Uses) (head : StreamRequest) (b : Bare) : Type 0 where
   pub asked : AskedRequest
   pub head_is : asked.head ≡ head
   pub decided : IsDecided uses asked
-  pub rules : Rules
+  pub rules : GatewayRules
   pub among : IsIn rules uses.rules
   pub date : ℕ
   pub response : OriginResponse
@@ -332,22 +332,22 @@ pub record IsSwitchPassedOn (limits : Limits) (uses : Uses) (head : RequestHead)
   pub told : past.now ≡ now_of (Some []) request interim response []
 
 -- it is that, or the 200 with which the caller answers a CONNECT
-abbrev pub IsSwitch : Limits → Uses → RequestHead → Bare → Type 0
+abbrev pub IsSwitch : Limits → Uses → StreamRequest → Bare → Type 0
 IsSwitch limits uses head b =
     ((b.status ≡ 200) × (b.reason ≡ codes "OK") × (b.headers ≡ [])) ⊎ IsSwitchPassedOn limits uses head b
 
 -- the head of the request now, if one was told
-abbrev pub head_of : Stream.Heard → Option RequestHead
+abbrev pub head_of : Stream.Heard → Option StreamRequest
 head_of Stream.Nothing = None
 head_of (Stream.Part head content) = Some head
 head_of (Stream.Whole head content trailers) = Some head
 
-abbrev pub IsServedNow : Limits → Uses → Option RequestHead → Final → Type 0
+abbrev pub IsServedNow : Limits → Uses → Option StreamRequest → Final → Type 0
 IsServedNow limits uses (Some head) (Begun r) = IsServed limits uses head r
 IsServedNow limits uses (Some head) (Switched b) = IsSwitch limits uses head b
 IsServedNow limits uses head final = ⊤
 
-abbrev pub AreInterimNow : Limits → Uses → Option RequestHead → List Bare → Type 0
+abbrev pub AreInterimNow : Limits → Uses → Option StreamRequest → List Bare → Type 0
 AreInterimNow limits uses (Some head) interim = AreInterim limits uses head interim
 AreInterimNow limits uses None interim = ⊤
 

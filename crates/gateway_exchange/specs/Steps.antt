@@ -15,7 +15,7 @@ use Rattle.gateway_connection.specs.declared.{event.OriginResponse.OriginRespons
 use Rattle.gateway_connection.specs.Steps as Origin
 use Rattle.gateway_connection.specs.declared.event.OriginFault.TheVariants as Faults
 use Rattle.server_stream.specs.Steps as Stream
-use Rattle.server_stream.specs.declared.{connection.StreamConnection.StreamConnection, event.RequestHead.RequestHead}
+use Rattle.server_stream.specs.declared.{connection.StreamConnection.StreamConnection, event.StreamRequest.StreamRequest}
 use Rattle.server_stream.specs.declared.event.StreamEvent.{StreamEvent}
 use Rattle.gateway_exchange.specs.{Decisions.IsDecision, Own.{PutsOwn, RefusesOwn, closing}}
 use Rattle.gateway_exchange.specs.Passing.{EndsRequest, EndsResponse, IsSwitched, IsUnswitched, PutsInterim, PutsRequest}
@@ -24,14 +24,14 @@ use Rattle.gateway_exchange.specs.Passing.{RefusesResponse, RefusesResponseEnd, 
 use Rattle.gateway_exchange.specs.declared.{connection.GatewayConnection.GatewayConnection, connection.Stage.Stage}
 use Rattle.gateway_exchange.specs.declared.{decision.AskedRequest.AskedRequest, decision.Outgoing.Outgoing}
 use Rattle.gateway_exchange.specs.declared.decision.RequestDecision.{RequestDecision}
-use Rattle.gateway_exchange.specs.declared.{event.GatewayEvent.GatewayEvent, event.Phase.Phase, own.Own.Own}
+use Rattle.gateway_exchange.specs.declared.{event.GatewayEvent.GatewayEvent, event.ExchangePhase.ExchangePhase, own.Own.Own}
 use Rattle.gateway_exchange.specs.declared.{event.Wants.Wants, pass.Heard.Heard}
-use Rattle.gateway_exchange.specs.declared.{rules.Peer.Peer, rules.Rules.Rules, tunnel.TheConstants.MOST_WAITING}
+use Rattle.gateway_exchange.specs.declared.{rules.Peer.Peer, rules.GatewayRules.GatewayRules, tunnel.TheConstants.MOST_WAITING}
 use Rattle.gateway_connection.specs.declared.event.OriginEvent.TheVariants as Comes
 use Rattle.gateway_exchange.specs.declared.connection.Stage.TheVariants as At
 use Rattle.gateway_exchange.specs.declared.decision.RequestDecision.TheVariants as Decides
 use Rattle.gateway_exchange.specs.declared.event.GatewayEvent.TheVariants as Tells
-use Rattle.gateway_exchange.specs.declared.event.Phase.TheVariants as Does
+use Rattle.gateway_exchange.specs.declared.event.ExchangePhase.TheVariants as Does
 use Rattle.gateway_exchange.specs.declared.own.Own.TheVariants as Because
 use Rattle.http1.specs.declared.error.WriteError.TheVariants as Write
 use Rattle.server_stream.specs.declared.event.StreamEvent.TheVariants as Is
@@ -131,19 +131,19 @@ begun m = record m {
 }
 
 -- what was decided of a request is done
-abbrev pub Follows : GatewayConnection → RequestHead → RequestDecision → GatewayConnection → Type 0
+abbrev pub Follows : GatewayConnection → StreamRequest → RequestDecision → GatewayConnection → Type 0
 Follows old head (Decides.Send outgoing) new =
     new ≡ record old { asked = Some (record { head = head; outgoing = outgoing }); stage = At.Asking }
 Follows old head (Decides.Answer own) new = Answers old own new
 
 -- a request is judged by its head, if memory suffices
-abbrev pub Considers : Rules → GatewayConnection → RequestHead → GatewayConnection → Type 0
+abbrev pub Considers : GatewayRules → GatewayConnection → StreamRequest → GatewayConnection → Type 0
 Considers rules old head new =
     ((decision : RequestDecision) × IsDecision rules old.peer head decision × Follows (begun old) head decision new)
     ⊎ Answers (begun old) Because.OutOfMemory new
 
 -- what becomes of what the client's connection said, where a request is awaited
-abbrev pub Awaits : Rules → GatewayConnection → StreamEvent → Option GatewayEvent → GatewayConnection → Type 0
+abbrev pub Awaits : GatewayRules → GatewayConnection → StreamEvent → Option GatewayEvent → GatewayConnection → Type 0
 Awaits rules old Is.NeedsInput told new = (told ≡ Some Tells.Waits) × (new ≡ record old { client_hungry = true })
 Awaits rules old (Is.Head head) told new = (told ≡ None) × Considers rules old head new
 Awaits rules old (Is.Content piece) told new = (told ≡ None) × (new ≡ old)
@@ -154,7 +154,7 @@ Awaits rules old event told new = (told ≡ None) × (new ≡ record old { stage
 abbrev pub with_client : GatewayConnection → StreamConnection → GatewayConnection
 with_client m client = record m { client = client }
 
-abbrev pub AwaitsRequest : Rules → GatewayConnection → Option GatewayEvent → GatewayConnection → Type 0
+abbrev pub AwaitsRequest : GatewayRules → GatewayConnection → Option GatewayEvent → GatewayConnection → Type 0
 AwaitsRequest rules old told new =
     (event : StreamEvent) × (client : StreamConnection) × Stream.Says old.client event client
     × Awaits rules (with_client old client) event told new
@@ -247,7 +247,7 @@ RefusesContent old piece error new =
     × (new ≡ record old { origin = Some after }))
 
 -- the end of the request is put to the origin
-abbrev pub PutsRequestEnd : Rules → GatewayConnection → Entries FieldValue → GatewayConnection → Type 0
+abbrev pub PutsRequestEnd : GatewayRules → GatewayConnection → Entries FieldValue → GatewayConnection → Type 0
 PutsRequestEnd rules old trailers new =
     (a : AskedRequest) × (before : OriginConnection) × (after : OriginConnection) × (old.asked ≡ Some a)
     × (old.origin ≡ Some before) × EndsRequest rules.gateway a trailers before after
@@ -258,7 +258,7 @@ PutsRequestEnd rules old trailers new =
       touched = old.touched || not (is_empty trailers);
     })
 
-abbrev pub RefusesEnd : Rules → GatewayConnection → Entries FieldValue → WriteError → GatewayConnection → Type 0
+abbrev pub RefusesEnd : GatewayRules → GatewayConnection → Entries FieldValue → WriteError → GatewayConnection → Type 0
 RefusesEnd rules old trailers error new =
     ((error ≡ Write.State) × (new ≡ old))
     ⊎ ((a : AskedRequest) × (before : OriginConnection) × (after : OriginConnection) × (old.asked ≡ Some a)
@@ -266,7 +266,7 @@ RefusesEnd rules old trailers error new =
     × (new ≡ record old { origin = Some after }))
 
 -- what becomes of what the client's connection said, where its request is passed on
-abbrev pub PassesUp : Rules → GatewayConnection → StreamEvent → GatewayConnection → Type 0
+abbrev pub PassesUp : GatewayRules → GatewayConnection → StreamEvent → GatewayConnection → Type 0
 PassesUp rules old Is.NeedsInput new = new ≡ record old { client_hungry = true }
 PassesUp rules old (Is.Content piece) new =
     PutsContent old piece new
@@ -279,7 +279,7 @@ PassesUp rules old (Is.End trailers) new =
 PassesUp rules old (Is.Rejected why) new = Fails old (Because.Unread why) new
 PassesUp rules old event new = new ≡ record old { stage = At.Aborted }
 
-abbrev pub HearsClient : Rules → GatewayConnection → GatewayConnection → Type 0
+abbrev pub HearsClient : GatewayRules → GatewayConnection → GatewayConnection → Type 0
 HearsClient rules old new =
     (event : StreamEvent) × (client : StreamConnection) × Stream.Says old.client event client
     × PassesUp rules (with_client old client) event new
@@ -293,7 +293,7 @@ SaysIn None event None = event ≡ Comes.Closed
 SaysIn old event new = ⊥
 
 -- an interim response is put to the client, or dropped, or the gateway answers
-abbrev pub PassesInterim : Rules → ℕ → GatewayConnection → AskedRequest → OriginResponse → GatewayConnection → Type 0
+abbrev pub PassesInterim : GatewayRules → ℕ → GatewayConnection → AskedRequest → OriginResponse → GatewayConnection → Type 0
 PassesInterim rules date old a response new =
     ((sent : ForwardedResponse)
     × IsForwardedResponse rules.gateway date (answered a response.status response) sent
@@ -328,7 +328,7 @@ Passes old new =
     ((old.stage ≡ At.Judging) × (h : Heard) × (old.heard ≡ Some h) × ShowsHead (record old { heard = None }) h new)
     ⊎ (((old.stage ≢ At.Judging) ⊎ (old.heard ≡ None)) × (new ≡ old))
 
-abbrev pub PassesHead : Rules → ℕ → GatewayConnection → AskedRequest → OriginResponse → GatewayConnection → Type 0
+abbrev pub PassesHead : GatewayRules → ℕ → GatewayConnection → AskedRequest → OriginResponse → GatewayConnection → Type 0
 PassesHead rules date old a response new =
     ((sent : ForwardedResponse)
     × IsForwardedResponse rules.gateway date (answered a response.status response) sent
@@ -350,7 +350,7 @@ PassesPiece old piece told new =
     × (told ≡ None) × (new ≡ record old { client = new.client; stage = At.Aborted }))
 
 -- the end of the response is put to the client, or its connection is cut off
-abbrev pub PassesEnd : Rules → GatewayConnection → Entries FieldValue → GatewayConnection → Type 0
+abbrev pub PassesEnd : GatewayRules → GatewayConnection → Entries FieldValue → GatewayConnection → Type 0
 PassesEnd rules old trailers new =
     ((h : Heard) × (old.heard ≡ Some h)
     × ((EndsResponse rules.gateway h trailers old.client new.client
@@ -367,7 +367,7 @@ SwitchesTo old response fields new =
     ⊎ ((error : WriteError) × (client : StreamConnection) × RefusesSwitch response fields old.client error client
     × Fails (with_client old client) (Because.Unsendable error) new)
 
-abbrev pub PassesSwitch : Rules → ℕ → GatewayConnection → AskedRequest → OriginResponse → GatewayConnection → Type 0
+abbrev pub PassesSwitch : GatewayRules → ℕ → GatewayConnection → AskedRequest → OriginResponse → GatewayConnection → Type 0
 PassesSwitch rules date old a response new =
     ((fields : List Header) × IsSwitched rules.gateway date a response fields × SwitchesTo old response fields new)
     ⊎ ((own : Own) × IsUnswitched rules.gateway a response own × Fails old own new)
@@ -394,7 +394,7 @@ Faulted old fault new =
     ⊎ (¬ (MayRepeat old) × Fails old (Because.Origin fault) new)
 
 -- what becomes of what the origin's connection said
-abbrev pub PassesDown : Rules → ℕ → GatewayConnection → OriginEvent → Option GatewayEvent → GatewayConnection → Type 0
+abbrev pub PassesDown : GatewayRules → ℕ → GatewayConnection → OriginEvent → Option GatewayEvent → GatewayConnection → Type 0
 PassesDown rules date old Comes.NeedsInput told new = (told ≡ None) × (new ≡ record old { origin_hungry = true })
 PassesDown rules date old (Comes.Interim response) told new =
     (told ≡ None) × OfAsked old (λ a. PassesInterim rules date old a response new) new
@@ -410,7 +410,7 @@ PassesDown rules date old (Comes.Broken fault) told new = (told ≡ None) × Fau
 abbrev pub with_origin : GatewayConnection → Option OriginConnection → GatewayConnection
 with_origin m origin = record m { origin = origin }
 
-abbrev pub HearsOrigin : Rules → ℕ → GatewayConnection → Option GatewayEvent → GatewayConnection → Type 0
+abbrev pub HearsOrigin : GatewayRules → ℕ → GatewayConnection → Option GatewayEvent → GatewayConnection → Type 0
 HearsOrigin rules date old told new =
     (event : OriginEvent) × (origin : Option OriginConnection) × SaysIn old.origin event origin
     × PassesDown rules date (with_origin old origin) event told new
@@ -510,17 +510,17 @@ EndsIdle old new =
     × EndsIdleAs (with_client old client) event new
 
 -- what is done before a request, and before a response
-abbrev pub idle_phase : Bool → Bool → Phase
+abbrev pub idle_phase : Bool → Bool → ExchangePhase
 idle_phase false begun = Does.Draining
 idle_phase true true = Does.Head
 idle_phase true false = Does.Idle
 
-abbrev pub waiting_phase : Bool → Phase
+abbrev pub waiting_phase : Bool → ExchangePhase
 waiting_phase true = Does.Response
 waiting_phase false = Does.Content
 
 -- what a connection is doing
-abbrev pub phase_at : Stage → Bool → Bool → Phase
+abbrev pub phase_at : Stage → Bool → Bool → ExchangePhase
 phase_at At.Idle whole begun = idle_phase whole begun
 phase_at At.Asking whole begun = Does.Asking
 phase_at At.Repeating whole begun = Does.Asking
@@ -533,11 +533,11 @@ phase_at At.Switched whole begun = Does.Over
 phase_at At.Closed whole begun = Does.Over
 phase_at At.Aborted whole begun = Does.Over
 
-abbrev pub phase_of : GatewayConnection → Phase
+abbrev pub phase_of : GatewayConnection → ExchangePhase
 phase_of m = phase_at m.stage m.whole m.begun
 
 -- what a time limit does, by what the connection is doing
-abbrev pub TimesOutAt : Phase → GatewayConnection → GatewayConnection → Type 0
+abbrev pub TimesOutAt : ExchangePhase → GatewayConnection → GatewayConnection → Type 0
 TimesOutAt Does.Idle old new = EndsIdle old new
 TimesOutAt Does.Head old new = EndsIdle old new
 TimesOutAt Does.Draining old new = new ≡ record old { stage = At.Closed }
@@ -596,7 +596,7 @@ TakesOrigin old None new =
 
 -- what came of the origin, if it was heard and the client takes more; or of the client, if its request isn't whole and
 -- the origin takes more; or nothing
-abbrev pub Transfers : Rules → ℕ → GatewayConnection → Option GatewayEvent → GatewayConnection → Type 0
+abbrev pub Transfers : GatewayRules → ℕ → GatewayConnection → Option GatewayEvent → GatewayConnection → Type 0
 Transfers rules date old told new =
     (((old.origin_hungry ≡ false) × (length old.client.output.items < MOST_WAITING))
     × HearsOrigin rules date old told new)
@@ -609,7 +609,7 @@ asks true = Tells.Again
 asks false = Tells.Request
 
 -- what a step does at each stage
-abbrev pub StepsAt : Stage → Rules → ℕ → GatewayConnection → Option GatewayEvent → GatewayConnection → Type 0
+abbrev pub StepsAt : Stage → GatewayRules → ℕ → GatewayConnection → Option GatewayEvent → GatewayConnection → Type 0
 StepsAt At.Idle rules date old told new = AwaitsRequest rules old told new
 StepsAt At.Asking rules date old told new = (told ≡ Some (asks old.repeats)) × (new ≡ old)
 StepsAt At.Forwarding rules date old told new = Transfers rules date old told new
@@ -624,17 +624,17 @@ StepsAt At.Switched rules date old told new = (told ≡ Some Tells.Tunnel) × (n
 StepsAt At.Closed rules date old told new = (told ≡ Some Tells.Closed) × (new ≡ old)
 StepsAt At.Aborted rules date old told new = (told ≡ Some Tells.Aborted) × (new ≡ old)
 
-abbrev pub Steps : Rules → ℕ → GatewayConnection → Option GatewayEvent → GatewayConnection → Type 0
+abbrev pub Steps : GatewayRules → ℕ → GatewayConnection → Option GatewayEvent → GatewayConnection → Type 0
 Steps rules date old told new = StepsAt old.stage rules date old told new
 
 -- any number of steps that tell nothing
-pub data Runs (rules : Rules) (date : ℕ) (old : GatewayConnection) : GatewayConnection → Type 0 where
+pub data Runs (rules : GatewayRules) (date : ℕ) (old : GatewayConnection) : GatewayConnection → Type 0 where
   Rests : Runs rules date old old
   Went : (between new : GatewayConnection) → Runs rules date old between → Steps rules date between None new
       → Runs rules date old new
 
 -- steps that tell nothing, and one that tells this; or 2^64 - 1 steps that tell nothing
-abbrev pub Says : Rules → ℕ → GatewayConnection → GatewayEvent → GatewayConnection → Type 0
+abbrev pub Says : GatewayRules → ℕ → GatewayConnection → GatewayEvent → GatewayConnection → Type 0
 Says rules date old event new =
     (between : GatewayConnection) × Runs rules date old between
     × (Steps rules date between (Some event) new ⊎ ((event ≡ Tells.Waits) × (new ≡ between)))

@@ -20,13 +20,13 @@ ghost use Rattle.gateway_exchange.specs.Steps.{RefusesBeginAt, RefusesContent, R
 ghost use Rattle.gateway_exchange.specs.Steps.{Steps, SwitchesTo, TellsHead, TimesOut, Transfers, output_of, phase_of};
 
 use crate::decision::{AskedRequest, RequestDecision, decide};
-use crate::event::{GatewayEvent, Phase, Wants};
+use crate::event::{ExchangePhase, GatewayEvent, Wants};
 use crate::own::{Own, close_if, put_own};
 use crate::pass::{
     Heard, begin_request, end_request, end_response, judge, put_interim, put_response, put_switch,
     switched_fields, with_conditions,
 };
-use crate::rules::{Peer, Rules};
+use crate::rules::{GatewayRules, Peer};
 use crate::tunnel::{MOST_WAITING, Tunnel};
 use bytes::{Bytes, BytesMut};
 use gateway_connection::{OriginConnection, OriginEvent, OriginFault, OriginResponse};
@@ -34,7 +34,7 @@ use gateway_messages::{ContentFraming, Expectation, FieldLine, ResponseOutcome};
 use headers::{Date, HeaderMap, HeaderValue};
 use http::StatusCode;
 use http1::{BodySize, Header, Limits, WriteError};
-use server_stream::{RequestHead, StreamConnection, StreamEvent};
+use server_stream::{StreamConnection, StreamEvent, StreamRequest};
 use std::alloc::{AllocError, Global};
 use std::hash::RandomState;
 
@@ -267,16 +267,16 @@ impl GatewayConnection {
     }
 
     /// What the connection is doing.
-    pub fn phase(&self) -> Phase
+    pub fn phase(&self) -> ExchangePhase
         ensures { result ≡ phase_of self.now }
     {
         match self.stage {
             Stage::Idle => idle_phase(self.whole, self.begun),
-            Stage::Asking | Stage::Repeating => Phase::Asking,
+            Stage::Asking | Stage::Repeating => ExchangePhase::Asking,
             Stage::Forwarding | Stage::Judging => waiting_phase(self.whole),
-            Stage::Passing | Stage::Ended => Phase::Passing,
-            Stage::Giving => Phase::Giving,
-            Stage::Switched | Stage::Closed | Stage::Aborted => Phase::Over,
+            Stage::Passing | Stage::Ended => ExchangePhase::Passing,
+            Stage::Giving => ExchangePhase::Giving,
+            Stage::Switched | Stage::Closed | Stage::Aborted => ExchangePhase::Over,
         }
     }
 
@@ -285,12 +285,12 @@ impl GatewayConnection {
         ensures { TimesOut self.old self.new }
     {
         match self.phase() {
-            Phase::Idle | Phase::Head => self.end_idle(),
-            Phase::Draining => self.stage = Stage::Closed,
-            Phase::Content => self.answer_own(Own::LateRequest),
-            Phase::Asking | Phase::Response => self.answer_own(Own::LateResponse),
-            Phase::Passing | Phase::Giving => self.stage = Stage::Aborted,
-            Phase::Over => {}
+            ExchangePhase::Idle | ExchangePhase::Head => self.end_idle(),
+            ExchangePhase::Draining => self.stage = Stage::Closed,
+            ExchangePhase::Content => self.answer_own(Own::LateRequest),
+            ExchangePhase::Asking | ExchangePhase::Response => self.answer_own(Own::LateResponse),
+            ExchangePhase::Passing | ExchangePhase::Giving => self.stage = Stage::Aborted,
+            ExchangePhase::Over => {}
         }
     }
 
@@ -306,7 +306,7 @@ impl GatewayConnection {
     }
 
     /// Says what comes next.
-    pub fn next(&mut self, rules: &Rules, now: Date) -> GatewayEvent
+    pub fn next(&mut self, rules: &GatewayRules, now: Date) -> GatewayEvent
         ensures { Says rules.now now self.old result self.new }
     {
         for _turn in 0..u64::MAX {
@@ -318,7 +318,7 @@ impl GatewayConnection {
     }
 
     // Goes on by one step. `None` if more may follow at once.
-    fn step(&mut self, rules: &Rules, now: Date) -> Option<GatewayEvent>
+    fn step(&mut self, rules: &GatewayRules, now: Date) -> Option<GatewayEvent>
         ensures { Steps rules.now now self.old result self.new }
     {
         match self.stage {
@@ -365,7 +365,7 @@ impl GatewayConnection {
     // ---- requests
 
     // Reads the head of a request. What is left of the request before is dropped.
-    fn await_request(&mut self, rules: &Rules) -> Option<GatewayEvent>
+    fn await_request(&mut self, rules: &GatewayRules) -> Option<GatewayEvent>
         ensures { AwaitsRequest rules.now self.old result self.new }
     {
         match self.client.next() {
@@ -395,7 +395,7 @@ impl GatewayConnection {
     }
 
     // Decides what is done with a request.
-    fn consider(&mut self, rules: &Rules, head: RequestHead)
+    fn consider(&mut self, rules: &GatewayRules, head: StreamRequest)
         ensures { Considers rules.now self.old head self.new }
     {
         self.begun = false;
@@ -650,7 +650,7 @@ impl GatewayConnection {
     // ---- both directions
 
     // Forwards what came of the origin, or else of the client.
-    fn transfer(&mut self, rules: &Rules, now: Date) -> Option<GatewayEvent>
+    fn transfer(&mut self, rules: &GatewayRules, now: Date) -> Option<GatewayEvent>
         ensures { Transfers rules.now now self.old result self.new }
     {
         if !self.origin_hungry && self.client.output().len() < MOST_WAITING {
@@ -664,7 +664,7 @@ impl GatewayConnection {
     }
 
     // Forwards what comes next of the client's request.
-    fn hear_client(&mut self, rules: &Rules)
+    fn hear_client(&mut self, rules: &GatewayRules)
         ensures { HearsClient rules.now self.old self.new }
     {
         match self.client.next() {
@@ -696,7 +696,11 @@ impl GatewayConnection {
         Ok(())
     }
 
-    fn pass_request_end(&mut self, rules: &Rules, trailers: &HeaderMap) -> Result<(), WriteError>
+    fn pass_request_end(
+        &mut self,
+        rules: &GatewayRules,
+        trailers: &HeaderMap,
+    ) -> Result<(), WriteError>
         ensures { MatchResult result (λ _. PutsRequestEnd rules.now self.old trailers.now self.new)
             (λ error. RefusesEnd rules.now self.old trailers.now error self.new) }
     {
@@ -725,7 +729,7 @@ impl GatewayConnection {
     }
 
     // Forwards what comes next of the origin's response.
-    fn hear_origin(&mut self, rules: &Rules, now: Date) -> Option<GatewayEvent>
+    fn hear_origin(&mut self, rules: &GatewayRules, now: Date) -> Option<GatewayEvent>
         ensures { HearsOrigin rules.now now self.old result self.new }
     {
         match next_of(&mut self.origin) {
@@ -741,7 +745,7 @@ impl GatewayConnection {
         None
     }
 
-    fn hear_interim(&mut self, rules: &Rules, now: Date, response: &OriginResponse)
+    fn hear_interim(&mut self, rules: &GatewayRules, now: Date, response: &OriginResponse)
         ensures { OfAsked self.old
             (λ asked. PassesInterim rules.now now self.old asked response.now self.new) self.new }
     {
@@ -767,7 +771,7 @@ impl GatewayConnection {
         }
     }
 
-    fn hear_head(&mut self, rules: &Rules, now: Date, response: OriginResponse)
+    fn hear_head(&mut self, rules: &GatewayRules, now: Date, response: OriginResponse)
         ensures { OfAsked self.old (λ asked. PassesHead rules.now now self.old asked response self.new) self.new }
     {
         let Some(asked) = &self.asked else {
@@ -862,7 +866,7 @@ impl GatewayConnection {
         self.piece.as_slice()
     }
 
-    fn pass_end(&mut self, rules: &Rules, trailers: &HeaderMap)
+    fn pass_end(&mut self, rules: &GatewayRules, trailers: &HeaderMap)
         ensures { PassesEnd rules.now self.old trailers.now self.new }
     {
         let Some(heard) = &self.heard else {
@@ -907,7 +911,7 @@ impl GatewayConnection {
     // ---- other protocols
 
     // A 101 to an opening handshake, or a 2xx to CONNECT.
-    fn hear_switch(&mut self, rules: &Rules, now: Date, response: &OriginResponse)
+    fn hear_switch(&mut self, rules: &GatewayRules, now: Date, response: &OriginResponse)
         ensures { OfAsked self.old
             (λ asked. PassesSwitch rules.now now self.old asked response.now self.new) self.new }
     {
@@ -1006,24 +1010,24 @@ fn is_absent_content(content: ContentFraming) -> bool
 }
 
 // What is done before a request.
-fn idle_phase(whole: bool, begun: bool) -> Phase
+fn idle_phase(whole: bool, begun: bool) -> ExchangePhase
     ensures { result ≡ idle_phase whole begun }
 {
     match (whole, begun) {
-        (false, _) => Phase::Draining,
-        (true, true) => Phase::Head,
-        (true, false) => Phase::Idle,
+        (false, _) => ExchangePhase::Draining,
+        (true, true) => ExchangePhase::Head,
+        (true, false) => ExchangePhase::Idle,
     }
 }
 
 // What is done before a response.
-fn waiting_phase(whole: bool) -> Phase
+fn waiting_phase(whole: bool) -> ExchangePhase
     ensures { result ≡ waiting_phase whole }
 {
     if whole {
-        Phase::Response
+        ExchangePhase::Response
     } else {
-        Phase::Content
+        ExchangePhase::Content
     }
 }
 

@@ -6,7 +6,7 @@ ghost use Rattle.gateway_exchange.specs.Decisions.{OpensWebsocket, asked, is_hos
 ghost use Rattle.gateway_exchange.specs.Decisions.{value_or_none, version_of};
 
 use crate::own::Own;
-use crate::rules::{Peer, Rules, next_connection};
+use crate::rules::{GatewayRules, Peer, next_connection};
 use bytes::Bytes;
 use decide_handshake::{HandshakeAnswer, Origins, accept};
 use gateway_hops::{HopOutcome, SentRequest, replace_fields, send_request};
@@ -14,7 +14,7 @@ use gateway_messages::{Expectation, FieldLine, Framing, Protocol, ReceivedReques
 use gateway_parts::{given_authority, host_value, origin_form, protocol_of, target_of};
 use headers::HeaderValue;
 use http::Version;
-use server_stream::RequestHead;
+use server_stream::StreamRequest;
 use std::alloc::{AllocError, Global};
 use std::hash::RandomState;
 
@@ -35,7 +35,7 @@ pub struct Outgoing {
 #[derive(Debug, Drop)]
 pub struct AskedRequest {
     /// Its head as received.
-    pub head: RequestHead,
+    pub head: StreamRequest,
     /// Its head as sent.
     pub outgoing: Outgoing,
 }
@@ -80,7 +80,11 @@ fn version_of(minor: u8) -> Version
 }
 
 // Whether the request is an opening handshake of a WebSocket that goes on as one.
-fn opens_websocket(alloc: Global, rules: &Rules, request: &RequestHead) -> Result<bool, AllocError>
+fn opens_websocket(
+    alloc: Global,
+    rules: &GatewayRules,
+    request: &StreamRequest,
+) -> Result<bool, AllocError>
     ensures { IfOk result (OpensWebsocket rules.now request.now) }
 {
     if !rules.passes_websocket {
@@ -113,7 +117,7 @@ fn takes_over(answers: bool, expectation: Expectation) -> bool
 // The request as the origin server gets it, without Expect if the gateway answers that itself.
 fn outgoing_of(
     alloc: Global,
-    rules: &Rules,
+    rules: &GatewayRules,
     target: Bytes,
     sent: SentRequest,
 ) -> Result<Outgoing, AllocError>
@@ -139,9 +143,9 @@ fn outgoing_of(
 // What goes on the next connection, which offers this protocol, if there is one.
 fn outcome_of(
     alloc: Global,
-    rules: &Rules,
+    rules: &GatewayRules,
     peer: &Peer,
-    request: &RequestHead,
+    request: &StreamRequest,
     authority: Option<&HeaderValue>,
     upgrade: Option<&HeaderValue>,
 ) -> Result<HopOutcome, AllocError>
@@ -176,9 +180,9 @@ fn offered(opens: bool, websocket: &HeaderValue) -> Option<&HeaderValue>
 // What is done with a request that has this target and this authority, if it is sent so.
 fn decide_for(
     alloc: Global,
-    rules: &Rules,
+    rules: &GatewayRules,
     peer: &Peer,
-    request: &RequestHead,
+    request: &StreamRequest,
     authority: Option<&HeaderValue>,
     target: Bytes,
 ) -> Result<RequestDecision, AllocError>
@@ -203,9 +207,9 @@ fn decide_for(
 fn decide_connect(
     alloc: Global,
     keys: RandomState,
-    rules: &Rules,
+    rules: &GatewayRules,
     peer: &Peer,
-    request: &RequestHead,
+    request: &StreamRequest,
 ) -> Result<RequestDecision, AllocError>
     ensures { IfOk result (IsConnectDecision rules.now.passes_connect rules.now peer.now request.now) }
 {
@@ -226,9 +230,9 @@ fn decide_connect(
 pub(crate) fn decide(
     alloc: Global,
     keys: RandomState,
-    rules: &Rules,
+    rules: &GatewayRules,
     peer: &Peer,
-    request: &RequestHead,
+    request: &StreamRequest,
 ) -> Result<RequestDecision, AllocError>
     ensures { IfOk result (IsDecision rules.now peer.now request.now) }
 {

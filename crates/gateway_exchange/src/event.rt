@@ -26,7 +26,7 @@ pub enum GatewayEvent {
 
 /// What a gateway's connection is doing. A host has one time limit for each.
 #[derive(Clone, Copy, Debug, PartialEq, Eq)]
-pub enum Phase {
+pub enum ExchangePhase {
     /// No byte of a request came. The limit closes the connection.
     Idle,
     /// A part of the head of a request came. The limit answers 408, and closes.

@@ -13,7 +13,7 @@ mod tunnel;
 
 pub use crate::connection::GatewayConnection;
 pub use crate::decision::{AskedRequest, Outgoing};
-pub use crate::event::{GatewayEvent, Phase, Wants};
+pub use crate::event::{ExchangePhase, GatewayEvent, Wants};
 pub use crate::own::Own;
-pub use crate::rules::{Peer, Rules};
+pub use crate::rules::{GatewayRules, Peer};
 pub use crate::tunnel::Tunnel;

@@ -9,7 +9,7 @@ use gateway_connection::OriginFault;
 use gateway_messages::Rejection;
 use http::StatusCode;
 use http1::{BodySize, Header, WriteError};
-use server_stream::{Rejection as Unread, StreamConnection};
+use server_stream::{StreamConnection, StreamRejection as Unread};
 use std::alloc::AllocError;
 
 /// Why a gateway answers a request itself (RFC 9110, sections 15.5 and 15.6).

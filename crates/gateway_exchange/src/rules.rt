@@ -9,7 +9,7 @@ use headers::HeaderValue;
 
 /// The settings of a gateway in front of origin servers.
 #[derive(Debug, Drop)]
-pub struct Rules {
+pub struct GatewayRules {
     /// The gateway's name in Via, and which fields it consumes and protects.
     pub gateway: Gateway,
     /// The authority that a request of HTTP/1.0 without Host is for.

@@ -2,17 +2,17 @@
 use Rattle.std.specs.Prelude.{ℕ, ◌==◌, Bool, false, ◌||◌, ◌&&◌, not, nat_le, List, [], ◌∷◌, Option, Some, None}
 use Rattle.std.{specs.Prelude.{bytes_eq, codes, drop, if◌then◌else◌, option_map, take}, specs.List.list_all}
 use Rattle.gateway_messages.specs.Targets.{authority_len, scheme_len}
-use Rattle.gateway_parts.specs.declared.target.Target.{Target}
+use Rattle.gateway_parts.specs.declared.target.TargetParts.{TargetParts}
 
 -- the authority of a target in absolute-form, and what follows it
 pub record Parts : Type 0 where
   pub authority : Option (List ℕ)
   pub path : List ℕ
 
-abbrev pub parts_of : Target → Parts
+abbrev pub parts_of : TargetParts → Parts
 parts_of target = record { authority = option_map (λ text. text.now) target.authority; path = target.path.now }
 
-abbrev pub target_parts : Option Target → Option Parts
+abbrev pub target_parts : Option TargetParts → Option Parts
 target_parts target = option_map parts_of target
 
 -- a byte that a target may have: visible ASCII, but for the number sign, since no target has a fragment (RFC 3986,

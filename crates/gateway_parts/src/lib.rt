@@ -8,4 +8,4 @@ mod target;
 
 pub use crate::authority::{given_authority, host_value};
 pub use crate::message::{header_list, protocol_of, request_size, response_size};
-pub use crate::target::{Target, origin_form, target_of};
+pub use crate::target::{TargetParts, origin_form, target_of};

@@ -8,7 +8,7 @@ use std::alloc::{AllocError, Global};
 
 /// The parts of a target.
 #[derive(Clone, Copy)]
-pub struct Target<'a> {
+pub struct TargetParts<'a> {
     /// The authority, if the target is in absolute-form.
     pub authority: Option<&'a [u8]>,
     /// What follows it.
@@ -29,7 +29,7 @@ fn are_target_bytes(target: &[u8]) -> bool
 
 /// The parts of a target in origin-form, absolute-form or asterisk-form. `None` if it is in no such form,
 /// or in asterisk-form though the method isn't OPTIONS, or has a fragment or a byte that isn't visible ASCII.
-pub fn target_of(is_options: bool, target: &[u8]) -> Option<Target<'_>>
+pub fn target_of(is_options: bool, target: &[u8]) -> Option<TargetParts<'_>>
     ensures { target_parts result ≡ target_of is_options target.now }
 {
     if !are_target_bytes(target) {
@@ -39,13 +39,13 @@ pub fn target_of(is_options: bool, target: &[u8]) -> Option<Target<'_>>
     if scheme != 0 {
         let rest = &target[scheme..];
         let (authority, path) = rest.split_at(authority_len(rest));
-        return Some(Target {
+        return Some(TargetParts {
             authority: Some(authority),
             path,
         });
     }
     if target.starts_with(b"/") || (is_options && target == b"*".as_slice()) {
-        return Some(Target {
+        return Some(TargetParts {
             authority: None,
             path: target,
         });
@@ -57,7 +57,7 @@ pub fn target_of(is_options: bool, target: &[u8]) -> Option<Target<'_>>
 pub fn origin_form(
     alloc: Global,
     is_options: bool,
-    target: &Target<'_>,
+    target: &TargetParts<'_>,
 ) -> Result<Bytes, AllocError>
     ensures { IfOk result (λ sent. sent ≡ origin_form is_options target.now.path.now) }
 {

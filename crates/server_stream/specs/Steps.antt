@@ -18,14 +18,14 @@ use Rattle.http1.specs.{declared.error.WriteError.WriteError, declared.framing.F
 use Rattle.gateway_connection.specs.Content.{HasNoMap, map_of}
 use Rattle.gateway_connection.specs.declared.head.TheConstants.{MAX_FIELDS}
 use Rattle.server_stream.specs.{Heads.told_of, declared.connection.StreamConnection.StreamConnection}
-use Rattle.server_stream.specs.declared.event.RequestHead.{RequestHead}
-use Rattle.server_stream.specs.{declared.event.StreamEvent.StreamEvent, declared.rejection.Rejection.Rejection}
+use Rattle.server_stream.specs.declared.event.StreamRequest.{StreamRequest}
+use Rattle.server_stream.specs.{declared.event.StreamEvent.StreamEvent, declared.rejection.StreamRejection.StreamRejection}
 use Rattle.httparse.specs.Grammar as Grammar
 use Rattle.http1.specs.declared.conn.Reading.TheVariants as Reads
 use Rattle.http1.specs.declared.conn.Writing.TheVariants as Writes
 use Rattle.http1.specs.declared.error.WriteError.TheVariants as Write
 use Rattle.server_stream.specs.declared.event.StreamEvent.TheVariants as Is
-use Rattle.server_stream.specs.declared.rejection.Rejection.TheVariants as Because
+use Rattle.server_stream.specs.declared.rejection.StreamRejection.TheVariants as Because
 
 pub record IsNew (limits : Limits) (m : StreamConnection) : Type 0 where
   pub server : m.server ≡ new_server limits
@@ -105,14 +105,14 @@ Finishes old new = new ≡ record old { ended = true }
 -- ---- requests
 
 -- the server once it has read this head
-abbrev pub after_head : Server → Grammar.RequestHead → Framing → Server
+abbrev pub after_head : Server → Grammar.StreamRequest → Framing → Server
 after_head s h framing =
     record s { reading = Reads.Body (decoder_for s.limits framing); request = request_of h framing }
 
 -- the input begins with the head of a request, with these parts
-pub record TakesHead (old : StreamConnection) (told : RequestHead) (new : StreamConnection) : Type 0 where
+pub record TakesHead (old : StreamConnection) (told : StreamRequest) (new : StreamConnection) : Type 0 where
   pub due : old.server.reading ≡ Reads.Head
-  pub head : Grammar.RequestHead
+  pub head : Grammar.StreamRequest
   pub framing : Framing
   pub accepts : AcceptsRequest old.server.limits old.input.items head framing new.input.items
   pub plain : (request_of head framing).has_codings ≡ false
@@ -192,19 +192,19 @@ Finds old (Is.Rejected why) new = ⊥
 -- the head at the front has an unknown coding
 abbrev pub HasUnknownCoding : Server → List ℕ → Type 0
 HasUnknownCoding s input =
-    (head : Grammar.RequestHead) × (framing : Framing) × (rest : List ℕ)
+    (head : Grammar.StreamRequest) × (framing : Framing) × (rest : List ℕ)
     × AcceptsRequest s.limits input head framing rest × ((request_of head framing).has_codings ≡ true)
 
 -- the head or the trailer section at the front has fields that no map takes
 abbrev pub HasInvalidFields : Server → List ℕ → Type 0
 HasInvalidFields s input =
-    ((head : Grammar.RequestHead) × (framing : Framing) × (rest : List ℕ)
+    ((head : Grammar.StreamRequest) × (framing : Framing) × (rest : List ℕ)
     × AcceptsRequest s.limits input head framing rest × HasNoMap (map name_and_value head.fields))
     ⊎ ((d : Decoder) × (body : Body) × (rest : List ℕ) × (s.reading ≡ Reads.Body d)
     × Completes d input body rest × HasNoMap (map name_and_value body.trailers))
 
 -- what is wrong with what was received, whatever bytes follow
-abbrev pub IsWrong : StreamConnection → Rejection → Type 0
+abbrev pub IsWrong : StreamConnection → StreamRejection → Type 0
 IsWrong m (Because.Malformed error) = ServerRefuses m.server m.input.items MAX_FIELDS error
 IsWrong m Because.CutShort = ⊥
 IsWrong m Because.UnknownCoding = (m.server.reading ≡ Reads.Head) × HasUnknownCoding m.server m.input.items
@@ -222,13 +222,13 @@ IsOfContent reading = ⊥
 abbrev pub Fails : Server → List ℕ → Server → Type 0
 Fails s input next =
     ((error : ReadError) × ServerRefuses s input MAX_FIELDS error × (next ≡ failed_server s error))
-    ⊎ ((s.reading ≡ Reads.Head) × (head : Grammar.RequestHead) × (framing : Framing) × (rest : List ℕ)
+    ⊎ ((s.reading ≡ Reads.Head) × (head : Grammar.StreamRequest) × (framing : Framing) × (rest : List ℕ)
     × AcceptsRequest s.limits input head framing rest
     × (next ≡ failed_server (after_head s head framing) UnexpectedEof))
     ⊎ ((d : Decoder) × (reading : Reading) × (s.reading ≡ Reads.Body d) × IsOfContent reading
     × (next ≡ after_piece s input reading))
 
-pub record Breaks (old : StreamConnection) (why : Rejection) (new : StreamConnection) : Type 0 where
+pub record Breaks (old : StreamConnection) (why : StreamRejection) (new : StreamConnection) : Type 0 where
   pub because : IsWrong old why
   pub server : Fails old.server old.input.items new.server
   pub rest : new ≡ record old { server = new.server; input = new.input }
@@ -244,16 +244,16 @@ pub record CutsOff (old : StreamConnection) (new : StreamConnection) : Type 0 wh
   pub within : IsWithin old.server.reading old.input.items
   pub rest : new ≡ record old { server = failed_server old.server UnexpectedEof }
 
-abbrev pub Rejects : StreamConnection → Rejection → StreamConnection → Type 0
+abbrev pub Rejects : StreamConnection → StreamRejection → StreamConnection → Type 0
 Rejects old why new =
     Breaks old why new ⊎ ((why ≡ Because.CutShort) × AtEnd old (λ between. CutsOff between new))
 
 -- after a rejection, nothing else is said
-abbrev pub SaysAt : Option Rejection → StreamConnection → StreamEvent → StreamConnection → Type 0
+abbrev pub SaysAt : Option StreamRejection → StreamConnection → StreamEvent → StreamConnection → Type 0
 SaysAt (Some why) old event new = (event ≡ Is.Rejected why) × (new ≡ old)
 SaysAt None old event new =
     Finds old event new
-    ⊎ ((why : Rejection) × (between : StreamConnection) × Rejects old why between
+    ⊎ ((why : StreamRejection) × (between : StreamConnection) × Rejects old why between
     × (event ≡ Is.Rejected why) × (new ≡ record between { fault = Some why }))
 
 abbrev pub Says : StreamConnection → StreamEvent → StreamConnection → Type 0

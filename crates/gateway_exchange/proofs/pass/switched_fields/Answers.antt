@@ -21,7 +21,7 @@ pub returns-in-Ok-clause-ok : goal.returns-in-Ok-clause-ok
 returns-in-Ok-clause-ok c =
     let a = c.args in
     let opened : IsOpened (lines_at a.asked.now.head.fields) a.response.now.status (lines_at a.response.now.fields) =
-        search rules in
+    search rules in
     inr (
       opened,
       c.in-Ok-Forward-judge.sent,

@@ -6,8 +6,7 @@ use Rattle.gateway_exchange.proofs.connection.GatewayConnection.hear_client.Goal
 pub returns-in-Err : goal.returns-in-Err
 returns-in-Err c =
     let old = with_client c.args.self.now c.next.new.self in
-    let refused : RefusesContent old c.in-Content.piece c.in-Err.error c.pass_content.new.self = search rules in
-    (
+    let refused : RefusesContent old c.in-Content.piece c.in-Err.error c.pass_content.new.self = search rules in (
       c.next.result,
       c.next.new.self,
       c.next.ensures,
