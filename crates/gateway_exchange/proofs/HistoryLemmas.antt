@@ -459,24 +459,6 @@ follows : {limits : Limits} {uses : Uses} (old new : GatewayConnection) (head : 
 follows old new head (Decides.Send outgoing) is = kept is refl refl refl
 follows old new head (Decides.Answer own) h = answers old new own h
 
-considers : {limits : Limits} {uses : Uses} (rules : GatewayRules) (old new : GatewayConnection) (head : StreamRequest)
-    → Considers rules old head new → Goes limits uses old new
-considers rules old new head (inl h) =
-    goes_then {b = begun old} (stays refl refl refl) (follows (begun old) new head h.0 h.2)
-considers rules old new head (inr h) =
-    goes_then {b = begun old} (stays refl refl refl) (answers (begun old) new Because.OutOfMemory h)
-
-awaits : {limits : Limits} {uses : Uses} (rules : GatewayRules) (old new : GatewayConnection) (told : Option GatewayEvent)
-    (event : StreamEvent) → Awaits rules old event told new → Goes limits uses old new
-awaits rules old new told Is.NeedsInput h = kept h.1 refl refl refl
-awaits rules old new told (Is.Head head) h = considers rules old new head h.1
-awaits rules old new told (Is.Content piece) h = same h.1
-awaits rules old new told (Is.End trailers) h = kept h.1 refl refl refl
-awaits rules old new told (Is.Rejected why) h = answers old new (Because.Unread why) h.1
-awaits rules old new told Is.Waits h = kept h.1 refl refl refl
-awaits rules old new told Is.Switched h = kept h.1 refl refl refl
-awaits rules old new told Is.Closed h = kept h.1 refl refl refl
-
 -- ---- sending
 
 -- the request was begun, and nothing came of a response; no byte was received or written
@@ -1474,12 +1456,6 @@ faulted {limits} {uses} old new fault (inl h) = λ p x.
     }
 faulted old new fault (inr h) =
     freely (fails old new (Because.Origin fault) h.1) (fails_free old new (Because.Origin fault) h.1)
-
-switches_free : (old new : GatewayConnection) (response : OriginResponse) (fields : List Header)
-    → SwitchesTo old response fields new → IsFree new.stage
-switches_free old new response fields (inl h) = free_at (same_stage h.1) tt
-switches_free old new response fields (inr h) =
-    fails_free (with_client old h.1) new (Because.Unsendable h.0) h.3
 
 -- ---- the head of a response
 

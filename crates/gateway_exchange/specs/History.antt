@@ -92,7 +92,7 @@ writes bytes t = record t { sent = t.sent ++ bytes }
 abbrev pub goes_over : (Traffic → Traffic) → Uses → Uses
 goes_over f uses = record uses { traffic = on_last f uses.traffic }
 
--- what is handed out of the output of an origin's connection, if there is one
+-- so much of the output of an origin's connection, if there is one
 abbrev pub written_of : ℕ → Option OriginConnection → List ℕ
 written_of count origin = take (min count (length (output_of origin))) (output_of origin)
 

@@ -252,7 +252,7 @@ writes_turned s new d next waits f is t w = by_turn t
     by_turn (inr (inr anew)) = rw anew.3 (again f anew.0 anew.1 w)
 
 -- what it knows of the request is as before
-is_of_waits : {q : Known.Request} {h : Grammar.StreamRequest} {framing : Framing} (waits : Bool)
+is_of_waits : {q : Known.Request} {h : Grammar.RequestHead} {framing : Framing} (waits : Bool)
     → (waits ≡ true → q.expects_continue ≡ true) → IsOf q h framing
     → IsOf (record q { expects_continue = waits }) h framing
 is_of_waits waits before is = record {
@@ -266,7 +266,7 @@ may_begin : (s : Server) (d : Decoder) (next : Reading) (waits : Bool) → s.rea
     → may_respond (reads_next s next waits) ≡ true → may_respond s ≡ true
 may_begin s d next waits is may = rw is (rw (and_parts (awaits_head s.writing) (has_request next) may).0 refl)
 
-asked_turned : (s new : Server) (d : Decoder) (next : Reading) (waits : Bool) (h : Grammar.StreamRequest)
+asked_turned : (s new : Server) (d : Decoder) (next : Reading) (waits : Bool) (h : Grammar.RequestHead)
     (framing : Framing) → s.reading ≡ Reads.Body d → (waits ≡ true → s.request.expects_continue ≡ true)
     → Turns s next waits new → (may_respond s ≡ true → IsOf s.request h framing)
     → may_respond new ≡ true → IsOf new.request h framing
@@ -558,7 +558,7 @@ module _ {k : Frame} {s : Server} {input : List ℕ} (is : s.reading ≡ Reads.H
       whole (inr (inr new)) = ended a.interim a.final new.1 g.goes new.0
 
   -- its head is read
-  head_now : {h : Grammar.StreamRequest} {framing : Framing} {rest : List ℕ}
+  head_now : {h : Grammar.RequestHead} {framing : Framing} {rest : List ℕ}
       → AcceptsRequest s.limits input h framing rest → (heard : Heard) (a : Answer) → Going k s input heard a
       → Going (later k heard a) (after_head s h framing) rest (Part (told_of h framing) []) no_answer
   head_now {h} {framing} {rest} accepts heard a g =
@@ -627,7 +627,7 @@ failed_writes s d e (Begun r) is w = response r.trailers w
     response (Some trailers) (inr (inr again)) = absurd (new_body s d is again.0)
 failed_writes s d e (Switched b) is w = w
 
-failed_asked : (s : Server) (d : Decoder) (e : ReadError) (h : Grammar.StreamRequest) (framing : Framing)
+failed_asked : (s : Server) (d : Decoder) (e : ReadError) (h : Grammar.RequestHead) (framing : Framing)
     → s.reading ≡ Reads.Body d → (may_respond s ≡ true → IsOf s.request h framing)
     → may_respond (failed_server s e) ≡ true → IsOf (failed_server s e).request h framing
 failed_asked s d e h framing is asked may =

@@ -82,14 +82,14 @@ answer_text a = bare_texts a.interim ++ final_text a.final
 
 -- What `http1` knew is of the request with this head. It may know that it doesn't keep the connection, since what
 -- followed was rejected, and that its client no longer waits for 100 (Continue).
-pub record IsOf (asked : Known.Request) (h : Grammar.StreamRequest) (framing : Framing) : Type 0 where
+pub record IsOf (asked : Known.Request) (h : Grammar.RequestHead) (framing : Framing) : Type 0 where
   pub method : asked.method ≡ method_kind h.method
   pub minor : asked.minor ≡ h.minor
   pub keeps : asked.keep_alive ≡ true → keeps_alive h.minor (known_of h.fields) ≡ true
   pub waits : asked.expects_continue ≡ true → (Serving.request_of h framing).expects_continue ≡ true
 
 -- a final response is framed for the request with this head
-abbrev pub IsFramedFor : Final → Grammar.StreamRequest → Framing → Type 0
+abbrev pub IsFramedFor : Final → Grammar.RequestHead → Framing → Type 0
 IsFramedFor Due h framing = ⊤
 IsFramedFor (Begun r) h framing = IsOf r.asked h framing
 IsFramedFor (Switched b) h framing = b.minor ≡ h.minor

@@ -24,7 +24,7 @@ content_size Framed.Chunked = Unknown
 content_size Framed.UntilClose = Unknown
 
 -- the parts of a head of the grammar
-abbrev pub told_of : Grammar.StreamRequest → Framing → StreamRequest
+abbrev pub told_of : Grammar.RequestHead → Framing → StreamRequest
 told_of h framing = record {
   method = h.method;
   target = h.target;

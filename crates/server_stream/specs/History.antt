@@ -155,7 +155,7 @@ pub data IsReached (limits : Limits) : StreamConnection → Past → Type 0 wher
 -- the head of a request came, and this content of it
 pub record IsPart (limits : Limits) (start : List ℕ) (told : StreamRequest) (content unread : List ℕ) (final : Final)
     : Type 0 where
-  pub head : Grammar.StreamRequest
+  pub head : Grammar.RequestHead
   pub framing : Framing
   pub after : List ℕ
   pub accepts : (more : List ℕ) → AcceptsRequest limits (start ++ more) head framing (after ++ more)
@@ -167,7 +167,7 @@ pub record IsPart (limits : Limits) (start : List ℕ) (told : StreamRequest) (c
 -- a request came whole
 pub record IsWhole (limits : Limits) (start : List ℕ) (told : StreamRequest) (content : List ℕ)
     (trailers : Entries FieldValue) (unread : List ℕ) (final : Final) : Type 0 where
-  pub head : Grammar.StreamRequest
+  pub head : Grammar.RequestHead
   pub framing : Framing
   pub after : List ℕ
   pub accepts : (more : List ℕ) → AcceptsRequest limits (start ++ more) head framing (after ++ more)

@@ -105,14 +105,14 @@ Finishes old new = new ≡ record old { ended = true }
 -- ---- requests
 
 -- the server once it has read this head
-abbrev pub after_head : Server → Grammar.StreamRequest → Framing → Server
+abbrev pub after_head : Server → Grammar.RequestHead → Framing → Server
 after_head s h framing =
     record s { reading = Reads.Body (decoder_for s.limits framing); request = request_of h framing }
 
 -- the input begins with the head of a request, with these parts
 pub record TakesHead (old : StreamConnection) (told : StreamRequest) (new : StreamConnection) : Type 0 where
   pub due : old.server.reading ≡ Reads.Head
-  pub head : Grammar.StreamRequest
+  pub head : Grammar.RequestHead
   pub framing : Framing
   pub accepts : AcceptsRequest old.server.limits old.input.items head framing new.input.items
   pub plain : (request_of head framing).has_codings ≡ false
@@ -192,13 +192,13 @@ Finds old (Is.Rejected why) new = ⊥
 -- the head at the front has an unknown coding
 abbrev pub HasUnknownCoding : Server → List ℕ → Type 0
 HasUnknownCoding s input =
-    (head : Grammar.StreamRequest) × (framing : Framing) × (rest : List ℕ)
+    (head : Grammar.RequestHead) × (framing : Framing) × (rest : List ℕ)
     × AcceptsRequest s.limits input head framing rest × ((request_of head framing).has_codings ≡ true)
 
 -- the head or the trailer section at the front has fields that no map takes
 abbrev pub HasInvalidFields : Server → List ℕ → Type 0
 HasInvalidFields s input =
-    ((head : Grammar.StreamRequest) × (framing : Framing) × (rest : List ℕ)
+    ((head : Grammar.RequestHead) × (framing : Framing) × (rest : List ℕ)
     × AcceptsRequest s.limits input head framing rest × HasNoMap (map name_and_value head.fields))
     ⊎ ((d : Decoder) × (body : Body) × (rest : List ℕ) × (s.reading ≡ Reads.Body d)
     × Completes d input body rest × HasNoMap (map name_and_value body.trailers))
@@ -222,7 +222,7 @@ IsOfContent reading = ⊥
 abbrev pub Fails : Server → List ℕ → Server → Type 0
 Fails s input next =
     ((error : ReadError) × ServerRefuses s input MAX_FIELDS error × (next ≡ failed_server s error))
-    ⊎ ((s.reading ≡ Reads.Head) × (head : Grammar.StreamRequest) × (framing : Framing) × (rest : List ℕ)
+    ⊎ ((s.reading ≡ Reads.Head) × (head : Grammar.RequestHead) × (framing : Framing) × (rest : List ℕ)
     × AcceptsRequest s.limits input head framing rest
     × (next ≡ failed_server (after_head s head framing) UnexpectedEof))
     ⊎ ((d : Decoder) × (reading : Reading) × (s.reading ≡ Reads.Body d) × IsOfContent reading
