@@ -462,11 +462,13 @@ ConnectsAs old new =
     × Stream.RefusesWrite (upgrade_refusal old.client.server 200 (codes "OK") []) old.client error client
     × Answers (with_client old client) (Because.Unsendable error) new)
 
+abbrev pub ConnectsNow : GatewayConnection → GatewayConnection → Type 0
+ConnectsNow old new =
+    (event : StreamEvent) × (client : StreamConnection) × Stream.Says old.client event client
+    × ConnectsAs (with_client old client) new
+
 abbrev pub Connects : GatewayConnection → GatewayConnection → Type 0
-Connects old new =
-    ((old.stage ≢ At.Asking) × (new ≡ old))
-    ⊎ ((old.stage ≡ At.Asking) × (event : StreamEvent) × (client : StreamConnection)
-    × Stream.Says old.client event client × ConnectsAs (with_client old client) new)
+Connects old new = ((old.stage ≢ At.Asking) × (new ≡ old)) ⊎ ((old.stage ≡ At.Asking) × ConnectsNow old new)
 
 -- the head of a response that the caller gives is put; that of the last says so
 abbrev pub Gives : GatewayConnection → ℕ → List ℕ → List Header → BodySize → GatewayConnection → Type 0

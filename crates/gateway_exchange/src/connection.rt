@@ -6,8 +6,9 @@ ghost use Rattle.http1.specs.{declared.conn.Limits.Limits};
 ghost use Rattle.gateway_messages.specs.FieldLines.{fields_of};
 ghost use Rattle.gateway_connection.specs.Steps as Origin;
 ghost use Rattle.server_stream.specs.Steps as Stream;
-ghost use Rattle.gateway_exchange.specs.{History.{Exchanged, IsReached, Past}, Tunnels.Begins};
-ghost use Rattle.gateway_exchange.specs.Steps.{AsksAgain, Conditions, Connects, EndsGiving, RefusesGiving, RefusesInGiving};
+ghost use Rattle.gateway_exchange.specs.{History.{Exchanged, IsReached, Past}, Tunnels.{Begins, ended_of, input_of}};
+ghost use Rattle.gateway_exchange.specs.Steps.{AsksAgain, Conditions, Connects, ConnectsNow, EndsGiving};
+ghost use Rattle.gateway_exchange.specs.Steps.{RefusesGiving, RefusesInGiving};
 ghost use Rattle.gateway_exchange.specs.Steps.{ShowsHead, TakesOrigin, asks, is_absent, is_absent_content, is_answered};
 ghost use Rattle.gateway_exchange.specs.Steps.{idle_phase, is_origin_open, is_over, is_passing, waiting_phase};
 ghost use Rattle.gateway_exchange.specs.Steps.{wants_of};
@@ -574,10 +575,15 @@ impl GatewayConnection {
     pub fn connected(&mut self)
         ensures { Connects self.old self.new }
     {
-        if self.stage != Stage::Asking {
-            return;
+        if self.stage == Stage::Asking {
+            self.connect();
         }
-        // The request ends with its head.
+    }
+
+    // The request ends with its head.
+    fn connect(&mut self)
+        ensures { ConnectsNow self.old self.new }
+    {
         let _end = self.client.next();
         match self.client.switch(StatusCode::OK, b"OK", &[]) {
             Ok(()) => self.stage = Stage::Switched,
@@ -970,10 +976,7 @@ impl GatewayConnection {
         let client_ended = client.is_ended();
         let mut to_client = BytesMut::copy_from_slice(alloc, client.output())?;
         let mut to_origin = BytesMut::new(alloc);
-        let origin_ended = match origin {
-            Some(origin) => hand_over(origin, &mut to_client, &mut to_origin)?,
-            None => false,
-        };
+        let origin_ended = hand_over(origin, &mut to_client, &mut to_origin)?;
         to_origin.extend_from_slice(client.into_input().as_slice())?;
         Ok(Tunnel {
             to_client,
@@ -986,14 +989,17 @@ impl GatewayConnection {
 
 // Appends what waits for the origin, and what was received of it and isn't used. Says whether its input has ended.
 fn hand_over(
-    origin: OriginConnection,
+    origin: Option<OriginConnection>,
     to_client: &mut BytesMut,
     to_origin: &mut BytesMut,
 ) -> Result<bool, AllocError>
-    ensures ended { IfOk result (λ ended. ended ≡ origin.ended) }
-    ensures to_client { OnOk result (to_client.new.items ≡ to_client.old.items ++ origin.input.items) }
-    ensures to_origin { OnOk result (to_origin.new.items ≡ to_origin.old.items ++ origin.output.items) }
+    ensures ended { IfOk result (λ ended. ended ≡ ended_of origin) }
+    ensures to_client { OnOk result (to_client.new.items ≡ to_client.old.items ++ input_of origin) }
+    ensures to_origin { OnOk result (to_origin.new.items ≡ to_origin.old.items ++ output_of origin) }
 {
+    let Some(origin) = origin else {
+        return Ok(false);
+    };
     let ended = origin.is_ended();
     to_origin.extend_from_slice(origin.output())?;
     to_client.extend_from_slice(origin.into_input().as_slice())?;
