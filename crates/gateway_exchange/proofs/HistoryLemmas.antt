@@ -2335,9 +2335,9 @@ connects_free old new (inr h) = answers_free (with_client old h.1) new (Because.
 connects : {limits : Limits} {uses : Uses} (old new : GatewayConnection) → Connects old new
     → Leads limits uses old new
 connects old new (inl h) = unchanged h.1
-connects old new (inr h) =
-    freely (goes_then {b = with_client old h.2} (heard_client old h.2 h.1 h.3) (connects_as (with_client old h.2) new h.4))
-    (connects_free (with_client old h.2) new h.4)
+connects old new (inr (asks, (event, client, says, goes))) =
+    freely (goes_then {b = with_client old client} (heard_client old client event says)
+    (connects_as (with_client old client) new goes)) (connects_free (with_client old client) new goes)
 
 given_now : (limits : Limits) (uses : Uses) (head : Option StreamRequest) (final : Final) (r : Response)
     → final ≡ Begun r → IsGiven uses r → IsServedNow limits uses head final
