@@ -54,8 +54,8 @@ fn asked<'h>(held: &HeldConnection, found: Option<&'h [u8]>) -> Result<&'h [u8],
     }
 }
 
-// The first bytes, at most so many.
-fn front_of(bytes: &[u8], most: usize) -> &[u8]
+/// The first bytes, at most so many.
+pub fn front_of(bytes: &[u8], most: usize) -> &[u8]
     ensures { result.now ≡ front_of bytes.now most }
 {
     &bytes[..bytes.len().min(most)]
@@ -142,7 +142,8 @@ pub fn write_text(
     status
 }
 
-fn lines_of_map(alloc: Global, map: &HeaderMap) -> Result<Vec<u8>, AllocError>
+/// The field lines of a map, each as `name: value` and a line end. Fails only if an allocation fails.
+pub fn lines_of_map(alloc: Global, map: &HeaderMap) -> Result<Vec<u8>, AllocError>
     ensures { IfOk result (λ text. text.items ≡ map_text map.now) }
 {
     let mut text = Vec::new(alloc);

@@ -1,5 +1,5 @@
 -- What a gateway's connection has, as text.
-use Rattle.std.specs.Prelude.{◌≡◌, ◌≢◌, ℕ, min, List, ◌++◌, length, take, find, codes, Option, Some, None, Result}
+use Rattle.std.specs.Prelude.{◌≡◌, ◌≢◌, ℕ, List, ◌++◌, find, codes, Option, Some, None, Result}
 use Rattle.std.specs.Prelude.{Ok, Err}
 use Rattle.std.{specs.Global.Vec, specs.Option.option_map}
 use Rattle.http_header.{specs.FieldValue.FieldValue, specs.HeaderMap.get, specs.Token.lowercase}
@@ -10,17 +10,13 @@ use Rattle.gateway_exchange.specs.declared.{decision.AskedRequest.AskedRequest, 
 use Rattle.c_parts.{specs.Endings.{Writes, done}, specs.FieldText.IsNameOf, specs.declared.status.Failure.Failure}
 use Rattle.c_parts.specs.declared.status.Failure.TheVariants.{Refused, Memory, Absent}
 use Rattle.c_pass.specs.Validating.{map_text}
+use Rattle.c_connection.specs.Calls.{front_of, is_found}
 use Rattle.c_handles.{specs.Handles.OnHeld, specs.declared.held.Held.Held, specs.declared.held.HeldGate.HeldGate}
 use Rattle.c_handles.specs.declared.held.Held.TheVariants as held
 use Rattle.c_gate.{specs.Calls.gate_in, specs.declared.reading.GateText.GateText}
 use Rattle.c_gate.specs.declared.reading.GateText.TheVariants.{Method, Target, Authority, Field, Piece}
 
 -- ---- bytes that are copied
-
--- the value, or `Absent`
-abbrev pub is_found : {V : Type 0} → Option V → Result V Failure
-is_found None = Err Absent
-is_found (Some value) = Ok value
 
 -- this of the request that waits or is passed on, or `Absent` if there is none
 abbrev pub of_asked : {V : Type 0} → (AskedRequest → Result V Failure) → Option AskedRequest → Result V Failure
@@ -66,10 +62,6 @@ abbrev pub outputs_in : Option Held → Option (List ℕ × List ℕ)
 outputs_in (Some (held.Gate gate)) = Some (gate.connection.client.output.items, output_of gate.connection.origin)
 outputs_in (Some (held.Tunnel tunnel)) = Some (tunnel.to_client.items, tunnel.to_origin.items)
 outputs_in other = None
-
--- the first bytes, as many as there is room for
-abbrev pub front_of : List ℕ → ℕ → List ℕ
-front_of bytes most = take (min (length bytes) most) bytes
 
 -- The first bytes that wait for the side of this number: 0 for the client, 1 for the origin. Of another number the
 -- answer is `Refused`.

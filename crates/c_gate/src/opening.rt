@@ -1,15 +1,14 @@
 //! How the handles are opened.
 ghost use Rattle.std.specs.Prelude.{◌≡◌};
-ghost use Rattle.c_gateway.specs.Hops.{scheme_of};
 ghost use Rattle.c_handles.specs.Handles.{Opens};
 ghost use Rattle.c_gate.specs.Openings.{IsGateHeld, IsOriginHeld, IsRulesHeld, IsValueOf, limits_of};
 
-use c_gateway::{GatewayOptions, read_gateway, read_node};
+use c_gateway::{GatewayOptions, read_gateway, read_node, scheme_of};
 use c_handles::{Handle, Held, HeldGate};
 use c_parts::{Failure, HashKeys};
 use gateway_connection::OriginConnection;
 use gateway_exchange::{GatewayConnection, GatewayRules, Peer};
-use gateway_hops::{Forwarding, Received, Scheme};
+use gateway_hops::{Forwarding, Received};
 use headers::HeaderValue;
 use http_header::HeaderValueError;
 use http1::Limits;
@@ -98,16 +97,6 @@ fn limits_of(most_head: usize) -> Limits
     let mut limits = Limits::default();
     limits.max_head_len = most_head;
     limits
-}
-
-fn scheme_of(is_secure: bool) -> Scheme
-    ensures { result ≡ scheme_of is_secure }
-{
-    if is_secure {
-        Scheme::Https
-    } else {
-        Scheme::Http
-    }
 }
 
 fn gate_of(

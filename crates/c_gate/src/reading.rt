@@ -3,19 +3,18 @@ ghost use Rattle.std.specs.Prelude.{◌≡◌, ◌++◌, Err, IfErr, IfOk, None,
 ghost use Rattle.http_header.specs.Token.{lowercase};
 ghost use Rattle.c_parts.specs.Endings.{Writes, done};
 ghost use Rattle.c_parts.specs.declared.status.Failure.TheVariants.{Absent};
-ghost use Rattle.c_pass.specs.Validating.{map_text};
 ghost use Rattle.c_handles.specs.Handles.{OnHeld};
 ghost use Rattle.c_gate.specs.Calls.{gate_in};
-ghost use Rattle.c_gate.specs.Texts.{AreFields, IsAnswered, IsField, IsFront, IsKey, IsText, OnName, front_of};
+ghost use Rattle.c_gate.specs.Texts.{AreFields, IsAnswered, IsField, IsFront, IsKey, IsText, OnName};
 ghost use Rattle.c_gate.specs.Texts.{Shows, key_text, outputs_in, own_answer};
 
 use crate::calling::ask;
+use c_connection::{front_of, lines_of_map};
 use c_handles::{Handle, Held, HeldGate};
 use c_parts::{DONE, Failure, copy_into, read_name};
 use gateway_exchange::AskedRequest;
 use gateway_hops::Scheme;
-use headers::{HeaderMap, HeaderName};
-use headers_section::print_line;
+use headers::HeaderName;
 use std::alloc::{AllocError, Global};
 
 /// Bytes that a connection has.
@@ -129,13 +128,6 @@ fn outputs_of(held: &Held) -> Option<(&[u8], &[u8])>
     }
 }
 
-// The first bytes, at most so many.
-fn front_of(bytes: &[u8], most: usize) -> &[u8]
-    ensures { result.now ≡ front_of bytes.now most }
-{
-    &bytes[..bytes.len().min(most)]
-}
-
 fn write_front(
     to_client: &[u8],
     to_origin: &[u8],
@@ -188,21 +180,11 @@ pub fn write_output(
     status
 }
 
-fn lines_of(alloc: Global, map: &HeaderMap) -> Result<Vec<u8>, AllocError>
-    ensures { IfOk result (λ text. text.items ≡ map_text map.now) }
-{
-    let mut text = Vec::new(alloc);
-    for (name, value) in map.iter() {
-        print_line(&mut text, name, value)?;
-    }
-    Ok(text)
-}
-
 fn fields_in(alloc: Global, gate: &HeldGate) -> Result<Vec<u8>, Failure>
     ensures { AreFields gate.now result }
 {
     match gate.connection.request() {
-        Some(request) => Ok(lines_of(alloc, &request.head.fields)?),
+        Some(request) => Ok(lines_of_map(alloc, &request.head.fields)?),
         None => Err(Failure::Absent),
     }
 }
@@ -257,7 +239,10 @@ fn response_in(alloc: Global, gate: &HeldGate) -> Result<(u16, Vec<u8>), Failure
     ensures { IsAnswered gate.now result }
 {
     match gate.connection.response() {
-        Some(response) => Ok((response.status.as_u16(), lines_of(alloc, &response.fields)?)),
+        Some(response) => Ok((
+            response.status.as_u16(),
+            lines_of_map(alloc, &response.fields)?,
+        )),
         None => Err(Failure::Absent),
     }
 }
