@@ -7,4 +7,4 @@ pub returns-in-Some : goal.returns-in-Some
 returns-in-Some g c =
     subst
     (λ (held : Option HeldConnection). OnHeld (FnOnceReturnsAt g.F.FnOnce c.args.question) held c.question.result)
-    c.connection.ensures (search rules)
+    c.in-Some.ensures (search rules)
