@@ -1,17 +1,28 @@
 -- Content that goes on: what is put of it, and what is read.
 use Rattle.std.proofs.Common.{◌≡◌, ℕ, List, [], ◌∷◌, ◌++◌, length, drop, Option, Some, None, refl, ap, ◌∙◌}
-use Rattle.std.proofs.Common.{append_assoc, append-nil}
+use Rattle.std.proofs.Common.{append_assoc, append-nil, sym}
 use Rattle.http1.specs.{Decoder.{Continues, with_front}, Fields.Header}
 use Rattle.http1.specs.Conn.{after_data, data_refusal, data_text, finish_refusal, finish_text}
 use Rattle.http1.specs.{declared.conn.Writing.Writing, declared.decode.Decoder.Decoder}
-use Rattle.http1.specs.{declared.encode.Encoder.Encoder}
+use Rattle.http1.specs.{Encoder.{after_piece, piece_text}, declared.encode.Encoder.Encoder}
 use Rattle.http1.proofs.DecoderLemmas.{Continues-live}
-use Rattle.gateway_relay.{specs.Content.{after_pieces, pieces_text}}
-use Rattle.gateway_relay.proofs.RelayLemmas.{after_pieces-append, pieces_text-append}
+use Rattle.gateway_connection.specs.Content.{after_pieces, pieces_text}
 use Rattle.gateway_connection.specs.Exchanges.{IsFront, last_text}
 use Rattle.http1.specs.declared.conn.Writing.TheVariants as Writes
 
 -- ---- what is put
+
+pub pieces_text-append : (pieces : List (List ℕ)) (piece : List ℕ) (e : Encoder)
+    → pieces_text (pieces ++ piece ∷ []) e ≡ pieces_text pieces e ++ piece_text (after_pieces pieces e) piece
+pieces_text-append [] piece e = append-nil (piece_text e piece)
+pieces_text-append (first ∷ pieces) piece e =
+    ap (λ (t : List ℕ). piece_text e first ++ t) (pieces_text-append pieces piece (after_piece e (length first)))
+    ∙ sym (append_assoc (piece_text e first) _ _)
+
+pub after_pieces-append : (pieces : List (List ℕ)) (piece : List ℕ) (e : Encoder)
+    → after_pieces (pieces ++ piece ∷ []) e ≡ after_piece (after_pieces pieces e) (length piece)
+after_pieces-append [] piece e = refl
+after_pieces-append (first ∷ pieces) piece e = after_pieces-append pieces piece (after_piece e (length first))
 
 abbrev pub writing_at : Option (List Header) → Encoder → Writing
 writing_at None e = Writes.Body e

@@ -2,12 +2,12 @@
 use Rattle.std.proofs.Common.{◌≡◌, List, Result, Err, IfErr, subst, sym}
 use Rattle.http.specs.declared.error.Error.{Error}
 use Rattle.http1.specs.Fields.{Header}
-use Rattle.gateway_relay.specs.Failures.{IsMapFailure, map_failure}
+use Rattle.gateway_connection.specs.Content.{IsMapFailure}
 use Rattle.gateway_connection.specs.Responses.{IsFieldsFault, map_fault}
 use Rattle.http.specs.declared.error.Error.TheVariants as Mapped
 
--- the reason is the one of a relay
-pub fault_of : (fields : List Header) (e : Error) → IsMapFailure fields (map_failure e)
+-- the reason is the one of the map
+pub fault_of : (fields : List Header) (e : Error) → IsMapFailure fields e
     → IsFieldsFault fields (map_fault e)
 fault_of fields Mapped.OutOfMemory why = tt
 fault_of fields e why = why

@@ -17,7 +17,7 @@ use Rattle.http1.specs.declared.conn.Event.TheVariants.{NeedMore, Head, Informat
 use Rattle.http1.specs.{declared.conn.Limits.Limits, declared.conn.Progress.Progress, declared.conn.Reading.Reading}
 use Rattle.http1.specs.{declared.decode.Decoder.Decoder, declared.framing.Framing.Framing}
 use Rattle.http1.specs.declared.framing.MethodKind.{MethodKind}
-use Rattle.gateway_relay.specs.{Content.map_of, Failures.HasNoMap}
+use Rattle.gateway_connection.specs.Content.{HasNoMap, map_of}
 use Rattle.gateway_connection.specs.Responses.{IsFieldsFault, IsUnder}
 use Rattle.gateway_connection.specs.declared.event.OriginFault.{OriginFault}
 use Rattle.gateway_connection.specs.declared.event.OriginResponse.{OriginResponse}

@@ -1,7 +1,7 @@
 -- What is true after every history of calls.
 use Rattle.std.proofs.Common.{◌≡◌, ◌≢◌, ℕ, ◌≤◌, inl, inr, Bool, true, false, cond, ◌&&◌, not, List, [], ◌∷◌}
 use Rattle.std.proofs.Common.{◌++◌, take, drop, map, Option, Some, None, Result, Ok, Err, sym, refl, ap, ◌∙◌}
-use Rattle.std.proofs.Common.{append_assoc, append-nil, arith, IsTrue, ltb}
+use Rattle.std.proofs.Common.{append_assoc, append-nil, arith, IsTrue, ltb, subst}
 use Rattle.std.{proofs.Math.Seq.drop-length, proofs.lemmas.Bool.{and_parts, cond-true}}
 use Rattle.std.proofs.lemmas.Bool.Decides.{nat_tests}
 use Rattle.std.proofs.lemmas.List.{take-append-drop}
@@ -32,7 +32,7 @@ use Rattle.gateway_connection.specs.History.{Exchanged, IsReached, IsTold, MayFo
 use Rattle.gateway_connection.specs.History.{is_over, no_past, now_text, tell, texts, with_piece, with_trailers}
 use Rattle.gateway_connection.specs.History.{Fresh, Asked, Hears, Over, Opened, Received, Finished, Begun, Put, Closed}
 use Rattle.gateway_connection.specs.History.{Refused, Written, Said}
-use Rattle.gateway_relay.{specs.Content.{after_pieces, map_of}}
+use Rattle.gateway_connection.specs.Content.{after_pieces, map_of}
 use Rattle.gateway_connection.specs.{Responses.response_of, declared.event.OriginEvent.OriginEvent}
 use Rattle.gateway_connection.specs.declared.event.OriginFault.{OriginFault}
 use Rattle.gateway_connection.specs.declared.event.OriginResponse.{OriginResponse}
@@ -736,3 +736,89 @@ exchanged reached =
       now = rw r.goes.limited at r.goes.told;
       left = λ none. (r.left none).1;
     }
+
+-- ---- what may be said next
+
+-- what is read after this was told
+abbrev ReadsAt : Now → Reading → Type 0
+ReadsAt (Asked r interim) reading = reading ≡ Reads.Head
+ReadsAt (Hears r interim response content) reading = (d : Decoder) × (reading ≡ Reads.Body d)
+ReadsAt now reading = Unit {0}
+
+reads_at : {k : Frame} {c : Client} {input : List ℕ} (now : Now) → Goes k c input now → ReadsAt now c.reading
+reads_at Fresh g = tt
+reads_at (Asked r interim) g = g.at.0
+reads_at (Hears r interim response content) g = (g.told.decoder, g.at.0)
+reads_at (Over e) g = tt
+
+-- what is said is what comes next, unless it is a fault
+found_at : (f : Option OriginFault) (old new : OriginConnection) (event : OriginEvent) → SaysAt f old event new
+    → ((fault : OriginFault) → ¬ (event ≡ Is.Broken fault)) → (f ≡ None) × Finds old event new
+found_at (Some fault) old new event says not = absurd (not fault says.0)
+found_at None old new event (inl found) not = (refl, found)
+found_at None old new event (inr failed) not = absurd (not failed.0 failed.3)
+
+reads_when : {limits : Limits} {m : OriginConnection} {p : Past} (now : Now) → IsReached limits m p → m.fault ≡ None
+    → p.now ≡ now → ReadsAt now m.client.reading
+reads_when {limits} {m} {p} now reached none is =
+    subst (λ (n : Now). ReadsAt n m.client.reading) is (reads_at p.now (goes_of (runs reached) none))
+
+waits_due : (r : Reading) (c next : Client) (input rest : List ℕ) → c.reading ≡ r → WaitsAt r c input next rest
+    → next.reading ≡ Reads.Body UntilClose → ¬ (r ≡ Reads.Head)
+waits_due Reads.Head c next input rest is found until due = let reading = rw found.0 at until in absurd (cc)
+waits_due r c next input rest is found until due = absurd (cc)
+
+pub says_final : (old new : OriginConnection) (response : OriginResponse) → SaysAt old.fault old (Is.Head response) new
+    → is_interim response.status ≡ false
+says_final old new response says =
+    let found = found_at old.fault old new (Is.Head response) says (λ fault is. absurd (cc)) in found.1.0
+
+-- a second final response isn't told
+pub heads_once : {limits : Limits} {old : OriginConnection} {p : Past} (new : OriginConnection) (r : Request)
+    (interim : List OriginResponse) (response next : OriginResponse) (content : List ℕ) → IsReached limits old p
+    → p.now ≡ Hears r interim response content → ¬ (SaysAt old.fault old (Is.Head next) new)
+heads_once {limits} {old} {p} new r interim response next content reached is says =
+    let found = found_at old.fault old new (Is.Head next) says (λ fault is. absurd (cc)) in
+    let body = reads_when (Hears r interim response content) reached found.0 is in
+    let clash : Reads.Body body.0 ≡ Reads.Head = sym body.1 ∙ found.1.2.due.0 in absurd (cc)
+
+-- content isn't told before the head of a response, and nor is its end
+pub content_late : {limits : Limits} {old : OriginConnection} {p : Past} (new : OriginConnection) (r : Request)
+    (interim : List OriginResponse) (piece : List ℕ) → IsReached limits old p → p.now ≡ Asked r interim
+    → ¬ (SaysAt old.fault old (Is.Content piece) new)
+content_late {limits} {old} {p} new r interim piece reached is says =
+    let found = found_at old.fault old new (Is.Content piece) says (λ fault is. absurd (cc)) in
+    let due = reads_when (Asked r interim) reached found.0 is in
+    let clash : Reads.Body found.1.decoder ≡ Reads.Head = sym found.1.reading ∙ due in absurd (cc)
+
+end_found : (old new : OriginConnection) (trailers : Entries FieldValue) → Finds old (Is.End trailers) new
+    → ¬ (old.client.reading ≡ Reads.Head)
+end_found old new trailers (inl ends) due =
+    let clash : Reads.Body ends.decoder ≡ Reads.Head = sym ends.reading ∙ due in absurd (cc)
+end_found old new trailers (inr ends) due =
+    waits_due old.client.reading old.client ends.1.client old.input.items ends.1.input.items refl ends.2.found
+    ends.3.reading due
+
+pub end_late : {limits : Limits} {old : OriginConnection} {p : Past} (new : OriginConnection) (r : Request) (interim : List OriginResponse)
+    (trailers : Entries FieldValue) → IsReached limits old p → p.now ≡ Asked r interim
+    → ¬ (SaysAt old.fault old (Is.End trailers) new)
+end_late {limits} {old} {p} new r interim trailers reached is says =
+    let found = found_at old.fault old new (Is.End trailers) says (λ fault is. absurd (cc)) in
+    end_found old new trailers found.1 (reads_when (Asked r interim) reached found.0 is)
+
+-- an interim response isn't told after a final one, and nor is one that ends HTTP
+pub interim_late : {limits : Limits} {old : OriginConnection} {p : Past} (new : OriginConnection) (r : Request)
+    (interim : List OriginResponse) (response next : OriginResponse) (content : List ℕ) → IsReached limits old p
+    → p.now ≡ Hears r interim response content → ¬ (SaysAt old.fault old (Is.Interim next) new)
+interim_late {limits} {old} {p} new r interim response next content reached is says =
+    let found = found_at old.fault old new (Is.Interim next) says (λ fault is. absurd (cc)) in
+    let body = reads_when (Hears r interim response content) reached found.0 is in
+    let clash : Reads.Body body.0 ≡ Reads.Head = sym body.1 ∙ found.1.1.due.0 in absurd (cc)
+
+pub switch_late : {limits : Limits} {old : OriginConnection} {p : Past} (new : OriginConnection) (r : Request)
+    (interim : List OriginResponse) (response next : OriginResponse) (content : List ℕ) → IsReached limits old p
+    → p.now ≡ Hears r interim response content → ¬ (SaysAt old.fault old (Is.Switched next) new)
+switch_late {limits} {old} {p} new r interim response next content reached is says =
+    let found = found_at old.fault old new (Is.Switched next) says (λ fault is. absurd (cc)) in
+    let body = reads_when (Hears r interim response content) reached found.0 is in
+    let clash : Reads.Body body.0 ≡ Reads.Head = sym body.1 ∙ found.1.2.due.0 in absurd (cc)

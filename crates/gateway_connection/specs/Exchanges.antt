@@ -13,7 +13,7 @@ use Rattle.http1.specs.{declared.error.WriteError.WriteError}
 use Rattle.http1.specs.declared.framing.MethodKind.{MethodKind}
 use Rattle.http1.specs.Message as Message
 use Rattle.http1.specs.declared.encode.Encoder.TheVariants as Encodes
-use Rattle.gateway_relay.specs.Content.{after_pieces, map_of, pieces_text}
+use Rattle.gateway_connection.specs.Content.{after_pieces, map_of, pieces_text}
 use Rattle.gateway_connection.specs.{Responses.response_of, declared.event.OriginResponse.OriginResponse}
 
 -- ---- requests

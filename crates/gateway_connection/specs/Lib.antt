@@ -1,3 +1,4 @@
+pub mod Content
 pub mod Exchanges
 pub mod History
 pub mod Responses

@@ -4,7 +4,7 @@ use Rattle.httparse.specs.{Grammar.{ResponseHead, reason_phrase, status_code}, S
 use Rattle.httparse.specs.{declared.spans.HeaderSpan.HeaderSpan, declared.spans.ResponseSpans.ResponseSpans}
 use Rattle.http.specs.declared.error.Error.{Error}
 use Rattle.http1.specs.{Fields.Header, ServerTrace.headers_at}
-use Rattle.gateway_relay.specs.{Content.map_of, Failures.HasNoMap}
+use Rattle.gateway_connection.specs.Content.{HasNoMap, map_of}
 use Rattle.gateway_connection.specs.declared.event.OriginFault.{OriginFault}
 use Rattle.gateway_connection.specs.declared.event.OriginResponse.{OriginResponse}
 use Rattle.http.specs.declared.error.Error.TheVariants as Mapped

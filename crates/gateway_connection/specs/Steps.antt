@@ -14,7 +14,7 @@ use Rattle.http1.specs.{declared.conn.Limits.Limits, declared.conn.Reading.Readi
 use Rattle.http1.specs.declared.error.ReadError.{ReadError}
 use Rattle.http1.specs.{declared.error.WriteError.WriteError, declared.framing.Framing.Framing}
 use Rattle.http1.specs.declared.decode.Decoder.TheVariants.{UntilClose}
-use Rattle.gateway_relay.specs.{Content.map_of, Failures.HasNoMap}
+use Rattle.gateway_connection.specs.Content.{HasNoMap, map_of}
 use Rattle.gateway_connection.specs.{Responses.response_of, declared.event.OriginEvent.OriginEvent}
 use Rattle.gateway_connection.specs.declared.event.OriginFault.{OriginFault}
 use Rattle.gateway_connection.specs.declared.event.OriginResponse.{OriginResponse}

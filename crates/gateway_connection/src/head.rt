@@ -2,8 +2,7 @@
 ghost use Rattle.std.specs.Prelude.{◌≡◌, ◌≤◌, drop, length, IfErr, IfOk, OnOk};
 ghost use Rattle.httparse.specs.Spans.{IsResponseWithin, IsSectionWithin, IsWithin, span_bytes};
 ghost use Rattle.http1.specs.ServerTrace.{headers_at};
-ghost use Rattle.gateway_relay.specs.{Content.map_of, Failures.{IsMapFailure, map_failure}};
-ghost use Rattle.gateway_connection.specs.Responses.{IsFieldsFault, IsUnder};
+ghost use Rattle.gateway_connection.specs.{Content.{IsMapFailure, map_of}, Responses.{IsFieldsFault, IsUnder}};
 
 use crate::event::{OriginFault, OriginResponse};
 use bytes::{Bytes, BytesMut};
@@ -29,8 +28,7 @@ pub fn take_fields(
     requires { IsSectionWithin input.old.items spans.now len count }
     ensures fields { IfOk result (λ fields. fields ≡ map_of (headers_at input.old.items spans.now count)) }
     ensures rest { OnOk result (input.new.items ≡ drop len input.old.items) }
-    ensures reason { IfErr result (λ error.
-        IsMapFailure (headers_at input.old.items spans.now count) (map_failure error)) }
+    ensures reason { IfErr result (IsMapFailure (headers_at input.old.items spans.now count)) }
 {
     let section = input.freeze_to(len)?;
     header_map(alloc, keys, &section, &spans[..count])

@@ -2,12 +2,12 @@
 use Rattle.std.proofs.Common.{List}
 use Rattle.http.specs.declared.error.Error.{Error}
 use Rattle.http1.specs.Fields.{Header}
-use Rattle.gateway_relay.specs.Failures.{IsMapFailure, map_failure}
+use Rattle.gateway_connection.specs.Content.{IsMapFailure}
 use Rattle.server_stream.specs.Heads.{IsFieldsRejection, map_rejection}
 use Rattle.http.specs.declared.error.Error.TheVariants as Mapped
 
--- the reason is the one of a relay
-pub rejection_of : (fields : List Header) (e : Error) → IsMapFailure fields (map_failure e)
+-- the reason is the one of the map
+pub rejection_of : (fields : List Header) (e : Error) → IsMapFailure fields e
     → IsFieldsRejection fields (map_rejection e)
 rejection_of fields Mapped.OutOfMemory why = tt
 rejection_of fields e why = why

@@ -16,11 +16,11 @@ use Rattle.http1.specs.{declared.conn.Event.Event, declared.conn.Limits.Limits}
 use Rattle.http1.specs.{declared.conn.Progress.Progress, declared.conn.Reading.Reading}
 use Rattle.http1.specs.{declared.decode.Decoder.Decoder, declared.framing.Framing.Framing}
 use Rattle.http1.specs.declared.server.Server.{Server}
-use Rattle.gateway_relay.specs.{Content.map_of, Failures.HasNoMap}
+use Rattle.gateway_connection.specs.Content.{HasNoMap, map_of}
 use Rattle.server_stream.specs.Heads.{IsFieldsRejection, IsHeadRejection, IsUnder, content_size}
 use Rattle.server_stream.specs.{declared.connection.StreamConnection.StreamConnection}
-use Rattle.server_stream.specs.declared.event.RequestHead.{RequestHead}
-use Rattle.server_stream.specs.{declared.rejection.Rejection.Rejection}
+use Rattle.server_stream.specs.declared.event.StreamRequest.{StreamRequest}
+use Rattle.server_stream.specs.{declared.rejection.StreamRejection.StreamRejection}
 use Rattle.server_stream.specs.Steps.{HasInvalidFields, IsStarved, IsWrong, Rejects}
 use Rattle.server_stream.specs.Steps.{RunsOut, RunsOutAt, TakesHead, TakesPiece}
 use Rattle.http1.specs.Server as Serving
@@ -29,7 +29,7 @@ use Rattle.http1.specs.declared.conn.Reading.TheVariants as Reads
 use Rattle.http1.specs.declared.conn.Writing.{Writing}
 use Rattle.http1.specs.declared.conn.Writing.TheVariants as Writes
 use Rattle.http1.specs.declared.framing.Framing.TheVariants as Framed
-use Rattle.server_stream.specs.declared.rejection.Rejection.TheVariants as Because
+use Rattle.server_stream.specs.declared.rejection.StreamRejection.TheVariants as Because
 
 abbrev pub Spans : Type 0
 Spans = RequestSpans
@@ -88,7 +88,7 @@ size_of limits Framed.UntilClose = refl
 
 -- the parts of the head that was taken
 pub takes_head : (old new : StreamConnection) (s : Server) (spans : List HeaderSpan) (len : ℕ) (r : RequestSpans)
-    (told : RequestHead) (seen : List ℕ) → seen ≡ old.input.items → old.server.reading ≡ Reads.Head
+    (told : StreamRequest) (seen : List ℕ) → seen ≡ old.input.items → old.server.reading ≡ Reads.Head
     → Serving.TakesHead old.server seen spans s len r → IsUnder old.input.items spans r s told
     → new.input.items ≡ drop r.len old.input.items → new ≡ record old { server = s; input = new.input }
     → TakesHead old told new
@@ -147,7 +147,7 @@ takes_piece old new len p piece seen d next same reading found goes bytes left r
 
 -- ---- rejections
 
-fields_wrong : (m : StreamConnection) (fields : List Header) (why : Rejection) → IsFieldsRejection fields why
+fields_wrong : (m : StreamConnection) (fields : List Header) (why : StreamRejection) → IsFieldsRejection fields why
     → (HasNoMap fields → HasInvalidFields m.server m.input.items) → IsWrong m why
 fields_wrong m fields Because.InvalidFields is invalid = invalid is
 fields_wrong m fields Because.OutOfMemory is invalid = tt
@@ -155,7 +155,7 @@ fields_wrong m fields why is invalid = absurd is
 
 -- the head can't be taken
 pub rejects_head : (old new : StreamConnection) (s : Server) (spans : List HeaderSpan) (len : ℕ) (r : RequestSpans)
-    (seen : List ℕ) (why : Rejection) → seen ≡ old.input.items → old.server.reading ≡ Reads.Head
+    (seen : List ℕ) (why : StreamRejection) → seen ≡ old.input.items → old.server.reading ≡ Reads.Head
     → Serving.TakesHead old.server seen spans s len r
     → IsHeadRejection s.request.has_codings (headers_at old.input.items spans r.headers) why
     → new ≡ record old { server = (server_eof s 0).1; input = new.input } → Rejects old why new
@@ -178,7 +178,7 @@ rejects_head old new s spans len r seen why same due head is rest =
       rest = rest ∙ ap (λ (x : Server). record old { server = x; input = new.input }) (sym server);
     })
   where
-    wrong : (t : Serving.TakesHead old.server old.input.items spans s len r) (why : Rejection)
+    wrong : (t : Serving.TakesHead old.server old.input.items spans s len r) (why : StreamRejection)
         → IsHeadRejection (request_of t.head t.framing).has_codings (headers_at old.input.items spans r.headers) why
         → IsWrong old why
     wrong t Because.UnknownCoding is = (due, (t.head, t.framing, _, t.accepts, is))
@@ -188,7 +188,7 @@ rejects_head old new s spans len r seen why same due head is rest =
 
 -- the trailer fields can't be taken
 pub rejects_end : (old new : StreamConnection) (spans : List HeaderSpan) (next : Reading) (len count : ℕ)
-    (seen : List ℕ) (why : Rejection) (d : Decoder) → seen ≡ old.input.items → old.server.reading ≡ Reads.Body d
+    (seen : List ℕ) (why : StreamRejection) (d : Decoder) → seen ≡ old.input.items → old.server.reading ≡ Reads.Body d
     → ReadsPiece {H = RequestSpans} d seen spans next len (Found.End count)
     → new.server ≡ after_piece old.server seen next
     → IsFieldsRejection (headers_at old.input.items spans count) why

@@ -22,7 +22,7 @@ use Rattle.http1.specs.{declared.encode.Encoder.Encoder, declared.error.WriteErr
 use Rattle.http1.specs.{declared.error.ReadError.ReadError, declared.error.ReadError.TheVariants.{UnexpectedEof}}
 use Rattle.http1.specs.{declared.framing.Framing.Framing, declared.server.Server.Server}
 use Rattle.http1.proofs.{DecoderLemmas.decoder_for-live, OneParse.body_from_completes}
-use Rattle.gateway_relay.{specs.Content.{after_pieces, map_of}}
+use Rattle.gateway_connection.specs.Content.{after_pieces, map_of}
 use Rattle.gateway_connection.specs.Exchanges.{encoder_in, keeps_in}
 use Rattle.gateway_connection.proofs.ContentLemmas.{end_at, front_goes, front_grows, put_at, takes_data, takes_end}
 use Rattle.gateway_connection.proofs.ContentLemmas.{writing_at}
@@ -31,8 +31,8 @@ use Rattle.server_stream.specs.Exchanges.{Answer, Bare, Begun, Due, Exchange, Fi
 use Rattle.server_stream.specs.Exchanges.{ReadsKept, Response, Switched, answer_text, bare_text, bare_texts}
 use Rattle.server_stream.specs.Exchanges.{exchange_text, final_text, head_text, no_answer, plan_of, response_bytes}
 use Rattle.server_stream.specs.{Heads.told_of, declared.connection.StreamConnection.StreamConnection}
-use Rattle.server_stream.specs.{declared.event.RequestHead.RequestHead, declared.event.StreamEvent.StreamEvent}
-use Rattle.server_stream.specs.declared.rejection.Rejection.{Rejection}
+use Rattle.server_stream.specs.{declared.event.StreamRequest.StreamRequest, declared.event.StreamEvent.StreamEvent}
+use Rattle.server_stream.specs.declared.rejection.StreamRejection.{StreamRejection}
 use Rattle.server_stream.specs.History.{Exchanged, Heard, IsReached, IsTold, IsWhole, MayPut, Past, answers, begins}
 use Rattle.server_stream.specs.History.{change, informs, no_past, over, reject_at, tell, texts, with_content, with_end}
 use Rattle.server_stream.specs.History.{with_piece, with_trailers, Nothing, Part, Whole, Opened, Received, Finished}
@@ -122,14 +122,14 @@ DueAt s Due Nothing = ⊤
 DueAt s Due heard = may_respond s ≡ true
 DueAt s final heard = ⊤
 
-due_on : (s next : Server) (f : Final) (told : RequestHead) (content content_on : List ℕ)
+due_on : (s next : Server) (f : Final) (told : StreamRequest) (content content_on : List ℕ)
     → (may_respond s ≡ true → may_respond next ≡ true) → DueAt s f (Part told content)
     → DueAt next f (Part told content_on)
 due_on s next Due told content content_on goes due = goes due
 due_on s next (Begun r) told content content_on goes due = tt
 due_on s next (Switched b) told content content_on goes due = tt
 
-due_over : (s next : Server) (f : Final) (told : RequestHead) (content : List ℕ) (trailers : Entries FieldValue)
+due_over : (s next : Server) (f : Final) (told : StreamRequest) (content : List ℕ) (trailers : Entries FieldValue)
     → (may_respond s ≡ true → may_respond next ≡ true) → DueAt s f (Part told content)
     → DueAt next f (Whole told content trailers)
 due_over s next Due told content trailers goes due = goes due
@@ -355,7 +355,7 @@ goes_grows {k} {s} {unread} {a} bytes heard g =
 
 module _ {k : Frame} {s : Server} {input : List ℕ} {a : Answer} where
   -- content goes on
-  part_now : {next : Server} {rest : List ℕ} (head : RequestHead) (content piece : List ℕ) (d after : Decoder)
+  part_now : {next : Server} {rest : List ℕ} (head : StreamRequest) (content piece : List ℕ) (d after : Decoder)
       (len : ℕ) (g : Goes k s input (Part head content) a) → s.reading ≡ Reads.Body d → d ≡ g.told.decoder
       → Continues d input after len piece → rest ≡ drop len input
       → next ≡ after_piece s input (Reads.Body after) → Going k next rest (Part head (content ++ piece)) a
@@ -393,7 +393,7 @@ module _ {k : Frame} {s : Server} {input : List ℕ} {a : Answer} where
 
   -- a request is being read
   in_part : (P : Heard → Type 0) {d : Decoder} → s.reading ≡ Reads.Body d
-      → ((head : RequestHead) (content : List ℕ) (g : Going k s input (Part head content) a)
+      → ((head : StreamRequest) (content : List ℕ) (g : Going k s input (Part head content) a)
       → d ≡ g.goes.told.decoder → P (Part head content))
       → (heard : Heard) → Going k s input heard a → P heard
   in_part P {d} is f Nothing g = nothing g.at.1
@@ -490,7 +490,7 @@ module _ {k : Frame} {s : Server} {input : List ℕ} {a : Answer} where
 -- ---- the next request
 
 -- an exchange that is over
-whole_reads : {limits : Limits} {start unread content : List ℕ} {told : RequestHead} {trailers : Entries FieldValue}
+whole_reads : {limits : Limits} {start unread content : List ℕ} {told : StreamRequest} {trailers : Entries FieldValue}
     (interim : List Bare) (r : Response) → IsWhole limits start told content trailers unread (Begun r)
     → IsKept (Begun r) → (more : List ℕ)
     → ReadsExchange limits (start ++ more)
@@ -1260,10 +1260,10 @@ IsOpen (Whole head content trailers) = ⊥
 IsOpen heard = ⊤
 
 -- any connection
-record Run (limits : Limits) (s : Server) (input output : List ℕ) (fault : Option Rejection) (p : Past) : Type 0 where
+record Run (limits : Limits) (s : Server) (input output : List ℕ) (fault : Option StreamRejection) (p : Past) : Type 0 where
   unread : List ℕ
   goes : Goes (frame limits output p) s unread p.heard p.answer
-  broken : (why : Rejection) → fault ≡ Some why → IsOpen p.heard
+  broken : (why : StreamRejection) → fault ≡ Some why → IsOpen p.heard
   going : fault ≡ None → (unread ≡ input)
       × IsAt (place (frame limits output p) goes.since.start p.answer unread) s p.answer p.heard goes.told
 
@@ -1273,11 +1273,11 @@ RunAt limits m p = Run limits m.server m.input.items m.output.items m.fault p
 abbrev GoingAt : Limits → StreamConnection → Past → Type 0
 GoingAt limits m p = Going (frame limits m.output.items p) m.server m.input.items p.heard p.answer
 
-going_of : {limits : Limits} {s : Server} {i o : List ℕ} {f : Option Rejection} {p : Past} → Run limits s i o f p
+going_of : {limits : Limits} {s : Server} {i o : List ℕ} {f : Option StreamRejection} {p : Past} → Run limits s i o f p
     → f ≡ None → Going (frame limits o p) s i p.heard p.answer
 going_of r none = let x = r.going none in rw (← x.0) (record { goes = r.goes; at = x.1 })
 
-run_of : {limits : Limits} {s : Server} {i o : List ℕ} {f : Option Rejection} {p : Past} → f ≡ None
+run_of : {limits : Limits} {s : Server} {i o : List ℕ} {f : Option StreamRejection} {p : Past} → f ≡ None
     → Going (frame limits o p) s i p.heard p.answer → Run limits s i o f p
 run_of {limits} {s} {i} none g = record {
   unread = i;
@@ -1286,7 +1286,7 @@ run_of {limits} {s} {i} none g = record {
   going = λ is. (refl, g.at);
 }
 
-run_put : {limits : Limits} {s next : Server} {i o text : List ℕ} {f : Option Rejection} {p : Past} {b : Answer}
+run_put : {limits : Limits} {s next : Server} {i o text : List ℕ} {f : Option StreamRejection} {p : Past} {b : Answer}
     (r : Run limits s i o f p) → PutIn r.goes next text b
     → Run limits next i (o ++ text) f (record p { answer = b })
 run_put r x = record {
@@ -1326,7 +1326,7 @@ find_goes {limits} {p} old new Is.Closed (inr found) g =
 find_goes old new (Is.Rejected why) found g = absurd found
 
 -- a rejection is told: what follows the exchange now is rejected, or what is of its request
-rejected_run : {limits : Limits} {next : Server} {i o : List ℕ} (unread : List ℕ) (why : Rejection) (p : Past)
+rejected_run : {limits : Limits} {next : Server} {i o : List ℕ} (unread : List ℕ) (why : StreamRejection) (p : Past)
     (h : Heard) → RejectedAt (frame limits o p) next unread h p.answer
     → Run limits next i o (Some why) (reject_at h (record p { heard = h }))
 rejected_run {limits} {next} unread why p Nothing g = record {
@@ -1348,14 +1348,14 @@ rejected_run {limits} {next} unread why p (Whole head content trailers) g = reco
   going = λ none. absurd (cc none);
 }
 
-rejected_again : {limits : Limits} {s : Server} {i o : List ℕ} {f : Option Rejection} (p : Past) (h : Heard)
+rejected_again : {limits : Limits} {s : Server} {i o : List ℕ} {f : Option StreamRejection} (p : Past) (h : Heard)
     → IsOpen h → Run limits s i o f (record p { heard = h })
     → Run limits s i o f (reject_at h (record p { heard = h }))
 rejected_again p Nothing is r = r
 rejected_again p (Part head content) is r = r
 rejected_again p (Whole head content trailers) is r = absurd is
 
-rejects_run : {limits : Limits} {p : Past} (old new : StreamConnection) (why : Rejection) → Rejects old why new
+rejects_run : {limits : Limits} {p : Past} (old new : StreamConnection) (why : StreamRejection) → Rejects old why new
     → GoingAt limits old p → Run limits new.server new.input.items new.output.items (Some why) (reject_at p.heard p)
 rejects_run {limits} {p} old new why (inl breaks) g =
     rw breaks.rest (rejected_run old.input.items why p p.heard (fails new.server breaks.server p.heard g))
@@ -1367,7 +1367,7 @@ rejects_run {limits} {p} old new why (inr cut) g =
     (cut_off between.server.reading refl off.within p.heard
     (runs_out_at {limits = limits} {p = p} old between ends.2 g)))
 
-said : {limits : Limits} {p : Past} (old new : StreamConnection) (event : StreamEvent) (f : Option Rejection)
+said : {limits : Limits} {p : Past} (old new : StreamConnection) (event : StreamEvent) (f : Option StreamRejection)
     → old.fault ≡ f → SaysAt f old event new → RunAt limits old p → RunAt limits new (tell event p)
 said {limits} {p} old new event (Some why) is says r =
     rw (says.0, says.1) (rejected_again p p.heard (r.broken why is) r)
@@ -1396,7 +1396,7 @@ said {limits} {p} old new event None is (inr failed) r =
 
 -- ---- calls
 
-new_run : {limits : Limits} {s : Server} {i o : List ℕ} {f : Option Rejection} → s ≡ new_server limits → i ≡ []
+new_run : {limits : Limits} {s : Server} {i o : List ℕ} {f : Option StreamRejection} → s ≡ new_server limits → i ≡ []
     → o ≡ [] → f ≡ None → Run limits s i o f no_past
 new_run {limits} is_new no_input no_output is_whole =
     let new : Run limits (new_server limits) [] [] None no_past = run_of refl (record {

@@ -8,9 +8,9 @@ use Rattle.http1.specs.{Fields.Header, Framing.method_kind, Head.response_text}
 use Rattle.http1.specs.{Message.{AcceptsRequest, ReadsRequestMessage, known_of}, declared.conn.BodySize.BodySize}
 use Rattle.http1.specs.{declared.conn.Limits.Limits}
 use Rattle.http1.specs.{declared.error.WriteError.WriteError, declared.framing.Framing.Framing}
-use Rattle.gateway_relay.specs.Content.{after_pieces, map_of, pieces_text}
+use Rattle.gateway_connection.specs.Content.{after_pieces, map_of, pieces_text}
 use Rattle.gateway_connection.specs.Exchanges.{encoder_in, keeps_in, last_text}
-use Rattle.server_stream.specs.{Heads.told_of, declared.event.RequestHead.RequestHead}
+use Rattle.server_stream.specs.{Heads.told_of, declared.event.StreamRequest.StreamRequest}
 use Rattle.httparse.specs.Grammar as Grammar
 use Rattle.http1.specs.Message as Message
 use Rattle.http1.specs.Server as Serving
@@ -96,7 +96,7 @@ IsFramedFor (Switched b) h framing = b.minor ≡ h.minor
 
 -- a request as a caller was told it, and the responses to it
 pub record Exchange : Type 0 where
-  pub head : RequestHead
+  pub head : StreamRequest
   pub content : List ℕ
   pub trailers : Entries FieldValue
   pub interim : List Bare

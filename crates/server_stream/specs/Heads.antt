@@ -7,14 +7,14 @@ use Rattle.http1.specs.{Conn.unread_size, Fields.Header, ReadError.status_of}
 use Rattle.http1.specs.ServerTrace.{headers_at}
 use Rattle.http1.specs.{declared.conn.BodySize.BodySize, declared.conn.BodySize.TheVariants.{Known, Unknown}}
 use Rattle.http1.specs.{declared.framing.Framing.Framing, declared.server.Server.Server}
-use Rattle.gateway_relay.specs.{Content.map_of, Failures.HasNoMap}
-use Rattle.server_stream.specs.declared.event.RequestHead.{RequestHead}
-use Rattle.server_stream.specs.declared.rejection.Rejection.{Rejection}
+use Rattle.gateway_connection.specs.Content.{HasNoMap, map_of}
+use Rattle.server_stream.specs.declared.event.StreamRequest.{StreamRequest}
+use Rattle.server_stream.specs.declared.rejection.StreamRejection.{StreamRejection}
 use Rattle.httparse.specs.Grammar as Grammar
 use Rattle.http.specs.declared.error.Error.TheVariants as Mapped
 use Rattle.http1.specs.Server as Serving
 use Rattle.http1.specs.declared.framing.Framing.TheVariants as Framed
-use Rattle.server_stream.specs.declared.rejection.Rejection.TheVariants as Because
+use Rattle.server_stream.specs.declared.rejection.StreamRejection.TheVariants as Because
 
 -- the size of the content, where it is known
 abbrev pub content_size : Framing → BodySize
@@ -24,7 +24,7 @@ content_size Framed.Chunked = Unknown
 content_size Framed.UntilClose = Unknown
 
 -- the parts of a head of the grammar
-abbrev pub told_of : Grammar.RequestHead → Framing → RequestHead
+abbrev pub told_of : Grammar.RequestHead → Framing → StreamRequest
 told_of h framing = record {
   method = h.method;
   target = h.target;
@@ -35,7 +35,7 @@ told_of h framing = record {
 }
 
 -- the parts under the spans, and what the server knows of the request
-pub record IsUnder (input : List ℕ) (spans : List HeaderSpan) (r : RequestSpans) (s : Server) (head : RequestHead)
+pub record IsUnder (input : List ℕ) (spans : List HeaderSpan) (r : RequestSpans) (s : Server) (head : StreamRequest)
     : Type 0 where
   pub method : head.method ≡ span_bytes input r.method
   pub target : head.target ≡ span_bytes input r.path
@@ -46,23 +46,23 @@ pub record IsUnder (input : List ℕ) (spans : List HeaderSpan) (r : RequestSpan
   pub plain : s.request.has_codings ≡ false
 
 -- the reason that `http1_typed` tells
-abbrev pub map_rejection : Error → Rejection
+abbrev pub map_rejection : Error → StreamRejection
 map_rejection Mapped.OutOfMemory = Because.OutOfMemory
 map_rejection error = Because.InvalidFields
 
 -- the fields have no map, or memory ran out
-abbrev pub IsFieldsRejection : List Header → Rejection → Type 0
+abbrev pub IsFieldsRejection : List Header → StreamRejection → Type 0
 IsFieldsRejection fields Because.InvalidFields = HasNoMap fields
 IsFieldsRejection fields Because.OutOfMemory = ⊤
 IsFieldsRejection fields why = ⊥
 
 -- the head has an unknown coding, or its fields have no map, or memory ran out
-abbrev pub IsHeadRejection : Bool → List Header → Rejection → Type 0
+abbrev pub IsHeadRejection : Bool → List Header → StreamRejection → Type 0
 IsHeadRejection has_codings fields Because.UnknownCoding = has_codings ≡ true
 IsHeadRejection has_codings fields why = IsFieldsRejection fields why
 
 -- the status of a response that says why
-abbrev pub rejection_status : Rejection → ℕ
+abbrev pub rejection_status : StreamRejection → ℕ
 rejection_status (Because.Malformed error) = status_of error
 rejection_status Because.CutShort = 400
 rejection_status Because.UnknownCoding = 501

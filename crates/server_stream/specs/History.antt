@@ -6,12 +6,12 @@ use Rattle.http1.specs.{Body.{Body, ReadsBody}, Decoder.decoder_for, Fields.Head
 use Rattle.http1.specs.{declared.conn.BodySize.BodySize, declared.conn.Limits.Limits, declared.decode.Decoder.Decoder}
 use Rattle.http1.specs.{declared.framing.Framing.Framing, declared.server.Server.Server}
 use Rattle.http1.specs.Server.{may_respond}
-use Rattle.gateway_relay.specs.Content.{after_pieces, map_of}
+use Rattle.gateway_connection.specs.Content.{after_pieces, map_of}
 use Rattle.gateway_connection.specs.Exchanges.{IsFront, encoder_in}
 use Rattle.server_stream.specs.Exchanges.{Answer, Bare, Begun, Due, Exchange, Final, IsFramedFor, ReadsKept, Response}
 use Rattle.server_stream.specs.Exchanges.{Switched, answer_text, exchange_text, no_answer, plan_of}
 use Rattle.server_stream.specs.{Heads.told_of, declared.connection.StreamConnection.StreamConnection}
-use Rattle.server_stream.specs.{declared.event.RequestHead.RequestHead, declared.event.StreamEvent.StreamEvent}
+use Rattle.server_stream.specs.{declared.event.StreamRequest.StreamRequest, declared.event.StreamEvent.StreamEvent}
 use Rattle.server_stream.specs.Steps.{Ends, Finishes, HandsOut, Informs, IsNew, Puts, PutsNothing, Receives, Responds}
 use Rattle.server_stream.specs.Steps.{Says, Switches}
 use Rattle.httparse.specs.Grammar as Grammar
@@ -21,8 +21,8 @@ use Rattle.server_stream.specs.declared.event.StreamEvent.TheVariants as Is
 -- what was told of the request now: nothing; or its head, and this content; or all of it
 pub data Heard : Type 0 where
   Nothing : Heard
-  Part : RequestHead → List ℕ → Heard
-  Whole : RequestHead → List ℕ → Entries FieldValue → Heard
+  Part : StreamRequest → List ℕ → Heard
+  Whole : StreamRequest → List ℕ → Entries FieldValue → Heard
 
 pub record Past : Type 0 where
   -- the bytes that were received and written
@@ -40,7 +40,7 @@ no_past = record { received = []; sent = []; before = []; heard = Nothing; answe
 -- ---- requests
 
 -- the exchange now, if it is over
-abbrev pub over_with : RequestHead → List ℕ → Entries FieldValue → List Bare → Final → List Exchange
+abbrev pub over_with : StreamRequest → List ℕ → Entries FieldValue → List Bare → Final → List Exchange
 over_with head content trailers interim (Begun r) = record {
   head = head;
   content = content;
@@ -153,7 +153,7 @@ pub data IsReached (limits : Limits) : StreamConnection → Past → Type 0 wher
 -- ---- what is true after every history
 
 -- the head of a request came, and this content of it
-pub record IsPart (limits : Limits) (start : List ℕ) (told : RequestHead) (content unread : List ℕ) (final : Final)
+pub record IsPart (limits : Limits) (start : List ℕ) (told : StreamRequest) (content unread : List ℕ) (final : Final)
     : Type 0 where
   pub head : Grammar.RequestHead
   pub framing : Framing
@@ -165,7 +165,7 @@ pub record IsPart (limits : Limits) (start : List ℕ) (told : RequestHead) (con
   pub front : IsFront (decoder_for limits framing) after decoder unread content
 
 -- a request came whole
-pub record IsWhole (limits : Limits) (start : List ℕ) (told : RequestHead) (content : List ℕ)
+pub record IsWhole (limits : Limits) (start : List ℕ) (told : StreamRequest) (content : List ℕ)
     (trailers : Entries FieldValue) (unread : List ℕ) (final : Final) : Type 0 where
   pub head : Grammar.RequestHead
   pub framing : Framing

@@ -15,17 +15,17 @@ use Rattle.http1.specs.{declared.conn.BodySize.BodySize, declared.conn.Limits.Li
 use Rattle.http1.specs.{declared.decode.Decoder.Decoder, declared.error.ReadError.ReadError}
 use Rattle.http1.specs.declared.error.ReadError.TheVariants.{UnexpectedEof}
 use Rattle.http1.specs.{declared.error.WriteError.WriteError, declared.framing.Framing.Framing}
-use Rattle.gateway_relay.specs.{Content.map_of, Failures.HasNoMap}
+use Rattle.gateway_connection.specs.Content.{HasNoMap, map_of}
 use Rattle.gateway_connection.specs.declared.head.TheConstants.{MAX_FIELDS}
 use Rattle.server_stream.specs.{Heads.told_of, declared.connection.StreamConnection.StreamConnection}
-use Rattle.server_stream.specs.declared.event.RequestHead.{RequestHead}
-use Rattle.server_stream.specs.{declared.event.StreamEvent.StreamEvent, declared.rejection.Rejection.Rejection}
+use Rattle.server_stream.specs.declared.event.StreamRequest.{StreamRequest}
+use Rattle.server_stream.specs.{declared.event.StreamEvent.StreamEvent, declared.rejection.StreamRejection.StreamRejection}
 use Rattle.httparse.specs.Grammar as Grammar
 use Rattle.http1.specs.declared.conn.Reading.TheVariants as Reads
 use Rattle.http1.specs.declared.conn.Writing.TheVariants as Writes
 use Rattle.http1.specs.declared.error.WriteError.TheVariants as Write
 use Rattle.server_stream.specs.declared.event.StreamEvent.TheVariants as Is
-use Rattle.server_stream.specs.declared.rejection.Rejection.TheVariants as Because
+use Rattle.server_stream.specs.declared.rejection.StreamRejection.TheVariants as Because
 
 pub record IsNew (limits : Limits) (m : StreamConnection) : Type 0 where
   pub server : m.server ≡ new_server limits
@@ -110,7 +110,7 @@ after_head s h framing =
     record s { reading = Reads.Body (decoder_for s.limits framing); request = request_of h framing }
 
 -- the input begins with the head of a request, with these parts
-pub record TakesHead (old : StreamConnection) (told : RequestHead) (new : StreamConnection) : Type 0 where
+pub record TakesHead (old : StreamConnection) (told : StreamRequest) (new : StreamConnection) : Type 0 where
   pub due : old.server.reading ≡ Reads.Head
   pub head : Grammar.RequestHead
   pub framing : Framing
@@ -204,7 +204,7 @@ HasInvalidFields s input =
     × Completes d input body rest × HasNoMap (map name_and_value body.trailers))
 
 -- what is wrong with what was received, whatever bytes follow
-abbrev pub IsWrong : StreamConnection → Rejection → Type 0
+abbrev pub IsWrong : StreamConnection → StreamRejection → Type 0
 IsWrong m (Because.Malformed error) = ServerRefuses m.server m.input.items MAX_FIELDS error
 IsWrong m Because.CutShort = ⊥
 IsWrong m Because.UnknownCoding = (m.server.reading ≡ Reads.Head) × HasUnknownCoding m.server m.input.items
@@ -228,7 +228,7 @@ Fails s input next =
     ⊎ ((d : Decoder) × (reading : Reading) × (s.reading ≡ Reads.Body d) × IsOfContent reading
     × (next ≡ after_piece s input reading))
 
-pub record Breaks (old : StreamConnection) (why : Rejection) (new : StreamConnection) : Type 0 where
+pub record Breaks (old : StreamConnection) (why : StreamRejection) (new : StreamConnection) : Type 0 where
   pub because : IsWrong old why
   pub server : Fails old.server old.input.items new.server
   pub rest : new ≡ record old { server = new.server; input = new.input }
@@ -244,16 +244,16 @@ pub record CutsOff (old : StreamConnection) (new : StreamConnection) : Type 0 wh
   pub within : IsWithin old.server.reading old.input.items
   pub rest : new ≡ record old { server = failed_server old.server UnexpectedEof }
 
-abbrev pub Rejects : StreamConnection → Rejection → StreamConnection → Type 0
+abbrev pub Rejects : StreamConnection → StreamRejection → StreamConnection → Type 0
 Rejects old why new =
     Breaks old why new ⊎ ((why ≡ Because.CutShort) × AtEnd old (λ between. CutsOff between new))
 
 -- after a rejection, nothing else is said
-abbrev pub SaysAt : Option Rejection → StreamConnection → StreamEvent → StreamConnection → Type 0
+abbrev pub SaysAt : Option StreamRejection → StreamConnection → StreamEvent → StreamConnection → Type 0
 SaysAt (Some why) old event new = (event ≡ Is.Rejected why) × (new ≡ old)
 SaysAt None old event new =
     Finds old event new
-    ⊎ ((why : Rejection) × (between : StreamConnection) × Rejects old why between
+    ⊎ ((why : StreamRejection) × (between : StreamConnection) × Rejects old why between
     × (event ≡ Is.Rejected why) × (new ≡ record between { fault = Some why }))
 
 abbrev pub Says : StreamConnection → StreamEvent → StreamConnection → Type 0

@@ -11,8 +11,8 @@ ghost use Rattle.server_stream.specs.Steps.{CutsOff, Ends, EndsBetween, Finds, F
 ghost use Rattle.server_stream.specs.Steps.{IsNew, IsStarved, Puts, Receives, RefusesWrite, Rejects, Responds};
 ghost use Rattle.server_stream.specs.Steps.{Says, Switches};
 
-use crate::event::{RequestHead, StreamEvent};
-use crate::rejection::Rejection;
+use crate::event::{StreamEvent, StreamRequest};
+use crate::rejection::StreamRejection;
 use bytes::{Bytes, BytesMut};
 use gateway_connection::{MAX_FIELDS, take_fields, take_piece};
 use http::{Method, StatusCode};
@@ -34,7 +34,7 @@ pub struct StreamConnection {
     pub(crate) output: BytesMut,
     /// Whether the input has ended.
     pub(crate) ended: bool,
-    pub(crate) fault: Option<Rejection>,
+    pub(crate) fault: Option<StreamRejection>,
 }
 
 impl StreamConnection {
@@ -94,7 +94,7 @@ impl StreamConnection {
     }
 
     // Reads what comes next.
-    fn find(&mut self) -> Result<StreamEvent, Rejection>
+    fn find(&mut self) -> Result<StreamEvent, StreamRejection>
         requires { self.old.fault ≡ None }
         ensures ok { IfOk result (λ event. Finds self.old event self.new) }
         ensures err { IfErr result (λ why. Rejects self.old why self.new) }
@@ -102,7 +102,7 @@ impl StreamConnection {
         let mut spans = [EMPTY_HEADER_SPAN; MAX_FIELDS];
         let read = match self.server.read(self.input.as_slice(), &mut spans) {
             Ok(read) => read,
-            Err(error) => return Err(Rejection::Malformed(error)),
+            Err(error) => return Err(StreamRejection::Malformed(error)),
         };
         match read.event {
             Found::Head(head) => {
@@ -142,7 +142,7 @@ impl StreamConnection {
         &mut self,
         head: &RequestSpans,
         spans: &[HeaderSpan],
-    ) -> Result<RequestHead, Rejection>
+    ) -> Result<StreamRequest, StreamRejection>
         requires { IsRequestWithin self.old.input.items spans.now head.now }
         ensures parts { IfOk result (IsUnder self.old.input.items spans.now head.now self.old.server) }
         ensures rest { OnOk result (self.new.input.items ≡ drop head.now.len self.old.input.items) }
@@ -165,7 +165,7 @@ impl StreamConnection {
         &mut self,
         head: &RequestSpans,
         spans: &[HeaderSpan],
-    ) -> Result<RequestHead, Rejection>
+    ) -> Result<StreamRequest, StreamRejection>
         requires { IsRequestWithin self.old.input.items spans.now head.now }
         ensures parts { IfOk result (IsUnder self.old.input.items spans.now head.now self.old.server) }
         ensures rest { OnOk result (self.new.input.items ≡ drop head.now.len self.old.input.items) }
@@ -174,11 +174,11 @@ impl StreamConnection {
         ensures kept { self.new ≡ record self.old { input = self.new.input } }
     {
         if self.server.has_codings() {
-            return Err(Rejection::UnknownCoding);
+            return Err(StreamRejection::UnknownCoding);
         }
         let input = self.input.as_slice();
         let Ok(method) = Method::from_bytes(self.alloc, head.method.of(input)) else {
-            return Err(Rejection::OutOfMemory);
+            return Err(StreamRejection::OutOfMemory);
         };
         let target = Bytes::copy_from_slice(self.alloc, head.path.of(input))?;
         let fields = take_fields(
@@ -189,7 +189,7 @@ impl StreamConnection {
             spans,
             head.headers,
         )?;
-        Ok(RequestHead {
+        Ok(StreamRequest {
             method,
             target,
             minor: head.version,
@@ -200,14 +200,14 @@ impl StreamConnection {
     }
 
     // What the end of the input means, where more is needed.
-    fn find_end(&mut self) -> Result<StreamEvent, Rejection>
+    fn find_end(&mut self) -> Result<StreamEvent, StreamRejection>
         requires { IsStarved self.old.server.reading }
         ensures ok { IfOk result (λ event. (event ≡ StreamEvent.Closed) × EndsBetween self.old self.new) }
-        ensures err { IfErr result (λ why. (why ≡ Rejection.CutShort) × CutsOff self.old self.new) }
+        ensures err { IfErr result (λ why. (why ≡ StreamRejection.CutShort) × CutsOff self.old self.new) }
     {
         match self.server.read_eof(self.input.as_slice()) {
             Ok(_) => Ok(StreamEvent::Closed),
-            Err(_) => Err(Rejection::CutShort),
+            Err(_) => Err(StreamRejection::CutShort),
         }
     }
 

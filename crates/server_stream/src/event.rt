@@ -1,13 +1,13 @@
 //! What is found in what a client sends.
 
-use crate::rejection::Rejection;
+use crate::rejection::StreamRejection;
 use bytes::Bytes;
 use http::{HeaderMap, Method};
 use http1::BodySize;
 
 /// The head of a request.
 #[derive(Debug, Drop)]
-pub struct RequestHead {
+pub struct StreamRequest {
     /// The method.
     pub method: Method,
     /// The target, as the request line has it.
@@ -28,7 +28,7 @@ pub enum StreamEvent {
     /// Nothing more can be said of what was received: call `receive` or `finish_input`.
     NeedsInput,
     /// The head of a request. Its content follows.
-    Head(RequestHead),
+    Head(StreamRequest),
     /// A piece of the content, never an empty one.
     Content(Bytes),
     /// The end of the request, with its trailer fields.
@@ -42,5 +42,5 @@ pub enum StreamEvent {
     Closed,
     /// What came is no request that can be taken. Nothing more is said. Unless a response has begun,
     /// `respond` may send one with the status of the rejection. Close once it is written.
-    Rejected(Rejection),
+    Rejected(StreamRejection),
 }

@@ -6,5 +6,5 @@ mod event;
 mod rejection;
 
 pub use crate::connection::StreamConnection;
-pub use crate::event::{RequestHead, StreamEvent};
-pub use crate::rejection::Rejection;
+pub use crate::event::{StreamEvent, StreamRequest};
+pub use crate::rejection::StreamRejection;

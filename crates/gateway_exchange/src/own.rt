@@ -1,0 +1,141 @@
+//! Why a gateway answers a request itself.
+ghost use Rattle.std.specs.Prelude.{◌≡◌, IfOk, MatchResult};
+ghost use Rattle.http_header.specs.FieldValue.{IsFieldValue};
+ghost use Rattle.http1.specs.Head.{header_parts, pairs};
+ghost use Rattle.http1_typed.specs.Parts.{reason_of};
+ghost use Rattle.gateway_exchange.specs.Own.{PutsOwn, RefusesOwn, closing, own_closes, own_fields, own_status};
+
+use gateway_connection::OriginFault;
+use gateway_messages::Rejection;
+use http::StatusCode;
+use http1::{BodySize, Header, WriteError};
+use server_stream::{StreamConnection, StreamRejection as Unread};
+use std::alloc::AllocError;
+
+/// Why a gateway answers a request itself (RFC 9110, sections 15.5 and 15.6).
+#[derive(Clone, Copy, Debug, PartialEq, Eq)]
+pub enum Own {
+    /// The request can't be read.
+    Unread(Unread),
+    /// It isn't forwarded.
+    Rejected(Rejection),
+    /// Its target is in no form that is forwarded: 400.
+    InvalidTarget,
+    /// It is CONNECT, which the gateway doesn't implement: 501.
+    Connect,
+    /// Its content is chunked, and the next server speaks HTTP/1.0: 411.
+    LengthRequired,
+    /// Max-Forwards lets it go no further (RFC 9110, section 7.6.2): 200.
+    FinalRecipient,
+    /// The caller chose this status.
+    Chosen(StatusCode),
+    /// The request wasn't received within the time limit: 408.
+    LateRequest,
+    /// The response wasn't received within the time limit: 504.
+    LateResponse,
+    /// The origin's connection can't take the request: 502.
+    Unsent(WriteError),
+    /// The origin's connection failed before the head of a final response: 502.
+    Origin(OriginFault),
+    /// The origin's response isn't forwarded: 502.
+    Response(Rejection),
+    /// The origin's response can't be written to the client: 502.
+    Unsendable(WriteError),
+    /// An allocation failed: 500.
+    OutOfMemory,
+}
+
+/// The field that says that the connection ends after the message (RFC 9112, section 9.6).
+const CLOSE: Header<'static> = Header {
+    name: b"connection",
+    value: b"close",
+};
+
+impl Own {
+    /// The status of the answer.
+    pub fn status(&self) -> StatusCode
+        ensures { result ≡ own_status self.now }
+    {
+        match *self {
+            Own::Unread(rejection) => rejection.status(),
+            Own::Rejected(rejection) => StatusCode::from_u16(rejection.status()).unwrap_or(
+                StatusCode::BAD_REQUEST,
+            ),
+            Own::InvalidTarget => StatusCode::BAD_REQUEST,
+            Own::Connect => StatusCode::NOT_IMPLEMENTED,
+            Own::LengthRequired => StatusCode::LENGTH_REQUIRED,
+            Own::FinalRecipient => StatusCode::OK,
+            Own::Chosen(status) => status,
+            Own::LateRequest => StatusCode::REQUEST_TIMEOUT,
+            Own::LateResponse => StatusCode::GATEWAY_TIMEOUT,
+            Own::Unsent(WriteError::OutOfMemory)
+            | Own::Unsendable(WriteError::OutOfMemory)
+            | Own::Origin(OriginFault::OutOfMemory)
+            | Own::OutOfMemory => StatusCode::INTERNAL_SERVER_ERROR,
+            Own::Unsent(_) | Own::Origin(_) | Own::Response(_) | Own::Unsendable(_) =>
+                StatusCode::BAD_GATEWAY,
+        }
+    }
+
+    /// Whether the client's connection closes after the answer: the request is at fault, or came late.
+    pub fn closes(&self) -> bool
+        ensures { result ≡ own_closes self.now }
+    {
+        match *self {
+            Own::Unread(_)
+            | Own::Rejected(_)
+            | Own::InvalidTarget
+            | Own::Connect
+            | Own::LengthRequired
+            | Own::LateRequest
+            | Own::OutOfMemory => true,
+            _ => false,
+        }
+    }
+}
+
+fn reason(status: StatusCode) -> &'static [u8]
+    ensures { result.now ≡ reason_of status }
+{
+    status.canonical_reason().unwrap_or("").as_bytes()
+}
+
+// The fields of an answer, beside those that frame it.
+fn own_fields(own: &Own, is_last: bool) -> &'static [Header<'static>]
+    ensures { pairs result.now ≡ own_fields is_last own.now }
+{
+    if is_last || own.closes() {
+        &[CLOSE]
+    } else {
+        &[]
+    }
+}
+
+/// Appends the field that says that the connection ends, if this is the last response.
+pub(crate) fn close_if(is_last: bool, fields: &mut Vec<Header<'_>>) -> Result<(), AllocError>
+    ensures { IfOk result (λ _. pairs fields.new.items ≡ closing is_last (pairs fields.old.items)) }
+{
+    if is_last {
+        fields.push(CLOSE)?;
+    }
+    Ok(())
+}
+
+/// Puts the answer, without content.
+pub(crate) fn put_own(
+    own: &Own,
+    is_last: bool,
+    client: &mut StreamConnection,
+) -> Result<(), WriteError>
+    ensures { MatchResult result (λ _. PutsOwn is_last client.old own.now client.new)
+        (λ error. RefusesOwn is_last client.old own.now error client.new) }
+{
+    let status = own.status();
+    client.respond(
+        status,
+        reason(status),
+        own_fields(own, is_last),
+        BodySize::Known(0),
+    )?;
+    client.end(&[])
+}
