@@ -17,9 +17,10 @@
  *   its name. No space is taken off its ends.
  * - A call that writes bytes takes room for them. `*written` says how many bytes there are, also if they don't fit: the
  *   status is TYPED_HEADERS_NO_ROOM then, and the room is as it was. Nothing is written after them.
- * - Calls keep no state, but for caches, passes and the handles of sections, policies, resources and connections.
- *   They may run in several threads at once; none may run in a signal handler, nor in the child of a fork of a process
- *   with threads.
+ * - Calls keep no state, but for handles: of caches, passes, sections, policies, resources, connections and files. They
+ *   may run in several threads at once. On one handle those may overlap that take it as `const`: they only read it. Any
+ *   other call on a handle overlaps with none on the same one, and the program orders it with the others, as by a lock.
+ *   No call may run in a signal handler, nor in the child of a fork of a process with threads.
  * - Memory comes from malloc, realloc and free, and is given back before the call returns, but for that of a cache and
  *   of the handles.
  *   The status is TYPED_HEADERS_NO_MEMORY only if something is allocated: for lines of a field, for a section that has
@@ -254,8 +255,8 @@ enum typed_headers_decision {
 
 /*
  * A cache: closed, or open with a store of responses. Zero bytes are a closed one, as TYPED_HEADERS_CLOSED_CACHE. Its
- * members are the library's: a program changes none, and copies none but of a closed one. Two calls on one cache may
- * not run at once. Another thread may make the next one, if the two are ordered, as by a lock.
+ * members are the library's: a program changes none, and copies none but of a closed one. Each call changes it, so no
+ * two calls on one cache may overlap. Another thread may make the next one, if the two are ordered, as by a lock.
  */
 struct typed_headers_cache {
     void *place;
@@ -306,7 +307,8 @@ struct typed_headers_cache_request {
 /*
  * A pass: one client's request through a cache, closed or open. Zero bytes are a closed one, as
  * TYPED_HEADERS_CLOSED_PASS. It is the library's as a cache is. A step of a pass is a call on its cache, too. A call
- * that takes the pass alone may overlap with any on the cache and on other passes.
+ * that takes the pass alone may overlap with any on the cache and on other passes. If it takes the pass as `const`, it
+ * may overlap with others that do.
  */
 struct typed_headers_pass {
     void *place;
@@ -873,9 +875,8 @@ enum typed_headers_form {
 /*
  * A handle: closed, or open with what it was opened with. Zero bytes are a closed one, as TYPED_HEADERS_CLOSED. An open
  * one has memory until it is closed again, and what it has never changes. Its members are the library's: a program
- * changes none, and copies none but of a closed one. Two calls on one handle may not run at once, also if both only
- * read it. Another thread may make the next one, if the two are ordered, as by a lock. Threads that read at the same
- * time have a handle each.
+ * changes none, and copies none but of a closed one. Threads may share it: a call that takes it as `const` only reads
+ * it, and any number of these may overlap, without a lock. One that opens or closes it overlaps with no other on it.
  *
  * Absent, of each call that reads a handle: it is closed, or is that of another struct.
  */
@@ -900,7 +901,7 @@ struct typed_headers_resource_handle {
 
 /*
  * The connection of a server: closed, or open with what it received and has to send. It is a handle as the ones above,
- * but calls change what it has.
+ * but calls change what it has: those that don't take it as `const`, each of which overlaps with no other on it.
  */
 struct typed_headers_connection {
     void *place;
@@ -937,7 +938,7 @@ struct typed_headers_files_options {
     bool negotiates;
 };
 
-/* A service of the files below a folder, which opens none: a handle as the ones above. */
+/* A service of the files below a folder, which opens none: a handle as a connection. */
 struct typed_headers_files {
     void *place;
     bool is_open;
@@ -974,6 +975,115 @@ struct typed_headers_entry {
     uint64_t changed_nanosecond;
     /* One of `typed_headers_entry_kind`. */
     uint8_t kind;
+};
+
+/*
+ * What a gateway does with each request; a gateway's connection to a client, and at most one to an origin; and one to an
+ * origin by itself. Each is closed or open. Zero bytes are a closed one. They are the library's as a cache is.
+ */
+struct typed_headers_gate_rules {
+    void *place;
+    bool is_open;
+};
+
+struct typed_headers_gate {
+    void *place;
+    bool is_open;
+};
+
+struct typed_headers_gate_origin {
+    void *place;
+    bool is_open;
+};
+
+/* What a gateway does beside what it is to messages. */
+struct typed_headers_gate_options {
+    /* The host that a request of HTTP/1.0 without Host is for. */
+    struct typed_headers_text authority;
+    /* Whether the gateway writes Forwarded (RFC 7239), and X-Forwarded-For, -Host and -Proto. */
+    bool writes_forwarded;
+    bool writes_x_forwarded;
+    /* Whether it sends 100 (Continue) itself, and doesn't ask the origin (RFC 9110, section 10.1.1). */
+    bool answers_expect;
+    /* Whether an opening handshake of a WebSocket goes on as one (RFC 6455). */
+    bool passes_websocket;
+};
+
+/* The client of a connection. */
+struct typed_headers_gate_peer {
+    /* Its node, as that of `typed_headers_hop`, or empty if it isn't known. */
+    struct typed_headers_text node;
+    /* Its port, or 0 if that isn't told. */
+    uint16_t port;
+    /* Whether it came over TLS. */
+    bool is_secure;
+    /* Whether it is trusted to tell who sent it a request. */
+    bool is_trusted;
+};
+
+enum typed_headers_gate_side {
+    TYPED_HEADERS_CLIENT = 0,
+    TYPED_HEADERS_ORIGIN = 1
+};
+
+enum typed_headers_gate_event {
+    /* Nothing more happens until bytes come or go. */
+    TYPED_HEADERS_GATE_WAITS = 0,
+    /* A request came: `typed_headers_gate_forward`, `_answer` or `_respond`. */
+    TYPED_HEADERS_GATE_REQUEST = 1,
+    /* The head of the final response came: `typed_headers_gate_pass`, `_answer`, `_respond` or `_again`. */
+    TYPED_HEADERS_GATE_RESPONSE = 2,
+    /* A piece of it was passed to the client: `typed_headers_gate_piece` has it until the next call. */
+    TYPED_HEADERS_GATE_PIECE = 3,
+    /* The origin ended its connection before it answered, and the request may be repeated: as REQUEST, over another. */
+    TYPED_HEADERS_GATE_REPEAT = 4,
+    /* The origin's connection isn't needed any more: `typed_headers_gate_take`. If a response is passed on, it is whole. */
+    TYPED_HEADERS_GATE_EXCHANGED = 5,
+    /* The connection is no longer HTTP: `typed_headers_gate_tunnel`. */
+    TYPED_HEADERS_GATE_TUNNEL = 6,
+    /* Nothing more is said: write what waits for the client, and close both connections. */
+    TYPED_HEADERS_GATE_CLOSED = 7,
+    /* A message was cut off: close both at once. */
+    TYPED_HEADERS_GATE_ABORTED = 8
+};
+
+/* What a connection does. A program has one time limit for each, and calls `typed_headers_gate_timed_out`. */
+enum typed_headers_gate_phase {
+    /* No byte of a request came. */
+    TYPED_HEADERS_GATE_IDLE = 0,
+    /* A part of a head came. */
+    TYPED_HEADERS_GATE_HEAD = 1,
+    /* The request waits for a connection to an origin. */
+    TYPED_HEADERS_GATE_ASKING = 2,
+    /* Content of the request is awaited, and no head of a response was sent. */
+    TYPED_HEADERS_GATE_CONTENT = 3,
+    /* The request has ended, and its response is awaited. */
+    TYPED_HEADERS_GATE_ANSWER = 4,
+    /* The response is passed on. */
+    TYPED_HEADERS_GATE_PASSING = 5,
+    /* The program gives the response. */
+    TYPED_HEADERS_GATE_GIVING = 6,
+    /* It was answered, and the rest of the request is dropped. */
+    TYPED_HEADERS_GATE_DRAINING = 7,
+    /* It is closed, or a tunnel. */
+    TYPED_HEADERS_GATE_OVER = 8
+};
+
+/* What comes next on a connection, and what to wait for. */
+struct typed_headers_gate_facts {
+    /* How many bytes the piece has, if the event is TYPED_HEADERS_GATE_PIECE. */
+    uint64_t piece;
+    /* One of `typed_headers_gate_event`, and one of `typed_headers_gate_phase`. */
+    uint8_t event;
+    uint8_t phase;
+    /* Whether bytes of a side are to be received, and whether some wait to be written to it. */
+    bool client_input;
+    bool client_output;
+    bool origin_input;
+    bool origin_output;
+    /* Whether the client, or the origin, of a tunnel gets nothing more: shut its connection down for writing. */
+    bool ends_client;
+    bool ends_origin;
 };
 
 /* ---- Written by tools/c_calls from calls.txt. ---- */
@@ -1538,14 +1648,14 @@ uint8_t typed_headers_section_new(struct typed_headers_section *fields, const ui
  * What `typed_headers_field` gives for the lines of a name. Absent also: the section has none. Refused: the name is no
  * field name, or the header rejects the lines. Memory: there are lines, or the name is no standard one.
  */
-uint8_t typed_headers_section_field(struct typed_headers_section *fields, const uint8_t *name, size_t name_length,
-                                    uint8_t *room, size_t room_length, size_t *written);
+uint8_t typed_headers_section_field(const struct typed_headers_section *fields, const uint8_t *name,
+                                    size_t name_length, uint8_t *room, size_t room_length, size_t *written);
 
 /*
  * What `typed_headers_evaluate` gives for these fields. Refused: the method is no token, `target->etag` is no entity
  * tag, or the date lies past the year 9999.
  */
-uint8_t typed_headers_section_evaluate(struct typed_headers_section *fields, const uint8_t *method,
+uint8_t typed_headers_section_evaluate(const struct typed_headers_section *fields, const uint8_t *method,
                                        size_t method_length, const struct typed_headers_target *target,
                                        uint16_t *answer);
 
@@ -1553,7 +1663,7 @@ uint8_t typed_headers_section_evaluate(struct typed_headers_section *fields, con
  * What `typed_headers_select` gives for these fields. Absent also: the target has no representation. Refused: as for
  * `typed_headers_section_evaluate`. Memory: Range applies.
  */
-uint8_t typed_headers_section_select(struct typed_headers_section *fields, const uint8_t *method,
+uint8_t typed_headers_section_select(const struct typed_headers_section *fields, const uint8_t *method,
                                      size_t method_length, const struct typed_headers_target *target,
                                      uint64_t length, uint16_t *answer, struct typed_headers_bytes_range *room,
                                      size_t room_length, size_t *written);
@@ -1562,7 +1672,7 @@ uint8_t typed_headers_section_select(struct typed_headers_section *fields, const
  * What `typed_headers_respond` gives for these fields. Refused: as for `typed_headers_section_evaluate`, or the media
  * type is no line, or the boundary is none. Memory: the media type isn't empty, or the boundary is one.
  */
-uint8_t typed_headers_section_respond(struct typed_headers_section *fields, const uint8_t *method,
+uint8_t typed_headers_section_respond(const struct typed_headers_section *fields, const uint8_t *method,
                                       size_t method_length, const struct typed_headers_target *target,
                                       const struct typed_headers_content *content,
                                       struct typed_headers_response *response,
@@ -1573,11 +1683,11 @@ uint8_t typed_headers_section_respond(struct typed_headers_section *fields, cons
  * What `typed_headers_choose_type`, `_coding` and `_language` give for the lines of Accept, Accept-Encoding and
  * Accept-Language. Absent also: none is acceptable. Refused: a line of the offers can't be one.
  */
-uint8_t typed_headers_section_choose_type(struct typed_headers_section *fields, const uint8_t *offers,
+uint8_t typed_headers_section_choose_type(const struct typed_headers_section *fields, const uint8_t *offers,
                                           size_t offers_length, size_t *place);
-uint8_t typed_headers_section_choose_coding(struct typed_headers_section *fields, const uint8_t *offers,
+uint8_t typed_headers_section_choose_coding(const struct typed_headers_section *fields, const uint8_t *offers,
                                             size_t offers_length, size_t *place);
-uint8_t typed_headers_section_choose_language(struct typed_headers_section *fields, const uint8_t *offers,
+uint8_t typed_headers_section_choose_language(const struct typed_headers_section *fields, const uint8_t *offers,
                                               size_t offers_length, size_t *place);
 
 /*
@@ -1592,8 +1702,8 @@ uint8_t typed_headers_cors_policy_new(struct typed_headers_cors_policy *policy,
  * response before the first empty one is no field. Too large: the response has more names than a map has room for
  * (24,576). Memory: nothing is rejected.
  */
-uint8_t typed_headers_cors_policy_answer(struct typed_headers_cors_policy *policy,
-                                         struct typed_headers_section *fields,
+uint8_t typed_headers_cors_policy_answer(const struct typed_headers_cors_policy *policy,
+                                         const struct typed_headers_section *fields,
                                          const struct typed_headers_cors_exchange *exchange,
                                          const struct typed_headers_keys *keys,
                                          struct typed_headers_cors_facts *facts, uint8_t *room, size_t room_length,
@@ -1614,8 +1724,8 @@ uint8_t typed_headers_resource_handle_new(struct typed_headers_resource_handle *
  * version or the status of the denial is another number, the target is in absolute-form without a host, or the
  * challenge of a 401 is empty or can't be a field line. Memory: nothing is rejected.
  */
-uint8_t typed_headers_resource_handle_answer(struct typed_headers_resource_handle *handle,
-                                             struct typed_headers_section *fields,
+uint8_t typed_headers_resource_handle_answer(const struct typed_headers_resource_handle *handle,
+                                             const struct typed_headers_section *fields,
                                              const struct typed_headers_resource_request *request,
                                              const struct typed_headers_denial *denial,
                                              struct typed_headers_resource_facts *facts,
@@ -1656,31 +1766,31 @@ uint8_t typed_headers_connection_finish_input(struct typed_headers_connection *c
  * The method of the request that waits, the path and the query of its target, and its content. Absent also: its target
  * has no query. Refused: no request waits.
  */
-uint8_t typed_headers_connection_method(struct typed_headers_connection *connection, uint8_t *room,
+uint8_t typed_headers_connection_method(const struct typed_headers_connection *connection, uint8_t *room,
                                         size_t room_length, size_t *written);
-uint8_t typed_headers_connection_path(struct typed_headers_connection *connection, uint8_t *room, size_t room_length,
-                                      size_t *written);
-uint8_t typed_headers_connection_query(struct typed_headers_connection *connection, uint8_t *room,
+uint8_t typed_headers_connection_path(const struct typed_headers_connection *connection, uint8_t *room,
+                                      size_t room_length, size_t *written);
+uint8_t typed_headers_connection_query(const struct typed_headers_connection *connection, uint8_t *room,
                                        size_t room_length, size_t *written);
-uint8_t typed_headers_connection_content(struct typed_headers_connection *connection, uint8_t *room,
+uint8_t typed_headers_connection_content(const struct typed_headers_connection *connection, uint8_t *room,
                                          size_t room_length, size_t *written);
 
 /*
  * The first line of the field of this name, in any case, of the request that waits. Absent also: it has no such field.
  * Refused: the name is no field name, or no request waits. Memory: the name isn't one of the standards'.
  */
-uint8_t typed_headers_connection_field(struct typed_headers_connection *connection, const uint8_t *name,
+uint8_t typed_headers_connection_field(const struct typed_headers_connection *connection, const uint8_t *name,
                                        size_t name_length, uint8_t *room, size_t room_length, size_t *written);
 
 /*
  * The field lines of the request that waits, each with a LF: the name in lower case, a colon, a space and the value.
  * Those of one name come together, in their order. Refused: no request waits. Memory: it has a field.
  */
-uint8_t typed_headers_connection_fields(struct typed_headers_connection *connection, uint8_t *room,
+uint8_t typed_headers_connection_fields(const struct typed_headers_connection *connection, uint8_t *room,
                                         size_t room_length, size_t *written);
 
 /* The version of HTTP of the request that waits: 10 or 11. Refused: no request waits. */
-uint8_t typed_headers_connection_version(struct typed_headers_connection *connection, uint8_t *version);
+uint8_t typed_headers_connection_version(const struct typed_headers_connection *connection, uint8_t *version);
 
 /*
  * Begins the plan of the response to the request that waits: with this status, and without fields and content. Refused:
@@ -1713,11 +1823,11 @@ uint8_t typed_headers_connection_plan_range(struct typed_headers_connection *con
 uint8_t typed_headers_connection_respond(struct typed_headers_connection *connection);
 
 /* The first bytes that wait to be written, as many as fit. They stay until `typed_headers_connection_sent`. */
-uint8_t typed_headers_connection_output(struct typed_headers_connection *connection, uint8_t *room,
+uint8_t typed_headers_connection_output(const struct typed_headers_connection *connection, uint8_t *room,
                                         size_t room_length, size_t *written);
 
 /* Which bytes of what the program has open are to be written, once no others wait. Absent also: none are. */
-uint8_t typed_headers_connection_range(struct typed_headers_connection *connection, uint64_t *start,
+uint8_t typed_headers_connection_range(const struct typed_headers_connection *connection, uint64_t *start,
                                        uint64_t *length);
 
 /*
@@ -1730,14 +1840,14 @@ uint8_t typed_headers_connection_sent(struct typed_headers_connection *connectio
  * The response 408 to a client that is too slow (RFC 9110, section 15.5.9): the program sends it, and closes. Absent
  * also: no part of a request was received, a request waits, or bytes wait to be written. Then the program only closes.
  */
-uint8_t typed_headers_connection_time_out(struct typed_headers_connection *connection, uint8_t *room,
+uint8_t typed_headers_connection_time_out(const struct typed_headers_connection *connection, uint8_t *room,
                                           size_t room_length, size_t *written);
 
 /* The status by which the connection rejected what it received, as 400. Absent also: it rejected nothing. */
-uint8_t typed_headers_connection_rejection(struct typed_headers_connection *connection, uint16_t *status);
+uint8_t typed_headers_connection_rejection(const struct typed_headers_connection *connection, uint16_t *status);
 
 /* The status of the plan, and how many bytes its content has. */
-uint8_t typed_headers_connection_planned(struct typed_headers_connection *connection, uint16_t *status,
+uint8_t typed_headers_connection_planned(const struct typed_headers_connection *connection, uint16_t *status,
                                          uint64_t *length);
 
 /* ---- A pass: one client's request through a cache, from its arrival to its last byte. Since 2.0. ---- */
@@ -1799,7 +1909,7 @@ uint8_t typed_headers_pass_failed(struct typed_headers_cache *cache, struct type
  * present Age, which are those of a 206, a 304 or a 416 where the request's own conditions and ranges ask for that; of
  * VALIDATE those by which the origin is asked; else none. Absent: the pass is closed.
  */
-uint8_t typed_headers_pass_fields(struct typed_headers_pass *pass, uint8_t *room, size_t room_length,
+uint8_t typed_headers_pass_fields(const struct typed_headers_pass *pass, uint8_t *room, size_t room_length,
                                   size_t *written);
 
 /*
@@ -1809,7 +1919,7 @@ uint8_t typed_headers_pass_fields(struct typed_headers_pass *pass, uint8_t *room
  * it. Absent: the pass is closed. Too large: there are as many names as a map has room for (24,576), and none is
  * Cache-Control. Memory: nothing is rejected.
  */
-uint8_t typed_headers_pass_validation(struct typed_headers_pass *pass, uint8_t *room, size_t room_length,
+uint8_t typed_headers_pass_validation(const struct typed_headers_pass *pass, uint8_t *room, size_t room_length,
                                       size_t *written);
 
 /*
@@ -1817,8 +1927,8 @@ uint8_t typed_headers_pass_validation(struct typed_headers_pass *pass, uint8_t *
  * pass shares it with the cache until its next step, so no call on the cache changes it, and this call may overlap with
  * all of those, and with calls on other passes. Absent: the step named none, or the pass is closed.
  */
-uint8_t typed_headers_pass_content(struct typed_headers_pass *pass, size_t from, uint8_t *room, size_t room_length,
-                                   size_t *written);
+uint8_t typed_headers_pass_content(const struct typed_headers_pass *pass, size_t from, uint8_t *room,
+                                   size_t room_length, size_t *written);
 
 /*
  * Keeps the next piece of the content that is forwarded, to be stored. If the pieces are more than the cache may have,
@@ -1843,8 +1953,8 @@ uint8_t typed_headers_pass_ended(struct typed_headers_cache *cache, struct typed
 uint8_t typed_headers_files_free(struct typed_headers_files *files);
 
 /*
- * Opens the handle of a service of files below a folder. It serves many connections, one call at a time. Entity tags
- * are hashed with the keys, so that they don't show what they are made of: take the same for all that serve the folder.
+ * Opens the handle of a service of files below a folder. It serves many connections. Entity tags are hashed with the
+ * keys, so that they don't show what they are made of: take the same for all that serve the folder.
  *
  * Refused: the handle is open, `cache_control` or a line of `hosts` is no field value, or the boundary is none (RFC
  * 2046, section 5.1.1). Memory: the handle is closed.
@@ -1861,7 +1971,8 @@ uint8_t typed_headers_files_new(struct typed_headers_files *files, const struct 
  * Absent: nothing is left to open, so call `typed_headers_files_plan`; or a handle is closed. Refused: no request
  * waits. Memory: a request waits, and both handles are open.
  */
-uint8_t typed_headers_files_path(struct typed_headers_files *files, struct typed_headers_connection *connection,
+uint8_t typed_headers_files_path(const struct typed_headers_files *files,
+                                 const struct typed_headers_connection *connection,
                                  const struct typed_headers_entry *found, size_t found_length, uint8_t *room,
                                  size_t room_length, size_t *written);
 
@@ -1878,6 +1989,173 @@ uint8_t typed_headers_files_path(struct typed_headers_files *files, struct typed
 uint8_t typed_headers_files_plan(struct typed_headers_files *files, struct typed_headers_connection *connection,
                                  const struct typed_headers_entry *found, size_t found_length, uint64_t now,
                                  bool is_last, size_t *source);
+
+/* ---- A gateway's connection to a client, and at most one to an origin, which opens no socket. Since 2.0. ---- */
+
+/* Closes a handle, and gives its memory back. It may be closed before, or null. The status is TYPED_HEADERS_DONE. */
+uint8_t typed_headers_gate_rules_free(struct typed_headers_gate_rules *rules);
+uint8_t typed_headers_gate_free(struct typed_headers_gate *gate);
+uint8_t typed_headers_gate_origin_free(struct typed_headers_gate_origin *origin);
+
+/*
+ * Opens the handle of what a gateway does with each request. Refused: the handle is open, the gateway's name is no
+ * token, a protected name is no field name, or the authority no field value. Memory: the handle is closed.
+ */
+uint8_t typed_headers_gate_rules_new(struct typed_headers_gate_rules *rules,
+                                     const struct typed_headers_gateway *gateway,
+                                     const struct typed_headers_gate_options *options);
+
+/*
+ * Opens the handle of a connection to a client that has received nothing (RFC 9112). A request with a longer head is
+ * rejected. Then ask `typed_headers_gate_next`, do what it says, and ask again. Refused: the handle is open, or the
+ * node is none. Memory: the handle is closed.
+ */
+uint8_t typed_headers_gate_new(struct typed_headers_gate *gate, const struct typed_headers_gate_peer *peer,
+                               size_t most_head, const struct typed_headers_keys *keys);
+
+/*
+ * Opens the handle of a connection to an origin over which nothing went. Refused: the handle is open. Memory: the
+ * handle is closed.
+ */
+uint8_t typed_headers_gate_origin_new(struct typed_headers_gate_origin *origin, size_t most_head,
+                                      const struct typed_headers_keys *keys);
+
+/*
+ * Says what comes next, which phase it is, and what to wait for. `now` is the time in seconds since the start of 1970.
+ * Absent, of each call on such a handle: it is closed. Refused: the date lies past the year 9999.
+ */
+uint8_t typed_headers_gate_next(struct typed_headers_gate *gate, struct typed_headers_gate_rules *rules,
+                                uint64_t now, struct typed_headers_gate_facts *facts);
+
+/*
+ * Receives bytes of a side, one of `typed_headers_gate_side`, cut anywhere: all of them, or none if it runs out of
+ * memory. Refused, here and below: there is no such side. Memory: `input` isn't empty.
+ */
+uint8_t typed_headers_gate_receive(struct typed_headers_gate *gate, uint8_t side, const uint8_t *input,
+                                   size_t input_length);
+
+/* Says that the input of a side ends here, or that it failed. */
+uint8_t typed_headers_gate_finish(struct typed_headers_gate *gate, uint8_t side);
+
+/* The first bytes that wait to be written to a side, as many as fit. They stay until `typed_headers_gate_sent`. */
+uint8_t typed_headers_gate_output(struct typed_headers_gate *gate, uint8_t side, uint8_t *room, size_t room_length,
+                                  size_t *written);
+
+/* Says that so many bytes were written to a side. Refused also: fewer wait, and nothing changes. */
+uint8_t typed_headers_gate_sent(struct typed_headers_gate *gate, uint8_t side, uint64_t count);
+
+/*
+ * Says the time, in seconds since 1970. The gateway's own answers have it as Date (RFC 9110, section 6.6.1) until it is
+ * said anew. Refused: it lies past the year 9999, and nothing changes.
+ */
+uint8_t typed_headers_gate_clock(struct typed_headers_gate *gate, uint64_t now);
+
+/*
+ * Says that the time limit of the phase is over. What `typed_headers_gate_next` says then is one of: an answer 408 or
+ * 504, an end, or that both connections are to be closed.
+ */
+uint8_t typed_headers_gate_timed_out(struct typed_headers_gate *gate);
+
+/* Says that the connection ends after the next response, or at once if it is idle. */
+uint8_t typed_headers_gate_close_after(struct typed_headers_gate *gate);
+
+/*
+ * The method of the request that waits or is passed on, its target as it is sent, and the host and the port that it is
+ * for. Absent also: there is none.
+ */
+uint8_t typed_headers_gate_method(struct typed_headers_gate *gate, uint8_t *room, size_t room_length,
+                                  size_t *written);
+uint8_t typed_headers_gate_target(struct typed_headers_gate *gate, uint8_t *room, size_t room_length,
+                                  size_t *written);
+uint8_t typed_headers_gate_authority(struct typed_headers_gate *gate, uint8_t *room, size_t room_length,
+                                     size_t *written);
+
+/*
+ * The URI of its target (RFC 9110, section 7.1), as a cache has it as a key. Absent also: there is no request. Memory:
+ * the handle is open.
+ */
+uint8_t typed_headers_gate_key(struct typed_headers_gate *gate, uint8_t *room, size_t room_length, size_t *written);
+
+/*
+ * The first line of its field of this name, in any case. Absent also: it has no such field, or there is no request.
+ * Refused: the name is no field name. Memory: the name isn't one of the standards'.
+ */
+uint8_t typed_headers_gate_field(struct typed_headers_gate *gate, const uint8_t *name, size_t name_length,
+                                 uint8_t *room, size_t room_length, size_t *written);
+
+/* Its field lines as received, each with a LF. Absent also: there is no request. Memory: it has a field. */
+uint8_t typed_headers_gate_fields(struct typed_headers_gate *gate, uint8_t *room, size_t room_length,
+                                  size_t *written);
+
+/*
+ * Sends these If-None-Match and If-Modified-Since in place of its own, as a cache that validates does. Refused: a line
+ * of the section before its first empty one is no field. Memory: the handle is open.
+ */
+uint8_t typed_headers_gate_conditions(struct typed_headers_gate *gate, const uint8_t *section, size_t section_length,
+                                      const struct typed_headers_keys *keys);
+
+/* Sends it over a connection to an origin, whose handle is closed then. Absent also: one of them is closed. */
+uint8_t typed_headers_gate_forward(struct typed_headers_gate *gate, struct typed_headers_gate_origin *origin);
+
+/* Drops the origin's response that waits, and asks again without conditions. */
+uint8_t typed_headers_gate_again(struct typed_headers_gate *gate);
+
+/*
+ * Answers the request that waits, also in place of the origin's response, without content. Refused: the status is no
+ * number from 100 to 999.
+ */
+uint8_t typed_headers_gate_answer(struct typed_headers_gate *gate, uint16_t status);
+
+/*
+ * Begins a response with these fields, and so many bytes of content, to the request that waits, also in place of the
+ * origin's. Refused: none waits, the status is no number from 100 to 999, a line of the section before its first empty
+ * one is no field, or the response can't be sent. Memory: the handle is open.
+ */
+uint8_t typed_headers_gate_respond(struct typed_headers_gate *gate, uint16_t status, const uint8_t *section,
+                                   size_t section_length, uint64_t length, const struct typed_headers_keys *keys);
+
+/*
+ * Adds a piece to the content of that response. Refused: none has begun, or it has more content then. Memory: the piece
+ * isn't empty.
+ */
+uint8_t typed_headers_gate_push(struct typed_headers_gate *gate, const uint8_t *piece, size_t piece_length);
+
+/* Ends that response. Refused: none has begun, or content is missing. Memory: the handle is open. */
+uint8_t typed_headers_gate_end(struct typed_headers_gate *gate);
+
+/*
+ * The status of the origin's response that waits or is passed on, and its field lines, each with a LF. Absent also:
+ * there is none. `*status` is given also if they don't fit. Memory: it has a field.
+ */
+uint8_t typed_headers_gate_response(struct typed_headers_gate *gate, uint16_t *status, uint8_t *room,
+                                    size_t room_length, size_t *written);
+
+/* Passes the origin's response that waits on. */
+uint8_t typed_headers_gate_pass(struct typed_headers_gate *gate);
+
+/* The piece of its content that was passed to the client last. */
+uint8_t typed_headers_gate_piece(struct typed_headers_gate *gate, uint8_t *room, size_t room_length,
+                                 size_t *written);
+
+/*
+ * Opens a closed handle with the connection to the origin, for another request. Absent also: no other may go over it.
+ * Refused: the handle is open. Memory: there is such a connection.
+ */
+uint8_t typed_headers_gate_take(struct typed_headers_gate *gate, struct typed_headers_gate_origin *origin);
+
+/* The status of the last answer. Absent also: it wasn't the gateway's own. */
+uint8_t typed_headers_gate_own(struct typed_headers_gate *gate, uint16_t *status);
+
+/* Goes on with the bytes of the other protocol, after TYPED_HEADERS_GATE_TUNNEL. Memory: the handle is closed then. */
+uint8_t typed_headers_gate_tunnel(struct typed_headers_gate *gate);
+
+/*
+ * Receives a request without content as the client's, as for `typed_headers_pass_validation`. Memory: the handle is
+ * open.
+ */
+uint8_t typed_headers_gate_ask(struct typed_headers_gate *gate, const uint8_t *method, size_t method_length,
+                               const uint8_t *target, size_t target_length, const uint8_t *section,
+                               size_t section_length);
 
 /* ---- The end of what it writes. ---- */
 

@@ -20,6 +20,7 @@ union slot {
         struct typed_headers_retry_time retry_time;
         struct typed_headers_stale_directives stale_directives;
         struct typed_headers_entry entry;
+        struct typed_headers_gate_facts gate_facts;
         struct typed_headers_request request;
         struct typed_headers_message message;
         struct typed_headers_target target;
@@ -42,6 +43,8 @@ union slot {
         struct typed_headers_framing_outcome framing_outcome;
         struct typed_headers_origin_parts origin_parts;
         struct typed_headers_files_options files_options;
+        struct typed_headers_gate_options gate_options;
+        struct typed_headers_gate_peer gate_peer;
     } any;
 };
 
@@ -73,6 +76,10 @@ SHAPE(stale_directives, FLAGGED(stale_directives, while_revalidate, U64, has_whi
 SHAPE(entry, MEMBER(entry, length, U64), MEMBER(entry, modified, U64), MEMBER(entry, device, U64),
       MEMBER(entry, inode, U64), MEMBER(entry, changed, U64), MEMBER(entry, changed_nanosecond, U64),
       MEMBER(entry, kind, U8))
+SHAPE(gate_facts, MEMBER(gate_facts, piece, U64), MEMBER(gate_facts, event, U8), MEMBER(gate_facts, phase, U8),
+      MEMBER(gate_facts, client_input, BOOL), MEMBER(gate_facts, client_output, BOOL),
+      MEMBER(gate_facts, origin_input, BOOL), MEMBER(gate_facts, origin_output, BOOL),
+      MEMBER(gate_facts, ends_client, BOOL), MEMBER(gate_facts, ends_origin, BOOL))
 SHAPE(request, MEMBER(request, method, A_TEXT), MEMBER(request, section, A_TEXT))
 SHAPE(message, MEMBER(message, method, A_TEXT), MEMBER(message, section, A_TEXT), MEMBER(message, status, U16),
       MEMBER(message, version, U8))
@@ -132,6 +139,11 @@ SHAPE(origin_parts, MEMBER(origin_parts, scheme_length, SIZE), INNER(origin_part
       MEMBER(origin_parts, is_null, U8))
 SHAPE(files_options, MEMBER(files_options, cache_control, A_TEXT), MEMBER(files_options, hosts, A_TEXT),
       MEMBER(files_options, boundary, A_TEXT), MEMBER(files_options, negotiates, BOOL))
+SHAPE(gate_options, MEMBER(gate_options, authority, A_TEXT), MEMBER(gate_options, writes_forwarded, BOOL),
+      MEMBER(gate_options, writes_x_forwarded, BOOL), MEMBER(gate_options, answers_expect, BOOL),
+      MEMBER(gate_options, passes_websocket, BOOL))
+SHAPE(gate_peer, MEMBER(gate_peer, node, A_TEXT), MEMBER(gate_peer, port, U16), MEMBER(gate_peer, is_secure, BOOL),
+      MEMBER(gate_peer, is_trusted, BOOL))
 
 HANDLE(cache)
 HANDLE(section)
@@ -140,6 +152,9 @@ HANDLE(resource_handle)
 HANDLE(connection)
 HANDLE(pass)
 HANDLE(files)
+HANDLE(gate_rules)
+HANDLE(gate)
+HANDLE(gate_origin)
 
 CALL(canonical, MAY(REFUSED) | MAY(TOO_LARGE) | MAY(MARKED) | MAY(NO_MEMORY), (TEXT_OF(at[0]), &keys, ROOM(at[1])),
      PLAIN(GIVEN_TEXT), PLAIN(ROOM_OF_BYTES))
@@ -392,6 +407,61 @@ CALL(files_path, MAY(REFUSED) | MAY(ABSENT) | MAY(NO_MEMORY), (at[0].handle.at, 
 CALL(files_plan, MAY(REFUSED) | MAY(ABSENT) | MAY(NO_MEMORY), (at[0].handle.at, at[1].handle.at, at[2].list.at,
      at[2].list.length, at[3].u64, at[4].flag, &at[5].size), OF_HANDLE(OPENED, files), OF_HANDLE(OPENED, connection),
      OF_SHAPE(LIST_STRUCT, entry), OF_KIND(NUMBER, U64), OF_KIND(NUMBER, BOOL), OF_KIND(OUT_NUMBER, SIZE))
+CALL(gate_rules_free, 0, (at[0].handle.at), OF_HANDLE(OPENED, gate_rules))
+CALL(gate_free, 0, (at[0].handle.at), OF_HANDLE(OPENED, gate))
+CALL(gate_origin_free, 0, (at[0].handle.at), OF_HANDLE(OPENED, gate_origin))
+CALL(gate_rules_new, MAY(REFUSED) | MAY(NO_MEMORY), (at[0].handle.at, &at[1].any.gateway, &at[2].any.gate_options),
+     OF_HANDLE(NEW, gate_rules), OF_SHAPE(IN_STRUCT, gateway), OF_SHAPE(IN_STRUCT, gate_options))
+CALL(gate_new, MAY(REFUSED) | MAY(NO_MEMORY), (at[0].handle.at, &at[1].any.gate_peer, at[2].size, &keys),
+     OF_HANDLE(NEW, gate), OF_SHAPE(IN_STRUCT, gate_peer), OF_KIND(NUMBER, SIZE))
+CALL(gate_origin_new, MAY(REFUSED) | MAY(NO_MEMORY), (at[0].handle.at, at[1].size, &keys),
+     OF_HANDLE(NEW, gate_origin), OF_KIND(NUMBER, SIZE))
+CALL(gate_next, MAY(REFUSED) | MAY(ABSENT), (at[0].handle.at, at[1].handle.at, at[2].u64, &at[3].any.gate_facts),
+     OF_HANDLE(OPENED, gate), OF_HANDLE(OPENED, gate_rules), OF_KIND(NUMBER, U64), OF_SHAPE(OUT_STRUCT, gate_facts))
+CALL(gate_receive, MAY(REFUSED) | MAY(ABSENT) | MAY(NO_MEMORY), (at[0].handle.at, at[1].u8, TEXT_OF(at[2])),
+     OF_HANDLE(OPENED, gate), OF_KIND(NUMBER, U8), PLAIN(GIVEN_TEXT))
+CALL(gate_finish, MAY(REFUSED) | MAY(ABSENT), (at[0].handle.at, at[1].u8), OF_HANDLE(OPENED, gate),
+     OF_KIND(NUMBER, U8))
+CALL(gate_output, MAY(REFUSED) | MAY(ABSENT), (at[0].handle.at, at[1].u8, ROOM(at[2])), OF_HANDLE(OPENED, gate),
+     OF_KIND(NUMBER, U8), PLAIN(PIECE))
+CALL(gate_sent, MAY(REFUSED) | MAY(ABSENT), (at[0].handle.at, at[1].u8, at[2].u64), OF_HANDLE(OPENED, gate),
+     OF_KIND(NUMBER, U8), OF_KIND(NUMBER, U64))
+CALL(gate_clock, MAY(REFUSED) | MAY(ABSENT) | MAY(NO_MEMORY), (at[0].handle.at, at[1].u64), OF_HANDLE(OPENED, gate),
+     OF_KIND(NUMBER, U64))
+CALL(gate_timed_out, MAY(ABSENT), (at[0].handle.at), OF_HANDLE(OPENED, gate))
+CALL(gate_close_after, MAY(ABSENT), (at[0].handle.at), OF_HANDLE(OPENED, gate))
+CALL(gate_method, MAY(ABSENT), (at[0].handle.at, ROOM(at[1])), OF_HANDLE(OPENED, gate), PLAIN(ROOM_OF_BYTES))
+CALL(gate_target, MAY(ABSENT), (at[0].handle.at, ROOM(at[1])), OF_HANDLE(OPENED, gate), PLAIN(ROOM_OF_BYTES))
+CALL(gate_authority, MAY(ABSENT), (at[0].handle.at, ROOM(at[1])), OF_HANDLE(OPENED, gate), PLAIN(ROOM_OF_BYTES))
+CALL(gate_key, MAY(ABSENT) | MAY(NO_MEMORY), (at[0].handle.at, ROOM(at[1])), OF_HANDLE(OPENED, gate),
+     PLAIN(ROOM_OF_BYTES))
+CALL(gate_field, MAY(REFUSED) | MAY(ABSENT) | MAY(NO_MEMORY), (at[0].handle.at, TEXT_OF(at[1]), ROOM(at[2])),
+     OF_HANDLE(OPENED, gate), PLAIN(GIVEN_TEXT), PLAIN(ROOM_OF_BYTES))
+CALL(gate_fields, MAY(ABSENT) | MAY(NO_MEMORY), (at[0].handle.at, ROOM(at[1])), OF_HANDLE(OPENED, gate),
+     PLAIN(ROOM_OF_BYTES))
+CALL(gate_conditions, MAY(REFUSED) | MAY(ABSENT) | MAY(TOO_LARGE) | MAY(NO_MEMORY), (at[0].handle.at, TEXT_OF(at[1]),
+     &keys), OF_HANDLE(OPENED, gate), PLAIN(GIVEN_TEXT))
+CALL(gate_forward, MAY(ABSENT), (at[0].handle.at, at[1].handle.at), OF_HANDLE(OPENED, gate),
+     OF_HANDLE(OPENED, gate_origin))
+CALL(gate_again, MAY(ABSENT), (at[0].handle.at), OF_HANDLE(OPENED, gate))
+CALL(gate_answer, MAY(REFUSED) | MAY(ABSENT), (at[0].handle.at, at[1].u16), OF_HANDLE(OPENED, gate),
+     OF_KIND(NUMBER, U16))
+CALL(gate_respond, MAY(REFUSED) | MAY(ABSENT) | MAY(TOO_LARGE) | MAY(NO_MEMORY), (at[0].handle.at, at[1].u16,
+     TEXT_OF(at[2]), at[3].u64, &keys), OF_HANDLE(OPENED, gate), OF_KIND(NUMBER, U16), PLAIN(GIVEN_TEXT),
+     OF_KIND(NUMBER, U64))
+CALL(gate_push, MAY(REFUSED) | MAY(ABSENT) | MAY(NO_MEMORY), (at[0].handle.at, TEXT_OF(at[1])),
+     OF_HANDLE(OPENED, gate), PLAIN(GIVEN_TEXT))
+CALL(gate_end, MAY(REFUSED) | MAY(ABSENT) | MAY(NO_MEMORY), (at[0].handle.at), OF_HANDLE(OPENED, gate))
+CALL(gate_response, MAY(ABSENT) | MAY(NO_MEMORY), (at[0].handle.at, &at[1].u16, ROOM(at[2])),
+     OF_HANDLE(OPENED, gate), OF_KIND(OUT_NUMBER, U16), PLAIN(ROOM_OF_BYTES))
+CALL(gate_pass, MAY(ABSENT), (at[0].handle.at), OF_HANDLE(OPENED, gate))
+CALL(gate_piece, MAY(ABSENT), (at[0].handle.at, ROOM(at[1])), OF_HANDLE(OPENED, gate), PLAIN(ROOM_OF_BYTES))
+CALL(gate_take, MAY(REFUSED) | MAY(ABSENT) | MAY(NO_MEMORY), (at[0].handle.at, at[1].handle.at),
+     OF_HANDLE(OPENED, gate), OF_HANDLE(OPENED, gate_origin))
+CALL(gate_own, MAY(ABSENT), (at[0].handle.at, &at[1].u16), OF_HANDLE(OPENED, gate), OF_KIND(OUT_NUMBER, U16))
+CALL(gate_tunnel, MAY(ABSENT) | MAY(NO_MEMORY), (at[0].handle.at), OF_HANDLE(OPENED, gate))
+CALL(gate_ask, MAY(ABSENT) | MAY(NO_MEMORY), (at[0].handle.at, TEXT_OF(at[1]), TEXT_OF(at[2]), TEXT_OF(at[3])),
+     OF_HANDLE(OPENED, gate), PLAIN(GIVEN_TEXT), PLAIN(GIVEN_TEXT), PLAIN(GIVEN_TEXT))
 
 enum { MOST_SLOTS = 9 };
 #define CALLS \
@@ -420,4 +490,11 @@ enum { MOST_SLOTS = 9 };
     METHOD(connection_rejection), METHOD(connection_planned), METHOD(pass_free), METHOD(pass_begin), \
     METHOD(pass_resume), METHOD(pass_came), METHOD(pass_failed), METHOD(pass_fields), METHOD(pass_validation), \
     METHOD(pass_content), METHOD(pass_received), METHOD(pass_ended), METHOD(files_free), METHOD(files_new), \
-    METHOD(files_path), METHOD(files_plan)
+    METHOD(files_path), METHOD(files_plan), METHOD(gate_rules_free), METHOD(gate_free), METHOD(gate_origin_free), \
+    METHOD(gate_rules_new), METHOD(gate_new), METHOD(gate_origin_new), METHOD(gate_next), METHOD(gate_receive), \
+    METHOD(gate_finish), METHOD(gate_output), METHOD(gate_sent), METHOD(gate_clock), METHOD(gate_timed_out), \
+    METHOD(gate_close_after), METHOD(gate_method), METHOD(gate_target), METHOD(gate_authority), METHOD(gate_key), \
+    METHOD(gate_field), METHOD(gate_fields), METHOD(gate_conditions), METHOD(gate_forward), METHOD(gate_again), \
+    METHOD(gate_answer), METHOD(gate_respond), METHOD(gate_push), METHOD(gate_end), METHOD(gate_response), \
+    METHOD(gate_pass), METHOD(gate_piece), METHOD(gate_take), METHOD(gate_own), METHOD(gate_tunnel), \
+    METHOD(gate_ask)

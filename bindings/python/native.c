@@ -194,8 +194,8 @@ struct shape {
     static const struct shape name##_shape = {sizeof(struct typed_headers_##name), COUNT(name##_members),              \
                                               name##_members};
 
-/* A handle is a capsule, which is closed once nothing refers to it. The interpreter's lock is held during a call, so a
-   handle is in one call at a time. Zero bytes are a closed one. */
+/* A handle is a capsule, which is closed once nothing refers to it. Calls that only read one may overlap; the others do
+   not, as the interpreter's lock is held during a call. Zero bytes are a closed one. */
 struct handle {
     const char *name;
     size_t size;

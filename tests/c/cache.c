@@ -135,7 +135,7 @@ static bool is_filled(const uint8_t *from, const uint8_t *to) {
     return true;
 }
 
-typedef uint8_t written_lines(struct typed_headers_pass *, uint8_t *, size_t, size_t *);
+typedef uint8_t written_lines(const struct typed_headers_pass *, uint8_t *, size_t, size_t *);
 
 /* The lines that a call writes, with each room from none to one byte more than is wanted. */
 static bool writes(written_lines *call, const char *lines) {

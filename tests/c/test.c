@@ -1128,7 +1128,7 @@ struct offers_call {
     struct typed_headers_text lines, offers;
     /* The name of the field, and the call by a handle, if there is one. */
     const char *name;
-    uint8_t (*choose_of)(struct typed_headers_section *fields, const uint8_t *offers, size_t offers_length,
+    uint8_t (*choose_of)(const struct typed_headers_section *fields, const uint8_t *offers, size_t offers_length,
                          size_t *place);
 };
 

@@ -19,7 +19,8 @@ use Rattle.server_connection.specs.Machine.{HandsOutRange, HasNoRange, IsNextRan
 use Rattle.c_parts.{specs.Endings.{Writes, done}, specs.FieldText.IsNameOf, specs.declared.status.Failure.Failure}
 use Rattle.c_parts.specs.declared.status.Failure.TheVariants.{Refused, Memory, Absent}
 use Rattle.c_pass.specs.Validating.{map_text}
-use Rattle.c_handles.{specs.Handles.{OnHeld, connection_in}, specs.declared.held.Held.Held}
+use Rattle.c_handles.{specs.Handles.{OnHeld, connection_in}, specs.Views.IsSame, specs.declared.held.Held.Held}
+use Rattle.c_handles.specs.declared.view.View.{View}
 use Rattle.c_handles.specs.declared.held.Held.TheVariants as held
 use Rattle.c_handles.specs.declared.held.HeldConnection.{HeldConnection}
 use Rattle.c_connection.{specs.declared.host.HostHistory.HostHistory, specs.declared.reading.Text.Text}
@@ -199,10 +200,10 @@ IsText (Output most) held answer = answer ≡ Ok (front_of held.connection.machi
 IsText TimeOut held answer = IsTimedOut held answer
 
 -- a call that writes these bytes, and leaves the handle as it is
-abbrev pub Shows : Text → (handle new_handle : Option Held) → (old new : List ℕ) → (before written status : ℕ) → Type 0
-Shows text handle new_handle old new before written status =
-    (new_handle ≡ handle)
-    × Writes (λ bytes. bytes) (λ _. done) (OnHeld (IsText text) (connection_in handle)) old new before written status
+abbrev pub Shows : Text → (view new_view : View) → (old new : List ℕ) → (before written status : ℕ) → Type 0
+Shows text view new_view old new before written status =
+    IsSame view new_view
+    × Writes (λ bytes. bytes) (λ _. done) (OnHeld (IsText text) (connection_in view.held)) old new before written status
 
 -- the range that is to be sent next; `Absent` if there is none
 abbrev pub IsRangeNext : HeldConnection → Result OpenRange Failure → Type 0

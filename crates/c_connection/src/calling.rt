@@ -1,40 +1,37 @@
 //! Calls on the handle of a connection: one asks it and leaves it as it is, the other changes it.
 ghost use Rattle.std.{specs.Prelude.{◌≡◌, Some}, specs.Fn.{FnOnceReturnsAt, FnOnceReturnsAtMut}};
-ghost use Rattle.c_handles.specs.Handles.{OnHeld, connection_in};
+ghost use Rattle.c_handles.{specs.Handles.{OnHeld, connection_in}, specs.Views.IsSame};
 ghost use Rattle.c_connection.specs.Calls.{OnConnection};
 
-use c_handles::{Handle, Held, HeldConnection};
+use c_handles::{Handle, Held, HeldConnection, Lent, View};
 use c_parts::Failure;
 use std::alloc::Global;
 
 fn ask_in<V, F: FnOnce(&HeldConnection) -> Result<V, Failure>>(
-    held: &Held,
+    lent: &Lent,
     question: F,
 ) -> Result<V, Failure>
     requires { F.IsAlwaysCallable question }
-    ensures { OnHeld (FnOnceReturnsAt F.FnOnce question) (connection_in (Some held.now)) result }
+    ensures { OnHeld (FnOnceReturnsAt F.FnOnce question) (connection_in lent.now.loan.held) result }
 {
-    match held {
-        Held::Connection(connection) => question(connection),
-        _ => Err(Failure::Absent),
+    match lent.connection() {
+        Some(connection) => question(connection),
+        None => Err(Failure::Absent),
     }
 }
 
 /// Asks the connection that a handle has. `Absent` if it has none.
 pub(crate) fn ask<V, F: FnOnce(&HeldConnection) -> Result<V, Failure>>(
-    alloc: Global,
-    handle: &mut Handle,
+    view: &mut View,
     question: F,
 ) -> Result<V, Failure>
     requires { F.IsAlwaysCallable question }
-    ensures same { handle.new.held ≡ handle.old.held }
-    ensures answer { OnHeld (FnOnceReturnsAt F.FnOnce question) (connection_in handle.old.held) result }
+    ensures same { IsSame view.old view.new }
+    ensures answer { OnHeld (FnOnceReturnsAt F.FnOnce question) (connection_in view.old.held) result }
 {
-    let Some(held) = handle.take(alloc) else {
-        return Err(Failure::Absent);
-    };
-    let answer = ask_in(&held, question);
-    handle.put(held);
+    let lent = view.take();
+    let answer = ask_in(&lent, question);
+    view.put(lent);
     answer
 }
 

@@ -1,10 +1,10 @@
 //! Calls on a service of files, for the request that waits on a connection.
 ghost use Rattle.std.{specs.Prelude.{◌≡◌, Some, string_bytes}, specs.Result.result_map_both};
-ghost use Rattle.c_handles.specs.Handles.{Opens, connection_in, files_in};
+ghost use Rattle.c_handles.{specs.Handles.{Opens, connection_in, files_in}, specs.Views.IsSame};
 ghost use Rattle.c_connection.specs.Files.{IsFilesHeld, IsPathNext, Plans};
 
 use c_files::{Facts, FilesOptions, new_files, path_for, plan_response, settings_of};
-use c_handles::{Handle, Held};
+use c_handles::{Handle, Held, Lent, View};
 use c_parts::{Failure, HashKeys};
 use std::alloc::Global;
 
@@ -33,18 +33,19 @@ pub fn open_files(
 
 fn next_path_in(
     alloc: Global,
-    files: &Held,
-    connection: &Held,
+    files: &Lent,
+    connection: &Lent,
     found: &[Facts],
 ) -> Result<String, Failure>
-    ensures { IsPathNext found.now (files_in (Some files.now)) (connection_in (Some connection.now))
+    ensures { IsPathNext found.now (files_in files.now.loan.held) (connection_in connection.now.loan.held)
         (result_map_both string_bytes (λ failure. failure) result) }
 {
-    match (files, connection) {
-        (Held::Files(files), Held::Connection(held)) => {
-            path_for(alloc, files, &held.connection, found)
-        }
-        _ => Err(Failure::Absent),
+    let Some(files) = files.files() else {
+        return Err(Failure::Absent);
+    };
+    match connection.connection() {
+        Some(held) => path_for(alloc, files, &held.connection, found),
+        None => Err(Failure::Absent),
     }
 }
 
@@ -52,22 +53,17 @@ fn next_path_in(
 /// nothing is left to open, or if a handle is closed; `Refused` if no request waits.
 pub fn next_path(
     alloc: Global,
-    files: &mut Handle,
-    connection: &mut Handle,
+    files: &mut View,
+    connection: &mut View,
     found: &[Facts],
 ) -> Result<String, Failure>
-    ensures same_files { files.new.held ≡ files.old.held }
-    ensures same_connection { connection.new.held ≡ connection.old.held }
+    ensures same_files { IsSame files.old files.new }
+    ensures same_connection { IsSame connection.old connection.new }
     ensures path { IsPathNext found.now (files_in files.old.held) (connection_in connection.old.held)
         (result_map_both string_bytes (λ failure. failure) result) }
 {
-    let Some(service) = files.take(alloc) else {
-        return Err(Failure::Absent);
-    };
-    let Some(held) = connection.take(alloc) else {
-        files.put(service);
-        return Err(Failure::Absent);
-    };
+    let service = files.take();
+    let held = connection.take();
     let path = next_path_in(alloc, &service, &held, found);
     files.put(service);
     connection.put(held);

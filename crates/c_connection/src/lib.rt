@@ -15,5 +15,6 @@ pub use crate::files::{next_path, open_files, plan_files};
 pub use crate::moving::{finish_input, next, open_connection, receive, respond, sent};
 pub use crate::planning::{add_bytes, add_field, add_range, begin};
 pub use crate::reading::{
-    Text, fields_of, planned_of, range_of, rejection_of, version_of, write_text,
+    Text, fields_of, front_of, lines_of_map, planned_of, range_of, rejection_of, version_of,
+    write_text,
 };

@@ -1,13 +1,13 @@
 //! Calls that read what a connection has.
 ghost use Rattle.std.specs.Prelude.{◌≡◌, ◌↔◌, IfErr, IfOk, IsTrue, Ok, Err, Some, option_map};
-ghost use Rattle.c_handles.specs.Handles.{OnHeld, connection_in};
+ghost use Rattle.c_handles.{specs.Handles.{OnHeld, connection_in}, specs.Views.IsSame};
 ghost use Rattle.c_parts.specs.Endings.{Writes, done};
 ghost use Rattle.c_pass.specs.Validating.{map_text};
 ghost use Rattle.c_connection.specs.Calls.{AreFields, IsField, IsLate, IsRangeNext, IsRejection, IsText, IsVersion};
 ghost use Rattle.c_connection.specs.Calls.{OnAsked, OnName, Shows, front_of, is_found, planned};
 
 use crate::calling::ask;
-use c_handles::{Handle, Held, HeldConnection};
+use c_handles::{HeldConnection, Lent, View};
 use c_parts::{DONE, Failure, copy_into, read_name};
 use headers_section::print_line;
 use http::Version;
@@ -54,8 +54,8 @@ fn asked<'h>(held: &HeldConnection, found: Option<&'h [u8]>) -> Result<&'h [u8],
     }
 }
 
-// The first bytes, at most so many.
-fn front_of(bytes: &[u8], most: usize) -> &[u8]
+/// The first bytes, at most so many.
+pub fn front_of(bytes: &[u8], most: usize) -> &[u8]
     ensures { result.now ≡ front_of bytes.now most }
 {
     &bytes[..bytes.len().min(most)]
@@ -113,11 +113,11 @@ fn text_of<'h>(alloc: Global, held: &'h HeldConnection, text: Text<'_>) -> Resul
     }
 }
 
-fn write_in(alloc: Global, held: &Held, text: Text<'_>, room: &mut [u8], written: &mut usize) -> u8
-    ensures { Writes (λ bytes. bytes) (λ _. done) (OnHeld (IsText text.entry) (connection_in (Some held.now)))
+fn write_in(alloc: Global, lent: &Lent, text: Text<'_>, room: &mut [u8], written: &mut usize) -> u8
+    ensures { Writes (λ bytes. bytes) (λ _. done) (OnHeld (IsText text.entry) (connection_in lent.now.loan.held))
         room.old room.new written.old written.new result }
 {
-    let Held::Connection(held) = held else {
+    let Some(held) = lent.connection() else {
         return Failure::Absent.status();
     };
     match text_of(alloc, held, text) {
@@ -129,22 +129,21 @@ fn write_in(alloc: Global, held: &Held, text: Text<'_>, room: &mut [u8], written
 /// Writes these bytes. Rejected if they are of the request that waits and none waits. `Absent` if there are none.
 pub fn write_text(
     alloc: Global,
-    handle: &mut Handle,
+    view: &mut View,
     text: Text<'_>,
     room: &mut [u8],
     written: &mut usize,
 ) -> u8
-    ensures { Shows text.entry handle.old.held handle.new.held room.old room.new written.old written.new result }
+    ensures { Shows text.entry view.old view.new room.old room.new written.old written.new result }
 {
-    let Some(held) = handle.take(alloc) else {
-        return Failure::Absent.status();
-    };
-    let status = write_in(alloc, &held, text, room, written);
-    handle.put(held);
+    let lent = view.take();
+    let status = write_in(alloc, &lent, text, room, written);
+    view.put(lent);
     status
 }
 
-fn lines_of_map(alloc: Global, map: &HeaderMap) -> Result<Vec<u8>, AllocError>
+/// The field lines of a map, each as `name: value` and a line end. Fails only if an allocation fails.
+pub fn lines_of_map(alloc: Global, map: &HeaderMap) -> Result<Vec<u8>, AllocError>
     ensures { IfOk result (λ text. text.items ≡ map_text map.now) }
 {
     let mut text = Vec::new(alloc);
@@ -168,11 +167,11 @@ fn fields_in(alloc: Global, held: &HeldConnection) -> Result<Vec<u8>, Failure>
 
 /// The field lines of the request that waits, each with a byte 10 after it. Those of one name come together, in their
 /// order. Rejected if no request waits.
-pub fn fields_of(alloc: Global, handle: &mut Handle) -> Result<Vec<u8>, Failure>
-    ensures same { handle.new.held ≡ handle.old.held }
-    ensures fields { OnHeld AreFields (connection_in handle.old.held) result }
+pub fn fields_of(alloc: Global, view: &mut View) -> Result<Vec<u8>, Failure>
+    ensures same { IsSame view.old view.new }
+    ensures fields { OnHeld AreFields (connection_in view.old.held) result }
 {
-    ask(alloc, handle, |held| fields_in(alloc, held))
+    ask(view, |held| fields_in(alloc, held))
 }
 
 fn version_in(held: &HeldConnection) -> Result<u8, Failure>
@@ -189,11 +188,11 @@ fn version_in(held: &HeldConnection) -> Result<u8, Failure>
 }
 
 /// The version of HTTP of the request that waits: 10 or 11. Rejected if none waits.
-pub fn version_of(alloc: Global, handle: &mut Handle) -> Result<u8, Failure>
-    ensures same { handle.new.held ≡ handle.old.held }
-    ensures version { OnHeld IsVersion (connection_in handle.old.held) result }
+pub fn version_of(view: &mut View) -> Result<u8, Failure>
+    ensures same { IsSame view.old view.new }
+    ensures version { OnHeld IsVersion (connection_in view.old.held) result }
 {
-    ask(alloc, handle, |held| version_in(held))
+    ask(view, |held| version_in(held))
 }
 
 fn range_in(held: &HeldConnection) -> Result<OpenRange, Failure>
@@ -206,32 +205,28 @@ fn range_in(held: &HeldConnection) -> Result<OpenRange, Failure>
 }
 
 /// The range of what the host has open that is to be written once no bytes wait. `Absent` also if there is none.
-pub fn range_of(alloc: Global, handle: &mut Handle) -> Result<OpenRange, Failure>
-    ensures same { handle.new.held ≡ handle.old.held }
-    ensures range { OnHeld IsRangeNext (connection_in handle.old.held) result }
+pub fn range_of(view: &mut View) -> Result<OpenRange, Failure>
+    ensures same { IsSame view.old view.new }
+    ensures range { OnHeld IsRangeNext (connection_in view.old.held) result }
 {
-    ask(alloc, handle, |held| range_in(held))
+    ask(view, |held| range_in(held))
 }
 
 /// The status by which the connection rejected what it received. `Absent` also if it rejected nothing.
-pub fn rejection_of(alloc: Global, handle: &mut Handle) -> Result<u16, Failure>
-    ensures same { handle.new.held ≡ handle.old.held }
-    ensures status { OnHeld IsRejection (connection_in handle.old.held) result }
+pub fn rejection_of(view: &mut View) -> Result<u16, Failure>
+    ensures same { IsSame view.old view.new }
+    ensures status { OnHeld IsRejection (connection_in view.old.held) result }
 {
-    ask(alloc, handle, |held| match held.rejection {
+    ask(view, |held| match held.rejection {
         0 => Err(Failure::Absent),
         rejection => Ok(rejection),
     })
 }
 
 /// The status of the plan, and how long its content is.
-pub fn planned_of(alloc: Global, handle: &mut Handle) -> Result<(u16, u64), Failure>
-    ensures same { handle.new.held ≡ handle.old.held }
-    ensures planned { OnHeld (λ held answer. answer ≡ Ok (planned held)) (connection_in handle.old.held) result }
+pub fn planned_of(view: &mut View) -> Result<(u16, u64), Failure>
+    ensures same { IsSame view.old view.new }
+    ensures planned { OnHeld (λ held answer. answer ≡ Ok (planned held)) (connection_in view.old.held) result }
 {
-    ask(
-        alloc,
-        handle,
-        |held| Ok((held.plan.status.as_u16(), held.plan.len)),
-    )
+    ask(view, |held| Ok((held.plan.status.as_u16(), held.plan.len)))
 }

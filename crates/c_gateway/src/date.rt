@@ -8,7 +8,7 @@ use headers::Date;
 const END_OF_DATES: u64 = 253_402_300_800;
 
 /// The date of a second since the start of 1970.
-pub(crate) fn read_date(second: u64) -> Result<Date, Failure>
+pub fn read_date(second: u64) -> Result<Date, Failure>
     ensures { IsDateOf second result }
 {
     if second >= END_OF_DATES {

@@ -36,7 +36,7 @@ fn read_pseudonym(alloc: Global, text: &[u8]) -> Result<Pseudonym, Failure>
 }
 
 /// The gateway that is handed in.
-pub(crate) fn read_gateway(alloc: Global, options: &GatewayOptions<'_>) -> Result<Gateway, Failure>
+pub fn read_gateway(alloc: Global, options: &GatewayOptions<'_>) -> Result<Gateway, Failure>
     ensures { IsGatewayOf options.entry.now result }
 {
     let pseudonym = read_pseudonym(alloc, options.pseudonym)?;

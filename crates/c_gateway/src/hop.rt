@@ -81,7 +81,8 @@ pub(crate) fn forwarding_of(options: &HopOptions<'_>) -> Forwarding
     }
 }
 
-fn scheme_of(is_secure: bool) -> Scheme
+/// The scheme of a connection, by whether it is secure.
+pub fn scheme_of(is_secure: bool) -> Scheme
     ensures { result ≡ scheme_of is_secure }
 {
     if is_secure {

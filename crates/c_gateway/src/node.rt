@@ -46,7 +46,7 @@ fn port_of(number: u16) -> Option<NodePort>
 }
 
 /// The node of a text and a port.
-pub(crate) fn read_node(alloc: Global, text: &[u8], port: u16) -> Result<Node, Failure>
+pub fn read_node(alloc: Global, text: &[u8], port: u16) -> Result<Node, Failure>
     ensures { IsNodeOf text.now port result }
 {
     let name = read_node_name(alloc, text)?;

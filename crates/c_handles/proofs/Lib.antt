@@ -1,2 +1,3 @@
+mod Lending
 mod OpenLemmas
 mod PassLemmas

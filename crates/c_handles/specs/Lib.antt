@@ -4,3 +4,4 @@ pub mod Passes
 pub mod Policies
 pub mod Resources
 pub mod Sections
+pub mod Views

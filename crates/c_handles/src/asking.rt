@@ -1,11 +1,9 @@
 //! What is asked of a section.
-ghost use Rattle.std.specs.Prelude.{◌≡◌, Some};
 ghost use Rattle.decide_negotiation.{specs.Choice.Chooses, specs.Qualities.quality_in};
 ghost use Rattle.c_handles.{specs.Handles.{OnHeld, section_in}, specs.Sections.{EvaluatesOf, FindsOf, RespondsOf}};
-ghost use Rattle.c_handles.specs.Sections.{SelectsOf, lines_under};
+ghost use Rattle.c_handles.{specs.Sections.{SelectsOf, lines_under}, specs.Views.IsSame};
 
-use crate::handle::Handle;
-use crate::held::Held;
+use crate::view::{Lent, View};
 use c_decisions::{
     ContentParts, Responded, Selected, TargetFacts, boundary_of, code_of, content_of, given,
     read_method, read_resource, show_response, show_selection, values_of,
@@ -36,15 +34,15 @@ fn evaluate_of(
 
 fn evaluate_in(
     alloc: Global,
-    held: &Held,
+    lent: &Lent,
     method: &[u8],
     target: &TargetFacts<'_>,
 ) -> Result<u16, Failure>
-    ensures { OnHeld (λ fields. EvaluatesOf fields method.now target.now) (section_in (Some held.now)) result }
+    ensures { OnHeld (λ fields. EvaluatesOf fields method.now target.now) (section_in lent.now.loan.held) result }
 {
-    match held {
-        Held::Section(fields) => evaluate_of(alloc, fields, method, target),
-        _ => Err(Failure::Absent),
+    match lent.section() {
+        Some(fields) => evaluate_of(alloc, fields, method, target),
+        None => Err(Failure::Absent),
     }
 }
 
@@ -52,18 +50,16 @@ fn evaluate_in(
 /// method is performed, 304 or 412.
 pub fn evaluate(
     alloc: Global,
-    section: &mut Handle,
+    section: &mut View,
     method: &[u8],
     target: &TargetFacts<'_>,
 ) -> Result<u16, Failure>
-    ensures same { section.new.held ≡ section.old.held }
+    ensures same { IsSame section.old section.new }
     ensures answer { OnHeld (λ fields. EvaluatesOf fields method.now target.now) (section_in section.old.held) result }
 {
-    let Some(held) = section.take(alloc) else {
-        return Err(Failure::Absent);
-    };
-    let answer = evaluate_in(alloc, &held, method, target);
-    section.put(held);
+    let lent = section.take();
+    let answer = evaluate_in(alloc, &lent, method, target);
+    section.put(lent);
     answer
 }
 
@@ -96,16 +92,16 @@ fn select_of(
 
 fn select_in(
     alloc: Global,
-    held: &Held,
+    lent: &Lent,
     method: &[u8],
     target: &TargetFacts<'_>,
     length: u64,
 ) -> Result<Selected, Failure>
-    ensures { OnHeld (λ fields. SelectsOf fields method.now target.now length) (section_in (Some held.now)) result }
+    ensures { OnHeld (λ fields. SelectsOf fields method.now target.now length) (section_in lent.now.loan.held) result }
 {
-    match held {
-        Held::Section(fields) => select_of(alloc, fields, method, target, length),
-        _ => Err(Failure::Absent),
+    match lent.section() {
+        Some(fields) => select_of(alloc, fields, method, target, length),
+        None => Err(Failure::Absent),
     }
 }
 
@@ -113,20 +109,18 @@ fn select_in(
 /// sections 13.2.2 and 14.2).
 pub fn select(
     alloc: Global,
-    section: &mut Handle,
+    section: &mut View,
     method: &[u8],
     target: &TargetFacts<'_>,
     length: u64,
 ) -> Result<Selected, Failure>
-    ensures same { section.new.held ≡ section.old.held }
+    ensures same { IsSame section.old section.new }
     ensures answer { OnHeld (λ fields. SelectsOf fields method.now target.now length)
         (section_in section.old.held) result }
 {
-    let Some(held) = section.take(alloc) else {
-        return Err(Failure::Absent);
-    };
-    let answer = select_in(alloc, &held, method, target, length);
-    section.put(held);
+    let lent = section.take();
+    let answer = select_in(alloc, &lent, method, target, length);
+    section.put(lent);
     answer
 }
 
@@ -158,16 +152,16 @@ fn respond_of(
 
 fn respond_in(
     alloc: Global,
-    held: &Held,
+    lent: &Lent,
     method: &[u8],
     target: &TargetFacts<'_>,
     parts: &ContentParts<'_>,
 ) -> Result<Responded, Failure>
-    ensures { OnHeld (λ fields. RespondsOf fields method.now target.now parts.now) (section_in (Some held.now)) result }
+    ensures { OnHeld (λ fields. RespondsOf fields method.now target.now parts.now) (section_in lent.now.loan.held) result }
 {
-    match held {
-        Held::Section(fields) => respond_of(alloc, fields, method, target, parts),
-        _ => Err(Failure::Absent),
+    match lent.section() {
+        Some(fields) => respond_of(alloc, fields, method, target, parts),
+        None => Err(Failure::Absent),
     }
 }
 
@@ -175,20 +169,18 @@ fn respond_in(
 /// 14.2), within the usual limits.
 pub fn respond(
     alloc: Global,
-    section: &mut Handle,
+    section: &mut View,
     method: &[u8],
     target: &TargetFacts<'_>,
     parts: &ContentParts<'_>,
 ) -> Result<Responded, Failure>
-    ensures same { section.new.held ≡ section.old.held }
+    ensures same { IsSame section.old section.new }
     ensures answer { OnHeld (λ fields. RespondsOf fields method.now target.now parts.now)
         (section_in section.old.held) result }
 {
-    let Some(held) = section.take(alloc) else {
-        return Err(Failure::Absent);
-    };
-    let answer = respond_in(alloc, &held, method, target, parts);
-    section.put(held);
+    let lent = section.take();
+    let answer = respond_in(alloc, &lent, method, target, parts);
+    section.put(lent);
     answer
 }
 
@@ -203,13 +195,13 @@ fn choose_of<D: Dimension>(
     given(negotiate::<D>(fields, offers.as_slice()))
 }
 
-fn choose_in<D: Dimension>(alloc: Global, held: &Held, offers: &[u8]) -> Result<usize, Failure>
+fn choose_in<D: Dimension>(alloc: Global, lent: &Lent, offers: &[u8]) -> Result<usize, Failure>
     ensures { OnHeld (λ fields. FindsOf (Chooses (quality_in D.gives (lines_under fields D.NAME))) offers.now)
-        (section_in (Some held.now)) result }
+        (section_in lent.now.loan.held) result }
 {
-    match held {
-        Held::Section(fields) => choose_of::<D>(alloc, fields, offers),
-        _ => Err(Failure::Absent),
+    match lent.section() {
+        Some(fields) => choose_of::<D>(alloc, fields, offers),
+        None => Err(Failure::Absent),
     }
 }
 
@@ -217,17 +209,15 @@ fn choose_in<D: Dimension>(alloc: Global, held: &Held, offers: &[u8]) -> Result<
 /// 12.5). The offers are one a line, the preferred one first. `Absent` if none is acceptable.
 pub fn choose<D: Dimension>(
     alloc: Global,
-    section: &mut Handle,
+    section: &mut View,
     offers: &[u8],
 ) -> Result<usize, Failure>
-    ensures same { section.new.held ≡ section.old.held }
+    ensures same { IsSame section.old section.new }
     ensures place { OnHeld (λ fields. FindsOf (Chooses (quality_in D.gives (lines_under fields D.NAME))) offers.now)
         (section_in section.old.held) result }
 {
-    let Some(held) = section.take(alloc) else {
-        return Err(Failure::Absent);
-    };
-    let place = choose_in::<D>(alloc, &held, offers);
-    section.put(held);
+    let lent = section.take();
+    let place = choose_in::<D>(alloc, &lent, offers);
+    section.put(lent);
     place
 }

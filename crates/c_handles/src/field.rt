@@ -1,12 +1,11 @@
 //! The canonical field lines of a header in a section.
-ghost use Rattle.std.specs.Prelude.{◌≡◌, ◌<◌, [], length, option_map, IfOk, MatchBool, Some};
+ghost use Rattle.std.specs.Prelude.{◌≡◌, ◌<◌, [], length, option_map, IfOk, MatchBool};
 ghost use Rattle.http_header.specs.HeaderMap.{get_all};
 ghost use Rattle.headers.specs.Lines.{lines_of};
 ghost use Rattle.c_parts.specs.Written.{IsWrittenBlock};
-ghost use Rattle.c_handles.{specs.Handles.{OnHeld, section_in}, specs.Sections.IsWrittenOf};
+ghost use Rattle.c_handles.{specs.Handles.{OnHeld, section_in}, specs.Sections.IsWrittenOf, specs.Views.IsSame};
 
-use crate::handle::Handle;
-use crate::held::Held;
+use crate::view::{Lent, View};
 use c_parts::{Failure, credentials_lines, has_credentials, read_name};
 use headers::{HeaderMap, HeaderName, HeaderValue};
 use headers_section::read_block;
@@ -65,12 +64,12 @@ fn field_of(alloc: Global, fields: &HeaderMap, name: &[u8]) -> Result<Vec<Header
     }
 }
 
-fn field_in(alloc: Global, held: &Held, name: &[u8]) -> Result<Vec<HeaderValue>, Failure>
-    ensures { OnHeld (λ fields. IsWrittenOf fields name.now) (section_in (Some held.now)) result }
+fn field_in(alloc: Global, lent: &Lent, name: &[u8]) -> Result<Vec<HeaderValue>, Failure>
+    ensures { OnHeld (λ fields. IsWrittenOf fields name.now) (section_in lent.now.loan.held) result }
 {
-    match held {
-        Held::Section(fields) => field_of(alloc, fields, name),
-        _ => Err(Failure::Absent),
+    match lent.section() {
+        Some(fields) => field_of(alloc, fields, name),
+        None => Err(Failure::Absent),
     }
 }
 
@@ -78,16 +77,14 @@ fn field_in(alloc: Global, held: &Held, name: &[u8]) -> Result<Vec<HeaderValue>,
 /// lines in the section decode to. The lines of a name that is no known header are unchanged.
 pub fn written_field(
     alloc: Global,
-    section: &mut Handle,
+    section: &mut View,
     name: &[u8],
 ) -> Result<Vec<HeaderValue>, Failure>
-    ensures same { section.new.held ≡ section.old.held }
+    ensures same { IsSame section.old section.new }
     ensures lines { OnHeld (λ fields. IsWrittenOf fields name.now) (section_in section.old.held) result }
 {
-    let Some(held) = section.take(alloc) else {
-        return Err(Failure::Absent);
-    };
-    let lines = field_in(alloc, &held, name);
-    section.put(held);
+    let lent = section.take();
+    let lines = field_in(alloc, &lent, name);
+    section.put(lent);
     lines
 }

@@ -4,6 +4,9 @@ use c_files::HeldFiles;
 use c_pass::{Shared, Stepped};
 use decide_cors::CorsPolicy;
 use decide_resource::Resource;
+use gateway_connection::OriginConnection;
+use gateway_exchange::{GatewayConnection, GatewayRules, Tunnel};
+use gateway_hops::Scheme;
 use headers::HeaderMap;
 use server_connection::{ResponsePlan, ServerConnection};
 
@@ -18,6 +21,15 @@ pub struct HeldConnection {
     pub has_begun: bool,
     /// The status by which it rejected what it received, or 0.
     pub rejection: u16,
+}
+
+/// A gateway's connection, and the scheme by which its requests arrive.
+#[derive(Drop)]
+pub struct HeldGate {
+    /// The connection.
+    pub connection: GatewayConnection,
+    /// The scheme.
+    pub scheme: Scheme,
 }
 
 /// What an open handle has.
@@ -37,4 +49,12 @@ pub enum Held {
     Connection(HeldConnection),
     /// A service of files.
     Files(HeldFiles),
+    /// A gateway's connection.
+    Gate(HeldGate),
+    /// What became of one that is no longer HTTP.
+    Tunnel(Tunnel),
+    /// What a gateway does with each request.
+    GateRules(GatewayRules),
+    /// A connection to an origin.
+    GateOrigin(OriginConnection),
 }

@@ -5,15 +5,19 @@ mod asking;
 mod field;
 mod handle;
 mod held;
+mod loan;
 mod opening;
 mod passing;
 mod policy;
+mod reading;
 mod resource;
+mod view;
 
 pub use crate::asking::{choose, evaluate, respond, select};
 pub use crate::field::written_field;
 pub use crate::handle::Handle;
-pub use crate::held::{Held, HeldConnection};
+pub use crate::held::{Held, HeldConnection, HeldGate};
+pub use crate::loan::Loan;
 pub use crate::opening::{
     close, open, open_cache, open_cache_with, open_policy, open_resource, open_section,
 };
@@ -23,3 +27,4 @@ pub use crate::passing::{
 };
 pub use crate::policy::{CorsExchange, answer_cross_origin};
 pub use crate::resource::answer_as_resource;
+pub use crate::view::{Lent, View};

@@ -74,11 +74,8 @@ pub fn open_cache(
 ) -> Result<(), Failure>
     ensures { Opens (IsCacheHeld (IsPlain options.now keys.now)) handle.old.held handle.new.held result }
 {
-    open(
-        alloc,
-        handle,
-        new_cache(alloc, options, keys).map(Held::Cache),
-    )
+    let made = new_cache(alloc, options, keys);
+    open(alloc, handle, made.map(Held::Cache))
 }
 
 /// Opens a closed handle with an empty cache that does more than RFC 9111. Rejected also if the handle is open.

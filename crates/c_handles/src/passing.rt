@@ -4,10 +4,11 @@ ghost use Rattle.c_parts.specs.Endings.{Writes, done};
 ghost use Rattle.c_pass.{specs.Caches.Removes, specs.Steps.{Begins, Comes, Ends, Fails, Receives}};
 ghost use Rattle.c_pass.specs.Steps.{Resumes};
 ghost use Rattle.c_handles.{specs.Handles.pass_in, specs.Passes.{BeginsThrough, CopiesContent, OnBoth, OnCache}};
-ghost use Rattle.c_handles.specs.Passes.{OnPass, ShowsFields, ShowsItsValidation};
+ghost use Rattle.c_handles.{specs.Passes.{OnPass, ShowsFields, ShowsItsValidation}, specs.Views.IsSame};
 
 use crate::handle::Handle;
 use crate::held::Held;
+use crate::view::{Lent, View};
 use c_parts::{DONE, Failure, copy_into};
 use c_pass::{CacheRequest, PassFacts, Stepped, copy_content, validation_text};
 use std::alloc::Global;
@@ -239,85 +240,73 @@ pub fn pass_ended(
     number
 }
 
-fn copy_in(pass: &Held, from: usize, room: &mut [u8], written: &mut usize) -> Result<(), Failure>
-    ensures copies { CopiesContent from room.old room.new written.new (pass_in (Some pass.now)) result }
+fn copy_in(lent: &Lent, from: usize, room: &mut [u8], written: &mut usize) -> Result<(), Failure>
+    ensures copies { CopiesContent from room.old room.new written.new (pass_in lent.now.loan.held) result }
     ensures failed { IsErr result → (room.new ≡ room.old) × (written.new ≡ written.old) }
 {
-    match pass {
-        Held::Pass(stepped) => copy_content(stepped, from, room, written),
-        _ => Err(Failure::Absent),
+    match lent.pass() {
+        Some(stepped) => copy_content(stepped, from, room, written),
+        None => Err(Failure::Absent),
     }
 }
 
 /// Copies the content of the stored response that the last step of a pass named to the front of the room: from a
 /// position on, and as much as fits.
 pub fn copy_pass_content(
-    alloc: Global,
-    pass: &mut Handle,
+    pass: &mut View,
     from: usize,
     room: &mut [u8],
     written: &mut usize,
 ) -> Result<(), Failure>
+    ensures same { IsSame pass.old pass.new }
     ensures copies { CopiesContent from room.old room.new written.new (pass_in pass.old.held) result }
-    ensures pass { pass.new.held ≡ pass.old.held }
     ensures failed { IsErr result → (room.new ≡ room.old) × (written.new ≡ written.old) }
 {
-    let Some(stepped) = pass.take(alloc) else {
-        return Err(Failure::Absent);
-    };
-    let copied = copy_in(&stepped, from, room, written);
-    pass.put(stepped);
+    let lent = pass.take();
+    let copied = copy_in(&lent, from, room, written);
+    pass.put(lent);
     copied
 }
 
-fn write_in(pass: &Held, room: &mut [u8], written: &mut usize) -> u8
-    ensures { Writes (λ text. text) (λ _. done) (ShowsFields (pass_in (Some pass.now)))
+fn write_in(lent: &Lent, room: &mut [u8], written: &mut usize) -> u8
+    ensures { Writes (λ text. text) (λ _. done) (ShowsFields (pass_in lent.now.loan.held))
         room.old room.new written.old written.new result }
 {
-    match pass {
-        Held::Pass(stepped) => copy_into(stepped.text.as_slice(), DONE, room, written),
-        _ => Failure::Absent.status(),
+    match lent.pass() {
+        Some(stepped) => copy_into(stepped.text.as_slice(), DONE, room, written),
+        None => Failure::Absent.status(),
     }
 }
 
 /// Writes the field lines that the last step of a pass takes.
-pub fn write_pass_fields(
-    alloc: Global,
-    pass: &mut Handle,
-    room: &mut [u8],
-    written: &mut usize,
-) -> u8
+pub fn write_pass_fields(pass: &mut View, room: &mut [u8], written: &mut usize) -> u8
+    ensures same { IsSame pass.old pass.new }
     ensures fields { Writes (λ text. text) (λ _. done) (ShowsFields (pass_in pass.old.held))
         room.old room.new written.old written.new result }
-    ensures pass { pass.new.held ≡ pass.old.held }
 {
-    let Some(held) = pass.take(alloc) else {
-        return Failure::Absent.status();
-    };
-    let status = write_in(&held, room, written);
-    pass.put(held);
+    let lent = pass.take();
+    let status = write_in(&lent, room, written);
+    pass.put(lent);
     status
 }
 
-fn validation_in(alloc: Global, pass: &Held) -> Result<Vec<u8>, Failure>
-    ensures { ShowsItsValidation (pass_in (Some pass.now)) result }
+fn validation_in(alloc: Global, lent: &Lent) -> Result<Vec<u8>, Failure>
+    ensures { ShowsItsValidation (pass_in lent.now.loan.held) result }
 {
-    match pass {
-        Held::Pass(stepped) => validation_text(alloc, stepped),
-        _ => Err(Failure::Absent),
+    match lent.pass() {
+        Some(stepped) => validation_text(alloc, stepped),
+        None => Err(Failure::Absent),
     }
 }
 
 /// The field lines of the request by which what a pass has sent stale is validated for nobody.
-pub fn pass_validation(alloc: Global, pass: &mut Handle) -> Result<Vec<u8>, Failure>
+pub fn pass_validation(alloc: Global, pass: &mut View) -> Result<Vec<u8>, Failure>
+    ensures same { IsSame pass.old pass.new }
     ensures text { ShowsItsValidation (pass_in pass.old.held) result }
-    ensures pass { pass.new.held ≡ pass.old.held }
 {
-    let Some(held) = pass.take(alloc) else {
-        return Err(Failure::Absent);
-    };
-    let text = validation_in(alloc, &held);
-    pass.put(held);
+    let lent = pass.take();
+    let text = validation_in(alloc, &lent);
+    pass.put(lent);
     text
 }
 

@@ -1,9 +1,8 @@
 //! What a policy answers a request from another origin.
-ghost use Rattle.std.specs.Prelude.{◌≡◌, Some};
 ghost use Rattle.c_handles.{specs.Handles.{policy_in, section_in}, specs.Policies.{SharesBetween, SharesOf}};
+ghost use Rattle.c_handles.specs.Views.{IsSame};
 
-use crate::handle::Handle;
-use crate::held::Held;
+use crate::view::{Lent, View};
 use c_decisions::{PolicyAnswer, read_method, show_shared};
 use c_parts::{Failure, HashKeys, read_map};
 use decide_cors::{CorsPolicy, RequestHead};
@@ -41,42 +40,37 @@ fn answer_of(
 
 fn answer_in(
     alloc: Global,
-    policy: &Held,
-    request: &Held,
+    policy: &Lent,
+    request: &Lent,
     exchange: &CorsExchange<'_>,
     keys: &HashKeys,
 ) -> Result<PolicyAnswer, Failure>
-    ensures { SharesBetween exchange.now (policy_in (Some policy.now)) (section_in (Some request.now)) result }
+    ensures { SharesBetween exchange.now (policy_in policy.now.loan.held) (section_in request.now.loan.held) result }
 {
-    let Held::Policy(policy) = policy else {
+    let Some(policy) = policy.policy() else {
         return Err(Failure::Absent);
     };
-    let Held::Section(fields) = request else {
-        return Err(Failure::Absent);
-    };
-    answer_of(alloc, policy, fields, exchange, keys)
+    match request.section() {
+        Some(fields) => answer_of(alloc, policy, fields, exchange, keys),
+        None => Err(Failure::Absent),
+    }
 }
 
 /// The answer of a policy to a cross-origin request with these fields (Fetch standard, "CORS
 /// protocol"), for a response with these.
 pub fn answer_cross_origin(
     alloc: Global,
-    policy: &mut Handle,
-    request: &mut Handle,
+    policy: &mut View,
+    request: &mut View,
     exchange: &CorsExchange<'_>,
     keys: &HashKeys,
 ) -> Result<PolicyAnswer, Failure>
-    ensures same_policy { policy.new.held ≡ policy.old.held }
-    ensures same_request { request.new.held ≡ request.old.held }
+    ensures same_policy { IsSame policy.old policy.new }
+    ensures same_request { IsSame request.old request.new }
     ensures answer { SharesBetween exchange.now (policy_in policy.old.held) (section_in request.old.held) result }
 {
-    let Some(by) = policy.take(alloc) else {
-        return Err(Failure::Absent);
-    };
-    let Some(asked) = request.take(alloc) else {
-        policy.put(by);
-        return Err(Failure::Absent);
-    };
+    let by = policy.take();
+    let asked = request.take();
     let answer = answer_in(alloc, &by, &asked, exchange, keys);
     policy.put(by);
     request.put(asked);

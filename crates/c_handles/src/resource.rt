@@ -1,52 +1,46 @@
 //! What a resource answers a request.
-ghost use Rattle.std.specs.Prelude.{◌≡◌, Some};
 ghost use Rattle.c_handles.{specs.Handles.{resource_in, section_in}, specs.Resources.AnswersBetween};
+ghost use Rattle.c_handles.specs.Views.{IsSame};
 
-use crate::handle::Handle;
-use crate::held::Held;
+use crate::view::{Lent, View};
 use c_parts::Failure;
 use c_resource::{Answered, DenialParts, RequestParts, answer_with};
 use std::alloc::Global;
 
 fn answer_in(
     alloc: Global,
-    resource: &Held,
-    fields: &Held,
+    resource: &Lent,
+    fields: &Lent,
     request: &RequestParts<'_>,
     denial: &DenialParts<'_>,
 ) -> Result<Answered, Failure>
-    ensures { AnswersBetween request.now denial.now (resource_in (Some resource.now)) (section_in (Some fields.now))
-        result }
+    ensures { AnswersBetween request.now denial.now (resource_in resource.now.loan.held)
+        (section_in fields.now.loan.held) result }
 {
-    let Held::Resource(resource) = resource else {
+    let Some(resource) = resource.resource() else {
         return Err(Failure::Absent);
     };
-    let Held::Section(fields) = fields else {
-        return Err(Failure::Absent);
-    };
-    answer_with(alloc, resource, request, denial, fields)
+    match fields.section() {
+        Some(fields) => answer_with(alloc, resource, request, denial, fields),
+        None => Err(Failure::Absent),
+    }
 }
 
 /// The whole answer of a resource to a request with these fields (RFC 9110, sections 7.4 to 15).
 pub fn answer_as_resource(
     alloc: Global,
-    resource: &mut Handle,
-    fields: &mut Handle,
+    resource: &mut View,
+    fields: &mut View,
     request: &RequestParts<'_>,
     denial: &DenialParts<'_>,
 ) -> Result<Answered, Failure>
-    ensures same_resource { resource.new.held ≡ resource.old.held }
-    ensures same_fields { fields.new.held ≡ fields.old.held }
+    ensures same_resource { IsSame resource.old resource.new }
+    ensures same_fields { IsSame fields.old fields.new }
     ensures answer { AnswersBetween request.now denial.now (resource_in resource.old.held)
         (section_in fields.old.held) result }
 {
-    let Some(known) = resource.take(alloc) else {
-        return Err(Failure::Absent);
-    };
-    let Some(parsed) = fields.take(alloc) else {
-        resource.put(known);
-        return Err(Failure::Absent);
-    };
+    let known = resource.take();
+    let parsed = fields.take();
     let answer = answer_in(alloc, &known, &parsed, request, denial);
     resource.put(known);
     fields.put(parsed);

@@ -16,7 +16,8 @@ use Rattle.c_decisions.{specs.FieldLines.fields_text, specs.Methods.IsMethodOf, 
 use Rattle.c_decisions.specs.declared.request.RequestTexts.{RequestTexts}
 use Rattle.c_parts.{specs.SectionMap.IsMapOf, specs.declared.status.Failure.Failure}
 use Rattle.c_parts.specs.declared.status.Failure.TheVariants.{Absent}
-use Rattle.c_library.{specs.Tags.Tells, specs.declared.cache.Moments.Moments, specs.declared.cache.StoredTexts.StoredTexts}
+use Rattle.c_library.{specs.Tags.Tells, specs.declared.cache.Moments.Moments}
+use Rattle.c_library.{specs.declared.cache.StoredTexts.StoredTexts}
 
 abbrev pub times_of : Moments → Times
 times_of moments = record { request = moments.request; response = moments.response; now = moments.now }

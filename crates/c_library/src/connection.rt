@@ -2,7 +2,7 @@
 ghost use Rattle.std.specs.Prelude.{◌≡◌, None, Ok, length};
 ghost use Rattle.server_connection.specs.declared.piece.Piece.TheVariants.{Literal, Range};
 ghost use Rattle.c_parts.specs.Endings.{Gives, Writes, done};
-ghost use Rattle.c_handles.specs.Handles.{OnHeld, Opens, connection_in};
+ghost use Rattle.c_handles.{specs.Handles.{OnHeld, Opens, connection_in}, specs.Views.IsSame};
 ghost use Rattle.c_connection.specs.Calls.{AreFields, Finishes, HandsOut, IsConnectionHeld, IsRangeNext, IsRejection};
 ghost use Rattle.c_connection.specs.Calls.{IsVersion, OnConnection};
 ghost use Rattle.c_connection.{specs.Calls.{Receives, Responds, Shows, Wants, planned}, specs.Plans.AddsField};
@@ -17,7 +17,7 @@ use c_connection::{
     Text, add_bytes, add_field, add_range, begin, fields_of, finish_input, next, open_connection,
     planned_of, range_of, receive, rejection_of, respond, sent, version_of, write_text,
 };
-use c_handles::{Handle, close};
+use c_handles::{Handle, View, close};
 use c_parts::{DONE, HashKeys, copy_into};
 use std::alloc::Global;
 
@@ -82,11 +82,11 @@ pub extern "C" fn typed_headers_connection_finish_input(
 #[unsafe(no_mangle)]
 pub extern "C" fn typed_headers_connection_method(
     alloc: Global,
-    connection: &mut Handle,
+    connection: &mut View,
     room: &mut [u8],
     written: &mut usize,
 ) -> u8
-    ensures { Shows Method connection.old.held connection.new.held
+    ensures { Shows Method connection.old connection.new
         room.old room.new written.old written.new result }
 {
     write_text(alloc, connection, Text::Method, room, written)
@@ -96,11 +96,11 @@ pub extern "C" fn typed_headers_connection_method(
 #[unsafe(no_mangle)]
 pub extern "C" fn typed_headers_connection_path(
     alloc: Global,
-    connection: &mut Handle,
+    connection: &mut View,
     room: &mut [u8],
     written: &mut usize,
 ) -> u8
-    ensures { Shows Path connection.old.held connection.new.held
+    ensures { Shows Path connection.old connection.new
         room.old room.new written.old written.new result }
 {
     write_text(alloc, connection, Text::Path, room, written)
@@ -110,11 +110,11 @@ pub extern "C" fn typed_headers_connection_path(
 #[unsafe(no_mangle)]
 pub extern "C" fn typed_headers_connection_query(
     alloc: Global,
-    connection: &mut Handle,
+    connection: &mut View,
     room: &mut [u8],
     written: &mut usize,
 ) -> u8
-    ensures { Shows Query connection.old.held connection.new.held
+    ensures { Shows Query connection.old connection.new
         room.old room.new written.old written.new result }
 {
     write_text(alloc, connection, Text::Query, room, written)
@@ -124,12 +124,12 @@ pub extern "C" fn typed_headers_connection_query(
 #[unsafe(no_mangle)]
 pub extern "C" fn typed_headers_connection_field(
     alloc: Global,
-    connection: &mut Handle,
+    connection: &mut View,
     name: &[u8],
     room: &mut [u8],
     written: &mut usize,
 ) -> u8
-    ensures { Shows (Field name.entry) connection.old.held connection.new.held
+    ensures { Shows (Field name.entry) connection.old connection.new
         room.old room.new written.old written.new result }
 {
     write_text(alloc, connection, Text::Field(name), room, written)
@@ -139,11 +139,11 @@ pub extern "C" fn typed_headers_connection_field(
 #[unsafe(no_mangle)]
 pub extern "C" fn typed_headers_connection_fields(
     alloc: Global,
-    connection: &mut Handle,
+    connection: &mut View,
     room: &mut [u8],
     written: &mut usize,
 ) -> u8
-    ensures same { connection.new.held ≡ connection.old.held }
+    ensures same { IsSame connection.old connection.new }
     ensures fields { Writes (λ text. text.items) (λ _. done) (OnHeld AreFields (connection_in connection.old.held))
         room.old room.new written.old written.new result }
 {
@@ -155,26 +155,22 @@ pub extern "C" fn typed_headers_connection_fields(
 
 /// The version of HTTP that it has.
 #[unsafe(no_mangle)]
-pub extern "C" fn typed_headers_connection_version(
-    alloc: Global,
-    connection: &mut Handle,
-    version: &mut u8,
-) -> u8
-    ensures same { connection.new.held ≡ connection.old.held }
+pub extern "C" fn typed_headers_connection_version(connection: &mut View, version: &mut u8) -> u8
+    ensures same { IsSame connection.old connection.new }
     ensures version { Gives (OnHeld IsVersion (connection_in connection.old.held)) version.old version.new result }
 {
-    give(version_of(alloc, connection), version)
+    give(version_of(connection), version)
 }
 
 /// Writes its content.
 #[unsafe(no_mangle)]
 pub extern "C" fn typed_headers_connection_content(
     alloc: Global,
-    connection: &mut Handle,
+    connection: &mut View,
     room: &mut [u8],
     written: &mut usize,
 ) -> u8
-    ensures { Shows Content connection.old.held connection.new.held
+    ensures { Shows Content connection.old connection.new
         room.old room.new written.old written.new result }
 {
     write_text(alloc, connection, Text::Content, room, written)
@@ -243,11 +239,11 @@ pub extern "C" fn typed_headers_connection_respond(alloc: Global, connection: &m
 #[unsafe(no_mangle)]
 pub extern "C" fn typed_headers_connection_output(
     alloc: Global,
-    connection: &mut Handle,
+    connection: &mut View,
     room: &mut [u8],
     written: &mut usize,
 ) -> u8
-    ensures { Shows (Output (length room.old)) connection.old.held connection.new.held
+    ensures { Shows (Output (length room.old)) connection.old connection.new
         room.old room.new written.old written.new result }
 {
     let most = room.len();
@@ -257,17 +253,16 @@ pub extern "C" fn typed_headers_connection_output(
 /// The range of what the host has open that is to be written once no bytes wait.
 #[unsafe(no_mangle)]
 pub extern "C" fn typed_headers_connection_range(
-    alloc: Global,
-    connection: &mut Handle,
+    connection: &mut View,
     start: &mut u64,
     length: &mut u64,
 ) -> u8
-    ensures same { connection.new.held ≡ connection.old.held }
+    ensures same { IsSame connection.old connection.new }
     ensures range { TellsBoth (λ extent. extent.start) (λ extent. extent.len)
         (OnHeld IsRangeNext (connection_in connection.old.held))
         start.old start.new length.old length.new result }
 {
-    match range_of(alloc, connection) {
+    match range_of(connection) {
         Ok(extent) => {
             *start = extent.start;
             *length = extent.len;
@@ -293,11 +288,11 @@ pub extern "C" fn typed_headers_connection_sent(
 #[unsafe(no_mangle)]
 pub extern "C" fn typed_headers_connection_time_out(
     alloc: Global,
-    connection: &mut Handle,
+    connection: &mut View,
     room: &mut [u8],
     written: &mut usize,
 ) -> u8
-    ensures { Shows TimeOut connection.old.held connection.new.held
+    ensures { Shows TimeOut connection.old connection.new
         room.old room.new written.old written.new result }
 {
     write_text(alloc, connection, Text::TimeOut, room, written)
@@ -305,31 +300,26 @@ pub extern "C" fn typed_headers_connection_time_out(
 
 /// The status by which the connection rejected what came.
 #[unsafe(no_mangle)]
-pub extern "C" fn typed_headers_connection_rejection(
-    alloc: Global,
-    connection: &mut Handle,
-    status: &mut u16,
-) -> u8
-    ensures same { connection.new.held ≡ connection.old.held }
+pub extern "C" fn typed_headers_connection_rejection(connection: &mut View, status: &mut u16) -> u8
+    ensures same { IsSame connection.old connection.new }
     ensures status { Gives (OnHeld IsRejection (connection_in connection.old.held)) status.old status.new result }
 {
-    give(rejection_of(alloc, connection), status)
+    give(rejection_of(connection), status)
 }
 
 /// The status of the plan, and how long its content is.
 #[unsafe(no_mangle)]
 pub extern "C" fn typed_headers_connection_planned(
-    alloc: Global,
-    connection: &mut Handle,
+    connection: &mut View,
     status: &mut u16,
     length: &mut u64,
 ) -> u8
-    ensures same { connection.new.held ≡ connection.old.held }
+    ensures same { IsSame connection.old connection.new }
     ensures planned { TellsBoth (λ facts. facts.0) (λ facts. facts.1)
         (OnHeld (λ held answer. answer ≡ Ok (planned held)) (connection_in connection.old.held))
         status.old status.new length.old length.new result }
 {
-    match planned_of(alloc, connection) {
+    match planned_of(connection) {
         Ok((code, count)) => {
             *status = code;
             *length = count;

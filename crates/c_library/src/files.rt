@@ -1,7 +1,7 @@
 //! A service of a folder's files, behind a handle.
 ghost use Rattle.std.specs.Prelude.{◌≡◌, None};
 ghost use Rattle.c_parts.specs.Endings.{Gives, Writes, done};
-ghost use Rattle.c_handles.specs.Handles.{Opens, connection_in, files_in};
+ghost use Rattle.c_handles.{specs.Handles.{Opens, connection_in, files_in}, specs.Views.IsSame};
 ghost use Rattle.c_connection.specs.Files.{IsFilesHeld, IsPathNext, Plans};
 ghost use Rattle.c_library.specs.CacheStore.{Ends};
 
@@ -9,7 +9,7 @@ use crate::giving::give;
 use crate::store::ended;
 use c_connection::{next_path, open_files, plan_files};
 use c_files::{Facts, FilesOptions};
-use c_handles::{Handle, close};
+use c_handles::{Handle, View, close};
 use c_parts::{DONE, HashKeys, copy_into};
 use std::alloc::Global;
 
@@ -39,14 +39,14 @@ pub extern "C" fn typed_headers_files_free(alloc: Global, files: &mut Handle) ->
 #[unsafe(no_mangle)]
 pub extern "C" fn typed_headers_files_path(
     alloc: Global,
-    files: &mut Handle,
-    connection: &mut Handle,
+    files: &mut View,
+    connection: &mut View,
     found: &[Facts],
     room: &mut [u8],
     written: &mut usize,
 ) -> u8
-    ensures same_files { files.new.held ≡ files.old.held }
-    ensures same_connection { connection.new.held ≡ connection.old.held }
+    ensures same_files { IsSame files.old files.new }
+    ensures same_connection { IsSame connection.old connection.new }
     ensures path { Writes (λ bytes. bytes) (λ _. done) (IsPathNext found.now (files_in files.old.held)
         (connection_in connection.old.held)) room.old room.new written.old written.new result }
 {

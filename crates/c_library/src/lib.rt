@@ -11,6 +11,7 @@ mod field;
 mod fields;
 mod files;
 mod formats;
+mod gate;
 mod gateway;
 mod giving;
 mod handshake;

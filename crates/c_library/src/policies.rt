@@ -2,6 +2,7 @@
 ghost use Rattle.std.specs.Prelude.{◌≡◌, None};
 ghost use Rattle.c_decisions.specs.Cors.{WritesShared};
 ghost use Rattle.c_handles.{specs.Handles.{Opens, policy_in, resource_in, section_in}, specs.Policies.IsPolicyHeld};
+ghost use Rattle.c_handles.specs.Views.{IsSame};
 ghost use Rattle.c_handles.{specs.Policies.SharesBetween, specs.Resources.{AnswersBetween, IsResourceHeld}};
 ghost use Rattle.c_library.{specs.CacheStore.Ends, specs.Responses.WritesAnswer};
 
@@ -9,7 +10,7 @@ use crate::response::worse;
 use crate::store::ended;
 use c_decisions::{BytesRange, CorsFacts, Rules};
 use c_handles::{
-    CorsExchange, Handle, answer_as_resource, answer_cross_origin, close, open_policy,
+    CorsExchange, Handle, View, answer_as_resource, answer_cross_origin, close, open_policy,
     open_resource,
 };
 use c_parts::{DONE, HashKeys, copy_into};
@@ -42,16 +43,16 @@ pub extern "C" fn typed_headers_cors_policy_free(alloc: Global, policy: &mut Han
 #[unsafe(no_mangle)]
 pub extern "C" fn typed_headers_cors_policy_answer(
     alloc: Global,
-    policy: &mut Handle,
-    fields: &mut Handle,
+    policy: &mut View,
+    fields: &mut View,
     exchange: &CorsExchange<'_>,
     keys: &HashKeys,
     facts: &mut CorsFacts,
     room: &mut [u8],
     written: &mut usize,
 ) -> u8
-    ensures same_policy { policy.new.held ≡ policy.old.held }
-    ensures same_fields { fields.new.held ≡ fields.old.held }
+    ensures same_policy { IsSame policy.old policy.new }
+    ensures same_fields { IsSame fields.old fields.new }
     ensures answer { WritesShared
         (SharesBetween exchange.now (policy_in policy.old.held) (section_in fields.old.held))
         facts.old facts.new room.old room.new written.old written.new result }
@@ -94,8 +95,8 @@ pub extern "C" fn typed_headers_resource_handle_free(alloc: Global, handle: &mut
 #[unsafe(no_mangle)]
 pub extern "C" fn typed_headers_resource_handle_answer(
     alloc: Global,
-    handle: &mut Handle,
-    fields: &mut Handle,
+    handle: &mut View,
+    fields: &mut View,
     request: &RequestParts<'_>,
     denial: &DenialParts<'_>,
     facts: &mut AnswerFacts,
@@ -104,8 +105,8 @@ pub extern "C" fn typed_headers_resource_handle_answer(
     room: &mut [u8],
     written: &mut usize,
 ) -> u8
-    ensures same_resource { handle.new.held ≡ handle.old.held }
-    ensures same_fields { fields.new.held ≡ fields.old.held }
+    ensures same_resource { IsSame handle.old handle.new }
+    ensures same_fields { IsSame fields.old fields.new }
     ensures answer { WritesAnswer
         (AnswersBetween request.now denial.now (resource_in handle.old.held) (section_in fields.old.held))
         facts.old facts.new parts.old parts.new parts_written.old parts_written.new

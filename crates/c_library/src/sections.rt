@@ -8,6 +8,7 @@ ghost use Rattle.c_parts.specs.Endings.{Gives, Writes, done};
 ghost use Rattle.c_parts.specs.Written.{lines_text};
 ghost use Rattle.c_decisions.specs.Selection.{WritesSelection};
 ghost use Rattle.c_handles.{specs.Handles.{OnHeld, Opens, section_in}, specs.Sections.{EvaluatesOf, FindsOf}};
+ghost use Rattle.c_handles.specs.Views.{IsSame};
 ghost use Rattle.c_handles.specs.Sections.{IsSectionHeld, IsWrittenOf, RespondsOf, SelectsOf, lines_under};
 ghost use Rattle.c_library.{specs.CacheStore.Ends, specs.Responses.WritesResponse};
 
@@ -15,7 +16,9 @@ use crate::giving::give;
 use crate::response::worse;
 use crate::store::ended;
 use c_decisions::{BytesRange, ContentParts, ResponseFacts, TargetFacts};
-use c_handles::{Handle, choose, close, evaluate, open_section, respond, select, written_field};
+use c_handles::{
+    Handle, View, choose, close, evaluate, open_section, respond, select, written_field,
+};
 use c_parts::{DONE, Failure, HashKeys, copy_into, lines_text};
 use decide_negotiation::{Accept, AcceptEncoding, AcceptLanguage};
 use std::alloc::Global;
@@ -46,12 +49,12 @@ pub extern "C" fn typed_headers_section_free(alloc: Global, fields: &mut Handle)
 #[unsafe(no_mangle)]
 pub extern "C" fn typed_headers_section_field(
     alloc: Global,
-    fields: &mut Handle,
+    fields: &mut View,
     name: &[u8],
     room: &mut [u8],
     written: &mut usize,
 ) -> u8
-    ensures same { fields.new.held ≡ fields.old.held }
+    ensures same { IsSame fields.old fields.new }
     ensures lines { Writes (λ lines. lines_text (lines_of lines.items)) (λ _. done)
         (OnHeld (λ held. IsWrittenOf held name.now) (section_in fields.old.held))
         room.old room.new written.old written.new result }
@@ -70,12 +73,12 @@ pub extern "C" fn typed_headers_section_field(
 #[unsafe(no_mangle)]
 pub extern "C" fn typed_headers_section_evaluate(
     alloc: Global,
-    fields: &mut Handle,
+    fields: &mut View,
     method: &[u8],
     target: &TargetFacts<'_>,
     answer: &mut u16,
 ) -> u8
-    ensures same { fields.new.held ≡ fields.old.held }
+    ensures same { IsSame fields.old fields.new }
     ensures answer { Gives (OnHeld (λ held. EvaluatesOf held method.now target.now) (section_in fields.old.held))
         answer.old answer.new result }
 {
@@ -87,7 +90,7 @@ pub extern "C" fn typed_headers_section_evaluate(
 #[unsafe(no_mangle)]
 pub extern "C" fn typed_headers_section_select(
     alloc: Global,
-    fields: &mut Handle,
+    fields: &mut View,
     method: &[u8],
     target: &TargetFacts<'_>,
     length: u64,
@@ -95,7 +98,7 @@ pub extern "C" fn typed_headers_section_select(
     room: &mut [BytesRange],
     written: &mut usize,
 ) -> u8
-    ensures same { fields.new.held ≡ fields.old.held }
+    ensures same { IsSame fields.old fields.new }
     ensures selection { WritesSelection
         (OnHeld (λ held. SelectsOf held method.now target.now length) (section_in fields.old.held))
         answer.old answer.new room.old room.new written.old written.new result }
@@ -114,7 +117,7 @@ pub extern "C" fn typed_headers_section_select(
 #[unsafe(no_mangle)]
 pub extern "C" fn typed_headers_section_respond(
     alloc: Global,
-    fields: &mut Handle,
+    fields: &mut View,
     method: &[u8],
     target: &TargetFacts<'_>,
     content: &ContentParts<'_>,
@@ -124,7 +127,7 @@ pub extern "C" fn typed_headers_section_respond(
     room: &mut [u8],
     written: &mut usize,
 ) -> u8
-    ensures same { fields.new.held ≡ fields.old.held }
+    ensures same { IsSame fields.old fields.new }
     ensures response { WritesResponse
         (OnHeld (λ held. RespondsOf held method.now target.now content.now) (section_in fields.old.held))
         facts.old facts.new parts.old parts.new parts_written.old parts_written.new
@@ -145,11 +148,11 @@ pub extern "C" fn typed_headers_section_respond(
 #[unsafe(no_mangle)]
 pub extern "C" fn typed_headers_section_choose_type(
     alloc: Global,
-    fields: &mut Handle,
+    fields: &mut View,
     offers: &[u8],
     place: &mut usize,
 ) -> u8
-    ensures same { fields.new.held ≡ fields.old.held }
+    ensures same { IsSame fields.old fields.new }
     ensures place { Gives
         (OnHeld (λ held.
         FindsOf (Chooses (quality_in (quality_by media_type_says) (lines_under held (codes "accept")))) offers.now)
@@ -163,11 +166,11 @@ pub extern "C" fn typed_headers_section_choose_type(
 #[unsafe(no_mangle)]
 pub extern "C" fn typed_headers_section_choose_coding(
     alloc: Global,
-    fields: &mut Handle,
+    fields: &mut View,
     offers: &[u8],
     place: &mut usize,
 ) -> u8
-    ensures same { fields.new.held ≡ fields.old.held }
+    ensures same { IsSame fields.old fields.new }
     ensures place { Gives
         (OnHeld (λ held.
         FindsOf (Chooses (quality_in encoding_quality (lines_under held (codes "accept-encoding")))) offers.now)
@@ -181,11 +184,11 @@ pub extern "C" fn typed_headers_section_choose_coding(
 #[unsafe(no_mangle)]
 pub extern "C" fn typed_headers_section_choose_language(
     alloc: Global,
-    fields: &mut Handle,
+    fields: &mut View,
     offers: &[u8],
     place: &mut usize,
 ) -> u8
-    ensures same { fields.new.held ≡ fields.old.held }
+    ensures same { IsSame fields.old fields.new }
     ensures place { Gives
         (OnHeld (λ held.
         FindsOf (Chooses (quality_in (quality_by language_says) (lines_under held (codes "accept-language"))))

@@ -4,12 +4,13 @@ ghost use Rattle.c_parts.specs.Endings.{Gives, Writes, done};
 ghost use Rattle.c_pass.{specs.Caches.{IsExtended, IsPlain, Removes}, specs.Steps.{Comes, Ends as EndsPass, Fails}};
 ghost use Rattle.c_pass.specs.Steps.{Receives, Resumes};
 ghost use Rattle.c_handles.{specs.Handles.{Opens, pass_in}, specs.Passes.{BeginsThrough, CopiesContent}};
+ghost use Rattle.c_handles.specs.Views.{IsSame};
 ghost use Rattle.c_handles.specs.Passes.{IsCacheHeld, OnBoth, OnCache, OnPass, ShowsFields, ShowsItsValidation};
 ghost use Rattle.c_library.specs.CacheStore.{Ends, TellsNumber, ended};
 
 use crate::giving::give;
 use c_handles::{
-    Handle, begin_pass, close, copy_pass_content, open_cache, open_cache_with, pass_came,
+    Handle, View, begin_pass, close, copy_pass_content, open_cache, open_cache_with, pass_came,
     pass_ended, pass_failed, pass_received, pass_resume, pass_validation, remove_stored,
     write_pass_fields,
 };
@@ -154,29 +155,28 @@ pub extern "C" fn typed_headers_pass_failed(
 /// Writes the field lines that the last step takes.
 #[unsafe(no_mangle)]
 pub extern "C" fn typed_headers_pass_fields(
-    alloc: Global,
-    pass: &mut Handle,
+    pass: &mut View,
     room: &mut [u8],
     written: &mut usize,
 ) -> u8
     ensures fields { Writes (λ text. text) (λ _. done) (ShowsFields (pass_in pass.old.held))
         room.old room.new written.old written.new result }
-    ensures pass { pass.new.held ≡ pass.old.held }
+    ensures same { IsSame pass.old pass.new }
 {
-    write_pass_fields(alloc, pass, room, written)
+    write_pass_fields(pass, room, written)
 }
 
 /// Writes the field lines of the request by which what the pass has sent stale is validated for nobody.
 #[unsafe(no_mangle)]
 pub extern "C" fn typed_headers_pass_validation(
     alloc: Global,
-    pass: &mut Handle,
+    pass: &mut View,
     room: &mut [u8],
     written: &mut usize,
 ) -> u8
     ensures fields { Writes (λ text. text.items) (λ _. done) (ShowsItsValidation (pass_in pass.old.held))
         room.old room.new written.old written.new result }
-    ensures pass { pass.new.held ≡ pass.old.held }
+    ensures same { IsSame pass.old pass.new }
 {
     match pass_validation(alloc, pass) {
         Ok(text) => copy_into(text.as_slice(), DONE, room, written),
@@ -187,17 +187,16 @@ pub extern "C" fn typed_headers_pass_validation(
 /// Copies the content of the stored response that the pass sends, from a position on, as much as fits.
 #[unsafe(no_mangle)]
 pub extern "C" fn typed_headers_pass_content(
-    alloc: Global,
-    pass: &mut Handle,
+    pass: &mut View,
     from: usize,
     room: &mut [u8],
     written: &mut usize,
 ) -> u8
     ensures copies { Ends (CopiesContent from room.old room.new written.new (pass_in pass.old.held)) result }
-    ensures pass { pass.new.held ≡ pass.old.held }
+    ensures same { IsSame pass.old pass.new }
     ensures failed { result ≢ done → (room.new ≡ room.old) × (written.new ≡ written.old) }
 {
-    ended(copy_pass_content(alloc, pass, from, room, written))
+    ended(copy_pass_content(pass, from, room, written))
 }
 
 /// Keeps a piece of the content of the response that is forwarded, for the store.

@@ -8,7 +8,8 @@ ghost use Rattle.c_typed.{specs.Cookies.{FindsCookie, ShowsCookies, reads_cookie
 ghost use Rattle.c_typed.{specs.Credentials.{ShowsUserPassword, basic_reads, bearer_reads}, specs.Hosts.ShowsHost};
 ghost use Rattle.c_typed.{specs.Hosts.{ShowsOrigin, is_whole_host, is_whole_origin}, specs.Members.ShowsMembers};
 ghost use Rattle.c_typed.{specs.Members.{ShowsMembership, reads_list}, specs.Policies.{ShowsRetryTime, ShowsSecurity}};
-ghost use Rattle.c_typed.specs.{Directives.{ShowsArguments, ShowsStale}, Parts.ShowsForm, Shown.{FieldShows, FieldShowsIf, LinesShow}};
+ghost use Rattle.c_typed.specs.{Directives.{ShowsArguments, ShowsStale}, Parts.ShowsForm};
+ghost use Rattle.c_typed.specs.{Shown.{FieldShows, FieldShowsIf, LinesShow}};
 
 use crate::giving::give;
 use c_parts::{ContentRangeParts, DONE, copy_into};

@@ -16,7 +16,7 @@ mod written;
 pub use crate::flags::has_flag;
 pub use crate::formats::{ContentRangeParts, format_content_range, format_date, format_tag};
 pub use crate::keys::HashKeys;
-pub use crate::lines::{read_field, read_values};
+pub use crate::lines::{cut_line, read_field, read_values};
 pub use crate::loose::Loose;
 pub use crate::name::read_name;
 pub use crate::raw_box::RawBox;

@@ -739,7 +739,7 @@ exchanged reached =
 
 -- ---- what may be said next
 
--- what is read after this was told
+-- what the reader of a message is at, by what was told last
 abbrev ReadsAt : Now → Reading → Type 0
 ReadsAt (Asked r interim) reading = reading ≡ Reads.Head
 ReadsAt (Hears r interim response content) reading = (d : Decoder) × (reading ≡ Reads.Body d)
@@ -799,7 +799,8 @@ end_found old new trailers (inr ends) due =
     waits_due old.client.reading old.client ends.1.client old.input.items ends.1.input.items refl ends.2.found
     ends.3.reading due
 
-pub end_late : {limits : Limits} {old : OriginConnection} {p : Past} (new : OriginConnection) (r : Request) (interim : List OriginResponse)
+pub end_late : {limits : Limits} {old : OriginConnection} {p : Past} (new : OriginConnection) (r : Request)
+    (interim : List OriginResponse)
     (trailers : Entries FieldValue) → IsReached limits old p → p.now ≡ Asked r interim
     → ¬ (SaysAt old.fault old (Is.End trailers) new)
 end_late {limits} {old} {p} new r interim trailers reached is says =

@@ -1,6 +1,7 @@
 -- What is true after every history of calls.
 use Rattle.std.proofs.Common.{◌≡◌, ◌⊎◌, ◌∷◌, ℕ, ◌≤◌, inl, inr, Bool, true, false, List, [], ◌++◌, length, take, min}
-use Rattle.std.proofs.Common.{Option, Some, None, codes, sym, refl, ap, ◌∙◌, subst, arith, append-nil, append_assoc, not}
+use Rattle.std.proofs.Common.{Option, Some, None, codes, sym, refl, ap, ◌∙◌, subst, arith, append-nil, append_assoc}
+use Rattle.std.proofs.Common.{not}
 use Rattle.std.proofs.lemmas.List.Folds.{concat-append}
 use Rattle.std.proofs.lemmas.Bool.{and_parts}
 use Rattle.std.specs.{List.concat, Prelude.{◌==◌, nat_le, nat_lt}}
@@ -14,8 +15,8 @@ use Rattle.gateway_connection.specs.declared.origin.OriginConnection.{OriginConn
 use Rattle.gateway_connection.specs.declared.{event.OriginEvent.OriginEvent, event.OriginResponse.OriginResponse}
 use Rattle.gateway_connection.specs.declared.event.OriginFault.{OriginFault}
 use Rattle.gateway_connection.specs.Exchanges.{Request}
-use Rattle.gateway_connection.proofs.HistoryLemmas.{content_late, end_late, heads_once, interim_late}
-use Rattle.gateway_connection.proofs.HistoryLemmas.{says_final, switch_late}
+use Rattle.gateway_connection.proofs.HistoryLemmas.{content_late, end_late, heads_once, interim_late, says_final}
+use Rattle.gateway_connection.proofs.HistoryLemmas.{switch_late}
 use Rattle.http1.specs.Client as Http
 use Rattle.gateway_messages.specs.Responses as Responses
 use Rattle.gateway_exchange.specs.Passing.{IsSwitched, IsTrailers, PutsResponse, answered, with_conditions}
@@ -32,41 +33,37 @@ use Rattle.server_stream.specs.declared.connection.StreamConnection.{StreamConne
 use Rattle.server_stream.specs.declared.{event.StreamRequest.StreamRequest, event.StreamEvent.StreamEvent}
 use Rattle.gateway_exchange.specs.History.{AreServed, HasHead, IsFor, IsGiven, IsHeard, IsIn, IsPassedOn, IsServed}
 use Rattle.gateway_exchange.specs.History.{AreFieldsOf, AreInterim, AreInterimNow, IsInterim, IsSwitch, own_interim}
-use Rattle.gateway_exchange.specs.History.{EndsAs, GivenHead, IsDecided, IsFrontOf, IsServedNow, Served, Traffic, Uses, WentOver}
-use Rattle.gateway_exchange.specs.History.{goes_over, head_of, no_past, on_last, receives, traffic_of, with_given, with_rules}
-use Rattle.gateway_exchange.specs.History.{with_traffic, writes, written_of}
-use Rattle.gateway_exchange.specs.History.{IsOriginReached, IsReached, OriginIn, Past, Opened, Received, Finished}
-use Rattle.gateway_exchange.specs.History.{Written, OriginReceived, OriginFinished, OriginWritten, Said, Sent}
-use Rattle.gateway_exchange.specs.History.{Conditioned}
+use Rattle.gateway_exchange.specs.History.{EndsAs, GivenHead, IsDecided, IsFrontOf, IsServedNow, Served, Traffic, Uses}
+use Rattle.gateway_exchange.specs.History.{WentOver, goes_over, head_of, no_past, on_last, receives, traffic_of}
+use Rattle.gateway_exchange.specs.History.{with_given, with_rules, with_traffic, writes, written_of, IsOriginReached}
+use Rattle.gateway_exchange.specs.History.{IsReached, OriginIn, Past, Opened, Received, Finished, Written}
+use Rattle.gateway_exchange.specs.History.{OriginReceived, OriginFinished, OriginWritten, Said, Sent, Conditioned}
 use Rattle.gateway_exchange.specs.History.{Answered, Again, Connected, Given, GivenPiece, GivenEnd, NotGiven, NotBegun}
-use Rattle.gateway_exchange.specs.History.{Passed, TimedOut, Taken, Closing}
+use Rattle.gateway_exchange.specs.History.{Passed, TimedOut, Taken, Dated, Closing}
 use Rattle.gateway_exchange.specs.Own.{PutsOwn, RefusesOwn, closing, own_fields, own_status}
 use Rattle.http1_typed.specs.Parts.{reason_of}
 use Rattle.http1.specs.declared.conn.BodySize.TheVariants.{Known}
 use Rattle.gateway_messages.specs.FieldLines.{fields_of}
 use Rattle.gateway_parts.specs.Messages.{request_size, response_size}
 use Rattle.gateway_exchange.specs.Passing.{EndsResponse, PutsInterim, PutsRequest, RefusesInterim, RefusesRequest}
-use Rattle.gateway_exchange.specs.Passing.{RefusesResponse, RefusesSwitch}
-use Rattle.gateway_exchange.specs.Passing.{RefusesRequestEnd, RefusesResponseEnd}
+use Rattle.gateway_exchange.specs.Passing.{RefusesResponse, RefusesSwitch, RefusesRequestEnd, RefusesResponseEnd}
 use Rattle.gateway_messages.specs.declared.{gateway.Gateway.Gateway, response.ForwardedResponse.ForwardedResponse}
 use Rattle.gateway_exchange.specs.Steps.{Answers, AsksAgain, Awaits, Begins, BeginsAt, ChangesClient, ChangesOrigin}
-use Rattle.gateway_exchange.specs.Steps.{IsNext, PutsContent, PutsRequestEnd, is_origin_open, is_passing}
-use Rattle.gateway_exchange.specs.Steps.{Conditions, Connects, ConnectsAs, Considers, ContinuesIf, Drops, EndsIdle}
-use Rattle.gateway_exchange.specs.Steps.{EndsIdleAs, EndsIf, Follows}
-use Rattle.gateway_exchange.specs.Steps.{EndsGiving, Fails, Faulted, Gives, HandsOutOrigin, OfAsked, OnOrigin, Passes}
-use Rattle.gateway_exchange.specs.Steps.{PassesDown, PassesEnd, PassesHead, PassesInterim, PassesPiece, PassesSwitch}
-use Rattle.gateway_exchange.specs.Steps.{PassesUp, PutsHead, ReceivesOrigin, RefusesBegin, RefusesBeginAt}
-use Rattle.gateway_exchange.specs.Steps.{RefusesContent, RefusesEnd, RefusesGiving, RefusesInGiving, Rests, Runs, Went}
-use Rattle.gateway_exchange.specs.Steps.{Says, SaysIn, Sends, Settles, Steps, StepsAt, SwitchesTo}
-use Rattle.gateway_exchange.specs.Steps.{TakesOrigin}
-use Rattle.gateway_exchange.specs.Steps.{TellsHead}
-use Rattle.gateway_exchange.specs.Steps.{TimesOutAt, Transfers, begun, phase_of, sent_fields, taking, with_client}
-use Rattle.gateway_exchange.specs.Steps.{with_origin}
+use Rattle.gateway_exchange.specs.Steps.{IsNext, PutsContent, PutsRequestEnd, is_origin_open, is_passing, Conditions}
+use Rattle.gateway_exchange.specs.Steps.{Connects, ConnectsAs, Considers, ContinuesIf, Drops, EndsIdle, EndsIdleAs}
+use Rattle.gateway_exchange.specs.Steps.{EndsIf, Follows, EndsGiving, Fails, Faulted, Gives, HandsOutOrigin, OfAsked}
+use Rattle.gateway_exchange.specs.Steps.{OnOrigin, Passes, PassesDown, PassesEnd, PassesHead, PassesInterim}
+use Rattle.gateway_exchange.specs.Steps.{PassesPiece, PassesSwitch, PassesUp, PutsHead, ReceivesOrigin, RefusesBegin}
+use Rattle.gateway_exchange.specs.Steps.{RefusesBeginAt, RefusesContent, RefusesEnd, RefusesGiving, RefusesInGiving}
+use Rattle.gateway_exchange.specs.Steps.{Rests, Runs, Went, Says, SaysIn, Sends, Settles, Steps, StepsAt, SwitchesTo}
+use Rattle.gateway_exchange.specs.Steps.{TakesOrigin, TellsHead, TimesOutAt, Transfers, begun, phase_of, sent_fields}
+use Rattle.gateway_exchange.specs.Steps.{taking, with_client, with_origin}
 use Rattle.gateway_exchange.specs.declared.{connection.GatewayConnection.GatewayConnection, connection.Stage.Stage}
 use Rattle.gateway_exchange.specs.declared.{decision.AskedRequest.AskedRequest}
 use Rattle.gateway_exchange.specs.declared.decision.RequestDecision.{RequestDecision}
-use Rattle.gateway_exchange.specs.declared.{event.GatewayEvent.GatewayEvent, event.ExchangePhase.ExchangePhase, own.Own.Own}
-use Rattle.gateway_exchange.specs.declared.{pass.Heard.Heard, rules.Peer.Peer, rules.GatewayRules.GatewayRules}
+use Rattle.gateway_exchange.specs.declared.{event.GatewayEvent.GatewayEvent, event.ExchangePhase.ExchangePhase}
+use Rattle.gateway_exchange.specs.declared.{date.DateField.DateField, own.Own.Own, pass.Heard.Heard, rules.Peer.Peer}
+use Rattle.gateway_exchange.specs.declared.{rules.GatewayRules.GatewayRules}
 use Rattle.gateway_connection.specs.declared.event.OriginEvent.TheVariants as Comes
 use Rattle.gateway_connection.specs.declared.event.OriginFault.TheVariants as Faults
 use Rattle.gateway_exchange.specs.declared.event.GatewayEvent.TheVariants as Tells
@@ -303,50 +300,54 @@ client_refuses {limits} {uses} {old} {new} nothing = λ p r s. record {
   sent = refl;
 }
 
-abbrev own_response : Bool → StreamConnection → Own → Response
-own_response is_last m own =
-    Stream.begins m.server (own_status own) (reason_of (own_status own)) (own_fields is_last own) (Known 0)
+abbrev own_response : List Header → StreamConnection → Own → Response
+own_response fields m own = Stream.begins m.server (own_status own) (reason_of (own_status own)) fields (Known 0)
 
-own_begins : {limits : Limits} {uses : Uses} (is_last : Bool) (old new : StreamConnection) (own : Own)
-    → StreamSteps.Responds old (own_status own) (reason_of (own_status own)) (own_fields is_last own) (Known 0) new
+own_begins : {limits : Limits} {uses : Uses} (is_last : Bool) (date : Option DateField) (old new : StreamConnection)
+    (own : Own)
+    → StreamSteps.Responds old (own_status own) (reason_of (own_status own)) (own_fields is_last date own) (Known 0) new
     → ClientGoes limits uses old new
-own_begins {limits} {uses} is_last old new own responds = λ p r s. record {
-  past = Stream.answers (Begun (own_response is_last old own)) p;
-  reached = Stream.Responded old new p (own_status own) (reason_of (own_status own)) (own_fields is_last own) (Known 0) r
-      responds;
-  served = record {
-    before = s.before;
-    interim = s.interim;
-    now = now_begun limits uses (head_of p.heard) (own_response is_last old own)
-        (λ head is. inl (own, is_last, refl, refl, refl, refl, refl));
-  };
-  received = refl;
-  sent = refl;
-}
-
-own_goes : {limits : Limits} {uses : Uses} (is_last : Bool) (old new : StreamConnection) (own : Own)
-    → PutsOwn is_last old own new
-    → ClientGoes limits uses old new
-own_goes {limits} {uses} is_last old new own h = λ p r s.
-    let b : Response = Stream.with_trailers [] (own_response is_last old own) in
+own_begins {limits} {uses} is_last date old new own responds = λ p r s.
+    let fields = own_fields is_last date own in
+    let b : Response = own_response fields old own in
     record {
-      past = Stream.answers (Begun b) (Stream.answers (Begun (own_response is_last old own)) p);
-      reached = Stream.Ended h.0 new (Stream.answers (Begun (own_response is_last old own)) p) []
-          (Stream.Responded old h.0 p (own_status own) (reason_of (own_status own)) (own_fields is_last own) (Known 0) r h.1)
-          h.2;
+      past = Stream.answers (Begun b) p;
+      reached = Stream.Responded old new p (own_status own) (reason_of (own_status own)) fields (Known 0) r responds;
       served = record {
         before = s.before;
         interim = s.interim;
-        now = now_begun limits uses (head_of p.heard) b (λ head is. inl (own, is_last, refl, refl, refl, refl, refl));
+        now = now_begun limits uses (head_of p.heard) b
+            (λ head is. inl (own, is_last, date, refl, refl, refl, refl, refl));
       };
       received = refl;
       sent = refl;
     }
 
-own_fails : {limits : Limits} {uses : Uses} (is_last : Bool) (old new : StreamConnection) (own : Own) (error : WriteError)
-    → RefusesOwn is_last old own error new → ClientGoes limits uses old new
-own_fails is_last old new own error (inl h) = client_refuses h.0
-own_fails is_last old new own error (inr h) = client_then (own_begins is_last old h.0 own h.1) (client_refuses h.2.0)
+own_goes : {limits : Limits} {uses : Uses} (is_last : Bool) (date : Option DateField) (old new : StreamConnection)
+    (own : Own) → PutsOwn is_last date old own new → ClientGoes limits uses old new
+own_goes {limits} {uses} is_last date old new own h = λ p r s.
+    let fields = own_fields is_last date own in
+    let first : Response = own_response fields old own in
+    let b : Response = Stream.with_trailers [] first in
+    record {
+      past = Stream.answers (Begun b) (Stream.answers (Begun first) p);
+      reached = Stream.Ended h.0 new (Stream.answers (Begun first) p) []
+          (Stream.Responded old h.0 p (own_status own) (reason_of (own_status own)) fields (Known 0) r h.1) h.2;
+      served = record {
+        before = s.before;
+        interim = s.interim;
+        now = now_begun limits uses (head_of p.heard) b
+            (λ head is. inl (own, is_last, date, refl, refl, refl, refl, refl));
+      };
+      received = refl;
+      sent = refl;
+    }
+
+own_fails : {limits : Limits} {uses : Uses} (is_last : Bool) (date : Option DateField) (old new : StreamConnection)
+    (own : Own) (error : WriteError) → RefusesOwn is_last date old own error new → ClientGoes limits uses old new
+own_fails is_last date old new own error (inl h) = client_refuses h.0
+own_fails is_last date old new own error (inr h) =
+    client_then (own_begins is_last date old h.0 own h.1) (client_refuses h.2.0)
 
 -- ---- the origin's connection
 
@@ -433,9 +434,12 @@ heard_client old client event says = client_alone (client_says old.client client
 
 -- ---- answers
 
-answers : {limits : Limits} {uses : Uses} (old new : GatewayConnection) (own : Own) → Answers old own new → Goes limits uses old new
-answers old new own (inl h) = client_alone (own_goes old.is_last old.client new.client own h.0) (same_origin h.1) (same_peer h.1)
-answers old new own (inr h) = client_alone (own_fails old.is_last old.client new.client own h.0 h.1) (same_origin h.2) (same_peer h.2)
+answers : {limits : Limits} {uses : Uses} (old new : GatewayConnection) (own : Own) → Answers old own new
+    → Goes limits uses old new
+answers old new own (inl h) =
+    client_alone (own_goes old.is_last old.date old.client new.client own h.0) (same_origin h.1) (same_peer h.1)
+answers old new own (inr h) =
+    client_alone (own_fails old.is_last old.date old.client new.client own h.0 h.1) (same_origin h.2) (same_peer h.2)
 
 -- after a change of the client's connection
 answers_after : {limits : Limits} {uses : Uses} (old new : GatewayConnection) (client : StreamConnection) (own : Own)
@@ -443,7 +447,8 @@ answers_after : {limits : Limits} {uses : Uses} (old new : GatewayConnection) (c
 answers_after old new client own goes h =
     goes_then {b = with_client old client} (client_alone goes refl refl) (answers (with_client old client) new own h)
 
-fails : {limits : Limits} {uses : Uses} (old new : GatewayConnection) (own : Own) → Fails old own new → Goes limits uses old new
+fails : {limits : Limits} {uses : Uses} (old new : GatewayConnection) (own : Own) → Fails old own new
+    → Goes limits uses old new
 fails old new own (inl h) = kept h.1 refl refl refl
 fails old new own (inr h) = answers old new own h.1
 
@@ -454,7 +459,8 @@ fails_after old new client own goes h =
 
 -- ---- requests
 
-follows : {limits : Limits} {uses : Uses} (old new : GatewayConnection) (head : StreamRequest) (decision : RequestDecision)
+follows : {limits : Limits} {uses : Uses} (old new : GatewayConnection) (head : StreamRequest)
+    (decision : RequestDecision)
     → Follows old head decision new → Goes limits uses old new
 follows old new head (Decides.Send outgoing) is = kept is refl refl refl
 follows old new head (Decides.Answer own) h = answers old new own h
@@ -555,7 +561,8 @@ refuses_request_end : {limits : Limits} (gateway : Gateway) (a : AskedRequest) (
 refuses_request_end gateway a trailers old new error (inl h) = origin_stays h.0
 refuses_request_end gateway a trailers old new error (inr h) = origin_refuses h.2.0
 
-refuses_end : {limits : Limits} {uses : Uses} (rules : GatewayRules) (old new : GatewayConnection) (trailers : Entries FieldValue)
+refuses_end : {limits : Limits} {uses : Uses} (rules : GatewayRules) (old new : GatewayConnection)
+    (trailers : Entries FieldValue)
     (error : WriteError) → RefusesEnd rules old trailers error new → Goes limits uses old new
 refuses_end rules old new trailers error (inl h) = same h.1
 refuses_end rules old new trailers error (inr h) =
@@ -566,7 +573,8 @@ passes_up : {limits : Limits} {uses : Uses} (rules : GatewayRules) (old new : Ga
     → PassesUp rules old event new → Goes limits uses old new
 passes_up rules old new Is.NeedsInput is = kept is refl refl refl
 passes_up rules old new (Is.Content piece) (inl h) =
-    origin_alone (origin_step h.2 (same_origin h.4) (λ r. (_, Origin.Put h.0 h.1 r.0 piece r.1 h.3))) (same_client h.4) (same_peer h.4)
+    origin_alone (origin_step h.2 (same_origin h.4) (λ r. (_, Origin.Put h.0 h.1 r.0 piece r.1 h.3))) (same_client h.4)
+    (same_peer h.4)
 passes_up rules old new (Is.Content piece) (inr h) =
     goes_then (refuses_content old h.1 piece h.0 h.2) (fails h.1 new (Because.Unsent h.0) h.3)
 passes_up rules old new (Is.End trailers) (inl h) =
@@ -582,17 +590,20 @@ passes_up rules old new Is.Closed is = kept is refl refl refl
 -- ---- responses
 
 response_fails : {limits : Limits} {uses : Uses} (old : GatewayConnection) (client : StreamConnection) (h : Heard)
-    (error : WriteError) → RefusesResponse old.is_last h old.client error client → ClientGoes limits uses old.client client
+    (error : WriteError) → RefusesResponse old.is_last h old.client error client
+    → ClientGoes limits uses old.client client
 response_fails old client h error (inl p) = client_same p.0
 response_fails old client h error (inr p) = client_refuses p.0
 
-interim_fails : {limits : Limits} {uses : Uses} (old : GatewayConnection) (client : StreamConnection) (response : OriginResponse)
+interim_fails : {limits : Limits} {uses : Uses} (old : GatewayConnection) (client : StreamConnection)
+    (response : OriginResponse)
     (sent : ForwardedResponse) (error : WriteError) → RefusesInterim response sent old.client error client
     → ClientGoes limits uses old.client client
 interim_fails old client response sent error (inl p) = client_same p.0
 interim_fails old client response sent error (inr p) = client_refuses p.0
 
-switch_fails : {limits : Limits} {uses : Uses} (old : GatewayConnection) (client : StreamConnection) (response : OriginResponse)
+switch_fails : {limits : Limits} {uses : Uses} (old : GatewayConnection) (client : StreamConnection)
+    (response : OriginResponse)
     (fields : List Header) (error : WriteError) → RefusesSwitch response fields old.client error client
     → ClientGoes limits uses old.client client
 switch_fails old client response fields error (inl p) = client_same p.0
@@ -604,12 +615,14 @@ settles : {limits : Limits} {uses : Uses} (old new : GatewayConnection) → Sett
 settles old new (inl h) = same h.1
 settles old new (inr h) = origin_alone (origin_says old.origin new.origin h.1 h.2) (same_client h.3) (same_peer h.3)
 
-connects_as : {limits : Limits} {uses : Uses} (old new : GatewayConnection) → ConnectsAs old new → Goes limits uses old new
+connects_as : {limits : Limits} {uses : Uses} (old new : GatewayConnection) → ConnectsAs old new
+    → Goes limits uses old new
 connects_as old new (inl h) =
     client_alone (client_connects old.client new.client h.0) (same_origin h.1) (same_peer h.1)
 connects_as old new (inr h) = answers_after old new h.1 (Because.Unsendable h.0) (client_refuses h.2.0) h.3
 
-ends_idle_as : {limits : Limits} {uses : Uses} (old new : GatewayConnection) (event : StreamEvent) → EndsIdleAs old event new
+ends_idle_as : {limits : Limits} {uses : Uses} (old new : GatewayConnection) (event : StreamEvent)
+    → EndsIdleAs old event new
     → Goes limits uses old new
 ends_idle_as old new (Is.Rejected why) h = answers old new Because.LateRequest h
 ends_idle_as old new Is.NeedsInput is = kept is refl refl refl
@@ -691,7 +704,8 @@ now_in Silent request interim = Origin.Asked request interim
 now_in (Telling response content) request interim = Origin.Hears request interim response content
 
 -- the request that was told of the client was sent to the origin, which told this of its response
-record Carries (limits : Limits) (uses : Uses) (m : GatewayConnection) (p : Stream.Past) (a : AskedRequest) (t : Told) : Type 0 where
+record Carries (limits : Limits) (uses : Uses) (m : GatewayConnection) (p : Stream.Past) (a : AskedRequest) (t : Told)
+    : Type 0 where
   asked : m.asked ≡ Some a
   head : head_of p.heard ≡ Some a.head
   decided : IsDecided uses a
@@ -849,7 +863,8 @@ carries_to {limits} {uses} {old} {new} {p} {q} {a} {t} {now} {after} g c asked h
       traffic = c.traffic ∙ ap (λ (l : Traffic). l ∷ c.older) (sym line);
     }
 
-carries_by : {limits : Limits} {uses : Uses} {old new : GatewayConnection} {p q : Stream.Past} {a : AskedRequest} {t now : Told}
+carries_by : {limits : Limits} {uses : Uses} {old new : GatewayConnection} {p q : Stream.Past} {a : AskedRequest}
+    {t now : Told}
     {before after : OriginConnection} (g : Origin.Now → Origin.Now) → Carries limits uses old p a t
     → new.asked ≡ old.asked → head_of q.heard ≡ head_of p.heard → old.origin ≡ Some before → new.origin ≡ Some after
     → ((o : Origin.Past) → Origin.IsReached limits before o
@@ -863,8 +878,10 @@ carries_by {limits} {uses} {old} {new} {p} {q} {a} {t} {now} {before} {after} g 
     let y = turns c.request c.interim c.sends in
     carries_to g c asked head is_now x.0 x.1 x.2 x.3 y.0 y.1 y.2 y.3
 
-carries_kept : {limits : Limits} {uses : Uses} {old new : GatewayConnection} {p q : Stream.Past} {a : AskedRequest} {t : Told}
-    → new.asked ≡ old.asked → head_of q.heard ≡ head_of p.heard → new.origin ≡ old.origin → Carries limits uses old p a t
+carries_kept : {limits : Limits} {uses : Uses} {old new : GatewayConnection} {p q : Stream.Past} {a : AskedRequest}
+    {t : Told}
+    → new.asked ≡ old.asked → head_of q.heard ≡ head_of p.heard → new.origin ≡ old.origin
+    → Carries limits uses old p a t
     → Carries limits uses new q a t
 carries_kept asked head origin c = record {
   asked = asked ∙ c.asked;
@@ -1139,7 +1156,8 @@ tied_by : (limits : Limits) (uses : Uses) (old new : GatewayConnection) (p q : S
     → TiedAt limits uses old.stage old p → TiedAt limits uses new.stage new q
 tied_by limits uses old new p q f head final carry x =
     subst (λ (s : Stage). TiedAt limits uses s new q) (sym f.stage)
-    (tied_on limits uses uses old.stage old new p q (grows_same uses) (frame_fields f) f.asked f.heard head final carry x)
+    (tied_on limits uses uses old.stage old new p q (grows_same uses) (frame_fields f) f.asked f.heard head final carry
+    x)
 
 -- the origin's connection alone goes
 origin_moves : {limits : Limits} {uses : Uses} {old new : GatewayConnection} → new.client ≡ old.client → Frame old new
@@ -1202,14 +1220,16 @@ hears_content : {limits : Limits} {uses : Uses} (old : GatewayConnection) (clien
     (piece : List ℕ) → StreamSteps.Says old.client (Is.Content piece) client
     → Leads limits uses old (with_client old client)
 hears_content {limits} {uses} old client piece says =
-    client_moves refl (frame refl refl refl refl refl (λ a. refl)) (client_says old.client client (Is.Content piece) says)
+    client_moves refl (frame refl refl refl refl refl (λ a. refl))
+    (client_says old.client client (Is.Content piece) says)
     (λ p r s. (content_head limits uses piece p.heard, refl))
 
 hears_end : {limits : Limits} {uses : Uses} (old : GatewayConnection) (client : StreamConnection)
     (trailers : Entries FieldValue) → StreamSteps.Says old.client (Is.End trailers) client
     → Leads limits uses old (with_client old client)
 hears_end {limits} {uses} old client trailers says =
-    client_moves refl (frame refl refl refl refl refl (λ a. refl)) (client_says old.client client (Is.End trailers) says)
+    client_moves refl (frame refl refl refl refl refl (λ a. refl))
+    (client_says old.client client (Is.End trailers) says)
     (λ p r s. (end_head limits uses trailers p.heard, refl))
 
 hears_nothing : {limits : Limits} {uses : Uses} (old : GatewayConnection) (client : StreamConnection)
@@ -1230,7 +1250,13 @@ puts_content {limits} old new piece h =
     (origin_step h.2 (same_origin h.4) (λ r. (_, Origin.Put h.0 h.1 r.0 piece r.1 h.3)))
     (λ p a t c. carries_by (Origin.change (Origin.with_piece piece)) c (same_asked h.4) refl h.2 (same_origin h.4)
     (λ o r. (_, Origin.Put h.0 h.1 o piece r h.3, refl, refl))
-    (λ r interim is_for. (Origin.with_piece piece r, interim, (is_for.0, is_for.1, is_for.2), change_in (Origin.with_piece piece) t r interim)))
+    (λ r interim is_for. (
+      Origin.with_piece piece r,
+      interim,
+      (is_for.0, is_for.1, is_for.2),
+      change_in (Origin.with_piece piece) t r
+          interim,
+    )))
 
 puts_request_end : {limits : Limits} {uses : Uses} (rules : GatewayRules) (old new : GatewayConnection)
     (trailers : Entries FieldValue) → PutsRequestEnd rules old trailers new → Leads limits uses old new
@@ -1294,7 +1320,8 @@ says_in None new before event is says = absurd (cc)
 says_in (Some old) None before event is says = absurd says
 
 -- the exchange goes on by what the origin's connection said
-carries_said : {limits : Limits} {uses : Uses} {old : GatewayConnection} {p : Stream.Past} {a : AskedRequest} {t now : Told}
+carries_said : {limits : Limits} {uses : Uses} {old : GatewayConnection} {p : Stream.Past} {a : AskedRequest}
+    {t now : Told}
     (origin : Option OriginConnection) (event : OriginEvent) → SaysIn old.origin event origin
     → ((r : Request) (interim : List OriginResponse)
     → (later : List OriginResponse) × (Origin.tell event (now_in t r interim) ≡ now_in now r later))
@@ -1343,7 +1370,8 @@ said_freely : {limits : Limits} {uses : Uses} (old new : GatewayConnection) (ori
     (event : OriginEvent) → SaysIn old.origin event origin → Goes limits uses (with_origin old origin) new
     → IsFree new.stage → Leads limits uses old new
 said_freely old new origin event says goes free =
-    freely (goes_then {b = with_origin old origin} (origin_alone (origin_says old.origin origin event says) refl refl) goes)
+    freely (goes_then {b = with_origin old origin} (origin_alone (origin_says old.origin origin event says) refl refl)
+    goes)
     free
 
 abbrev interim_of : OriginResponse → ForwardedResponse → Bare
@@ -1629,7 +1657,8 @@ loose_said {limits} old origin event p says x =
     record { peer = x.peer; reached = x.reached; served = x.served; origin = goes.step x.origin }
 
 -- what an origin's connection tells of an interim response
-interim_passed : {limits : Limits} {uses : Uses} {m : GatewayConnection} {p : Stream.Past} (rules : GatewayRules) (date : ℕ)
+interim_passed : {limits : Limits} {uses : Uses} {m : GatewayConnection} {p : Stream.Past} (rules : GatewayRules)
+    (date : ℕ)
     (a : AskedRequest) (response : OriginResponse) (sent : ForwardedResponse) (after : OriginConnection)
     → IsIn rules uses.rules → (c : Carries limits uses m p a Silent)
     → OriginSteps.Says c.origin (Comes.Interim response) after
@@ -1738,7 +1767,8 @@ switch_of_asked rules date old new a response p x asked head is (inr h) =
     to_free p (kept h.1 refl refl refl) (free_at (same_stage h.1) tt) x
 
 -- what an origin's connection tells of a response that ends HTTP
-switch_passed : {limits : Limits} {uses : Uses} {m : GatewayConnection} {p : Stream.Past} (rules : GatewayRules) (date : ℕ)
+switch_passed : {limits : Limits} {uses : Uses} {m : GatewayConnection} {p : Stream.Past} (rules : GatewayRules)
+    (date : ℕ)
     (a : AskedRequest) (response : OriginResponse) (after : OriginConnection) → IsIn rules uses.rules
     → (c : Carries limits uses m p a Silent) → OriginSteps.Says c.origin (Comes.Switched response) after
     → (fields : List Header) → IsSwitched rules.gateway date a response fields → (b : Bare)
@@ -1784,7 +1814,8 @@ hears_switch {limits} {uses} rules date At.Passing old new origin response is st
     c.carries.now s.2)
 hears_switch rules date stage old new origin response is streaming among says h = absurd streaming
 
-hears_head : {limits : Limits} {uses : Uses} (rules : GatewayRules) (date : ℕ) (stage : Stage) (old new : GatewayConnection)
+hears_head : {limits : Limits} {uses : Uses} (rules : GatewayRules) (date : ℕ) (stage : Stage)
+    (old new : GatewayConnection)
     (origin : Option OriginConnection) (response : OriginResponse) → old.stage ≡ stage → IsStreaming stage
     → IsIn rules uses.rules → SaysIn old.origin (Comes.Head response) origin
     → OfAsked (with_origin old origin) (λ a. PassesHead rules date (with_origin old origin) a response new) new
@@ -1868,8 +1899,10 @@ shown_frame : (old new : GatewayConnection) (piece : List ℕ) (told : Option Ga
     → (((old.watches ≡ true) × (told ≡ Some Tells.Piece)
     × (new ≡ record old { client = new.client; piece = piece }))
     ⊎ ((old.watches ≡ false) × (told ≡ None) × (new ≡ record old { client = new.client }))) → Shown old new
-shown_frame old new piece told (inl h) = record { kept = frame h.2 refl refl refl refl (λ a. refl); origin = same_origin h.2 }
-shown_frame old new piece told (inr h) = record { kept = frame h.2 refl refl refl refl (λ a. refl); origin = same_origin h.2 }
+shown_frame old new piece told (inl h) =
+    record { kept = frame h.2 refl refl refl refl (λ a. refl); origin = same_origin h.2 }
+shown_frame old new piece told (inr h) =
+    record { kept = frame h.2 refl refl refl refl (λ a. refl); origin = same_origin h.2 }
 
 passes_piece : {limits : Limits} {uses : Uses} (old new : GatewayConnection) (origin : Option OriginConnection)
     (piece : List ℕ) (told : Option GatewayEvent) → old.stage ≡ At.Passing
@@ -1878,7 +1911,8 @@ passes_piece : {limits : Limits} {uses : Uses} (old new : GatewayConnection) (or
 passes_piece old new origin piece told is says (inl h) =
     shown old new origin piece is says h.0 (shown_frame (with_origin old origin) new piece told h.1)
 passes_piece old new origin piece told is says (inr h) =
-    said_freely old new origin (Comes.Content piece) says (client_alone (client_refuses h.1.0) (same_origin h.3) (same_peer h.3))
+    said_freely old new origin (Comes.Content piece) says
+    (client_alone (client_refuses h.1.0) (same_origin h.3) (same_peer h.3))
     (free_at (same_stage h.3) tt)
 
 hears_piece : {limits : Limits} {uses : Uses} (stage : Stage) (old new : GatewayConnection)
@@ -1907,8 +1941,8 @@ ended {limits} {uses} rules old new origin trailers h sent is among says heard f
     let c = t.carries in
     let s = says_in old.origin origin c.origin (Comes.End trailers) c.is says in
     let same : h ≡ t.heard = cc (sym heard ∙ t.is) in
-    let final : Stream.change (Stream.with_trailers sent) p.answer.final ≡ Begun (Stream.with_trailers sent t.response) =
-    ap (Stream.change (Stream.with_trailers sent)) t.final in
+    let last : Response = Stream.with_trailers sent t.response in
+    let final : Stream.change (Stream.with_trailers sent) p.answer.final ≡ Begun last = ap (Stream.change (Stream.with_trailers sent)) t.final in
     let q : Stream.Past = Stream.answers (Stream.change (Stream.with_trailers sent) p.answer.final) p in
     let o : Origin.Past = record (c.past) { now = Origin.tell (Comes.End trailers) c.past.now } in
     let passed : IsPassedOn limits uses t.a.head (Stream.with_trailers sent t.response) = record {
@@ -1992,7 +2026,8 @@ passes_end rules old new origin trailers is among says (inl h) =
 passes_end rules old new origin trailers is among says (inr h) =
     said_freely old new origin (Comes.End trailers) says (kept h.1 refl refl refl) (free_at (same_stage h.1) tt)
 
-hears_response_end : {limits : Limits} {uses : Uses} (rules : GatewayRules) (stage : Stage) (old new : GatewayConnection)
+hears_response_end : {limits : Limits} {uses : Uses} (rules : GatewayRules) (stage : Stage)
+    (old new : GatewayConnection)
     (origin : Option OriginConnection) (trailers : Entries FieldValue) → old.stage ≡ stage → IsStreaming stage
     → IsIn rules uses.rules → SaysIn old.origin (Comes.End trailers) origin
     → PassesEnd rules (with_origin old origin) trailers new → Leads limits uses old new
@@ -2114,7 +2149,8 @@ awaits_freely rules old new told client event says goes free =
 
 awaits_request : {limits : Limits} {uses : Uses} (rules : GatewayRules) (old new : GatewayConnection)
     (told : Option GatewayEvent) (client : StreamConnection) (event : StreamEvent) → old.stage ≡ At.Idle
-    → IsIn rules uses.rules → StreamSteps.Says old.client event client → Awaits rules (with_client old client) event told new
+    → IsIn rules uses.rules → StreamSteps.Says old.client event client
+    → Awaits rules (with_client old client) event told new
     → Leads limits uses old new
 awaits_request rules old new told client Is.NeedsInput is among says h =
     awaits_freely rules old new told client Is.NeedsInput says (kept h.1 refl refl refl)
@@ -2476,7 +2512,8 @@ ends_idle_free old new Is.Closed is = free_at (same_stage is) tt
 idles : {limits : Limits} {uses : Uses} (old new : GatewayConnection) → EndsIdle old new → Leads limits uses old new
 idles old new h = freely (ends_idle old new h) (ends_idle_free (with_client old h.2) new h.1 h.5)
 
-times_out : {limits : Limits} {uses : Uses} (phase : ExchangePhase) (old new : GatewayConnection) → TimesOutAt phase old new
+times_out : {limits : Limits} {uses : Uses} (phase : ExchangePhase) (old new : GatewayConnection)
+    → TimesOutAt phase old new
     → Leads limits uses old new
 times_out Does.Idle old new h = idles old new h
 times_out Does.Head old new h = idles old new h
@@ -2789,7 +2826,8 @@ runs {limits} (Received old new p bytes before going h) =
       sent = r.sent;
     }
 runs (Finished old new p before h) =
-    on (client_moves (same_origin h.1) (frame h.1 refl refl refl refl (λ a. refl)) (client_finishes old.client new.client h.0)
+    on (client_moves (same_origin h.1) (frame h.1 refl refl refl refl (λ a. refl))
+    (client_finishes old.client new.client h.0)
     (λ p r s. (refl, refl))) (runs before)
 runs {limits} (Written old new p count before within h) =
     let r = runs before in
@@ -2883,6 +2921,8 @@ runs (NotBegun old new p status reason fields size error before h) =
 runs (Passed old new p before h) = on (passes old new h) (runs before)
 runs (TimedOut old new p before h) = on (times_out (phase_of old) old new h) (runs before)
 runs (Taken old new p origin before h) = on (takes old new origin h) (runs before)
+runs (Dated old new p now before h) =
+    on (rests (same_client h.2) (same_origin h.2) (frame h.2 refl refl refl refl (λ a. refl))) (runs before)
 runs (Closing old new p before is) =
     on (rests (same_client is) (same_origin is) (frame is refl refl refl refl (λ a. refl))) (runs before)
 

@@ -90,7 +90,8 @@ pub record IsOutgoing (rules : GatewayRules) (sent : SentRequest) (to : List ℕ
       then replaced_by (expect_fields Answered) (fields_of sent.fields.items) else fields_of sent.fields.items)
 
 -- the request may be sent so
-pub record IsSentOn (rules : GatewayRules) (peer : Peer) (request : StreamRequest) (authority : Option Line) (to : List ℕ)
+pub record IsSentOn (rules : GatewayRules) (peer : Peer) (request : StreamRequest) (authority : Option Line)
+    (to : List ℕ)
     (outgoing : Outgoing) : Type 0 where
   pub opens : Bool
   pub handshake : OpensWebsocket rules request opens
@@ -115,7 +116,8 @@ IsAnswered rules peer request authority (Because.Rejected why) =
 IsAnswered rules peer request authority Because.FinalRecipient =
     (framing : Framing) × IsForGateway rules.gateway (asked rules request authority) framing
 IsAnswered rules peer request authority Because.LengthRequired =
-    (opens : Bool) × LacksLength rules.gateway (next_hop rules peer (websocket_if opens)) (asked rules request authority)
+    (opens : Bool)
+    × LacksLength rules.gateway (next_hop rules peer (websocket_if opens)) (asked rules request authority)
 IsAnswered rules peer request authority own = ⊥
 
 -- what is done with a request of this authority, whose target is sent so

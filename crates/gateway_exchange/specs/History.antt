@@ -1,6 +1,6 @@
 -- Every history of calls on a gateway's connection, and what is true after it.
-use Rattle.std.specs.Prelude.{◌≡◌, ◌⊎◌, ⊤, ℕ, ◌≤◌, min, Bool, true, false, List, [], ◌∷◌, ◌++◌, length, take, Option, Some}
-use Rattle.std.specs.Prelude.{None, codes}
+use Rattle.std.specs.Prelude.{◌≡◌, ◌⊎◌, ⊤, ℕ, ◌≤◌, min, Bool, true, false, List, [], ◌∷◌, ◌++◌, length, take, Option}
+use Rattle.std.specs.Prelude.{Some, None, codes}
 use Rattle.std.specs.List.{concat}
 use Rattle.headers.specs.LineMap.{lines_at}
 use Rattle.http_header.{specs.FieldValue.FieldValue, specs.HeaderMap.Entries}
@@ -23,14 +23,14 @@ use Rattle.gateway_exchange.specs.Own.{closing, own_fields, own_status}
 use Rattle.gateway_exchange.specs.Decisions.{IsDecision}
 use Rattle.gateway_exchange.specs.Passing.{IsSwitched, IsTrailers, answered, with_conditions}
 use Rattle.gateway_exchange.specs.declared.decision.RequestDecision.TheVariants.{Send}
-use Rattle.gateway_exchange.specs.Steps.{Answers, AsksAgain, ChangesClient, ChangesOrigin, Conditions, Connects}
-use Rattle.gateway_exchange.specs.Steps.{EndsGiving, FinishesClient, Gives, HandsOutOrigin, IsNew, Passes, RefusesGiving}
-use Rattle.gateway_exchange.specs.Steps.{ReceivesOrigin, RefusesInGiving, Says, Sends, Settles, TakesClient, TakesOrigin}
-use Rattle.gateway_exchange.specs.Steps.{TimesOut, is_origin_open, output_of}
+use Rattle.gateway_exchange.specs.Steps.{Answers, AsksAgain, ChangesClient, ChangesOrigin, Conditions, Connects, Dates}
+use Rattle.gateway_exchange.specs.Steps.{EndsGiving, FinishesClient, Gives, HandsOutOrigin, IsNew, Passes}
+use Rattle.gateway_exchange.specs.Steps.{RefusesGiving, ReceivesOrigin, RefusesInGiving, Says, Sends, Settles}
+use Rattle.gateway_exchange.specs.Steps.{TakesClient, TakesOrigin, TimesOut, is_origin_open, output_of}
 use Rattle.gateway_exchange.specs.declared.{connection.GatewayConnection.GatewayConnection}
 use Rattle.gateway_exchange.specs.declared.{decision.AskedRequest.AskedRequest, pass.Heard.Heard}
-use Rattle.gateway_exchange.specs.declared.{event.GatewayEvent.GatewayEvent, own.Own.Own, rules.Peer.Peer}
-use Rattle.gateway_exchange.specs.declared.{rules.GatewayRules.GatewayRules}
+use Rattle.gateway_exchange.specs.declared.{event.GatewayEvent.GatewayEvent, date.DateField.DateField, own.Own.Own}
+use Rattle.gateway_exchange.specs.declared.{rules.Peer.Peer, rules.GatewayRules.GatewayRules}
 use Rattle.gateway_exchange.specs.declared.own.Own.TheVariants as Because
 use Rattle.gateway_exchange.specs.declared.connection.Stage.TheVariants as At
 
@@ -162,6 +162,8 @@ pub data IsReached (limits : Limits) : GatewayConnection → Past → Type 0 whe
       → IsReached limits new p
   Taken : (old new : GatewayConnection) (p : Past) (origin : Option OriginConnection) → IsReached limits old p
       → TakesOrigin old origin new → IsReached limits new p
+  Dated : (old new : GatewayConnection) (p : Past) (now : ℕ) → IsReached limits old p → Dates old now new
+      → IsReached limits new p
   Closing : (old new : GatewayConnection) (p : Past) → IsReached limits old p → new ≡ record old { is_last = true }
       → IsReached limits new p
 
@@ -175,8 +177,9 @@ OriginIn limits None = ⊤
 -- the response is the gateway's own, which has no content
 abbrev pub IsOwn : Response → Type 0
 IsOwn r =
-    (own : Own) × (is_last : Bool) × (r.status ≡ own_status own) × (r.reason ≡ reason_of (own_status own))
-    × (r.headers ≡ own_fields is_last own) × (r.size ≡ Known 0) × (r.pieces ≡ [])
+    (own : Own) × (is_last : Bool) × (date : Option DateField) × (r.status ≡ own_status own)
+    × (r.reason ≡ reason_of (own_status own)) × (r.headers ≡ own_fields is_last date own) × (r.size ≡ Known 0)
+    × (r.pieces ≡ [])
 
 -- its head was given by the caller; that of the last response says so too
 abbrev pub IsGiven : Uses → Response → Type 0
@@ -268,8 +271,8 @@ pub record IsPassedOn (limits : Limits) (uses : Uses) (head : StreamRequest) (r 
 abbrev pub IsServed : Limits → Uses → StreamRequest → Response → Type 0
 IsServed limits uses head r = IsOwn r ⊎ IsGiven uses r ⊎ IsPassedOn limits uses head r
 
--- An interim response is forwarded: one of the connections to an origin that were handed in told it of this request. Its
--- head is what is forwarded of the origin's.
+-- An interim response is forwarded: one of the connections to an origin that were handed in told it of this
+-- request. Its head is what is forwarded of the origin's.
 pub record IsInterimPassedOn (limits : Limits) (uses : Uses) (head : StreamRequest) (b : Bare) : Type 0 where
   pub asked : AskedRequest
   pub head_is : asked.head ≡ head
@@ -358,10 +361,11 @@ pub record Served (limits : Limits) (uses : Uses) (p : Stream.Past) : Type 0 whe
   pub now : IsServedNow limits uses (head_of p.heard) p.answer.final
 
 -- The theorem. The client's connection was reached by calls of its own, by which the same bytes were received and
--- written: so what was written to the client, and then waits for it, is one response for each of its requests, in order,
--- literally and to its end, but for the last one, which may be cut off. Each of these responses is the gateway's own, or
--- given by the caller, or what is forwarded of the response of an origin to that request; an interim one is the
--- gateway's 100 (Continue), or an origin's. The origin's connection was reached by calls of its own too: so it was sent whole requests, and then maybe a first part of one.
+-- written: so what was written to the client, and then waits for it, is one response for each of its requests, in
+-- order, literally and to its end, but for the last one, which may be cut off. Each of these responses is the
+-- gateway's own, or has a head that the caller gave, or is what is forwarded of the response of an origin to that
+-- request; an interim one is the gateway's 100 (Continue), or an origin's. The origin's connection was reached by calls
+-- of its own too: so it was sent whole requests, and then maybe a first part of one.
 pub record Exchanged (limits : Limits) (m : GatewayConnection) (p : Past) : Type 0 where
   pub client : Stream.Past
   pub reached : Stream.IsReached limits m.client client

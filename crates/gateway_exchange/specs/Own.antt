@@ -1,5 +1,7 @@
 -- The gateway's own responses (RFC 9110, sections 15.5 and 15.6).
-use Rattle.std.specs.Prelude.{◌≡◌, ◌⊎◌, ℕ, Bool, true, false, ◌||◌, List, [], ◌∷◌, ◌++◌, codes, if◌then◌else◌}
+use Rattle.std.specs.Prelude.{◌≡◌, ◌⊎◌, ℕ, Bool, true, false, ◌||◌, List, [], ◌∷◌, ◌++◌, codes, if◌then◌else◌, Option}
+use Rattle.std.specs.Prelude.{Some, None}
+use Rattle.headers.specs.Date.{fixdate}
 use Rattle.http1.specs.{Conn.finish_refusal, Fields.Header, Server.response_refusal, declared.conn.BodySize.BodySize}
 use Rattle.http1.specs.{declared.conn.BodySize.TheVariants.Known, declared.error.WriteError.WriteError}
 use Rattle.http1_typed.specs.Parts.{reason_of}
@@ -7,7 +9,7 @@ use Rattle.gateway_messages.specs.Rejections.{status_of}
 use Rattle.server_stream.specs.Heads.{rejection_status}
 use Rattle.server_stream.specs.Steps.{Ends, RefusesWrite, Responds}
 use Rattle.server_stream.specs.declared.connection.StreamConnection.{StreamConnection}
-use Rattle.gateway_exchange.specs.declared.own.Own.{Own}
+use Rattle.gateway_exchange.specs.declared.{date.DateField.DateField, own.Own.Own}
 use Rattle.gateway_connection.specs.declared.event.OriginFault.{OriginFault}
 use Rattle.gateway_connection.specs.declared.event.OriginFault.TheVariants as Faults
 use Rattle.http1.specs.declared.error.WriteError.TheVariants as Write
@@ -58,21 +60,37 @@ abbrev pub closing : Bool → List Header → List Header
 closing true fields = fields ++ close_field ∷ []
 closing false fields = fields
 
-abbrev pub own_fields : Bool → Own → List Header
-own_fields is_last own = if is_last || own_closes own then close_field ∷ [] else []
+abbrev pub close_fields : Bool → List Header
+close_fields closes = if closes then close_field ∷ [] else []
 
--- a response without content is put to its end
-abbrev pub PutsOwn : Bool → StreamConnection → Own → StreamConnection → Type 0
-PutsOwn is_last old own new =
+-- the time at which it is sent (RFC 9110, section 6.6.1)
+abbrev pub date_field : DateField → Header
+date_field d = (codes "date", fixdate d.date)
+
+abbrev pub date_fields : Option DateField → List Header
+date_fields (Some d) = date_field d ∷ []
+date_fields None = []
+
+abbrev pub own_fields : Bool → Option DateField → Own → List Header
+own_fields is_last date own = date_fields date ++ close_fields (is_last || own_closes own)
+
+-- a response without content, with these fields, is put to its end
+abbrev pub PutsWith : List Header → StreamConnection → Own → StreamConnection → Type 0
+PutsWith fields old own new =
     (between : StreamConnection)
-    × Responds old (own_status own) (reason_of (own_status own)) (own_fields is_last own) (Known 0) between
-    × Ends between [] new
+    × Responds old (own_status own) (reason_of (own_status own)) fields (Known 0) between × Ends between [] new
 
 -- nothing of it is put, or its head alone
-abbrev pub RefusesOwn : Bool → StreamConnection → Own → WriteError → StreamConnection → Type 0
-RefusesOwn is_last old own error new =
-    RefusesWrite (response_refusal old.server (own_status own) (reason_of (own_status own)) (Known 0)
-    (own_fields is_last own)) old error new
+abbrev pub RefusesWith : List Header → StreamConnection → Own → WriteError → StreamConnection → Type 0
+RefusesWith fields old own error new =
+    RefusesWrite (response_refusal old.server (own_status own) (reason_of (own_status own)) (Known 0) fields) old error
+    new
     ⊎ ((between : StreamConnection)
-    × Responds old (own_status own) (reason_of (own_status own)) (own_fields is_last own) (Known 0) between
+    × Responds old (own_status own) (reason_of (own_status own)) fields (Known 0) between
     × RefusesWrite (finish_refusal between.server.writing []) between error new)
+
+abbrev pub PutsOwn : Bool → Option DateField → StreamConnection → Own → StreamConnection → Type 0
+PutsOwn is_last date old own = PutsWith (own_fields is_last date own) old own
+
+abbrev pub RefusesOwn : Bool → Option DateField → StreamConnection → Own → WriteError → StreamConnection → Type 0
+RefusesOwn is_last date old own = RefusesWith (own_fields is_last date own) old own

@@ -15,7 +15,8 @@ use Rattle.gateway_messages.specs.Responses.{IsDiscarded, IsForwardedResponse, R
 use Rattle.gateway_messages.specs.declared.{field_line.FieldLine.FieldLine, framing.Framing.Framing}
 use Rattle.gateway_messages.specs.declared.{gateway.Gateway.Gateway, response.ForwardedResponse.ForwardedResponse}
 use Rattle.gateway_hops.{specs.Connections.connection_fields, specs.Replaced.replaced_by}
-use Rattle.gateway_connection.specs.declared.{event.OriginResponse.OriginResponse, origin.OriginConnection.OriginConnection}
+use Rattle.gateway_connection.specs.declared.{event.OriginResponse.OriginResponse}
+use Rattle.gateway_connection.specs.declared.{origin.OriginConnection.OriginConnection}
 use Rattle.gateway_connection.specs.Steps as Origin
 use Rattle.server_stream.specs.Steps as Stream
 use Rattle.server_stream.specs.declared.connection.StreamConnection.{StreamConnection}

@@ -1,32 +1,38 @@
 -- What each call does.
-use Rattle.std.specs.Prelude.{◌≡◌, ◌≢◌, ◌⊎◌, ⊤, ℕ, ◌+◌, ◌<◌, ◌≤◌, Bool, true, false, ◌&&◌, ◌||◌, not, List, [], ◌∷◌, length}
-use Rattle.std.specs.Prelude.{Option, Some, None, codes, if◌then◌else◌, min, option_map}
+use Rattle.std.specs.Prelude.{◌≡◌, ◌≢◌, ◌⊎◌, ⊤, ℕ, ◌+◌, ◌<◌, ◌≤◌, Bool, true, false, ◌&&◌, ◌||◌, not, List, [], ◌∷◌}
+use Rattle.std.specs.Prelude.{length, Option, Some, None, codes, if◌then◌else◌, min, option_map}
 use Rattle.http_header.{specs.FieldValue.FieldValue, specs.HeaderMap.Entries}
 use Rattle.http1.specs.{Conn.{data_refusal, finish_refusal}, Fields.Header}
 use Rattle.http1.specs.Server.{informational_refusal, response_refusal, upgrade_refusal}
-use Rattle.http1.specs.{declared.conn.BodySize.BodySize, declared.conn.Limits.Limits, declared.error.WriteError.WriteError}
+use Rattle.http1.specs.{declared.conn.BodySize.BodySize, declared.conn.Limits.Limits}
+use Rattle.http1.specs.{declared.error.WriteError.WriteError}
 use Rattle.gateway_messages.specs.FieldLines.{fields_of}
 use Rattle.gateway_messages.specs.Responses.{IsDiscarded, IsForwardableResponse, IsForwardedResponse, RejectsResponse}
 use Rattle.gateway_messages.specs.declared.{expectation.Expectation.{Expectation, TheVariants.Answered}}
 use Rattle.gateway_messages.specs.declared.{field_line.FieldLine.FieldLine, rejection.Rejection.Rejection}
-use Rattle.gateway_messages.specs.declared.response.{ContentFraming.{ContentFraming, TheVariants.Absent}, ForwardedResponse.ForwardedResponse}
+use Rattle.gateway_messages.specs.declared.response.{ContentFraming.{ContentFraming, TheVariants.Absent}}
+use Rattle.gateway_messages.specs.declared.response.{ForwardedResponse.ForwardedResponse}
 use Rattle.gateway_connection.specs.declared.{event.OriginEvent.OriginEvent, event.OriginFault.OriginFault}
-use Rattle.gateway_connection.specs.declared.{event.OriginResponse.OriginResponse, origin.OriginConnection.OriginConnection}
+use Rattle.gateway_connection.specs.declared.{event.OriginResponse.OriginResponse}
+use Rattle.gateway_connection.specs.declared.{origin.OriginConnection.OriginConnection}
 use Rattle.gateway_connection.specs.Steps as Origin
 use Rattle.gateway_connection.specs.declared.event.OriginFault.TheVariants as Faults
 use Rattle.server_stream.specs.Steps as Stream
-use Rattle.server_stream.specs.declared.{connection.StreamConnection.StreamConnection, event.StreamRequest.StreamRequest}
+use Rattle.server_stream.specs.declared.{connection.StreamConnection.StreamConnection}
+use Rattle.server_stream.specs.declared.{event.StreamRequest.StreamRequest}
 use Rattle.server_stream.specs.declared.event.StreamEvent.{StreamEvent}
 use Rattle.gateway_exchange.specs.{Decisions.IsDecision, Own.{PutsOwn, RefusesOwn, closing}}
-use Rattle.gateway_exchange.specs.Passing.{EndsRequest, EndsResponse, IsSwitched, IsUnswitched, PutsInterim, PutsRequest}
-use Rattle.gateway_exchange.specs.Passing.{PutsResponse, PutsSwitch, RefusesInterim, RefusesRequest, RefusesRequestEnd}
-use Rattle.gateway_exchange.specs.Passing.{RefusesResponse, RefusesResponseEnd, RefusesSwitch, answered, with_conditions}
+use Rattle.gateway_exchange.specs.Passing.{EndsRequest, EndsResponse, IsSwitched, IsUnswitched, PutsInterim}
+use Rattle.gateway_exchange.specs.Passing.{PutsRequest, PutsResponse, PutsSwitch, RefusesInterim, RefusesRequest}
+use Rattle.gateway_exchange.specs.Passing.{RefusesRequestEnd, RefusesResponse, RefusesResponseEnd, RefusesSwitch}
+use Rattle.gateway_exchange.specs.Passing.{answered, with_conditions}
 use Rattle.gateway_exchange.specs.declared.{connection.GatewayConnection.GatewayConnection, connection.Stage.Stage}
 use Rattle.gateway_exchange.specs.declared.{decision.AskedRequest.AskedRequest, decision.Outgoing.Outgoing}
 use Rattle.gateway_exchange.specs.declared.decision.RequestDecision.{RequestDecision}
-use Rattle.gateway_exchange.specs.declared.{event.GatewayEvent.GatewayEvent, event.ExchangePhase.ExchangePhase, own.Own.Own}
-use Rattle.gateway_exchange.specs.declared.{event.Wants.Wants, pass.Heard.Heard}
-use Rattle.gateway_exchange.specs.declared.{rules.Peer.Peer, rules.GatewayRules.GatewayRules, tunnel.TheConstants.MOST_WAITING}
+use Rattle.gateway_exchange.specs.declared.{event.GatewayEvent.GatewayEvent, event.ExchangePhase.ExchangePhase}
+use Rattle.gateway_exchange.specs.declared.{date.DateField.DateField, own.Own.Own, event.Wants.Wants, pass.Heard.Heard}
+use Rattle.gateway_exchange.specs.declared.{rules.Peer.Peer, rules.GatewayRules.GatewayRules}
+use Rattle.gateway_exchange.specs.declared.{tunnel.TheConstants.MOST_WAITING}
 use Rattle.gateway_connection.specs.declared.event.OriginEvent.TheVariants as Comes
 use Rattle.gateway_exchange.specs.declared.connection.Stage.TheVariants as At
 use Rattle.gateway_exchange.specs.declared.decision.RequestDecision.TheVariants as Decides
@@ -45,6 +51,7 @@ pub record IsNew (limits : Limits) (peer : Peer) (m : GatewayConnection) : Type 
   pub asked : m.asked ≡ None
   pub heard : m.heard ≡ None
   pub own : m.own ≡ None
+  pub date : m.date ≡ None
   pub is_last : m.is_last ≡ false
 
 -- ---- bytes
@@ -101,12 +108,16 @@ output_of None = []
 
 -- ---- the gateway's own answers
 
+-- the caller says the time
+abbrev pub Dates : GatewayConnection → ℕ → GatewayConnection → Type 0
+Dates old now new = (d : DateField) × (d.date ≡ now) × (new ≡ record old { date = Some d })
+
 -- it is put, and the exchange is over; or that fails, and the client's connection is cut off
 abbrev pub Answers : GatewayConnection → Own → GatewayConnection → Type 0
 Answers old own new =
-    (PutsOwn old.is_last old.client own new.client
+    (PutsOwn old.is_last old.date old.client own new.client
     × (new ≡ record old { client = new.client; own = Some own; stage = At.Ended }))
-    ⊎ ((error : WriteError) × RefusesOwn old.is_last old.client own error new.client
+    ⊎ ((error : WriteError) × RefusesOwn old.is_last old.date old.client own error new.client
     × (new ≡ record old { client = new.client; own = Some own; stage = At.Aborted }))
 
 -- the head of a response was put, so it is cut off; or none was, and the gateway answers
@@ -293,7 +304,8 @@ SaysIn None event None = event ≡ Comes.Closed
 SaysIn old event new = ⊥
 
 -- an interim response is put to the client, or dropped, or the gateway answers
-abbrev pub PassesInterim : GatewayRules → ℕ → GatewayConnection → AskedRequest → OriginResponse → GatewayConnection → Type 0
+abbrev pub PassesInterim : GatewayRules → ℕ → GatewayConnection → AskedRequest → OriginResponse → GatewayConnection
+    → Type 0
 PassesInterim rules date old a response new =
     ((sent : ForwardedResponse)
     × IsForwardedResponse rules.gateway date (answered a response.status response) sent
@@ -328,7 +340,8 @@ Passes old new =
     ((old.stage ≡ At.Judging) × (h : Heard) × (old.heard ≡ Some h) × ShowsHead (record old { heard = None }) h new)
     ⊎ (((old.stage ≢ At.Judging) ⊎ (old.heard ≡ None)) × (new ≡ old))
 
-abbrev pub PassesHead : GatewayRules → ℕ → GatewayConnection → AskedRequest → OriginResponse → GatewayConnection → Type 0
+abbrev pub PassesHead : GatewayRules → ℕ → GatewayConnection → AskedRequest → OriginResponse → GatewayConnection
+    → Type 0
 PassesHead rules date old a response new =
     ((sent : ForwardedResponse)
     × IsForwardedResponse rules.gateway date (answered a response.status response) sent
@@ -367,7 +380,8 @@ SwitchesTo old response fields new =
     ⊎ ((error : WriteError) × (client : StreamConnection) × RefusesSwitch response fields old.client error client
     × Fails (with_client old client) (Because.Unsendable error) new)
 
-abbrev pub PassesSwitch : GatewayRules → ℕ → GatewayConnection → AskedRequest → OriginResponse → GatewayConnection → Type 0
+abbrev pub PassesSwitch : GatewayRules → ℕ → GatewayConnection → AskedRequest → OriginResponse → GatewayConnection
+    → Type 0
 PassesSwitch rules date old a response new =
     ((fields : List Header) × IsSwitched rules.gateway date a response fields × SwitchesTo old response fields new)
     ⊎ ((own : Own) × IsUnswitched rules.gateway a response own × Fails old own new)
@@ -394,7 +408,8 @@ Faulted old fault new =
     ⊎ (¬ (MayRepeat old) × Fails old (Because.Origin fault) new)
 
 -- what becomes of what the origin's connection said
-abbrev pub PassesDown : GatewayRules → ℕ → GatewayConnection → OriginEvent → Option GatewayEvent → GatewayConnection → Type 0
+abbrev pub PassesDown : GatewayRules → ℕ → GatewayConnection → OriginEvent → Option GatewayEvent → GatewayConnection
+    → Type 0
 PassesDown rules date old Comes.NeedsInput told new = (told ≡ None) × (new ≡ record old { origin_hungry = true })
 PassesDown rules date old (Comes.Interim response) told new =
     (told ≡ None) × OfAsked old (λ a. PassesInterim rules date old a response new) new
@@ -592,7 +607,8 @@ TakesOrigin old (Some origin) new =
     × (new ≡ record old { origin = None; origin_hungry = false })
 TakesOrigin old None new =
     ((is_passing old.stage ≡ true) × (new ≡ old))
-    ⊎ ((is_passing old.stage ≡ false) × ¬ (OfFit old.origin) × (new ≡ record old { origin = None; origin_hungry = false }))
+    ⊎ ((is_passing old.stage ≡ false) × ¬ (OfFit old.origin)
+    × (new ≡ record old { origin = None; origin_hungry = false }))
 
 -- ---- steps
 

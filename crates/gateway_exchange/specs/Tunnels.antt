@@ -1,6 +1,6 @@
 -- A tunnel, and every history of calls on it.
-use Rattle.std.specs.Prelude.{◌≡◌, ℕ, ◌≤◌, ◌==◌, nat_lt, Bool, true, false, not, ◌&&◌, List, [], ◌++◌, length, drop, take}
-use Rattle.std.specs.Prelude.{Option, Some, None}
+use Rattle.std.specs.Prelude.{◌≡◌, ℕ, ◌≤◌, ◌==◌, nat_lt, Bool, true, false, not, ◌&&◌, List, [], ◌++◌, length, drop}
+use Rattle.std.specs.Prelude.{take, Option, Some, None}
 use Rattle.gateway_connection.specs.declared.origin.OriginConnection.{OriginConnection}
 use Rattle.gateway_exchange.specs.{Steps.output_of, declared.connection.GatewayConnection.GatewayConnection}
 use Rattle.gateway_exchange.specs.declared.{event.Wants.Wants, tunnel.TheConstants.MOST_WAITING, tunnel.Tunnel.Tunnel}

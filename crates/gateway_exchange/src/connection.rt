@@ -7,19 +7,20 @@ ghost use Rattle.gateway_messages.specs.FieldLines.{fields_of};
 ghost use Rattle.gateway_connection.specs.Steps as Origin;
 ghost use Rattle.server_stream.specs.Steps as Stream;
 ghost use Rattle.gateway_exchange.specs.{History.{Exchanged, IsReached, Past}, Tunnels.{Begins, ended_of, input_of}};
-ghost use Rattle.gateway_exchange.specs.Steps.{AsksAgain, Conditions, Connects, ConnectsNow, EndsGiving};
-ghost use Rattle.gateway_exchange.specs.Steps.{RefusesGiving, RefusesInGiving};
-ghost use Rattle.gateway_exchange.specs.Steps.{ShowsHead, TakesOrigin, asks, is_absent, is_absent_content, is_answered};
-ghost use Rattle.gateway_exchange.specs.Steps.{idle_phase, is_origin_open, is_over, is_passing, waiting_phase};
-ghost use Rattle.gateway_exchange.specs.Steps.{wants_of};
-ghost use Rattle.gateway_exchange.specs.Steps.{Answers, AwaitsRequest, BeginsAt, ChangesClient, ChangesOrigin, Considers};
-ghost use Rattle.gateway_exchange.specs.Steps.{ContinuesIf, EndsIdle, Fails, Faulted, FinishesClient, Gives, HandsOutOrigin};
-ghost use Rattle.gateway_exchange.specs.Steps.{HearsClient, HearsOrigin, IsAsking, IsNew, IsNext, MayRepeat, OfAsked};
-ghost use Rattle.gateway_exchange.specs.Steps.{Passes, PassesEnd, PassesHead, PassesInterim, PassesPiece, PassesSwitch};
+ghost use Rattle.gateway_exchange.specs.Steps.{AsksAgain, Conditions, Connects, ConnectsNow, Dates, EndsGiving};
+ghost use Rattle.gateway_exchange.specs.Steps.{RefusesGiving, RefusesInGiving, ShowsHead, TakesOrigin, asks, is_absent};
+ghost use Rattle.gateway_exchange.specs.Steps.{is_absent_content, is_answered, idle_phase, is_origin_open, is_over};
+ghost use Rattle.gateway_exchange.specs.Steps.{is_passing, waiting_phase, wants_of, Answers, AwaitsRequest, BeginsAt};
+ghost use Rattle.gateway_exchange.specs.Steps.{ChangesClient, ChangesOrigin, Considers, ContinuesIf, EndsIdle, Fails};
+ghost use Rattle.gateway_exchange.specs.Steps.{Faulted, FinishesClient, Gives, HandsOutOrigin, HearsClient};
+ghost use Rattle.gateway_exchange.specs.Steps.{HearsOrigin, IsAsking, IsNew, IsNext, MayRepeat, OfAsked, Passes};
+ghost use Rattle.gateway_exchange.specs.Steps.{PassesEnd, PassesHead, PassesInterim, PassesPiece, PassesSwitch};
 ghost use Rattle.gateway_exchange.specs.Steps.{PutsContent, PutsHead, PutsRequestEnd, ReceivesClient, ReceivesOrigin};
-ghost use Rattle.gateway_exchange.specs.Steps.{RefusesBeginAt, RefusesContent, RefusesEnd, Says, SaysIn, Sends, Settles};
-ghost use Rattle.gateway_exchange.specs.Steps.{Steps, SwitchesTo, TellsHead, TimesOut, Transfers, output_of, phase_of};
+ghost use Rattle.gateway_exchange.specs.Steps.{RefusesBeginAt, RefusesContent, RefusesEnd, Says, SaysIn, Sends};
+ghost use Rattle.gateway_exchange.specs.Steps.{Settles, Steps, SwitchesTo, TellsHead, TimesOut, Transfers, output_of};
+ghost use Rattle.gateway_exchange.specs.Steps.{phase_of};
 
+use crate::date::DateField;
 use crate::decision::{AskedRequest, RequestDecision, decide};
 use crate::event::{ExchangePhase, GatewayEvent, Wants};
 use crate::own::{Own, close_if, put_own};
@@ -95,6 +96,8 @@ pub struct GatewayConnection {
     pub(crate) repeats: bool,
     /// Whether the caller watches the response.
     pub(crate) watches: bool,
+    /// When the caller last said the time.
+    pub(crate) date: Option<DateField>,
     /// Whether the connection ends after the next response.
     pub(crate) is_last: bool,
     /// Whether all that was received of the client was used.
@@ -136,6 +139,7 @@ impl GatewayConnection {
             touched: false,
             repeats: false,
             watches: false,
+            date: None,
             is_last: false,
             client_hungry: false,
             origin_hungry: false,
@@ -557,7 +561,7 @@ impl GatewayConnection {
     fn answer_own(&mut self, own: Own)
         ensures { Answers self.old own self.new }
     {
-        match put_own(&own, self.is_last, &mut self.client) {
+        match put_own(&own, self.is_last, &self.date, &mut self.client) {
             Ok(()) => self.stage = Stage::Ended,
             Err(_) => self.stage = Stage::Aborted,
         }
@@ -615,6 +619,16 @@ impl GatewayConnection {
         self.client.respond(status, reason, &list, size)?;
         self.settle();
         self.stage = Stage::Giving;
+        Ok(())
+    }
+
+    /// Says the time, which the gateway's own answers have as Date from now on (RFC 9110, section 6.6.1). Fails if
+    /// an allocation fails. Then nothing changes.
+    pub fn set_clock(&mut self, now: Date) -> Result<(), AllocError>
+        ensures ok { OnOk result (Dates self.old now self.new) }
+        ensures err { OnErr result (self.new ≡ self.old) }
+    {
+        self.date = Some(DateField::new(self.alloc, now)?);
         Ok(())
     }
 

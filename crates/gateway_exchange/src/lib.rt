@@ -4,6 +4,7 @@
 #![tactic(auto)]
 
 mod connection;
+mod date;
 mod decision;
 mod event;
 mod own;

@@ -1,10 +1,12 @@
 //! Why a gateway answers a request itself.
-ghost use Rattle.std.specs.Prelude.{◌≡◌, IfOk, MatchResult};
+ghost use Rattle.std.specs.Prelude.{◌≡◌, ◌∷◌, IfOk, MatchResult};
 ghost use Rattle.http_header.specs.FieldValue.{IsFieldValue};
 ghost use Rattle.http1.specs.Head.{header_parts, pairs};
 ghost use Rattle.http1_typed.specs.Parts.{reason_of};
-ghost use Rattle.gateway_exchange.specs.Own.{PutsOwn, RefusesOwn, closing, own_closes, own_fields, own_status};
+ghost use Rattle.gateway_exchange.specs.Own.{PutsOwn, PutsWith, RefusesOwn, RefusesWith, close_fields, closing};
+ghost use Rattle.gateway_exchange.specs.Own.{date_field, own_closes, own_status};
 
+use crate::date::DateField;
 use gateway_connection::OriginFault;
 use gateway_messages::Rejection;
 use http::StatusCode;
@@ -100,15 +102,20 @@ fn reason(status: StatusCode) -> &'static [u8]
     status.canonical_reason().unwrap_or("").as_bytes()
 }
 
-// The fields of an answer, beside those that frame it.
-fn own_fields(own: &Own, is_last: bool) -> &'static [Header<'static>]
-    ensures { pairs result.now ≡ own_fields is_last own.now }
+fn date_field(date: &DateField) -> Header<'_>
+    ensures { header_parts result ≡ date_field date.now }
 {
-    if is_last || own.closes() {
-        &[CLOSE]
-    } else {
-        &[]
+    Header {
+        name: b"date",
+        value: date.value.as_bytes(),
     }
+}
+
+// The fields of the answer beside Date and those that frame it.
+fn close_fields(closes: bool) -> &'static [Header<'static>]
+    ensures { pairs result.now ≡ close_fields closes }
+{
+    if closes { &[CLOSE] } else { &[] }
 }
 
 /// Appends the field that says that the connection ends, if this is the last response.
@@ -121,21 +128,51 @@ pub(crate) fn close_if(is_last: bool, fields: &mut Vec<Header<'_>>) -> Result<()
     Ok(())
 }
 
+// Puts the answer with these fields, without content.
+fn put_with(
+    own: &Own,
+    fields: &[Header<'_>],
+    client: &mut StreamConnection,
+) -> Result<(), WriteError>
+    ensures { MatchResult result (λ _. PutsWith (pairs fields.now) client.old own.now client.new)
+        (λ error. RefusesWith (pairs fields.now) client.old own.now error client.new) }
+{
+    let status = own.status();
+    client.respond(status, reason(status), fields, BodySize::Known(0))?;
+    client.end(&[])
+}
+
+// Puts it with a date.
+fn put_dated(
+    own: &Own,
+    closes: bool,
+    date: &DateField,
+    client: &mut StreamConnection,
+) -> Result<(), WriteError>
+    ensures { MatchResult result
+        (λ _. PutsWith (date_field date.now ∷ close_fields closes) client.old own.now client.new)
+        (λ error. RefusesWith (date_field date.now ∷ close_fields closes) client.old own.now error client.new) }
+{
+    if closes {
+        put_with(own, &[date_field(date), CLOSE], client)
+    } else {
+        put_with(own, &[date_field(date)], client)
+    }
+}
+
 /// Puts the answer, without content.
 pub(crate) fn put_own(
     own: &Own,
     is_last: bool,
+    date: &Option<DateField>,
     client: &mut StreamConnection,
 ) -> Result<(), WriteError>
-    ensures { MatchResult result (λ _. PutsOwn is_last client.old own.now client.new)
-        (λ error. RefusesOwn is_last client.old own.now error client.new) }
+    ensures { MatchResult result (λ _. PutsOwn is_last date.now client.old own.now client.new)
+        (λ error. RefusesOwn is_last date.now client.old own.now error client.new) }
 {
-    let status = own.status();
-    client.respond(
-        status,
-        reason(status),
-        own_fields(own, is_last),
-        BodySize::Known(0),
-    )?;
-    client.end(&[])
+    let closes = is_last || own.closes();
+    match date {
+        Some(date) => put_dated(own, closes, date, client),
+        None => put_with(own, close_fields(closes), client),
+    }
 }

@@ -4,10 +4,9 @@ ghost use Rattle.headers.{specs.LineMap.field_of};
 ghost use Rattle.http1.specs.{Conn.finish_refusal};
 ghost use Rattle.gateway_messages.specs.{FieldLines.fields_of, Responses.{IsForwardableResponse, IsResponseOutcome}};
 ghost use Rattle.gateway_exchange.specs.Passing.{EndsRequest, EndsResponse, IsSwitched, IsUnswitched, PutsInterim};
-ghost use Rattle.gateway_exchange.specs.Passing.{PutsResponse, PutsSwitch, RefusesInterim};
-ghost use Rattle.gateway_exchange.specs.Passing.{RefusesRequestEnd, RefusesResponse, RefusesResponseEnd, RefusesSwitch};
-ghost use Rattle.gateway_exchange.specs.Passing.{answered, switching_fields, with_conditions};
-ghost use Rattle.gateway_exchange.specs.Passing.{PutsRequest, RefusesRequest};
+ghost use Rattle.gateway_exchange.specs.Passing.{PutsResponse, PutsSwitch, RefusesInterim, RefusesRequestEnd};
+ghost use Rattle.gateway_exchange.specs.Passing.{RefusesResponse, RefusesResponseEnd, RefusesSwitch, answered};
+ghost use Rattle.gateway_exchange.specs.Passing.{switching_fields, with_conditions, PutsRequest, RefusesRequest};
 ghost use Rattle.gateway_exchange.specs.Steps.{Begins, RefusesBegin};
 
 use crate::decision::AskedRequest;

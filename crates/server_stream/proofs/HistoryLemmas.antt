@@ -1260,7 +1260,8 @@ IsOpen (Whole head content trailers) = ⊥
 IsOpen heard = ⊤
 
 -- any connection
-record Run (limits : Limits) (s : Server) (input output : List ℕ) (fault : Option StreamRejection) (p : Past) : Type 0 where
+record Run (limits : Limits) (s : Server) (input output : List ℕ) (fault : Option StreamRejection) (p : Past)
+    : Type 0 where
   unread : List ℕ
   goes : Goes (frame limits output p) s unread p.heard p.answer
   broken : (why : StreamRejection) → fault ≡ Some why → IsOpen p.heard

@@ -19,7 +19,8 @@ use Rattle.gateway_connection.specs.Content.{HasNoMap, map_of}
 use Rattle.gateway_connection.specs.declared.head.TheConstants.{MAX_FIELDS}
 use Rattle.server_stream.specs.{Heads.told_of, declared.connection.StreamConnection.StreamConnection}
 use Rattle.server_stream.specs.declared.event.StreamRequest.{StreamRequest}
-use Rattle.server_stream.specs.{declared.event.StreamEvent.StreamEvent, declared.rejection.StreamRejection.StreamRejection}
+use Rattle.server_stream.specs.{declared.event.StreamEvent.StreamEvent}
+use Rattle.server_stream.specs.{declared.rejection.StreamRejection.StreamRejection}
 use Rattle.httparse.specs.Grammar as Grammar
 use Rattle.http1.specs.declared.conn.Reading.TheVariants as Reads
 use Rattle.http1.specs.declared.conn.Writing.TheVariants as Writes

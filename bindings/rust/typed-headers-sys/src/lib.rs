@@ -347,6 +347,66 @@ pub struct Connection {
     pub is_open: bool,
 }
 
+/// What a gateway does with each request. Zero bytes are a closed handle.
+#[repr(C)]
+#[derive(Debug)]
+pub struct GateRules {
+    pub place: *mut core::ffi::c_void,
+    pub is_open: bool,
+}
+
+/// A gateway's connection to a client, and at most one to an origin. Zero bytes are a closed one.
+#[repr(C)]
+#[derive(Debug)]
+pub struct Gate {
+    pub place: *mut core::ffi::c_void,
+    pub is_open: bool,
+}
+
+/// A connection to an origin by itself. Zero bytes are a closed one.
+#[repr(C)]
+#[derive(Debug)]
+pub struct GateOrigin {
+    pub place: *mut core::ffi::c_void,
+    pub is_open: bool,
+}
+
+/// What a gateway does beside what it is to messages.
+#[repr(C)]
+#[derive(Clone, Copy, Debug)]
+pub struct GateOptions {
+    pub authority: Text,
+    pub writes_forwarded: bool,
+    pub writes_x_forwarded: bool,
+    pub answers_expect: bool,
+    pub passes_websocket: bool,
+}
+
+/// The client of a gateway's connection.
+#[repr(C)]
+#[derive(Clone, Copy, Debug)]
+pub struct GatePeer {
+    pub node: Text,
+    pub port: u16,
+    pub is_secure: bool,
+    pub is_trusted: bool,
+}
+
+/// What comes next on a gateway's connection, and what to wait for.
+#[repr(C)]
+#[derive(Clone, Copy, Debug, Default)]
+pub struct GateFacts {
+    pub piece: u64,
+    pub event: u8,
+    pub phase: u8,
+    pub client_input: bool,
+    pub client_output: bool,
+    pub origin_input: bool,
+    pub origin_output: bool,
+    pub ends_client: bool,
+    pub ends_origin: bool,
+}
+
 /// A pass through a cache. Zero bytes are a closed one.
 #[repr(C)]
 #[derive(Debug)]
@@ -881,7 +941,7 @@ extern "C" {
         keys: *const Keys,
     ) -> u8;
     pub fn typed_headers_section_field(
-        fields: *mut Section,
+        fields: *const Section,
         name: *const u8,
         name_length: usize,
         room: *mut u8,
@@ -889,14 +949,14 @@ extern "C" {
         written: *mut usize,
     ) -> u8;
     pub fn typed_headers_section_evaluate(
-        fields: *mut Section,
+        fields: *const Section,
         method: *const u8,
         method_length: usize,
         target: *const Target,
         answer: *mut u16,
     ) -> u8;
     pub fn typed_headers_section_select(
-        fields: *mut Section,
+        fields: *const Section,
         method: *const u8,
         method_length: usize,
         target: *const Target,
@@ -907,7 +967,7 @@ extern "C" {
         written: *mut usize,
     ) -> u8;
     pub fn typed_headers_section_respond(
-        fields: *mut Section,
+        fields: *const Section,
         method: *const u8,
         method_length: usize,
         target: *const Target,
@@ -921,27 +981,27 @@ extern "C" {
         written: *mut usize,
     ) -> u8;
     pub fn typed_headers_section_choose_type(
-        fields: *mut Section,
+        fields: *const Section,
         offers: *const u8,
         offers_length: usize,
         place: *mut usize,
     ) -> u8;
     pub fn typed_headers_section_choose_coding(
-        fields: *mut Section,
+        fields: *const Section,
         offers: *const u8,
         offers_length: usize,
         place: *mut usize,
     ) -> u8;
     pub fn typed_headers_section_choose_language(
-        fields: *mut Section,
+        fields: *const Section,
         offers: *const u8,
         offers_length: usize,
         place: *mut usize,
     ) -> u8;
     pub fn typed_headers_cors_policy_new(policy: *mut CorsPolicy, rules: *const CorsRules) -> u8;
     pub fn typed_headers_cors_policy_answer(
-        policy: *mut CorsPolicy,
-        fields: *mut Section,
+        policy: *const CorsPolicy,
+        fields: *const Section,
         exchange: *const CorsExchange,
         keys: *const Keys,
         facts: *mut CorsFacts,
@@ -957,8 +1017,8 @@ extern "C" {
         rules: *const CorsRules,
     ) -> u8;
     pub fn typed_headers_resource_handle_answer(
-        handle: *mut ResourceHandle,
-        fields: *mut Section,
+        handle: *const ResourceHandle,
+        fields: *const Section,
         request: *const ResourceRequest,
         denial: *const Denial,
         facts: *mut ResourceFacts,
@@ -975,31 +1035,31 @@ extern "C" {
     pub fn typed_headers_connection_receive(connection: *mut Connection, input: *const u8, input_length: usize) -> u8;
     pub fn typed_headers_connection_finish_input(connection: *mut Connection) -> u8;
     pub fn typed_headers_connection_method(
-        connection: *mut Connection,
+        connection: *const Connection,
         room: *mut u8,
         room_length: usize,
         written: *mut usize,
     ) -> u8;
     pub fn typed_headers_connection_path(
-        connection: *mut Connection,
+        connection: *const Connection,
         room: *mut u8,
         room_length: usize,
         written: *mut usize,
     ) -> u8;
     pub fn typed_headers_connection_query(
-        connection: *mut Connection,
+        connection: *const Connection,
         room: *mut u8,
         room_length: usize,
         written: *mut usize,
     ) -> u8;
     pub fn typed_headers_connection_content(
-        connection: *mut Connection,
+        connection: *const Connection,
         room: *mut u8,
         room_length: usize,
         written: *mut usize,
     ) -> u8;
     pub fn typed_headers_connection_field(
-        connection: *mut Connection,
+        connection: *const Connection,
         name: *const u8,
         name_length: usize,
         room: *mut u8,
@@ -1007,12 +1067,12 @@ extern "C" {
         written: *mut usize,
     ) -> u8;
     pub fn typed_headers_connection_fields(
-        connection: *mut Connection,
+        connection: *const Connection,
         room: *mut u8,
         room_length: usize,
         written: *mut usize,
     ) -> u8;
-    pub fn typed_headers_connection_version(connection: *mut Connection, version: *mut u8) -> u8;
+    pub fn typed_headers_connection_version(connection: *const Connection, version: *mut u8) -> u8;
     pub fn typed_headers_connection_plan(connection: *mut Connection, status: u16) -> u8;
     pub fn typed_headers_connection_plan_field(
         connection: *mut Connection,
@@ -1029,21 +1089,21 @@ extern "C" {
     pub fn typed_headers_connection_plan_range(connection: *mut Connection, start: u64, length: u64) -> u8;
     pub fn typed_headers_connection_respond(connection: *mut Connection) -> u8;
     pub fn typed_headers_connection_output(
-        connection: *mut Connection,
+        connection: *const Connection,
         room: *mut u8,
         room_length: usize,
         written: *mut usize,
     ) -> u8;
-    pub fn typed_headers_connection_range(connection: *mut Connection, start: *mut u64, length: *mut u64) -> u8;
+    pub fn typed_headers_connection_range(connection: *const Connection, start: *mut u64, length: *mut u64) -> u8;
     pub fn typed_headers_connection_sent(connection: *mut Connection, count: u64) -> u8;
     pub fn typed_headers_connection_time_out(
-        connection: *mut Connection,
+        connection: *const Connection,
         room: *mut u8,
         room_length: usize,
         written: *mut usize,
     ) -> u8;
-    pub fn typed_headers_connection_rejection(connection: *mut Connection, status: *mut u16) -> u8;
-    pub fn typed_headers_connection_planned(connection: *mut Connection, status: *mut u16, length: *mut u64) -> u8;
+    pub fn typed_headers_connection_rejection(connection: *const Connection, status: *mut u16) -> u8;
+    pub fn typed_headers_connection_planned(connection: *const Connection, status: *mut u16, length: *mut u64) -> u8;
     pub fn typed_headers_pass_free(pass: *mut Pass) -> u8;
     pub fn typed_headers_pass_begin(
         cache: *mut Cache,
@@ -1063,10 +1123,15 @@ extern "C" {
         facts: *mut PassFacts,
     ) -> u8;
     pub fn typed_headers_pass_failed(cache: *mut Cache, pass: *mut Pass, now: u64, facts: *mut PassFacts) -> u8;
-    pub fn typed_headers_pass_fields(pass: *mut Pass, room: *mut u8, room_length: usize, written: *mut usize) -> u8;
-    pub fn typed_headers_pass_validation(pass: *mut Pass, room: *mut u8, room_length: usize, written: *mut usize) -> u8;
+    pub fn typed_headers_pass_fields(pass: *const Pass, room: *mut u8, room_length: usize, written: *mut usize) -> u8;
+    pub fn typed_headers_pass_validation(
+        pass: *const Pass,
+        room: *mut u8,
+        room_length: usize,
+        written: *mut usize,
+    ) -> u8;
     pub fn typed_headers_pass_content(
-        pass: *mut Pass,
+        pass: *const Pass,
         from: usize,
         room: *mut u8,
         room_length: usize,
@@ -1083,8 +1148,8 @@ extern "C" {
     pub fn typed_headers_files_free(files: *mut Files) -> u8;
     pub fn typed_headers_files_new(files: *mut Files, options: *const FilesOptions, keys: *const Keys) -> u8;
     pub fn typed_headers_files_path(
-        files: *mut Files,
-        connection: *mut Connection,
+        files: *const Files,
+        connection: *const Connection,
         found: *const Entry,
         found_length: usize,
         room: *mut u8,
@@ -1099,5 +1164,82 @@ extern "C" {
         now: u64,
         is_last: bool,
         source: *mut usize,
+    ) -> u8;
+    pub fn typed_headers_gate_rules_free(rules: *mut GateRules) -> u8;
+    pub fn typed_headers_gate_free(gate: *mut Gate) -> u8;
+    pub fn typed_headers_gate_origin_free(origin: *mut GateOrigin) -> u8;
+    pub fn typed_headers_gate_rules_new(
+        rules: *mut GateRules,
+        gateway: *const Gateway,
+        options: *const GateOptions,
+    ) -> u8;
+    pub fn typed_headers_gate_new(gate: *mut Gate, peer: *const GatePeer, most_head: usize, keys: *const Keys) -> u8;
+    pub fn typed_headers_gate_origin_new(origin: *mut GateOrigin, most_head: usize, keys: *const Keys) -> u8;
+    pub fn typed_headers_gate_next(gate: *mut Gate, rules: *mut GateRules, now: u64, facts: *mut GateFacts) -> u8;
+    pub fn typed_headers_gate_receive(gate: *mut Gate, side: u8, input: *const u8, input_length: usize) -> u8;
+    pub fn typed_headers_gate_finish(gate: *mut Gate, side: u8) -> u8;
+    pub fn typed_headers_gate_output(
+        gate: *mut Gate,
+        side: u8,
+        room: *mut u8,
+        room_length: usize,
+        written: *mut usize,
+    ) -> u8;
+    pub fn typed_headers_gate_sent(gate: *mut Gate, side: u8, count: u64) -> u8;
+    pub fn typed_headers_gate_clock(gate: *mut Gate, now: u64) -> u8;
+    pub fn typed_headers_gate_timed_out(gate: *mut Gate) -> u8;
+    pub fn typed_headers_gate_close_after(gate: *mut Gate) -> u8;
+    pub fn typed_headers_gate_method(gate: *mut Gate, room: *mut u8, room_length: usize, written: *mut usize) -> u8;
+    pub fn typed_headers_gate_target(gate: *mut Gate, room: *mut u8, room_length: usize, written: *mut usize) -> u8;
+    pub fn typed_headers_gate_authority(gate: *mut Gate, room: *mut u8, room_length: usize, written: *mut usize) -> u8;
+    pub fn typed_headers_gate_key(gate: *mut Gate, room: *mut u8, room_length: usize, written: *mut usize) -> u8;
+    pub fn typed_headers_gate_field(
+        gate: *mut Gate,
+        name: *const u8,
+        name_length: usize,
+        room: *mut u8,
+        room_length: usize,
+        written: *mut usize,
+    ) -> u8;
+    pub fn typed_headers_gate_fields(gate: *mut Gate, room: *mut u8, room_length: usize, written: *mut usize) -> u8;
+    pub fn typed_headers_gate_conditions(
+        gate: *mut Gate,
+        section: *const u8,
+        section_length: usize,
+        keys: *const Keys,
+    ) -> u8;
+    pub fn typed_headers_gate_forward(gate: *mut Gate, origin: *mut GateOrigin) -> u8;
+    pub fn typed_headers_gate_again(gate: *mut Gate) -> u8;
+    pub fn typed_headers_gate_answer(gate: *mut Gate, status: u16) -> u8;
+    pub fn typed_headers_gate_respond(
+        gate: *mut Gate,
+        status: u16,
+        section: *const u8,
+        section_length: usize,
+        length: u64,
+        keys: *const Keys,
+    ) -> u8;
+    pub fn typed_headers_gate_push(gate: *mut Gate, piece: *const u8, piece_length: usize) -> u8;
+    pub fn typed_headers_gate_end(gate: *mut Gate) -> u8;
+    pub fn typed_headers_gate_response(
+        gate: *mut Gate,
+        status: *mut u16,
+        room: *mut u8,
+        room_length: usize,
+        written: *mut usize,
+    ) -> u8;
+    pub fn typed_headers_gate_pass(gate: *mut Gate) -> u8;
+    pub fn typed_headers_gate_piece(gate: *mut Gate, room: *mut u8, room_length: usize, written: *mut usize) -> u8;
+    pub fn typed_headers_gate_take(gate: *mut Gate, origin: *mut GateOrigin) -> u8;
+    pub fn typed_headers_gate_own(gate: *mut Gate, status: *mut u16) -> u8;
+    pub fn typed_headers_gate_tunnel(gate: *mut Gate) -> u8;
+    pub fn typed_headers_gate_ask(
+        gate: *mut Gate,
+        method: *const u8,
+        method_length: usize,
+        target: *const u8,
+        target_length: usize,
+        section: *const u8,
+        section_length: usize,
     ) -> u8;
 }

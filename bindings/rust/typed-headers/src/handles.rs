@@ -4,21 +4,20 @@ use core::cell::Cell;
 use typed_headers_sys as sys;
 
 use crate::error::{check, Error};
-use crate::lock::Locked;
+use crate::lock::Owned;
 use crate::text::{joined, lower, text, written, written_both, Fields, Section};
 use crate::{
     Content, CorsAnswer, CorsRules, Keys, Precondition, Resource, ResourceAnswer, ResourceRequest, Response, Selection,
     Target, Timestamp,
 };
 
-// In this module pointers and counts are those of slices and of values, which don't overlap. A handle is that of a lock,
-// which the call holds.
+// In this module pointers and counts are those of slices and of values, which don't overlap. A handle is open, and shared
+// with calls that only read it.
 
 /// A section that is parsed once, for all that is asked of its fields. Times are seconds since 1970.
 ///
-/// Several threads may share one, as they may a [`CorsPolicy`] and a [`PreparedResource`]. A call waits until no other
-/// thread makes one on the same value. Threads that are to answer at the same time have a value each. Without the
-/// feature `std` such a value may go to another thread, but not be shared.
+/// Threads may share one, as they may a [`CorsPolicy`] and a [`PreparedResource`]: their calls run at the same time, and
+/// none waits for another.
 ///
 /// ```
 /// use typed_headers::{Keys, ParsedSection, Precondition, Section, Target};
@@ -34,16 +33,16 @@ use crate::{
 /// ```
 #[derive(Debug)]
 pub struct ParsedSection {
-    handle: Locked<sys::Section>,
+    handle: Owned<sys::Section>,
     section: Section,
 }
 
-type Choose = unsafe extern "C" fn(*mut sys::Section, *const u8, usize, *mut usize) -> u8;
+type Choose = unsafe extern "C" fn(*const sys::Section, *const u8, usize, *mut usize) -> u8;
 
 impl ParsedSection {
     /// Parses the fields of a section. [`Error::Rejected`] if a line is no field.
     pub fn new(section: &Section, keys: Keys) -> Result<ParsedSection, Error> {
-        let mut parsed = ParsedSection { handle: Locked::closed(), section: section.clone() };
+        let mut parsed = ParsedSection { handle: Owned::closed(), section: section.clone() };
         let text = section.as_bytes();
         // SAFETY: as above. The handle is closed.
         check(unsafe { sys::typed_headers_section_new(parsed.handle.alone(), text.as_ptr(), text.len(), &keys.0) })?;
@@ -74,11 +73,16 @@ impl ParsedSection {
     /// `None` if the section has no line of this name.
     pub fn field(&self, name: impl AsRef<[u8]>) -> Result<Option<Vec<u8>>, Error> {
         let name = name.as_ref();
-        let found = self.handle.with(|handle| {
-            // SAFETY: as above.
-            written(256, |room, room_length, count| unsafe {
-                sys::typed_headers_section_field(handle, name.as_ptr(), name.len(), room, room_length, count)
-            })
+        // SAFETY: as above.
+        let found = written(256, |room, room_length, count| unsafe {
+            sys::typed_headers_section_field(
+                self.handle.shared(),
+                name.as_ptr(),
+                name.len(),
+                room,
+                room_length,
+                count,
+            )
         });
         let found = found.map_err(|error| error.of(lower(name)))?;
         Ok(found.map(|(lines, _)| lines))
@@ -93,10 +97,10 @@ impl ParsedSection {
     ) -> Result<Precondition, Error> {
         let (method, mut answer) = (method.as_ref(), 0);
         // SAFETY: as above.
-        let status = self.handle.with(|handle| unsafe {
+        check(unsafe {
+            let handle = self.handle.shared();
             sys::typed_headers_section_evaluate(handle, method.as_ptr(), method.len(), &target.given(now), &mut answer)
-        });
-        check(status)?;
+        })?;
         Ok(Precondition::of(answer))
     }
 
@@ -110,21 +114,19 @@ impl ParsedSection {
     ) -> Result<Option<Selection>, Error> {
         let (method, given) = (method.as_ref(), target.given(now));
         let answer = Cell::new(0);
-        let found = self.handle.with(|handle| {
-            // SAFETY: as above.
-            written(8, |room, room_length, count| unsafe {
-                sys::typed_headers_section_select(
-                    handle,
-                    method.as_ptr(),
-                    method.len(),
-                    &given,
-                    length,
-                    answer.as_ptr(),
-                    room,
-                    room_length,
-                    count,
-                )
-            })
+        // SAFETY: as above.
+        let found = written(8, |room, room_length, count| unsafe {
+            sys::typed_headers_section_select(
+                self.handle.shared(),
+                method.as_ptr(),
+                method.len(),
+                &given,
+                length,
+                answer.as_ptr(),
+                room,
+                room_length,
+                count,
+            )
         })?;
         Ok(found.map(|(parts, _)| Selection::of(answer.get(), parts)))
     }
@@ -140,24 +142,22 @@ impl ParsedSection {
     ) -> Result<Option<Response>, Error> {
         let (method, given) = (method.as_ref(), target.given(now));
         let (carried, facts) = (content.given(boundary), Cell::new(sys::Response::default()));
-        let found = self.handle.with(|handle| {
-            // SAFETY: as above.
-            written_both(|parts, room| unsafe {
-                sys::typed_headers_section_respond(
-                    handle,
-                    method.as_ptr(),
-                    method.len(),
-                    &given,
-                    &carried,
-                    facts.as_ptr(),
-                    parts.items.as_mut_ptr(),
-                    parts.items.len(),
-                    &mut parts.count,
-                    room.items.as_mut_ptr(),
-                    room.items.len(),
-                    &mut room.count,
-                )
-            })
+        // SAFETY: as above.
+        let found = written_both(|parts, room| unsafe {
+            sys::typed_headers_section_respond(
+                self.handle.shared(),
+                method.as_ptr(),
+                method.len(),
+                &given,
+                &carried,
+                facts.as_ptr(),
+                parts.items.as_mut_ptr(),
+                parts.items.len(),
+                &mut parts.count,
+                room.items.as_mut_ptr(),
+                room.items.len(),
+                &mut room.count,
+            )
         })?;
         Ok(found.and_then(|(parts, lines)| Response::of(facts.get(), parts, lines)))
     }
@@ -169,7 +169,7 @@ impl ParsedSection {
     {
         let (offers, mut place) = (joined(offers)?, 0);
         // SAFETY: as above.
-        let status = self.handle.with(|handle| unsafe { call(handle, offers.as_ptr(), offers.len(), &mut place) });
+        let status = unsafe { call(self.handle.shared(), offers.as_ptr(), offers.len(), &mut place) };
         Ok(check(status)?.then_some(place))
     }
 
@@ -225,13 +225,13 @@ impl<'a> IntoIterator for &'a ParsedSection {
 /// ```
 #[derive(Debug)]
 pub struct CorsPolicy {
-    handle: Locked<sys::CorsPolicy>,
+    handle: Owned<sys::CorsPolicy>,
 }
 
 impl CorsPolicy {
     /// Makes the policy of these rules. [`Error::Rejected`] if no browser reads them as they are meant.
     pub fn new(rules: &CorsRules<'_>) -> Result<CorsPolicy, Error> {
-        let mut policy = CorsPolicy { handle: Locked::closed() };
+        let mut policy = CorsPolicy { handle: Owned::closed() };
         // SAFETY: as above. The handle is closed.
         rules.given(|given| check(unsafe { sys::typed_headers_cors_policy_new(policy.handle.alone(), given) }))?;
         Ok(policy)
@@ -247,23 +247,18 @@ impl CorsPolicy {
     ) -> Result<CorsAnswer, Error> {
         let exchange = sys::CorsExchange { method: text(method.as_ref()), response: text(response.as_bytes()) };
         let facts = Cell::new(sys::CorsFacts::default());
-        // (a policy or a resource is always held before a section, so that no two calls wait for each other)
-        let found = self.handle.with(|policy| {
-            request.handle.with(|fields| {
-                // SAFETY: as above.
-                written(512, |room, room_length, count| unsafe {
-                    sys::typed_headers_cors_policy_answer(
-                        policy,
-                        fields,
-                        &exchange,
-                        &keys.0,
-                        facts.as_ptr(),
-                        room,
-                        room_length,
-                        count,
-                    )
-                })
-            })
+        // SAFETY: as above.
+        let found = written(512, |room, room_length, count| unsafe {
+            sys::typed_headers_cors_policy_answer(
+                self.handle.shared(),
+                request.handle.shared(),
+                &exchange,
+                &keys.0,
+                facts.as_ptr(),
+                room,
+                room_length,
+                count,
+            )
         })?;
         Ok(CorsAnswer::of(facts.get(), found.map_or(Vec::new(), |(text, _)| text)))
     }
@@ -291,13 +286,13 @@ impl CorsPolicy {
 /// ```
 #[derive(Debug)]
 pub struct PreparedResource {
-    handle: Locked<sys::ResourceHandle>,
+    handle: Owned<sys::ResourceHandle>,
 }
 
 impl PreparedResource {
     /// Reads a resource. [`Error::Rejected`] if one of its parts can't be read.
     pub fn new(resource: &Resource<'_>) -> Result<PreparedResource, Error> {
-        let mut prepared = PreparedResource { handle: Locked::closed() };
+        let mut prepared = PreparedResource { handle: Owned::closed() };
         resource.given(|given, numbers, rules| {
             // SAFETY: as above. The handle is closed.
             check(unsafe {
@@ -323,25 +318,21 @@ impl PreparedResource {
     ) -> Result<ResourceAnswer, Error> {
         let (asked, denial) = (request.given(now), request.denial());
         let facts = Cell::new(sys::ResourceFacts::default());
-        let found = self.handle.with(|handle| {
-            fields.handle.with(|fields| {
-                // SAFETY: as above.
-                written_both(|parts, room| unsafe {
-                    sys::typed_headers_resource_handle_answer(
-                        handle,
-                        fields,
-                        &asked,
-                        &denial,
-                        facts.as_ptr(),
-                        parts.items.as_mut_ptr(),
-                        parts.items.len(),
-                        &mut parts.count,
-                        room.items.as_mut_ptr(),
-                        room.items.len(),
-                        &mut room.count,
-                    )
-                })
-            })
+        // SAFETY: as above.
+        let found = written_both(|parts, room| unsafe {
+            sys::typed_headers_resource_handle_answer(
+                self.handle.shared(),
+                fields.handle.shared(),
+                &asked,
+                &denial,
+                facts.as_ptr(),
+                parts.items.as_mut_ptr(),
+                parts.items.len(),
+                &mut parts.count,
+                room.items.as_mut_ptr(),
+                room.items.len(),
+                &mut room.count,
+            )
         })?;
         let (parts, lines) = found.unwrap_or_default();
         Ok(ResourceAnswer::of(facts.get(), parts, lines))

@@ -12,8 +12,8 @@
 //! # Ok::<(), typed_headers::Error>(())
 //! ```
 //!
-//! The crate needs `alloc`, and no `std` but for `Keys::random` and for what threads share, of the feature `std`. The
-//! library is that of the system, as `pkg-config` knows it, or the static one in the folder that the variable
+//! The crate needs `alloc`, and no `std` but for `Keys::random` and for caches that threads share, of the feature `std`.
+//! The library is that of the system, as `pkg-config` knows it, or the static one in the folder that the variable
 //! TYPED_HEADERS names.
 #![no_std]
 #![warn(missing_docs)]
@@ -382,7 +382,7 @@ mod tests {
         let shared = rules.answer("GET", &text, &Section::new(), KEYS);
         let answer = given.answer(&request, NOW, KEYS);
         std::thread::scope(|scope| {
-            for _ in 0..4 {
+            for _ in 0..8 {
                 scope.spawn(|| {
                     for _ in 0..2000 {
                         assert_eq!(fields.field("Host"), Ok(Some(b"a.example\n".to_vec())));

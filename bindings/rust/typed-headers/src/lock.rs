@@ -36,18 +36,48 @@ handles! {
     Section = typed_headers_section_free;
 }
 
-struct Sent<H>(H);
+/// A handle that is closed in the end.
+pub(crate) struct Owned<H: Handle>(H);
 
 // SAFETY: a handle has memory, and nothing of the thread that opened it.
-unsafe impl<H: Handle> Send for Sent<H> {}
+unsafe impl<H: Handle> Send for Owned<H> {}
 
-/// A handle that is closed in the end. One call has it at a time: also a call that only reads takes its content out,
-/// and puts it back.
-pub(crate) struct Locked<H: Handle>(Lock<Sent<H>>);
+// SAFETY: a shared one is only passed as `*const`, to calls that read what it has and may overlap.
+unsafe impl<H: Handle> Sync for Owned<H> {}
+
+impl<H: Handle> Owned<H> {
+    pub(crate) fn closed() -> Owned<H> {
+        Owned(H::CLOSED)
+    }
+
+    /// The handle for a call that only reads it.
+    pub(crate) fn shared(&self) -> *const H {
+        &self.0
+    }
+
+    pub(crate) fn alone(&mut self) -> &mut H {
+        &mut self.0
+    }
+}
+
+impl<H: Handle> Drop for Owned<H> {
+    fn drop(&mut self) {
+        self.0.close();
+    }
+}
+
+impl<H: Handle> fmt::Debug for Owned<H> {
+    fn fmt(&self, formatter: &mut fmt::Formatter<'_>) -> fmt::Result {
+        formatter.write_str("..")
+    }
+}
+
+/// A handle that each call changes: one call has it at a time.
+pub(crate) struct Locked<H: Handle>(Lock<Owned<H>>);
 
 impl<H: Handle> Locked<H> {
-    pub(crate) fn closed() -> Locked<H> {
-        Locked(Lock::new(Sent(H::CLOSED)))
+    pub(crate) fn new(handle: Owned<H>) -> Locked<H> {
+        Locked(Lock::new(handle))
     }
 
     /// Makes calls with the handle, once no other thread does.
@@ -57,21 +87,7 @@ impl<H: Handle> Locked<H> {
         let mut held = self.0.lock().unwrap_or_else(std::sync::PoisonError::into_inner);
         #[cfg(not(feature = "std"))]
         let mut held = self.0.borrow_mut();
-        calls(&mut held.0)
-    }
-
-    pub(crate) fn alone(&mut self) -> &mut H {
-        #[cfg(feature = "std")]
-        let held = self.0.get_mut().unwrap_or_else(std::sync::PoisonError::into_inner);
-        #[cfg(not(feature = "std"))]
-        let held = self.0.get_mut();
-        &mut held.0
-    }
-}
-
-impl<H: Handle> Drop for Locked<H> {
-    fn drop(&mut self) {
-        self.alone().close();
+        calls(held.alone())
     }
 }
 

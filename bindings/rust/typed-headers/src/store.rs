@@ -3,7 +3,7 @@ use alloc::vec::Vec;
 use typed_headers_sys as sys;
 
 use crate::error::{check, Error};
-use crate::lock::Locked;
+use crate::lock::{Locked, Owned};
 use crate::text::{text, written, Section};
 use crate::Keys;
 
@@ -110,18 +110,18 @@ pub struct Cache(Locked<sys::Cache>);
 impl Cache {
     /// An empty cache.
     pub fn new(options: CacheOptions, keys: Keys) -> Result<Cache, Error> {
-        let mut cache = Cache(Locked::closed());
+        let mut handle = Owned::closed();
         let CacheOptions { variants, responses, content: bytes, guess, is_shared, wait } = options;
         let options = sys::CacheOptions { variants, responses, bytes, guess, is_shared };
         let extensions = sys::CacheExtensions { targets: text(b""), immutable: false, wait };
         // SAFETY: the handle is closed, and doesn't move while a call is made.
-        check(unsafe { sys::typed_headers_cache_new_with(cache.0.alone(), &options, &extensions, &keys.0) })?;
-        Ok(cache)
+        check(unsafe { sys::typed_headers_cache_new_with(handle.alone(), &options, &extensions, &keys.0) })?;
+        Ok(Cache(Locked::new(handle)))
     }
 
     /// Begins a pass for a request, and says what is done first (section 4).
     pub fn begin(&self, request: &CacheRequest<'_>, now: u64) -> Result<(Pass<'_>, Step), Error> {
-        let mut pass = Pass { cache: self, handle: Locked::closed() };
+        let mut pass = Pass { cache: self, handle: Owned::closed() };
         let asked = sys::CacheRequest {
             target: text(request.target.as_bytes()),
             method: text(request.method.as_bytes()),
@@ -148,7 +148,7 @@ impl Cache {
 #[derive(Debug)]
 pub struct Pass<'a> {
     cache: &'a Cache,
-    handle: Locked<sys::Pass>,
+    handle: Owned<sys::Pass>,
 }
 
 impl Drop for Pass<'_> {

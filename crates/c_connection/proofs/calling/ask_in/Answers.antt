@@ -1,11 +1,10 @@
-use Rattle.std.proofs.Common.{rules, Some, subst, sym}
+use Rattle.std.proofs.Common.{rules, Option, subst}
 use Rattle.std.specs.Fn.{FnOnceReturnsAt}
-use Rattle.c_handles.{specs.Handles.{OnHeld, connection_in}, specs.declared.held.Held.Held}
+use Rattle.c_handles.{specs.Handles.OnHeld, specs.declared.held.HeldConnection.HeldConnection}
 use Rattle.c_connection.proofs.calling.ask_in.Goals as goal
 
-pub returns-in-Connection : goal.returns-in-Connection
-returns-in-Connection g c =
+pub returns-in-Some : goal.returns-in-Some
+returns-in-Some g c =
     subst
-    (λ (held : Held). OnHeld (FnOnceReturnsAt g.F.FnOnce c.args.question) (connection_in (Some held)) c.question.result)
-    (sym c.in-Connection.is)
-    (search rules)
+    (λ (held : Option HeldConnection). OnHeld (FnOnceReturnsAt g.F.FnOnce c.args.question) held c.question.result)
+    c.in-Some.ensures (search rules)

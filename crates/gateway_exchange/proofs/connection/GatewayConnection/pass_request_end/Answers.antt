@@ -1,4 +1,5 @@
-use Rattle.std.proofs.Common.{rules, ◌≡◌, arith, inr, refl, ap, Some, Bool, true, false, ◌||◌, not, List, [], ◌∷◌, length}
+use Rattle.std.proofs.Common.{rules, ◌≡◌, arith, inr, refl, ap, Some, Bool, true, false, ◌||◌, not, List, [], ◌∷◌}
+use Rattle.std.proofs.Common.{length}
 use Rattle.std.specs.Prelude.{◌==◌}
 use Rattle.std.proofs.lemmas.Result.{err_from_is_err_and}
 use Rattle.gateway_exchange.specs.Steps.{is_empty}

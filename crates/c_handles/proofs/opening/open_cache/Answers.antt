@@ -1,0 +1,12 @@
+use Rattle.std.proofs.Common.{rules, refl}
+use Rattle.c_pass.specs.Caches.{IsPlain}
+use Rattle.c_handles.{specs.Passes.IsCacheHeld, specs.declared.held.Held.TheVariants.{Cache}}
+use Rattle.c_handles.proofs.OpenLemmas.{mapped, opened}
+use Rattle.c_handles.proofs.opening.open_cache.Goals as goal
+
+pub returns : goal.returns
+returns c =
+    opened (IsCacheHeld (IsPlain c.args.options.now c.args.keys.now)) c.map.result _ _ _
+    (mapped (IsPlain c.args.options.now c.args.keys.now) (IsCacheHeld (IsPlain c.args.options.now c.args.keys.now)) Cache
+    c.new_cache-made.result c.map.result (λ value held says. search rules) (λ value is. is) (λ failure is. is)
+    c.new_cache-made.ensures c.map.ensures.cases) refl c.open.ensures

@@ -1,9 +1,0 @@
-pub mod Cuts
-pub mod Decisions
-pub mod Exchanges
-pub mod Faults
-pub mod Own
-pub mod Passing
-pub mod Responses
-pub mod Sessions
-pub mod Targets

@@ -1,4 +1,0 @@
-pub mod Content
-pub mod Failures
-pub mod Heads
-pub mod Relay
