@@ -115,7 +115,7 @@ static void listen_at(struct listener *listener, const char *text, size_t worker
     if (first < 0)
         DIE("'%s' is taken", text);
     if (is_unix) {
-        listener->path = text + 5;
+        strcpy(listener->path, address.un.sun_path);
         start_listening(listener, first, text);
     } else if (getsockname(first, &address.any, &length)) {
         DIE("getsockname: %s", strerror(errno));
@@ -151,13 +151,13 @@ static size_t take_sockets(struct listener *listeners) {
     return taken;
 }
 
-size_t listen_at_all(struct listener *listeners, const struct options *options) {
-    for (size_t i = 0; i < options->address_count; i++)
-        listen_at(&listeners[i], options->addresses[i], options->workers);
-    size_t count = options->address_count ? options->address_count : take_sockets(listeners);
+size_t listen_at_all(struct listener *listeners, const struct hosting *hosting) {
+    for (size_t i = 0; i < hosting->address_count; i++)
+        listen_at(&listeners[i], hosting->addresses[i], hosting->workers);
+    size_t count = hosting->address_count ? hosting->address_count : take_sockets(listeners);
     if (count > 0)
         return count;
-    listen_at(&listeners[0], "8080", options->workers);
+    listen_at(&listeners[0], "8080", hosting->workers);
     return 1;
 }
 
@@ -171,9 +171,9 @@ void refuse_new(const struct listener *listener) {
         BPF_STMT(BPF_RET | BPF_K, UINT32_MAX),
     };
     struct sock_fprog filter = {.len = sizeof code / sizeof *code, .filter = code};
-    if (listener->path && unlink(listener->path) && errno != ENOENT)
+    if (*listener->path && unlink(listener->path) && errno != ENOENT)
         complain("'%s' is left: %s", listener->path, strerror(errno));
-    for (size_t i = 0; i < listener->count && !listener->path && !listener->is_inherited; i++)
+    for (size_t i = 0; i < listener->count && !*listener->path && !listener->is_inherited; i++)
         if (setsockopt(listener->sockets[i], SOL_SOCKET, SO_ATTACH_FILTER, &filter, sizeof filter))
             complain("setsockopt: %s", strerror(errno));
 }

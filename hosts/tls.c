@@ -1,10 +1,11 @@
 #define _GNU_SOURCE
 #include "tls.h"
-#include "options.h"
+#include "base.h"
 
 #include <errno.h>
 #include <openssl/err.h>
 #include <openssl/ssl.h>
+#include <openssl/x509v3.h>
 #include <string.h>
 
 /* Why a call failed, by the first error that OpenSSL noted of it. */
@@ -53,6 +54,14 @@ static bool can_shake_hands(SSL_CTX *context) {
     return is_done;
 }
 
+static void set_modes(SSL_CTX *context) {
+    SSL_CTX_set_options(context, SSL_OP_NO_RENEGOTIATION);
+    SSL_CTX_set_mode(context, SSL_MODE_ENABLE_PARTIAL_WRITE | SSL_MODE_ACCEPT_MOVING_WRITE_BUFFER |
+                                  SSL_MODE_RELEASE_BUFFERS);
+    /* (others have their turn also while a peer sends what is no data, as new keys) */
+    SSL_CTX_clear_mode(context, SSL_MODE_AUTO_RETRY);
+}
+
 SSL_CTX *tls_open(const char *certificate, const char *key) {
     const char *file = certificate;
     ERR_clear_error();
@@ -60,11 +69,7 @@ SSL_CTX *tls_open(const char *certificate, const char *key) {
     if (context) {
         SSL_CTX_set_default_passwd_cb(context, no_password);
         SSL_CTX_set_alpn_select_cb(context, select_protocol, NULL);
-        SSL_CTX_set_options(context, SSL_OP_NO_RENEGOTIATION);
-        SSL_CTX_set_mode(context, SSL_MODE_ENABLE_PARTIAL_WRITE | SSL_MODE_ACCEPT_MOVING_WRITE_BUFFER |
-                                      SSL_MODE_RELEASE_BUFFERS);
-        /* (others have their turn also while a client sends what is no data, as new keys) */
-        SSL_CTX_clear_mode(context, SSL_MODE_AUTO_RETRY);
+        set_modes(context);
         if (SSL_CTX_set_min_proto_version(context, TLS1_2_VERSION) &&
             SSL_CTX_use_certificate_chain_file(context, certificate) == 1) {
             file = key;
@@ -80,6 +85,53 @@ SSL_CTX *tls_open(const char *certificate, const char *key) {
 
 void tls_close(SSL_CTX *context) { SSL_CTX_free(context); }
 
+SSL_CTX *tls_trust(const char *authorities) {
+    static const unsigned char ours[] = "\x08http/1.1";
+    ERR_clear_error();
+    SSL_CTX *context = SSL_CTX_new(TLS_client_method());
+    if (context) {
+        set_modes(context);
+        SSL_CTX_set_verify(context, SSL_VERIFY_PEER, NULL);
+        if (SSL_CTX_set_min_proto_version(context, TLS1_2_VERSION) &&
+            !SSL_CTX_set_alpn_protos(context, ours, sizeof ours - 1) &&
+            (authorities ? SSL_CTX_load_verify_file(context, authorities) : SSL_CTX_set_default_verify_paths(context)))
+            return context;
+    }
+    complain("'%s': %s", authorities ? authorities : "the certificates of the system", reason());
+    SSL_CTX_free(context);
+    return NULL;
+}
+
+SSL *tls_connect(SSL_CTX *context, int socket, const char *name) {
+    SSL *tls = SSL_new(context);
+    if (tls && SSL_set_fd(tls, socket) &&
+        (X509_VERIFY_PARAM_set1_ip_asc(SSL_get0_param(tls), name) ||
+         (SSL_set1_host(tls, name) && SSL_set_tlsext_host_name(tls, name)))) {
+        SSL_set_connect_state(tls);
+        ERR_clear_error();
+        return tls;
+    }
+    SSL_free(tls);
+    errno = ENOMEM;
+    return NULL;
+}
+
+int tls_shake_hands(SSL *tls, const char **why) {
+    ERR_clear_error();
+    errno = 0;
+    int result = SSL_do_handshake(tls), error = errno;
+    if (result == 1)
+        return 1;
+    result = SSL_get_error(tls, result);
+    if (result == SSL_ERROR_WANT_READ || result == SSL_ERROR_WANT_WRITE)
+        return 0;
+    long verified = SSL_get_verify_result(tls);
+    *why = verified != X509_V_OK                      ? X509_verify_cert_error_string(verified)
+           : result == SSL_ERROR_SYSCALL && error     ? strerror(error)
+                                                      : reason();
+    return -1;
+}
+
 SSL *tls_begin(SSL_CTX *context, int socket) {
     SSL *tls = SSL_new(context);
     if (!tls || !SSL_set_fd(tls, socket)) {
@@ -91,13 +143,19 @@ SSL *tls_begin(SSL_CTX *context, int socket) {
     return tls;
 }
 
-void tls_end(SSL *tls) {
+void tls_finish(SSL *tls) {
     /* (after an error that ends it, the handshake isn't done either) */
     if (SSL_is_init_finished(tls))
-        SSL_shutdown(tls); /* if it can't be told, the client still sees that the socket is closed */
-    SSL_free(tls);
+        SSL_shutdown(tls); /* if it can't be told, the peer still sees that the socket is closed */
     ERR_clear_error();
 }
+
+void tls_end(SSL *tls) {
+    tls_finish(tls);
+    SSL_free(tls);
+}
+
+void tls_cut(SSL *tls) { SSL_free(tls); }
 
 /* What a call that didn't succeed returns. */
 static ssize_t failure(const SSL *tls, int result) {

@@ -6,7 +6,8 @@
 #include <stddef.h>
 #include <sys/types.h>
 
-/* A certificate with its key, and the keys of its tickets, by which clients resume sessions. */
+/* A certificate with its key, and the keys of its tickets, by which clients resume sessions. Or what a client
+ * trusts. */
 typedef struct ssl_ctx_st SSL_CTX;
 /* A connection. Its socket is the caller's. */
 typedef struct ssl_st SSL;
@@ -20,8 +21,25 @@ void tls_close(SSL_CTX *context);
  * memory. */
 SSL *tls_begin(SSL_CTX *context, int socket);
 
+/* What connections to servers trust: the certificates in a file, or those of the system if it is NULL. Returns NULL,
+ * and says why, if that fails. */
+SSL_CTX *tls_trust(const char *authorities);
+
+/* Begins a connection to a server, which has to show a certificate for this name or address, of a socket that doesn't
+ * block. Returns NULL, and sets errno, if there is no memory. */
+SSL *tls_connect(SSL_CTX *context, int socket, const char *name);
+
+/* Shakes hands. Returns 1 once that is done, 0 if it has to wait, and -1 if it failed; `*why` says why. */
+int tls_shake_hands(SSL *tls, const char **why);
+
 /* Tells the client that nothing more comes, if there is room for that at once, and frees the connection. */
 void tls_end(SSL *tls);
+
+/* Tells the peer that nothing more comes. It may still be read. */
+void tls_finish(SSL *tls);
+
+/* Frees the connection, and doesn't tell that: what was sent isn't the whole. */
+void tls_cut(SSL *tls);
 
 /* As recv, after the handshake. Room for 16 KiB takes all that OpenSSL has read: so epoll tells of what is left. */
 ssize_t tls_read(SSL *tls, void *room, size_t length);

@@ -92,6 +92,13 @@ def crossing(before: Message, after: Message) -> list[str]:
                    if it not in ("te", "upgrade")]
 
 
+def is_for_nobody(exchange: Exchange, out: Exchange) -> bool:
+    """Whether a cache validates so, from end to end, what it has sent stale (RFC 5861, section 3): its client doesn't
+    get what comes of it."""
+    return out.request.lines("cache-control") in (["no-cache"], ["no-cache, no-store"]) \
+        and exchange.response is not None and answer_number(exchange.response) != answer_number(out.response)
+
+
 class Checker:
     def __init__(self, hops: list[Hop], record: list[Exchange], origin: int) -> None:
         self.hops, self.origin = hops, origin
@@ -162,6 +169,7 @@ class Checker:
         if hop.kind != GATE and came.method in ("GET", "HEAD"):
             but |= CONDITIONS
             texts += self.own_conditions(hop, own, out)
+            but |= {"cache-control"} if is_for_nobody(exchange, out) else set()
         texts += differences(own, end_to_end(went), but)
         texts += self.via_grows(hop, came, went)
         if went.lines("expect") not in ([], came.lines("expect")):

@@ -30,15 +30,8 @@ class Gateway:
         return processes.server(words, port, "/", work / f"{self.name}.log")
 
 
-def ours() -> list[Gateway]:
-    """This repository's program, if it was built. Its script listens, and starts one for each connection."""
-    if "GATE_PROGRAM" not in os.environ:
-        return []
-    return [Gateway("ours", ["env", "PORT=@PORT@", os.environ["GATE"], "127.0.0.1:@ORIGIN@"])]
-
-
-LEFT_OUT = "This repository's own program was not built here, and is left out."
-
+# This repository's program.
+OURS = Gateway("ours", ["env", "PORT=@PORT@", os.environ["GATE"], "127.0.0.1:@ORIGIN@"])
 OTHERS = [
     Gateway("nginx", ["nginx", "-c", "@WORK@/nginx.conf", "-e", "@WORK@/nginx.error"], ["nginx", "-v"], "nginx.conf"),
     Gateway("HAProxy", ["haproxy", "-db", "-f", "@WORK@/haproxy.conf"], ["haproxy", "-v"], "haproxy.conf"),

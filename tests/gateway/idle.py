@@ -1,43 +1,38 @@
-"""An origin server that ends a connection once it was idle, between two requests of a client.
+"""An origin server that ends a connection between two requests of a client.
 
-A request that got no answer for that is sent again, once, on a new connection, if its method is idempotent (RFC 9112,
-section 9.3.1; RFC 9110, section 9.2.2) and its content has a stated length of at most 65,536 bytes. For another one the
-client's connection ends without an answer, so that the client may send it again.
+If it ends one that is idle, the gateway sees that, and the next request goes out over a new one. If it ends one as the
+next request comes, without a byte of an answer, the request is sent again, once, over a new connection, if its method is
+idempotent and no content of it was sent (RFC 9112, section 9.3.1; RFC 9110, section 9.2.2). For another one it is 502.
 """
 import contextlib
-import os
 import random
 import re
-import signal
 import socket
 import struct
-import subprocess
 import threading
 import time
 
-from common import processes
 from common.part import Context, Part
 from listening import listening
 
 FIRST_PORT = 18570
 IDLE = 0.2
-# A client waits so long that socat still takes the next request, and then so long that it doesn't.
-PAUSES = (0.4, 1.2)
-# Content of which one byte less is sent again.
+PAUSE = 0.4
 CONTENT = random.Random(9112).randbytes(65_537)
-# Requests that aren't sent again, and what comes for them. A bar is the end of the connection.
-OTHERS = [("POST", b"Content-Length: 0\r\n", b"", "|"), ("POST", b"Content-Length: 5\r\n", b"hello", "|"),
-          ("PUT", b"Content-Length: 65537\r\n", CONTENT, "|"),
-          ("PUT", b"Transfer-Encoding: chunked\r\n", b"5\r\nhello\r\n0\r\n\r\n", "|"),
-          ("PUT", b"Expect: 100-continue\r\nContent-Length: 5\r\n", b"hello", "100", "|")]
+AGAIN = ("GET", "HEAD", "DELETE", "PUT", "OPTIONS", "TRACE")
+# Requests that aren't sent again.
+OTHERS = [("POST", b"Content-Length: 0\r\n", b""), ("POST", b"Content-Length: 5\r\n", b"hello"),
+          ("PUT", b"Content-Length: 65537\r\n", CONTENT),
+          ("PUT", b"Transfer-Encoding: chunked\r\n", b"5\r\nhello\r\n0\r\n\r\n")]
 
 
 class Origin(threading.Thread):
-    """An origin that ends each connection once it was idle after an answer, and at once instead of an answer to
-    /never. It tells what it was asked on which connection."""
+    """An origin that ends each connection once it was idle after an answer, or if it is sudden when the second request
+    comes; and at once instead of an answer to /never. It tells what it was asked on which connection."""
 
-    def __init__(self, port: int) -> None:
+    def __init__(self, port: int, is_sudden: bool = False) -> None:
         super().__init__(daemon=True)
+        self.is_sudden = is_sudden
         self.listener = socket.create_server(("127.0.0.1", port), backlog=64)
         self.asked: list[tuple[int, str, bytes]] = []
 
@@ -48,15 +43,20 @@ class Origin(threading.Thread):
 
     def serve(self, number: int, connection: socket.socket) -> None:
         with connection, connection.makefile("rb") as lines, contextlib.suppress(OSError):
-            while head := b"".join(iter(lambda: lines.readline() or b"\r\n", b"\r\n")):
+            for turn in range(10**6):
+                head = b"".join(iter(lambda: lines.readline() or b"\r\n", b"\r\n"))
+                if head.count(b" ") < 2:
+                    return
                 method, target, _ = head.split(b" ", 2)
                 length = re.search(rb"content-length: (\d+)", head.lower())
-                self.asked.append((number, target.decode(), lines.read(int(length[1])) if length else b""))
-                if target == b"/never":
+                is_last = target == b"/never" or self.is_sudden and turn == 1
+                content = lines.read(int(length[1])) if length and not is_last else b""
+                self.asked.append((number, target.decode(), content))
+                if is_last:
                     return
                 head, content = b"HTTP/1.1 200 OK\r\nContent-Length: %d\r\n\r\n" % (len(target) + 2), target + b"\r\n"
                 connection.sendall(head if method == b"HEAD" else head + content)
-                connection.settimeout(IDLE)
+                connection.settimeout(None if self.is_sudden else IDLE)
 
     def told(self, target: str) -> list[bytes]:
         """The content of each request that it got for a target."""
@@ -114,81 +114,64 @@ class Conversation:
         self.connection.close()
 
 
-def of_session(session: int) -> list[str]:
-    """The processes of a session, but for those that ended."""
-    lines = subprocess.run(["ps", "-e", "-o", "sid=,stat=,args="], capture_output=True, text=True).stdout.split("\n")
-    return [line for line in lines if line.split()[:1] == [str(session)] and line.split()[1][0] != "Z"]
+def answered(method: str, target: str) -> list[str]:
+    return ["200"] + [target] * (method != "HEAD")
 
 
-def left_by(port: int, way: str, folder: str) -> list[str]:
-    """The processes and files that a gateway leaves of a client that was answered once."""
-    ours, theirs = socket.socketpair()
-    process = subprocess.Popen([os.environ["GATE"], f"127.0.0.1:{port}"], stdin=theirs, stdout=theirs,
-                               env=processes.environment({"TMPDIR": folder}), start_new_session=True)
-    theirs.close()
-    ours.sendall(request("GET", "/once"))
-    heard(ours, 2)
-    if way == "SIGTERM":
-        process.send_signal(signal.SIGTERM)
-    ours.close()
-    process.wait(10)
-    for _ in range(40):
-        if not (left := of_session(process.pid) + os.listdir(folder)):
-            break
-        time.sleep(0.1)
-    return left
+def run_idle(part: Part, port: int, origin: Origin) -> None:
+    """Each request is answered, and comes once."""
+    def want(what: str, text: bytes, wanted: list[str]) -> None:
+        with Conversation(port, PAUSE) as client:
+            part.want(f"{what} after {PAUSE} s", client.ask(0, text, len(wanted)), wanted)
+
+    for number, (method, fields, content) in enumerate([*((it, b"", b"") for it in AGAIN), *OTHERS]):
+        target = f"/{method}/{number}"
+        want(f"{method} with {fields!r}", request(method, target, fields, content), answered(method, target))
+        part.want(f"how often {method} came", len(origin.told(target)), 1)
+    for size in (0, 1, 65_536):
+        want(f"PUT with {size} bytes", put(f"/put/{size}", CONTENT[:size]), ["200", f"/put/{size}"])
+        part.want("whether they came once", origin.told(f"/put/{size}") == [CONTENT[:size]], True)
+    for part_of, wanted in ((b"lo", ["200", "/parts"]), (b"", ["400", "|"])):
+        with Conversation(port, PAUSE) as client:
+            client.ask(0, put("/parts", b"hello")[:-2], 0)
+            if not part_of:
+                client.connection.shutdown(socket.SHUT_WR)
+            part.want(f"PUT with {part_of!r} later", client.ask(0, part_of, 2), wanted)
+    with Conversation(port, 0) as client:
+        found = [client.ask(PAUSE, request("GET", f"/chain{number}"), 2) for number in range(10)]
+    part.want("ten connections in a chain", found, [["200", f"/chain{number}"] for number in range(10)])
+    part.want("each on one of its own", len({it[0] for it in origin.asked if "/chain" in it[1]}), 10)
+    reset = Conversation(port, 0).connection
+    reset.setsockopt(socket.SOL_SOCKET, socket.SO_LINGER, struct.pack("ii", 1, 0))
+    reset.close()
+
+
+def run_sudden(part: Part, port: int, origin: Origin) -> None:
+    """Some requests are sent again, and others aren't."""
+    def want(what: str, text: bytes, wanted: list[str]) -> None:
+        with Conversation(port, 0) as client:
+            part.want(f"{what} on a connection that ends", client.ask(0, text, len(wanted)), wanted)
+
+    for method in AGAIN:
+        want(method, request(method, f"/{method}"), answered(method, f"/{method}"))
+        part.want(f"how often {method} came", len(origin.told(f"/{method}")), 2)
+    for number, (method, fields, content) in enumerate(OTHERS):
+        want(f"{method} with {fields!r}", request(method, f"/not/{number}", fields, content), ["502"])
+        part.want(f"how often that {method} came", len(origin.told(f"/not/{number}")), 1)
+    want("a request whose second connection ends too", request("GET", "/never"), ["502"])
+    part.want("how often that came", len(origin.told("/never")), 2)
+    targets = [f"/{number}" for number in range(4)]
+    want("requests behind one another", b"".join(request("GET", it) for it in targets),
+         [word for it in targets for word in ("200", it)])
+    part.want("how often they came", [len(origin.told(it)) for it in targets], [2] * 4)
 
 
 def run(context: Context) -> Part:
     part = Part("Idle connections")
-    if "GATE_PROGRAM" not in os.environ:
-        part.missing.append("the gateway was not built")
-        return part
-    port, folder = FIRST_PORT + 1, context.work / "pipes"
-    folder.mkdir()
-    os.environ["TMPDIR"] = str(folder)
-    origin = Origin(FIRST_PORT)
-    origin.start()
-    with listening(port, FIRST_PORT, context.work):
-        for pause in PAUSES:
-            def want(what: str, text: bytes, wanted: list[str]) -> None:
-                with Conversation(port, pause) as client:
-                    part.want(f"{what} after {pause} s", client.ask(0, text, len(wanted)), wanted)
-
-            for method in ("GET", "HEAD", "DELETE", "PUT", "OPTIONS", "TRACE"):
-                target = f"/{method}{pause}"
-                want(method, request(method, target), ["200"] + [target] * (method != "HEAD"))
-                part.want(f"how often {method} came", len(origin.told(target)), 1)
-            for method, fields, content, *wanted in OTHERS:
-                want(f"{method} with {fields!r}", request(method, "/not", fields, content), wanted)
-            for size in (0, 1, 65_536):
-                target = f"/put/{size}/{pause}"
-                want(f"PUT with {size} bytes", put(target, CONTENT[:size]), ["200", target])
-                part.want("whether they came once", origin.told(target) == [CONTENT[:size]], True)
-            for part_of, wanted in ((b"lo", ["200", "/parts"]), (b"", ["400", "|"])):
-                with Conversation(port, pause) as client:
-                    client.ask(0, put("/parts", b"hello")[:-2], 0)
-                    if not part_of:
-                        client.connection.shutdown(socket.SHUT_WR)
-                    part.want(f"PUT with {part_of!r} later, after {pause} s", client.ask(0, part_of, 2), wanted)
-            want("a request whose second connection ends too", request("GET", "/never"), ["502", "|"])
-            targets = [f"/{pause}/{number}" for number in range(4)]
-            for first in (request("GET", targets[0]), put(targets[0], b"hello")):
-                want("requests behind the one that is sent again",
-                     first + b"".join(request("GET", it) for it in targets[1:]),
-                     [word for it in targets for word in ("200", it)])
-            part.want("how often they came", [len(origin.told(it)) for it in targets], [2] * 4)
-        part.want("what wasn't to be sent again", origin.told("/not"), [])
-        with Conversation(port, 0) as client:
-            found = [client.ask(PAUSES[0], request("GET", f"/chain{number}"), 2) for number in range(10)]
-        part.want("ten connections in a chain", found, [["200", f"/chain{number}"] for number in range(10)])
-        part.want("each on one of its own", len({it[0] for it in origin.asked if "/chain" in it[1]}), 10)
-        reset = Conversation(port, 0).connection
-        reset.setsockopt(socket.SOL_SOCKET, socket.SO_LINGER, struct.pack("ii", 1, 0))
-        reset.close()
-        time.sleep(1)
-        part.want("files that are left", os.listdir(folder), [])
-    for way in ("a client that ends", "SIGTERM"):
-        part.want(f"what is left after {way}", left_by(FIRST_PORT, way, str(folder)), [])
-    del os.environ["TMPDIR"]
+    # (by one worker, so that each request goes out over the connection that is kept)
+    for first, is_sudden, runs in ((FIRST_PORT, False, run_idle), (FIRST_PORT + 2, True, run_sudden)):
+        origin = Origin(first, is_sudden)
+        origin.start()
+        with listening(first + 1, first, context.work, "--workers", "1"):
+            runs(part, first + 1, origin)
     return part

@@ -152,7 +152,7 @@ def outcomes_of(gateway: Gateway, place: int, work: Path) -> list[Outcome]:
 
 def run(context: Context) -> Part:
     part = Part("Bytes that nobody asked for")
-    asked = gateways.ours() + gateways.OTHERS
+    asked = [gateways.OURS, *gateways.OTHERS]
     rows: list[list[object]] = []
     for place, gateway in enumerate(asked):
         try:
@@ -165,13 +165,13 @@ def run(context: Context) -> Part:
         other = [f"{way}: another client gets {it.other}" for (way, *_), it in zip(WAYS, found) if it.other not in RIGHT]
         part.counts.append(f"{gateway.title()}: {same} of {len(WAYS)} taken for an answer to the same client (SHOULD NOT), "
                            f"{len(other)} to another one")
-        if gateway in gateways.ours():
+        if gateway is gateways.OURS:
             part.faults += other
     part.section += [
         "An origin server sends a second response that nobody asked for: late, or right behind the first; as the content",
         "of a HEAD, a 204 or a 304, which have none; or since it takes the content of a request for the next request. A",
         "client then makes two more requests on its connection, and another client makes one: what each of the three",
         "gets. A gateway should close such a connection to the origin (RFC 9112, sections 6.3 and 9.2). Of ours each",
-        "client has [one of its own](../../crates/gateway_program/README.md#what-this-doesnt-say).", ""]
+        "client has [one of its own](../../hosts/GATEWAY.md).", ""]
     part.table(["Gateway", *(way for way, *_ in WAYS)], rows)
     return part

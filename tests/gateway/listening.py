@@ -37,7 +37,7 @@ class Origin(threading.Thread):
             threading.Thread(target=self.serve, args=(connection,), daemon=True).start()
 
     def serve(self, connection: socket.socket) -> None:
-        with connection, connection.makefile("rb") as lines:
+        with connection, connection.makefile("rb") as lines, contextlib.suppress(ConnectionError):
             while head := b"".join(iter(lines.readline, b"\r\n")):
                 content = head.ljust(LONG) if b" /long " in head else head
                 answer = b"HTTP/1.1 200 OK\r\nContent-Length: %d\r\n\r\n" % len(content) + content
@@ -56,7 +56,9 @@ def listening(port: int, origin: int, work: Path, *words: str) -> Iterator[None]
     home.mkdir(exist_ok=True)
     for name in (".bashrc", ".profile", ".bash_profile", "env"):
         (home / name).write_text("echo INJECTED\n")
-    environment = {**processes.environment(), "HOME": str(home), "BASH_ENV": str(home / "env"), "PORT": str(port)}
+    cache = os.environ.get("XDG_CACHE_HOME", str(Path.home() / ".cache"))  # which has the program
+    environment = {**processes.environment(), "HOME": str(home), "XDG_CACHE_HOME": cache,
+                   "BASH_ENV": str(home / "env"), "PORT": str(port)}
     environment.pop("SHLVL", None)
     with open(work / f"{port}.log", "wb") as log:
         process = subprocess.Popen([os.environ["GATE"], *words, f"127.0.0.1:{origin}"], stdin=subprocess.DEVNULL,
@@ -116,9 +118,6 @@ def quickest(port: int, target: str) -> float:
 
 def run(context: Context) -> Part:
     part = Part("Listening")
-    if "GATE_PROGRAM" not in os.environ:
-        part.missing.append("the gateway was not built")
-        return part
     Origin(FIRST_PORT).start()
     with listening(FIRST_PORT + 1, FIRST_PORT, context.work):
         part.want("the first bytes with a profile that prints a line", answer(FIRST_PORT + 1)[:12], "http/1.1 200")
@@ -127,10 +126,7 @@ def run(context: Context) -> Part:
             text = answer(FIRST_PORT + 2, source=source)
             part.want(f"X-Forwarded-For of {source}", field("x-forwarded-for", text), [source])
             part.want(f"Forwarded of {source}", field("forwarded", text), [f"for={source};proto=http"])
-    # Two gateways in a row have names of their own, and one before itself knows its own. Without a name none starts.
-    nameless = subprocess.run([os.environ["GATE_PROGRAM"], "a", os.devnull, os.devnull], stdin=subprocess.DEVNULL,
-                              capture_output=True)
-    part.want("a gateway without a name", (nameless.returncode, b"--name" in nameless.stderr), (2, True))
+    # Two gateways in a row have names of their own, and one before itself knows its own.
     with listening(FIRST_PORT + 3, FIRST_PORT, context.work), listening(FIRST_PORT + 4, FIRST_PORT + 3, context.work):
         part.want("through two gateways", answer(FIRST_PORT + 4)[:12], "http/1.1 200")
     with listening(FIRST_PORT + 5, FIRST_PORT + 5, context.work):
@@ -139,18 +135,16 @@ def run(context: Context) -> Part:
         for target in TARGETS:
             found = answer(FIRST_PORT + 6, b"GET %s HTTP/1.1\r\nHost: a\r\n\r\n" % target)
             part.want(f"the target {target!r}", found[:12], "http/1.1 400")
-        # (RFC 9112, section 9.3.1: the gateway sends it again, or the client may, so it gets no 502)
-        for request, wanted in ((REQUEST, b"HTTP/1.1 200"),
-                                (b"POST / HTTP/1.1\r\nHost: a\r\nContent-Length: 5\r\n\r\nhello", b"")):
+        post = b"POST / HTTP/1.1\r\nHost: a\r\nContent-Length: 5\r\nConnection: close\r\n\r\nhello"
+        for request in (REQUEST, post):
             found = after(b"/last", FIRST_PORT + 6, request)
-            part.want(f"{request[:4]!r} after the origin ended its connection", found[:12], wanted)
-        # (RFC 9112, section 9.2: what comes unasked is no response. What comes after a pause is seen too late for the
-        # next request of that client, as the page of the gateway says; no other client gets it.)
-        found = after(b"/more", FIRST_PORT + 6, REQUEST)
-        part.want("what comes unasked with an answer", found, b"")
-        others: list[str] = []
-        after(b"/later", FIRST_PORT + 6, REQUEST, lambda: others.append(answer(FIRST_PORT + 6)))
-        part.want("the answer of another client", ["get / http" in it and "unasked" not in it for it in others], [True])
+            part.want(f"{request[:4]!r} after the origin ended its connection", found[:12], b"HTTP/1.1 200")
+        # (RFC 9112, section 9.2: what comes unasked is no response)
+        for target in (b"/more", b"/later"):
+            found = []
+            last = after(target, FIRST_PORT + 6, REQUEST, lambda: found.append(answer(FIRST_PORT + 6)))
+            for text in (*found, last.decode("latin-1").lower()):
+                part.want(f"the answer after {target!r}", "get / http" in text and "unasked" not in text, True)
         for target in ("/", "/long"):
             part.want(f"{target} over a kept connection doesn't wait", quickest(FIRST_PORT + 6, target) < 0.03, True)
     return part

@@ -152,11 +152,8 @@ def cell(outcome: Outcome, attempt: Attempt) -> str:
 
 def run(context: Context) -> Part:
     part = Part("Smuggling and desync attempts")
-    asked = gateways.ours() + gateways.OTHERS
+    asked = [gateways.OURS, *gateways.OTHERS]
     corpus = attempts()
-    if not gateways.ours():
-        part.counts.append(gateways.LEFT_OUT)
-        part.section += [gateways.LEFT_OUT, ""]
     judged: dict[str, list[Outcome]] = {}
     with concurrent.futures.ThreadPoolExecutor(len(asked)) as pool:
         pending = {it.name: pool.submit(outcomes_of, it, number, context.work) for number, it in enumerate(asked)}

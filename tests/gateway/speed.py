@@ -1,4 +1,4 @@
-"""How fast gateways are before the same origin, each behind socat."""
+"""How fast gateways are before the same origin."""
 import os
 import re
 import time
@@ -14,10 +14,6 @@ FIRST_PORT = 18580
 # (fewer requests over a kept connection than after which the origin closes it: 1000)
 CONNECTIONS, KEPT, NEW = 4, 2000, 400
 LARGE = 256 << 20
-
-
-def behind_socat(port: int, target: int) -> list[str]:
-    return ["socat", f"TCP-LISTEN:{port},bind=127.0.0.1,reuseaddr,fork", f"TCP:127.0.0.1:{target}"]
 
 
 def requests_a_second(port: int, requests: int, *words: str) -> float:
@@ -56,31 +52,22 @@ def run(context: Context) -> Part:
         work = context.work / "origin"
         work.mkdir()
         stack.enter_context(running(origin, FIRST_PORT, work, www))
-        asked = gateways.ours() + [it for it in gateways.OTHERS if it.name in ("nginx", "HAProxy")]
-        for number, gateway in enumerate(asked):
-            own, socat = FIRST_PORT + 2 * number + 1, FIRST_PORT + 2 * number + 2
+        asked = [gateways.OURS, *(it for it in gateways.OTHERS if it.name in ("nginx", "HAProxy"))]
+        for number, gateway in enumerate(asked, 1):
+            port = FIRST_PORT + number
             work = context.work / gateway.name
             work.mkdir()
             try:
-                with gateway.running(own, FIRST_PORT, work):
-                    if gateway.name == "ours":  # (it is a process for each connection, which socat starts)
-                        rows.append([gateway.title(), *row(own)])
-                    else:
-                        words = behind_socat(socat, own)
-                        with processes.server(words, socat, "/", work / "socat.log"):
-                            rows.append([gateway.title(), *row(socat)])
+                with gateway.running(port, FIRST_PORT, work):
+                    rows.append([gateway.title(), *row(port)])
             except Missing as error:
                 part.missing.append(f"{gateway.name}: {error}")
     part.section += [
         f"`ab` asks for a file of 1,000 bytes over {CONNECTIONS} connections at a time: {KEPT} times over kept ones,",
-        f"and {NEW} times over a new one each time. curl asks for one of {LARGE >> 20} MiB. The origin is nginx. socat",
-        "accepts each connection, and passes the bytes on to a gateway that listens, or starts one that doesn't.",
+        f"and {NEW} times over a new one each time. curl asks for one of {LARGE >> 20} MiB. The origin is nginx.",
         f"The machine has {os.cpu_count()} processors, and other work on it too: the load is the mean over the minute",
         "before.", "",
     ]
-    if not gateways.ours():
-        part.counts.append(gateways.LEFT_OUT)
-        part.section += [gateways.LEFT_OUT, ""]
     part.table(["Gateway", "Requests a second, kept connections", "Requests a second, new connections", "MB a second",
                 "Load"], rows)
     part.counts.append("; ".join(f"{it[0]}: {it[1]} and {it[2]} requests a second, {it[3]} MB a second" for it in rows))

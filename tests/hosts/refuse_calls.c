@@ -80,6 +80,8 @@ CALL(int, epoll_pwait, (int e, struct epoll_event *v, int n, int t, const sigset
 CALL(int, shutdown, (int s, int how), s, how)
 CALL(int, socket, (int d, int t, int p), d, t, p)
 CALL(int, bind, (int s, const struct sockaddr *a, socklen_t n), s, a, n)
+CALL(int, connect, (int s, const struct sockaddr *a, socklen_t n), s, a, n)
+CALL(int, getsockopt, (int s, int l, int o, void *v, socklen_t *n), s, l, o, v, n)
 CALL(int, listen, (int s, int n), s, n)
 CALL(int, setsockopt, (int s, int l, int o, const void *v, socklen_t n), s, l, o, v, n)
 CALL(int, getsockname, (int s, struct sockaddr *a, socklen_t *n), s, a, n)
