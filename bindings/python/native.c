@@ -1028,6 +1028,26 @@ static PyObject *parse_cookie(PyObject *module, PyObject *arguments) {
     return parse(&cookies_call, arguments, cookie_value);
 }
 
+/* `int.__new__`, which makes values of classes over int. */
+static PyObject *int_new;
+
+static PyObject *number_value(PyObject *type, union slot *at) {
+    PyObject *number = PyLong_FromUnsignedLongLong(at[1].u64);
+    PyObject *value = number ? PyObject_CallFunctionObjArgs(int_new, type, number, NULL) : NULL;
+    Py_XDECREF(number);
+    return value;
+}
+
+static PyObject *parse_age(PyObject *module, PyObject *arguments) {
+    (void)module;
+    return parse(&age_call, arguments, number_value);
+}
+
+static PyObject *parse_content_length(PyObject *module, PyObject *arguments) {
+    (void)module;
+    return parse(&content_length_call, arguments, number_value);
+}
+
 /* A part of a field: its letter, its name or its text, and its value or None. */
 static PyObject *part_of(const char *at, const char *end) {
     const char *sign = *at == 'p' ? memchr(at, '=', (size_t)(end - at)) : NULL;
@@ -1301,9 +1321,9 @@ static PyObject *pair(PyObject *module, PyObject *arguments) {
     {"parse_" #name, parse_##name, METH_VARARGS,                                                                       \
      "parse_" #name "($module, type, line, /, *more)\n--\n\nThe value of field lines."}
 static PyMethodDef methods[] = {
-    CALLS, OWN(content_range_as), OWN(elements_as), OWN(groups), OWN(pair), OWN(pairs), PARSE(cache_control),
-    PARSE(cookie), PARSE(credentials), PARSE(etag), PARSE(etags), PARSE(media_type), OWN(ranges_as), OWN(section),
-    OWN(use_keys), OWN(version), {NULL, NULL, 0, NULL},
+    CALLS, OWN(content_range_as), OWN(elements_as), OWN(groups), OWN(pair), OWN(pairs), PARSE(age),
+    PARSE(cache_control), PARSE(content_length), PARSE(cookie), PARSE(credentials), PARSE(etag), PARSE(etags),
+    PARSE(media_type), OWN(ranges_as), OWN(section), OWN(use_keys), OWN(version), {NULL, NULL, 0, NULL},
 };
 
 static struct PyModuleDef definition = {
@@ -1311,5 +1331,6 @@ static struct PyModuleDef definition = {
 };
 
 PyMODINIT_FUNC PyInit__native(void) {
-    return make_member_names() ? PyModule_Create(&definition) : NULL;
+    int_new = PyObject_GetAttrString((PyObject *)&PyLong_Type, "__new__");
+    return int_new && make_member_names() ? PyModule_Create(&definition) : NULL;
 }

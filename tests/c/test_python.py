@@ -62,6 +62,24 @@ def canonical_field(kind, words, wanted):
     return [line.encode("latin-1") for line in given] == list(map(decode, wanted[1 : int(wanted[0]) + 1]))
 
 
+#: The types of fields that are one number, time, text or list, by the field's name without hyphens.
+PLAIN = {
+    **{name.lower(): getattr(headers, name) for name in headers.fields.__all__}, "connection": headers.ConnectionOptions
+}
+
+
+def plain(kind, words, wanted):
+    """The value of a field by its own type, and what is made of that value anew."""
+    given = decoded(kind.parse, words)
+    if not words or wanted[0] == REFUSED:
+        return given == (REFUSED if words else None)
+    lines = list(map(decode, wanted[1 : int(wanted[0]) + 1]))
+    if isinstance(given, tuple):
+        shown = headers.members(*lines) if lines else []
+        return (list(given), type(given)) == (shown, kind) and (given == kind(shown))
+    return (str(given).encode("latin-1"), kind(given.value)) == (b"".join(lines), given)
+
+
 def content_range(words, wanted):
     given = decoded(headers.ContentRange.parse, words)
     if wanted[0] == REFUSED:
@@ -869,6 +887,10 @@ def calls_of(row, file):
     # (MaxForwards is a header of headers_user)
     if action == "decode" and "Authorization" not in kind and kind != "MaxForwards":
         yield lambda words, wanted: canonical_field(kind, words, wanted)
+        if kind.lower() in PLAIN:
+            yield partial(plain, PLAIN[kind.lower()])
+    if action == "writes" and kind.lower() in PLAIN:
+        yield lambda words, wanted: plain(PLAIN[kind.lower()], words, ["1", *wanted] if wanted != [REFUSED] else wanted)
     if row in CALLS:
         yield CALLS[row]
 

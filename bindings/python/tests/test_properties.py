@@ -15,7 +15,7 @@ import time
 import unittest
 from collections import defaultdict
 from concurrent.futures import ThreadPoolExecutor
-from datetime import timedelta, timezone
+from datetime import datetime, timedelta, timezone
 from enum import Enum
 from functools import partial
 from random import Random
@@ -290,6 +290,18 @@ def tags_of(tags: List[Tuple[str, bool]], is_any: bool) -> it.ETags:
     return it.ETags(tuple(it.ETag(*tag) for tag in tags), is_any)
 
 
+# The types of fields that are one number, one time, one text or one list.
+NUMBERS = "AccessControlMaxAge Age ContentLength".split()
+TIMES_OF_FIELDS = "Date Expires IfModifiedSince IfUnmodifiedSince LastModified".split()
+TEXTS_OF_FIELDS = (
+    "AccessControlRequestMethod ContentLocation Location Pragma Referer SecWebSocketAccept SecWebSocketKey Server Upgrade "
+    "UserAgent"
+).split()
+LISTS = (
+    "AcceptRanges AccessControlAllowHeaders AccessControlAllowMethods AccessControlExposeHeaders "
+    "AccessControlRequestHeaders Allow ConnectionOptions ContentEncoding TE TransferEncoding Vary"
+).split()
+
 VALUES: Dict[str, Any] = {
     "CacheControl": call(
         it.CacheControl,
@@ -359,7 +371,20 @@ VALUES: Dict[str, Any] = {
         call(it.RetryAfter, date=some.datetimes(timezones=some.just(timezone.utc))),
     ),
     "StrictTransportSecurity": call(it.StrictTransportSecurity, NUMBER, BOOL),
+    "AccessControlAllowCredentials": call(it.AccessControlAllowCredentials, BOOL),
+    **{
+        name: call(getattr(it, name), some.one_of(NUMBER, some.just(13)))
+        for name in (*NUMBERS, "SecWebSocketVersion")
+    },
+    **{name: call(getattr(it, name), TIME) for name in TIMES_OF_FIELDS},
+    **{
+        name: call(getattr(it, name), some.one_of(ANY_TEXT, some.sampled_from(["*", "100-continue", "PUT"])))
+        for name in (*TEXTS_OF_FIELDS, "AccessControlAllowOrigin", "Expect")
+    },
+    **{name: call(getattr(it, name), some.lists(ANY_TEXT, max_size=3)) for name in LISTS},
 }
+#: Those whose values are plain ones, too.
+PLAIN: Any = (int, str, tuple, datetime)
 TYPES: Dict[str, Any] = {name: getattr(it, name) for name in VALUES}
 
 
@@ -649,7 +674,11 @@ class Values(unittest.TestCase):
         parsed = [parser(kind)(line) for line in (str(value), str(value).encode("latin-1"))]
         again = [made[0] if isinstance(made, list) else made for made in parsed]
         copies = [*again, pickle.loads(pickle.dumps(value))]
-        if not isinstance(value, Enum):
+        if isinstance(value, PLAIN):
+            copies.append(kind(value.value))
+            self.assertEqual((value, hash(value)), (value.value, hash(value.value)))
+            self.assertNotIsInstance(value.value, kind)
+        elif not isinstance(value, Enum):
             members = {name: getattr(value, name) for name in value.__dataclass_fields__}
             copies.append(kind(**members))
             for name in members:
@@ -660,7 +689,7 @@ class Values(unittest.TestCase):
                 (other, hash(other), repr(other), str(other)), (value, hash(value), repr(value), str(value))
             )
             self.assertFalse(other != value)
-        self.assertNotEqual(value, str(value))
+        self.assertEqual(value == str(value), isinstance(value, str))
 
     def test_what_is_parsed_and_made(self) -> None:
         for name, kind in TYPES.items():
@@ -681,10 +710,12 @@ class Values(unittest.TestCase):
         @tested(DRAWN // 10, makes=some.lists(some.one_of(*VALUES.values()), min_size=2, max_size=2))
         def judge(makes: List[Call]) -> None:
             try:
-                one, other = (make() for make in makes)
+                one, other = (cast(Any, make()) for make in makes)
             except it.HeaderError:
                 return
-            if one == other:
+            if one == other and isinstance(one, PLAIN):
+                self.assertEqual((hash(one), one.value), (hash(other), other.value))
+            elif one == other:
                 self.assertEqual((hash(one), type(one), str(one)), (hash(other), type(other), str(other)))
             else:
                 self.assertNotEqual((type(one), repr(one), str(one)), (type(other), repr(other), str(other)))
@@ -797,6 +828,13 @@ class Threads(unittest.TestCase):
             it.Forwarded((("for", "a"),)),
             it.Link("a"),
             it.SetCookie("a", "b"),
+            it.AccessControlAllowCredentials(True),
+            it.AccessControlAllowOrigin("*"),
+            it.Expect("100-continue"),
+            it.SecWebSocketVersion(13),
+            *(getattr(it, name)(5) for name in (*NUMBERS, *TIMES_OF_FIELDS)),
+            *(getattr(it, name)("PUT") for name in TEXTS_OF_FIELDS),
+            *(getattr(it, name)(("PUT", "a")) for name in LISTS),
         ]
         self.assertEqual({type(value) for value in values}, set(TYPES.values()))
         questions: List[Call] = [

@@ -11,8 +11,23 @@ import re
 from contextlib import contextmanager
 from datetime import datetime, timedelta, timezone
 from enum import IntEnum
-from typing import TYPE_CHECKING, Callable, Iterable, Iterator, List, Optional, Sequence, SupportsIndex, Tuple, Union
+from typing import (
+    TYPE_CHECKING,
+    Any,
+    Callable,
+    Iterable,
+    Iterator,
+    List,
+    Optional,
+    Sequence,
+    SupportsIndex,
+    Tuple,
+    Type,
+    TypeVar,
+    Union,
+)
 
+from ._checks import check_members, type_name
 from ._names import FIELDS, SECRETS
 from .errors import HeaderError, InvalidField, InvalidSection, TooLarge
 
@@ -91,7 +106,7 @@ def to_bytes(text: Text, what: str) -> bytes:
             raise HeaderError(f"{what}: {character}: encode the text first") from None
     if isinstance(text, (bytes, bytearray, memoryview)):
         return bytes(text)
-    raise TypeError(f"{what}: expected str, bytes, bytearray or memoryview, not {type(text).__name__}")
+    raise TypeError(f"{what}: expected str, bytes, bytearray or memoryview, not {type_name(text)}")
 
 
 def to_str(text: bytes) -> str:
@@ -101,31 +116,42 @@ def to_str(text: bytes) -> str:
 
 def to_number(number: SupportsIndex, what: str, bits: int = 64) -> int:
     """A number that fits into so many bits."""
-    value = int(operator.index(number))
+    try:
+        value = int(operator.index(number))
+    except TypeError:
+        raise TypeError(f"{what}: expected int, not {type_name(number)}") from None
     if not 0 <= value < 1 << bits:
         raise HeaderError(f"{what}: {value} isn't from 0 to 2^{bits} - 1")
     return value
 
 
 def check_types(value: object, /, **kinds: Union[type, Tuple[type, ...]]) -> None:
-    """Raises an error if a member of a value isn't of its type."""
+    """Raises an error if a member of a value isn't of its type: of the one that is said here, and the declared one."""
     for name, kind in kinds.items():
         given = getattr(value, name)
         if not isinstance(given, kind):
-            wanted = " or ".join(it.__name__ for it in (kind if isinstance(kind, tuple) else (kind,)))
-            raise TypeError(f"{name}: expected {wanted}, not {type(given).__name__}")
+            names = [it.__name__ for it in (kind if isinstance(kind, tuple) else (kind,))]
+            wanted = " or ".join("None" if it == "NoneType" else it for it in names)
+            raise TypeError(f"{name}: expected {wanted}, not {type_name(given)}")
+    check_members(value)
 
 
-def check_flags(value: object) -> None:
-    """Raises an error if a member that is declared as a bool isn't one: the text `false` is true."""
-    for name, kind in type(value).__annotations__.items():
-        if kind is bool and not isinstance(getattr(value, name), bool):
-            check_types(value, **{name: bool})
+Value = TypeVar("Value")
+
+
+def made(cls: Type[Value], **members: Any) -> Value:
+    """A value of members that the library gave, so that they need no check."""
+    value = object.__new__(cls)
+    value.__dict__.update(members)
+    return value
 
 
 def to_pairs(given: Iterable[Tuple[str, str]], what: str) -> Tuple[Tuple[str, str], ...]:
     """Pairs of texts."""
-    pairs = tuple((name, value) for name, value in given)
+    try:
+        pairs = tuple((name, value) for name, value in given)
+    except (TypeError, ValueError):
+        raise TypeError(f"{what}: expected pairs of str") from None
     if not all(isinstance(text, str) for pair in pairs for text in pair):
         raise TypeError(f"{what}: expected pairs of str")
     return pairs
@@ -134,6 +160,8 @@ def to_pairs(given: Iterable[Tuple[str, str]], what: str) -> Tuple[Tuple[str, st
 def to_seconds(time: Time, what: str) -> int:
     """The seconds since 1970 of a time. A fraction of a second is cut off."""
     if not isinstance(time, datetime):
+        if not isinstance(time, (int, SupportsIndex)):
+            raise TypeError(f"{what}: expected datetime or int, not {type_name(time)}")
         return to_number(time, what)
     if time.tzinfo is None:
         raise HeaderError(f"{what}: {time} has no time zone: use one with tzinfo, as datetime.now(timezone.utc)")

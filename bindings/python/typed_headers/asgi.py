@@ -45,6 +45,7 @@ from typing import (
 from urllib.parse import quote, unquote_to_bytes
 
 from ._cached import MOMENT, Rules, Step, Turn, target_of
+from ._checks import check_members
 from ._exchange import CONDITIONS, ORIGINS, Cutter, Fields, Response, length_of, respond, tagged
 from ._files import ASKED, Folder
 from ._serving import DECIDING, Explanation, explained, list_alternatives, ranges
@@ -459,6 +460,9 @@ class Result:
     fields: Sequence[Tuple[str, str]] = ()
     content: Content = b""
 
+    def __post_init__(self) -> None:
+        check_members(self)
+
 
 @dataclass(frozen=True)
 class Served:
@@ -471,6 +475,9 @@ class Served:
     methods: Mapping[str, Callable[[Scope, Receive], Awaitable[Result]]] = field(default_factory=dict)
     #: Why the request is denied, if it is.
     denied: Optional[Denied] = None
+
+    def __post_init__(self) -> None:
+        check_members(self)
 
 
 _VERSIONS = {"1.0": 10, "2": 20, "3": 30}

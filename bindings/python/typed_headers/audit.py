@@ -15,6 +15,7 @@ from dataclasses import dataclass, field
 from datetime import datetime
 from typing import IO, Any, Counter, Dict, Iterable, Iterator, List, Optional, Tuple, cast
 
+from ._checks import check_members
 from .errors import HeaderError
 from .headers import Headers
 from .inspection import Report, inspect, report_data
@@ -64,6 +65,9 @@ class Exchange:
     request: bytes = b""
     #: When the response came, in seconds since 1970, or `None` for the present.
     received: Optional[int] = None
+
+    def __post_init__(self) -> None:
+        check_members(self)
 
 
 def _head(file: IO[bytes], most: int) -> Tuple[bytes, int]:

@@ -10,7 +10,8 @@ from enum import IntEnum
 from typing import TYPE_CHECKING, Any, Callable, Iterable, List, Optional, Sequence, Set, Tuple, TypeVar, Union
 
 from . import _library
-from ._library import Text, Time
+from ._checks import check_members
+from ._library import Text, Time, made
 from .errors import HeaderError
 from .headers import Headers, HeadersLike, section_of
 
@@ -65,6 +66,9 @@ class Times:
     response: Time
     #: The present, if it isn't given.
     now: Optional[Time] = None
+
+    def __post_init__(self) -> None:
+        check_members(self)
 
     def _seconds(self) -> Tuple[int, int, int]:
         now = int(time.time()) if self.now is None else _library.to_seconds(self.now, "now")
@@ -228,6 +232,9 @@ class Ask:
     #: Which fields a validation for nobody replaces.
     alone: Tuple[str, ...] = field(default=(), repr=False)
 
+    def __post_init__(self) -> None:
+        check_members(self)
+
     @property
     def replaced(self) -> Sequence[str]:
         """The names of the fields that are replaced, in lower case."""
@@ -256,6 +263,9 @@ class Reply:
     #: Whether the response is then validated for nobody: by `Pass.validation`.
     validates: bool = False
 
+    def __post_init__(self) -> None:
+        check_members(self)
+
 
 @dataclass(frozen=True)
 class Wait:
@@ -268,6 +278,9 @@ class PassOn:
 
     #: Whether the pass goes on: with `Pass.received` as its content comes, and then `Pass.ended`. Else it has ended.
     stores: bool
+
+    def __post_init__(self) -> None:
+        check_members(self)
 
 
 class _Action(IntEnum):
@@ -377,7 +390,7 @@ class Pass:
         names = {name for name, _ in (*own.pairs(), *request.pairs())}
         changed = tuple(sorted(name for name in names if own.lines(name) != request.lines(name)))
         lines = tuple((name, line) for name in changed for line in request.lines(name))
-        return Pass(self._cache, self._method, self._target, request, now, Ask(lines, changed))
+        return Pass(self._cache, self._method, self._target, request, now, made(Ask, fields=lines, alone=changed))
 
     def close(self) -> None:
         """Ends the pass. Nothing more is stored of it, and no other waits for it."""
@@ -420,11 +433,11 @@ class Pass:
         if action is _Action.ASK:
             return self._alone
         if action is _Action.VALIDATE:
-            return Ask((*(self._alone.fields or ()), *self._fields()), self._alone.alone)
+            return made(Ask, fields=(*(self._alone.fields or ()), *self._fields()), alone=self._alone.alone)
         if action is _Action.SEND_504:
             return Reply(504, (("content-length", "0"),), b"")
         if action in (_Action.PASS_ON, _Action.PASS_ON_TO_END):
-            return PassOn(action is _Action.PASS_ON_TO_END)
+            return made(PassOn, stores=action is _Action.PASS_ON_TO_END)
         if action is _Action.NO_RESPONSE:
             return None
         if action is _Action.WAIT:
@@ -435,7 +448,8 @@ class Pass:
             _check(ended)
         elif self._method != "HEAD" and status not in (204, 304):
             content = b""
-        return Reply(status, self._fields(), content, action is _Action.REPLY_AND_VALIDATE)
+        validates = action is _Action.REPLY_AND_VALIDATE
+        return made(Reply, status=status, fields=self._fields(), content=content, validates=validates)
 
     def _fields(self) -> FieldLines:
         ended, text = _library.calls.pass_fields(self._handle)

@@ -3,11 +3,13 @@
 import re
 import time
 from dataclasses import dataclass
+from datetime import datetime
 from enum import IntEnum
 from typing import Iterable, List, Optional, Tuple, Union
 
 from . import _library
-from ._library import Text, Time
+from ._checks import check_members
+from ._library import Text, Time, made
 from .errors import HeaderError
 from .headers import Headers, HeadersLike, Section, section_of
 from .values import ByteRange, ETag, MediaType, ranges_of
@@ -24,6 +26,7 @@ class Precondition(IntEnum):
 
 
 _PRECONDITIONS = {int(it): it for it in Precondition}
+_TAG, _TIME = (ETag, str, type(None)), (type(None), datetime, int)
 
 
 @dataclass(frozen=True)
@@ -40,8 +43,10 @@ class Target:
     is_date_strong: bool = False
 
     def __post_init__(self) -> None:
-        if not isinstance(self.exists, bool) or not isinstance(self.is_date_strong, bool):
-            _library.check_flags(self)
+        # (this takes less time than `check_members`)
+        is_right = isinstance(self.etag, _TAG) and isinstance(self.last_modified, _TIME)
+        if not is_right or not isinstance(self.exists, bool) or not isinstance(self.is_date_strong, bool):
+            check_members(self)
 
 
 @dataclass(frozen=True)
@@ -54,6 +59,9 @@ class Selection:
 
     status: int
     ranges: Tuple[ByteRange, ...] = ()
+
+    def __post_init__(self) -> None:
+        check_members(self)
 
 
 @dataclass(frozen=True)
@@ -68,7 +76,7 @@ class Content:
     sends_ranges: bool = True
 
     def __post_init__(self) -> None:
-        _library.check_flags(self)
+        check_members(self)
 
 
 @dataclass(frozen=True)
@@ -83,6 +91,9 @@ class Response:
     fields: Tuple[Tuple[str, str], ...]
     #: Whether a Content-Encoding that the server has set stays.
     keeps_encoding: bool
+
+    def __post_init__(self) -> None:
+        check_members(self)
 
     def apply(self, response: Iterable[Tuple[str, str]]) -> List[Tuple[str, str]]:
         """The fields that the server has set, with those of this response.
@@ -183,7 +194,7 @@ def select(
     _library.check(status, lambda: _refused(method, request, target))
     if status == _library.ABSENT:
         raise HeaderError("target: it doesn't exist, so nothing of it can be selected")
-    return Selection(answer, ranges_of(found))
+    return made(Selection, status=answer, ranges=ranges_of(found))
 
 
 def respond(
@@ -222,7 +233,8 @@ def respond(
         _library.check(status, lambda: _no_response(method, request, target, kind, separator))
     if not code:
         return None
-    return Response(code, ranges_of(found), tuple(Headers(text).pairs()), keeps == 1)
+    lines = tuple(Headers(text).pairs())
+    return made(Response, status=code, ranges=ranges_of(found), fields=lines, keeps_encoding=keeps == 1)
 
 
 def _no_response(method: Text, request: HeadersLike, target: Target, kind: bytes, boundary: bytes) -> HeaderError:

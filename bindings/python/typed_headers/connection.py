@@ -25,6 +25,8 @@ from functools import partial
 from typing import Deque, List, Optional, Sequence, Tuple, Union
 
 from . import _library
+from ._checks import check_members
+from ._library import made
 from .errors import HeaderError, TooLarge
 
 __all__ = [
@@ -63,6 +65,9 @@ class Request:
     #: `b"1.1"` or `b"1.0"`.
     http_version: bytes
 
+    def __post_init__(self) -> None:
+        check_members(self)
+
     @property
     def target(self) -> bytes:
         """The path and the query."""
@@ -76,12 +81,18 @@ class Response:
     status_code: int
     headers: Fields = ()
 
+    def __post_init__(self) -> None:
+        check_members(self)
+
 
 @dataclass(frozen=True)
 class Data:
     """Content: all of a request's, or a piece of a response's."""
 
     data: bytes
+
+    def __post_init__(self) -> None:
+        check_members(self)
 
 
 @dataclass(frozen=True)
@@ -95,6 +106,9 @@ class Rejected:
 
     #: The status of that response, as 400.
     status: int
+
+    def __post_init__(self) -> None:
+        check_members(self)
 
 
 @dataclass(frozen=True)
@@ -253,16 +267,17 @@ class Connection:
             fields.append((name, value))
         version = _VERSIONS[calls.connection_version(handle)[1]]
         content = calls.connection_content(handle)[1]
-        self._events.append(Request(method, path, query, tuple(fields), version))
+        head = made(Request, method=method, path=path, query=query, headers=tuple(fields), http_version=version)
+        self._events.append(head)
         if content:
-            self._events.append(Data(content))
+            self._events.append(made(Data, data=content))
         self._events.append(EndOfMessage())
         self.our_state = State.SEND_RESPONSE
 
     def _close(self, state: State) -> None:
         status, rejection = _library.calls.connection_rejection(self._handle)
         if status == _DONE:
-            self._events.append(Rejected(rejection))
+            self._events.append(made(Rejected, status=rejection))
         self._events.append(ConnectionClosed())
         self.our_state = state
 

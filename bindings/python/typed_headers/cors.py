@@ -5,7 +5,8 @@ from enum import IntEnum
 from typing import ClassVar, Iterable, List, Optional, Tuple, Union
 
 from . import _library
-from ._library import Text
+from ._checks import check_members
+from ._library import Text, made
 from .errors import HeaderError
 from .headers import Headers, HeadersLike, asked_of, section_of
 
@@ -44,6 +45,9 @@ class CorsAnswer:
     is_allowed: bool
     #: The fields to add to the response: `apply` does so.
     fields: Tuple[Tuple[str, str], ...]
+
+    def __post_init__(self) -> None:
+        check_members(self)
 
     def apply(self, response: Iterable[Tuple[str, str]]) -> List[Tuple[str, str]]:
         """The fields of the response with those of this answer.
@@ -98,7 +102,7 @@ class CorsPolicy:
     _handle: "ClassVar[_library.Handle]"
 
     def __post_init__(self) -> None:
-        _library.check_flags(self)
+        check_members(self)
         for name in _LISTS:
             given = getattr(self, name)
             object.__setattr__(self, name, (given,) if isinstance(given, str) else tuple(given))
@@ -123,7 +127,8 @@ class CorsPolicy:
         verb, asked, given = _library.to_bytes(method, "method"), asked_of(request), section_of(response)
         status, (kind, is_allowed), text = _library.calls.cors_policy_answer(self._handle, asked, (verb, given))
         _library.check(status, lambda: _refused(verb, asked if isinstance(asked, bytes) else b"", given))
-        return CorsAnswer(CorsKind(kind), is_allowed == 1, tuple(Headers(text).pairs()))
+        lines = tuple(Headers(text).pairs())
+        return made(CorsAnswer, kind=CorsKind(kind), is_allowed=is_allowed == 1, fields=lines)
 
     def _unreadable(self) -> HeaderError:
         unsent = unsent_origin(self._rules[0])

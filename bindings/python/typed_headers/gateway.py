@@ -6,7 +6,8 @@ from enum import IntEnum
 from typing import ClassVar, Iterable, Optional, Tuple, Union
 
 from . import _library
-from ._library import Text, Time
+from ._checks import check_members
+from ._library import Text, Time, made
 from .errors import HeaderError
 from .headers import Headers, HeadersLike, section_of
 
@@ -77,6 +78,9 @@ class Framing:
     #: How many bytes there are, if the kind is `LENGTH`.
     length: Optional[int] = None
 
+    def __post_init__(self) -> None:
+        check_members(self)
+
 
 @dataclass(frozen=True)
 class FramingOutcome:
@@ -87,6 +91,9 @@ class FramingOutcome:
     #: The status that answers a rejected request, or 502, which takes the place of a rejected response.
     status: Optional[int] = None
     reason: Optional[Rejection] = None
+
+    def __post_init__(self) -> None:
+        check_members(self)
 
 
 @dataclass(frozen=True)
@@ -104,6 +111,9 @@ class RequestOutcome:
     #: Whether the client waits for a 100 (Continue) that the next server doesn't send, so that the gateway does.
     sends_continue: bool = False
 
+    def __post_init__(self) -> None:
+        check_members(self)
+
 
 @dataclass(frozen=True)
 class ResponseOutcome:
@@ -119,6 +129,9 @@ class ResponseOutcome:
     #: 502, which takes the place of a rejected response, if that is final.
     status: Optional[int] = None
     reason: Optional[Rejection] = None
+
+    def __post_init__(self) -> None:
+        check_members(self)
 
 
 @dataclass(frozen=True)
@@ -153,7 +166,7 @@ class Hop:
     accepts_trailers: bool = False
 
     def __post_init__(self) -> None:
-        _library.check_flags(self)
+        check_members(self)
 
 
 def _wrong_section(section: bytes) -> Optional[HeaderError]:
@@ -171,7 +184,7 @@ def _version(number: int, what: str) -> int:
 
 
 def _framing(length: int, kind: int) -> Framing:
-    return Framing(FramingKind(kind), length if kind == FramingKind.LENGTH else None)
+    return made(Framing, kind=FramingKind(kind), length=length if kind == FramingKind.LENGTH else None)
 
 
 def _reason(number: int) -> Optional[Rejection]:
@@ -229,7 +242,7 @@ class Gateway:
     _parts: ClassVar[Tuple[bytes, bytes, bool, bool]]
 
     def __post_init__(self) -> None:
-        _library.check_flags(self)
+        check_members(self)
         protected = (self.protected,) if isinstance(self.protected, str) else tuple(self.protected)
         object.__setattr__(self, "protected", protected)
         lines = _library.joined(_library.to_lines("protected", protected))
@@ -261,13 +274,14 @@ class Gateway:
         )
         _library.check(status, lambda: self._refused(section, verb, hop, target))
         is_rejected = action == Action.REJECT
-        return RequestOutcome(
-            Action(action),
-            None if is_rejected else _framing(*framed),
-            tuple(Headers(text).pairs()),
-            code or None,
-            _reason(reason),
-            sends_continue == 1,
+        return made(
+            RequestOutcome,
+            action=Action(action),
+            framing=None if is_rejected else _framing(*framed),
+            fields=tuple(Headers(text).pairs()),
+            status=code or None,
+            reason=_reason(reason),
+            sends_continue=sends_continue == 1,
         )
 
     def forward_response(
@@ -298,13 +312,14 @@ class Gateway:
             f"999, or {second} lies past the year 9999"
         ))
         is_sent = action == Action.FORWARD
-        return ResponseOutcome(
-            Action(action),
-            _framing(*came) if is_sent else None,
-            _framing(*sent) if is_sent else None,
-            tuple(Headers(text).pairs()),
-            code or None,
-            _reason(reason),
+        return made(
+            ResponseOutcome,
+            action=Action(action),
+            received=_framing(*came) if is_sent else None,
+            sent=_framing(*sent) if is_sent else None,
+            fields=tuple(Headers(text).pairs()),
+            status=code or None,
+            reason=_reason(reason),
         )
 
     def _refused(self, section: bytes, method: bytes, hop: Hop, authority: bytes) -> HeaderError:
@@ -336,4 +351,5 @@ def framing(
     _library.check(ended, lambda: _wrong_section(section) or HeaderError(
         f"{_library.to_str(verb)!r} is no token, or {status} no status from 100 to 999"
     ))
-    return FramingOutcome(None if reason else _framing(*framed), code or None, _reason(reason))
+    found = None if reason else _framing(*framed)
+    return made(FramingOutcome, framing=found, status=code or None, reason=_reason(reason))

@@ -1,7 +1,6 @@
 """Header sections: the fields of a message, whatever form a framework has them in."""
 
 import re
-from datetime import datetime
 from functools import lru_cache
 from typing import (
     TYPE_CHECKING,
@@ -25,6 +24,41 @@ from . import _library
 from ._library import Text
 from ._names import FIELDS, SECRETS
 from .errors import InvalidField
+from .fields import (
+    TE,
+    AcceptRanges,
+    AccessControlAllowCredentials,
+    AccessControlAllowHeaders,
+    AccessControlAllowMethods,
+    AccessControlAllowOrigin,
+    AccessControlExposeHeaders,
+    AccessControlMaxAge,
+    AccessControlRequestHeaders,
+    AccessControlRequestMethod,
+    Age,
+    Allow,
+    ConnectionOptions,
+    ContentEncoding,
+    ContentLength,
+    ContentLocation,
+    Date,
+    Expect,
+    Expires,
+    IfModifiedSince,
+    IfUnmodifiedSince,
+    LastModified,
+    Location,
+    Pragma,
+    Referer,
+    SecWebSocketAccept,
+    SecWebSocketKey,
+    SecWebSocketVersion,
+    Server,
+    TransferEncoding,
+    Upgrade,
+    UserAgent,
+    Vary,
+)
 from .values import (
     CacheControl,
     ContentRange,
@@ -40,12 +74,6 @@ from .values import (
     ReferrerPolicy,
     RetryAfter,
     StrictTransportSecurity,
-    age,
-    content_length,
-    date,
-    expires,
-    last_modified,
-    members,
 )
 
 if TYPE_CHECKING:
@@ -113,6 +141,8 @@ def canonical_section(section: "HeadersLike") -> str:
 
 
 _section, _pair, _parse = _library.calls.section, _library.calls.pair, _library.calls.pairs
+#: What is between the lines of a field whose lines aren't joined by commas (RFC 9113, section 8.2.3).
+_JOINTS = {"cookie": "; "}
 # A line of a section as it is made of a name and a value.
 _FIELD = re.compile(_library.TOKEN.pattern.encode() + rb": [\t -~\x80-\xff]*\n")
 
@@ -181,13 +211,14 @@ class Headers(MutableMapping[str, str]):
     """The header fields of a message: a mapping of names, whatever their case, that keeps their order and their lines.
 
     It takes a header section as text, a mapping of names to values, pairs of a name and a value, or what Starlette,
-    Werkzeug, httpx, requests, aiohttp and `http.client` have; `pairs` is what these take. An item is the field's value:
-    its lines, joined by commas (RFC 9110, section 5.2), so take `lines` for Set-Cookie. A typed field that is absent is
-    `None`; one whose lines encode no value raises `InvalidField`. Its `repr` doesn't show credentials and cookies.
+    Werkzeug, httpx, requests, aiohttp and `http.client` have. `pairs` is what these take, `raw` what Starlette takes.
+    An item is the field's value: its lines, joined by commas (RFC 9110, section 5.2), and those of Cookie by semicolons
+    (RFC 9113, section 8.2.3), so take `lines` for Set-Cookie. A typed field that is absent is `None`; one whose lines
+    encode no value raises `InvalidField`. Its `repr` doesn't show credentials and cookies.
 
     >>> headers = Headers({"Content-Length": "42", "ETag": '"a"', "Cache-Control": "no-cache, max-age=60"})
     >>> headers.content_length
-    42
+    ContentLength(42)
     >>> headers.etag
     ETag(opaque='a', weak=False)
     >>> headers.cache_control.max_age
@@ -246,7 +277,7 @@ class Headers(MutableMapping[str, str]):
         lines = (state.by_name or state.named()).get(name.lower())
         if lines is None:
             raise KeyError(name)
-        return lines[0] if len(lines) == 1 else ", ".join(lines)
+        return lines[0] if len(lines) == 1 else _JOINTS.get(name.lower(), ", ").join(lines)
 
     def __setitem__(self, name: str, value: str) -> None:
         """Puts a single field line where the first of that name is, or at the end."""
@@ -306,10 +337,10 @@ class Headers(MutableMapping[str, str]):
         return canonical_field(name, *lines) if lines else None
 
     @property
-    def age(self) -> Optional[int]:
+    def age(self) -> Optional[Age]:
         """The seconds of `Age`."""
         lines = self.lines("age")
-        return age(*lines) if lines else None
+        return Age.parse(*lines) if lines else None
 
     @property
     def cache_control(self) -> Optional[CacheControl]:
@@ -318,10 +349,10 @@ class Headers(MutableMapping[str, str]):
         return CacheControl.parse(*lines) if lines else None
 
     @property
-    def content_length(self) -> Optional[int]:
+    def content_length(self) -> Optional[ContentLength]:
         """The bytes of `Content-Length`."""
         lines = self.lines("content-length")
-        return content_length(*lines) if lines else None
+        return ContentLength.parse(*lines) if lines else None
 
     @property
     def content_range(self) -> Optional[ContentRange]:
@@ -336,10 +367,10 @@ class Headers(MutableMapping[str, str]):
         return MediaType.parse(*lines) if lines else None
 
     @property
-    def date(self) -> Optional[datetime]:
+    def date(self) -> Optional[Date]:
         """The time of `Date`."""
         lines = self.lines("date")
-        return date(*lines) if lines else None
+        return Date.parse(*lines) if lines else None
 
     @property
     def etag(self) -> Optional[ETag]:
@@ -348,16 +379,16 @@ class Headers(MutableMapping[str, str]):
         return ETag.parse(*lines) if lines else None
 
     @property
-    def expires(self) -> Optional[datetime]:
+    def expires(self) -> Optional[Expires]:
         """The time of `Expires`."""
         lines = self.lines("expires")
-        return expires(*lines) if lines else None
+        return Expires.parse(*lines) if lines else None
 
     @property
-    def last_modified(self) -> Optional[datetime]:
+    def last_modified(self) -> Optional[LastModified]:
         """The time of `Last-Modified`."""
         lines = self.lines("last-modified")
-        return last_modified(*lines) if lines else None
+        return LastModified.parse(*lines) if lines else None
 
     @property
     def range(self) -> Optional[Range]:
@@ -384,10 +415,10 @@ class Headers(MutableMapping[str, str]):
         return StrictTransportSecurity.parse(*lines) if lines else None
 
     @property
-    def allow(self) -> Optional[List[str]]:
+    def allow(self) -> Optional[Allow]:
         """The methods of `Allow`."""
         lines = self.lines("allow")
-        return members(*lines) if lines else None
+        return Allow.parse(*lines) if lines else None
 
     @property
     def authorization(self) -> Optional[Credentials]:
@@ -396,10 +427,10 @@ class Headers(MutableMapping[str, str]):
         return Credentials.parse(*lines) if lines else None
 
     @property
-    def connection(self) -> Optional[List[str]]:
+    def connection(self) -> Optional[ConnectionOptions]:
         """The options of `Connection`."""
         lines = self.lines("connection")
-        return members(*lines) if lines else None
+        return ConnectionOptions.parse(*lines) if lines else None
 
     @property
     def content_disposition(self) -> "Optional[parts.ContentDisposition]":
@@ -473,73 +504,76 @@ class Headers(MutableMapping[str, str]):
     def proxy_authorization(self) -> Optional[Credentials]:
         """The credentials of `Proxy-Authorization`."""
         lines = self.lines("proxy-authorization")
-        return Credentials.parse(*lines) if lines else None
+        try:
+            return Credentials.parse(*lines) if lines else None
+        except InvalidField as it:
+            raise InvalidField("proxy-authorization", it.reason, it.lines, it.line, it.byte) from None
 
     @property
-    def vary(self) -> Optional[List[str]]:
+    def vary(self) -> Optional[Vary]:
         """The names of `Vary`, or `*`."""
         lines = self.lines("vary")
-        return members(*lines) if lines else None
+        return Vary.parse(*lines) if lines else None
 
     @property
-    def accept_ranges(self) -> Optional[List[str]]:
+    def accept_ranges(self) -> Optional[AcceptRanges]:
         """The range units of `Accept-Ranges`."""
-        return self._list("accept-ranges")
+        return self._part("accept-ranges", AcceptRanges.parse)
 
     @property
-    def access_control_allow_credentials(self) -> Optional[bool]:
+    def access_control_allow_credentials(self) -> Optional[AccessControlAllowCredentials]:
         """`True` if there is `Access-Control-Allow-Credentials`."""
-        return None if self._text("access-control-allow-credentials") is None else True
+        return self._part("access-control-allow-credentials", AccessControlAllowCredentials.parse)
 
     @property
-    def access_control_allow_headers(self) -> Optional[List[str]]:
+    def access_control_allow_headers(self) -> Optional[AccessControlAllowHeaders]:
         """The names of `Access-Control-Allow-Headers`."""
-        return self._list("access-control-allow-headers")
+        return self._part("access-control-allow-headers", AccessControlAllowHeaders.parse)
 
     @property
-    def access_control_allow_methods(self) -> Optional[List[str]]:
+    def access_control_allow_methods(self) -> Optional[AccessControlAllowMethods]:
         """The methods of `Access-Control-Allow-Methods`."""
-        return self._list("access-control-allow-methods")
+        return self._part("access-control-allow-methods", AccessControlAllowMethods.parse)
 
     @property
-    def access_control_allow_origin(self) -> Optional[str]:
+    def access_control_allow_origin(self) -> Optional[AccessControlAllowOrigin]:
         """`*`, `null` or the origin of `Access-Control-Allow-Origin`."""
-        return self._text("access-control-allow-origin")
+        return self._part("access-control-allow-origin", AccessControlAllowOrigin.parse)
 
     @property
-    def access_control_expose_headers(self) -> Optional[List[str]]:
+    def access_control_expose_headers(self) -> Optional[AccessControlExposeHeaders]:
         """The names of `Access-Control-Expose-Headers`."""
-        return self._list("access-control-expose-headers")
+        return self._part("access-control-expose-headers", AccessControlExposeHeaders.parse)
 
     @property
-    def access_control_max_age(self) -> Optional[int]:
+    def access_control_max_age(self) -> Optional[AccessControlMaxAge]:
         """The seconds of `Access-Control-Max-Age`."""
-        return self._number("access-control-max-age")
+        return self._part("access-control-max-age", AccessControlMaxAge.parse)
 
     @property
-    def access_control_request_headers(self) -> Optional[List[str]]:
+    def access_control_request_headers(self) -> Optional[AccessControlRequestHeaders]:
         """The names of `Access-Control-Request-Headers`."""
-        return self._list("access-control-request-headers")
+        return self._part("access-control-request-headers", AccessControlRequestHeaders.parse)
 
     @property
-    def access_control_request_method(self) -> Optional[str]:
+    def access_control_request_method(self) -> Optional[AccessControlRequestMethod]:
         """The method of `Access-Control-Request-Method`."""
-        return self._text("access-control-request-method")
+        return self._part("access-control-request-method", AccessControlRequestMethod.parse)
 
     @property
-    def content_encoding(self) -> Optional[List[str]]:
+    def content_encoding(self) -> Optional[ContentEncoding]:
         """The codings of `Content-Encoding`, in the order in which they were applied."""
-        return self._list("content-encoding")
+        return self._part("content-encoding", ContentEncoding.parse)
 
     @property
-    def content_location(self) -> Optional[str]:
+    def content_location(self) -> Optional[ContentLocation]:
         """The reference of `Content-Location`."""
-        return self._text("content-location")
+        return self._part("content-location", ContentLocation.parse)
 
     @property
-    def expect(self) -> Optional[str]:
+    def expect(self) -> Optional[Expect]:
         """`100-continue`."""
-        return self._text("expect")
+        return self._part("expect", Expect.parse)
 
     @property
     def if_match(self) -> Optional[ETags]:
@@ -547,9 +581,9 @@ class Headers(MutableMapping[str, str]):
         return self._tags("if-match")
 
     @property
-    def if_modified_since(self) -> Optional[datetime]:
+    def if_modified_since(self) -> Optional[IfModifiedSince]:
         """The time of `If-Modified-Since`."""
-        return self._time("if-modified-since")
+        return self._part("if-modified-since", IfModifiedSince.parse)
 
     @property
     def if_none_match(self) -> Optional[ETags]:
@@ -562,81 +596,64 @@ class Headers(MutableMapping[str, str]):
         return self._part("if-range", IfRange.parse)
 
     @property
-    def if_unmodified_since(self) -> Optional[datetime]:
+    def if_unmodified_since(self) -> Optional[IfUnmodifiedSince]:
         """The time of `If-Unmodified-Since`."""
-        return self._time("if-unmodified-since")
+        return self._part("if-unmodified-since", IfUnmodifiedSince.parse)
 
     @property
-    def location(self) -> Optional[str]:
+    def location(self) -> Optional[Location]:
         """The reference of `Location`."""
-        return self._text("location")
+        return self._part("location", Location.parse)
 
     @property
-    def pragma(self) -> Optional[str]:
+    def pragma(self) -> Optional[Pragma]:
         """The text of `Pragma`."""
-        return self._text("pragma")
+        return self._part("pragma", Pragma.parse)
 
     @property
-    def referer(self) -> Optional[str]:
+    def referer(self) -> Optional[Referer]:
         """The reference of `Referer`."""
-        return self._text("referer")
+        return self._part("referer", Referer.parse)
 
     @property
-    def sec_websocket_accept(self) -> Optional[str]:
+    def sec_websocket_accept(self) -> Optional[SecWebSocketAccept]:
         """The text of `Sec-WebSocket-Accept`."""
-        return self._text("sec-websocket-accept")
+        return self._part("sec-websocket-accept", SecWebSocketAccept.parse)
 
     @property
-    def sec_websocket_key(self) -> Optional[str]:
+    def sec_websocket_key(self) -> Optional[SecWebSocketKey]:
         """The text of `Sec-WebSocket-Key`."""
-        return self._text("sec-websocket-key")
+        return self._part("sec-websocket-key", SecWebSocketKey.parse)
 
     @property
-    def sec_websocket_version(self) -> Optional[int]:
+    def sec_websocket_version(self) -> Optional[SecWebSocketVersion]:
         """The 13 of `Sec-WebSocket-Version`."""
-        return self._number("sec-websocket-version")
+        return self._part("sec-websocket-version", SecWebSocketVersion.parse)
 
     @property
-    def server(self) -> Optional[str]:
+    def server(self) -> Optional[Server]:
         """The text of `Server`."""
-        return self._text("server")
+        return self._part("server", Server.parse)
 
     @property
-    def te(self) -> Optional[List[str]]:
+    def te(self) -> Optional[TE]:
         """The transfer codings of `TE`, with their parameters."""
-        return self._list("te")
+        return self._part("te", TE.parse)
 
     @property
-    def transfer_encoding(self) -> Optional[List[str]]:
+    def transfer_encoding(self) -> Optional[TransferEncoding]:
         """The codings of `Transfer-Encoding`, in the order in which they were applied."""
-        return self._list("transfer-encoding")
+        return self._part("transfer-encoding", TransferEncoding.parse)
 
     @property
-    def upgrade(self) -> Optional[str]:
+    def upgrade(self) -> Optional[Upgrade]:
         """The protocols of `Upgrade`."""
-        return self._text("upgrade")
+        return self._part("upgrade", Upgrade.parse)
 
     @property
-    def user_agent(self) -> Optional[str]:
+    def user_agent(self) -> Optional[UserAgent]:
         """The text of `User-Agent`."""
-        return self._text("user-agent")
-
-    def _text(self, name: str) -> Optional[str]:
-        """The canonical field lines of a name, joined by commas."""
-        lines = self.canonical(name)
-        return None if lines is None else ", ".join(lines)
-
-    def _list(self, name: str) -> Optional[List[str]]:
-        lines = self.canonical(name)
-        return None if lines is None else members(*lines) if lines else []
-
-    def _number(self, name: str) -> Optional[int]:
-        text = self._text(name)
-        return None if text is None else int(text)
-
-    def _time(self, name: str) -> Optional[datetime]:
-        text = self._text(name)
-        return None if text is None else date(text)
+        return self._part("user-agent", UserAgent.parse)
 
     def _tags(self, name: str) -> Optional[ETags]:
         lines = self.lines(name)

@@ -14,7 +14,8 @@ from enum import IntEnum
 from typing import Any, Callable, Dict, List, Optional, Tuple, TypeVar
 
 from . import _library
-from ._library import Text, Time
+from ._checks import check_members
+from ._library import Text, Time, made
 from ._names import FIELDS
 from .caching import Decision, judge, validators
 from .conditions import Precondition, Selection, Target, evaluate, select
@@ -50,6 +51,9 @@ class Head:
     #: The other lines, each with its number in the head, from 1.
     wrong: Tuple[Tuple[int, str], ...] = ()
 
+    def __post_init__(self) -> None:
+        check_members(self)
+
 
 @dataclass(frozen=True)
 class FieldReport:
@@ -64,6 +68,9 @@ class FieldReport:
     line: Optional[int] = None
     byte: Optional[int] = None
 
+    def __post_init__(self) -> None:
+        check_members(self)
+
 
 @dataclass(frozen=True)
 class CacheReport:
@@ -77,6 +84,9 @@ class CacheReport:
     #: What the cache does if the same request comes again now.
     decision: Decision
 
+    def __post_init__(self) -> None:
+        check_members(self)
+
 
 @dataclass(frozen=True)
 class CorsReport:
@@ -89,6 +99,9 @@ class CorsReport:
     allow_headers: Optional[str]
     max_age: Optional[str]
 
+    def __post_init__(self) -> None:
+        check_members(self)
+
 
 @dataclass(frozen=True)
 class ValidatorReport:
@@ -99,6 +112,9 @@ class ValidatorReport:
     last_modified: Optional[datetime]
     #: The fields of a request that asks so.
     fields: Tuple[Tuple[str, str], ...]
+
+    def __post_init__(self) -> None:
+        check_members(self)
 
 
 @dataclass(frozen=True)
@@ -119,6 +135,9 @@ class Report:
     precondition: Optional[Precondition] = None
     #: What could not be judged, and why.
     notes: Tuple[str, ...] = field(default=())
+
+    def __post_init__(self) -> None:
+        check_members(self)
 
     @property
     def is_valid(self) -> bool:
@@ -201,13 +220,26 @@ def _fields(headers: Headers) -> Tuple[FieldReport, ...]:
     found = []
     for name in headers:
         lines, is_known = tuple(headers.lines(name)), name in FIELDS
+        canonical: Optional[Tuple[str, ...]] = None
+        error = line = byte = None
         try:
             canonical = tuple(canonical_known(name, lines) if is_known else canonical_field(name, *lines))
             if name in _PARSED:
                 _PARSED[name](*lines)
-            found.append(FieldReport(name, lines, is_known, canonical))
-        except InvalidField as error:
-            found.append(FieldReport(name, lines, is_known, None, error.reason, error.line, error.byte))
+        except InvalidField as it:
+            canonical, error, line, byte = None, it.reason, it.line, it.byte
+        found.append(
+            made(
+                FieldReport,
+                name=name,
+                lines=lines,
+                is_known=is_known,
+                canonical=canonical,
+                error=error,
+                line=line,
+                byte=byte,
+            )
+        )
     return tuple(found)
 
 

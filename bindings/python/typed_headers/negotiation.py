@@ -4,7 +4,8 @@ from dataclasses import dataclass
 from typing import List, NoReturn, Optional, Sequence, Tuple
 
 from . import _library
-from ._library import Text
+from ._checks import check_members
+from ._library import Text, made
 from .errors import HeaderError
 from .headers import Headers, HeadersLike, Section
 
@@ -43,6 +44,9 @@ class Quality:
     #: The weight in thousandths, 1 to 1000. 0 if the offer isn't acceptable, or no element of the field names it.
     weight: int
     is_acceptable: bool
+
+    def __post_init__(self) -> None:
+        check_members(self)
 
 
 def _lines(dimension: int, request: HeadersLike) -> Sequence[Text]:
@@ -91,7 +95,7 @@ def _rate(dimension: int, request: HeadersLike, offer: Text) -> Quality:
     lines, text = tuple(_lines(dimension, request)), _library.to_bytes(offer, "offer")
     status, (weight, is_acceptable) = _QUALITIES[dimension](lines, text)
     _library.check(status, lambda: _reject(dimension, lines, []))
-    return Quality(weight, is_acceptable == 1)
+    return made(Quality, weight=weight, is_acceptable=is_acceptable == 1)
 
 
 def choose_type(request: HeadersLike, offers: Sequence[str]) -> Optional[str]:

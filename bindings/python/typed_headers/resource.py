@@ -7,7 +7,8 @@ from enum import IntEnum
 from typing import ClassVar, Dict, FrozenSet, Iterable, List, Optional, Sequence, SupportsIndex, Tuple, Union
 
 from . import _library
-from ._library import Text, Time
+from ._checks import check_members
+from ._library import Text, Time, made
 from .conditions import CONTENT_DIGESTS, RESPONSE_FIELDS
 from .cors import CORS_FIELDS, CorsPolicy
 from .errors import HeaderError
@@ -111,8 +112,7 @@ class Method:
     needs_condition: bool = False
 
     def __post_init__(self) -> None:
-        _library.check_types(self, name=str)
-        _library.check_flags(self)
+        check_members(self)
 
 
 @dataclass(frozen=True)
@@ -137,7 +137,7 @@ class Representation:
     is_date_strong: bool = False
 
     def __post_init__(self) -> None:
-        _library.check_flags(self)
+        check_members(self)
 
 
 @dataclass(frozen=True)
@@ -163,6 +163,7 @@ class Denied:
     _given: ClassVar[Tuple[bytes, Optional[int], int]]
 
     def __post_init__(self) -> None:
+        check_members(self)
         challenge = _library.to_bytes(self.challenge, "challenge")
         if self.status not in (401, 403, 429, 503):
             raise HeaderError(f"status: {self.status} is none of 401, 403, 429 and 503")
@@ -192,6 +193,9 @@ class Answer:
     fields: Tuple[Tuple[str, str], ...]
     #: The names of the fields that are the answer's alone.
     owns: FrozenSet[str]
+
+    def __post_init__(self) -> None:
+        check_members(self)
 
     def apply(self, response: Iterable[Tuple[str, str]]) -> List[Tuple[str, str]]:
         """The fields of a response that a server made, with those of this answer.
@@ -276,17 +280,9 @@ class Resource:
     _handle: "ClassVar[_library.Handle]"
 
     def __post_init__(self) -> None:
+        check_members(self)
         methods = tuple(it if isinstance(it, Method) else Method(it) for it in self.methods)
         object.__setattr__(self, "methods", methods)
-        for name in ("representations", "hosts"):
-            object.__setattr__(self, name, tuple(getattr(self, name)))
-        if not all(isinstance(it, Representation) for it in self.representations):
-            raise TypeError("representations: expected representations of Representation")
-        _library.check_types(self, cors=(CorsPolicy, type(None)))
-        _library.check_flags(self)
-        if self.implemented is not None:
-            object.__setattr__(self, "implemented", tuple(self.implemented))
-        object.__setattr__(self, "state", State(self.state))
         if self.limit is not None:
             object.__setattr__(self, "limit", _library.to_number(self.limit, "limit"))
         status, handle = self._made(methods)
@@ -373,7 +369,16 @@ class Resource:
         if self.cors is not None:
             named.update(CORS_FIELDS)
         parts = ranges_of(ranges)
-        return Answer(Reason(reason), code or None, Sends(sends), place, parts, lines, frozenset(named))
+        return made(
+            Answer,
+            reason=Reason(reason),
+            status=code or None,
+            sends=Sends(sends),
+            place=place,
+            ranges=parts,
+            fields=lines,
+            owns=frozenset(named),
+        )
 
     def _refused(self, methods: Tuple[Method, ...]) -> HeaderError:
         known = [("methods", it.name) for it in methods] + [("implemented", it) for it in self.implemented or ()]

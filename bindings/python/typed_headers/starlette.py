@@ -22,6 +22,7 @@ import inspect
 import sys
 from datetime import datetime
 from functools import wraps
+from operator import attrgetter
 from typing import Any, Callable, Dict, Iterable, List, NamedTuple, Optional, Set, Tuple, Union
 
 from starlette.exceptions import HTTPException
@@ -34,6 +35,7 @@ else:
 
 from . import _library, parts
 from .errors import HeaderError
+from .fields import AccessControlAllowCredentials
 from .headers import Headers
 
 __all__ = ["TypedHeader", "typed_parameters"]
@@ -44,8 +46,9 @@ Endpoint = Callable[..., Any]
 class TypedHeader:
     """Says that a parameter is a field of the request: `Annotated[CacheControl, TypedHeader()]`.
 
-    The parameter's type says which field it is. Where several fields have that type, or its values have another one
-    for authors of requests, `name` says it: `Annotated[datetime, TypedHeader("Date")]`. A `str` is any field's value.
+    The parameter's type says which field it is. Where several fields have that type, `name` says it. With a name, the
+    type may be the plain one of the field's values, as `Annotated[datetime, TypedHeader("Date")]`. A `str` is any
+    field's value.
     """
 
     def __init__(self, name: Optional[str] = None) -> None:
@@ -59,14 +62,27 @@ _TYPES: Dict[str, Any] = {
     if isinstance(it, property) and it.fget is not None and name != "section"
 }
 #: The field of each type that isn't that of several.
-_FIELDS = {kind: name for name, kind in reversed(_TYPES.items()) if kind not in (bool, int, str, datetime, List[str])}
+_FIELDS = {kind: name for name, kind in reversed(_TYPES.items())}
+
+
+def _plain(kind: Any) -> Dict[Any, Callable[[Any], Any]]:
+    """The plain types of a field's values, each with what makes one of a value."""
+    if not isinstance(kind, type):
+        return {}
+    if issubclass(kind, tuple):
+        return {List[str]: list, Tuple[str, ...]: tuple}
+    if issubclass(kind, AccessControlAllowCredentials):
+        return {bool: bool}
+    return {it: attrgetter("value") for it in (int, datetime) if issubclass(kind, it)}
 
 
 class _Parameter(NamedTuple):
-    """The field that a parameter is, and what the parameter is without one: `default`, unless the request needs it."""
+    """The field that a parameter is, what makes its plain value, and what the parameter is without the field:
+    `default`, unless the request needs it."""
 
     field: str
     is_text: bool
+    made: Optional[Callable[[Any], Any]]
     default: Any
     is_needed: bool
 
@@ -75,7 +91,10 @@ class _Parameter(NamedTuple):
             if self.is_needed:
                 raise HeaderError(f"{self.field}: the request has no such field")
             return self.default
-        return headers[self.field] if self.is_text else getattr(headers, self.field.replace("-", "_"))
+        if self.is_text:
+            return headers[self.field]
+        value = getattr(headers, self.field.replace("-", "_"))
+        return value if self.made is None else self.made(value)
 
 
 def _parameter(given: inspect.Parameter, hint: Any) -> Optional[_Parameter]:
@@ -91,10 +110,12 @@ def _parameter(given: inspect.Parameter, hint: Any) -> Optional[_Parameter]:
     field = name.lower()
     if not _library.TOKEN.fullmatch(field):
         raise HeaderError(f"{given.name}: {name!r} is no field name (RFC 9110, section 5.1)")
-    if len(kinds) != 1 or kinds[0] is not str and kinds[0] != _TYPES.get(field):
+    made = _plain(_TYPES.get(field)).get(kinds[0])
+    if len(kinds) != 1 or made is None and kinds[0] is not str and kinds[0] != _TYPES.get(field):
         raise TypeError(f"{given.name}: {name} has values of {_TYPES.get(field, str)}, not of {kind}")
     is_needed = given.default is given.empty and type(None) not in get_args(kind)
-    return _Parameter(field, kinds[0] is str, None if given.default is given.empty else given.default, is_needed)
+    default = None if given.default is given.empty else given.default
+    return _Parameter(field, kinds[0] is str, made, default, is_needed)
 
 
 def _is_request(hint: Any) -> bool:

@@ -20,6 +20,7 @@ from uvicorn.protocols.utils import (
     is_ssl,
 )
 
+from ._library import made
 from .connection import (
     NEED_DATA,
     Connection,
@@ -383,7 +384,7 @@ class _Exchange:
         fields = [*self._protocol.server_state.default_headers, *headers]
         if self._protocol.is_stopping and (b"connection", b"close") not in fields:
             fields.append((b"connection", b"close"))
-        self._conn.send(Response(int(status), fields))
+        self._conn.send(made(Response, status_code=int(status), headers=fields))
         self._has_begun = True
         if self._protocol.access_log:
             self._protocol.access_logger.info(
@@ -397,7 +398,7 @@ class _Exchange:
 
     def _send_content(self, content: bytes, has_more: bool) -> None:
         try:
-            self._conn.send(Data(content))
+            self._conn.send(made(Data, data=content))
             if not has_more:
                 self._conn.send(EndOfMessage())
         finally:

@@ -8,15 +8,17 @@ from base64 import b64encode
 from dataclasses import dataclass, field
 from datetime import datetime, timedelta, timezone
 from enum import Enum
-from typing import TYPE_CHECKING, Any, Iterator, List, Optional, Sequence, Tuple, Type, TypeVar
+from typing import TYPE_CHECKING, Iterator, List, Optional, Sequence, Tuple
 
 from . import _library
+from ._checks import check_members, type_name
 from ._library import Text, Time
 from .errors import HeaderError, InvalidField
 
 # (a name of this module is found in half the time)
 _read_content_range = _library.calls.content_range_as
 _read_ranges = _library.calls.ranges_as
+_made = _library.made
 _NO_MEMORY = int(_library.Status.NO_MEMORY)
 
 __all__ = [
@@ -111,16 +113,6 @@ def websocket_accept(line: Text, *more: Text) -> str:
     return _library.to_str(text)
 
 
-Value = TypeVar("Value")
-
-
-def _made(cls: Type[Value], **members: Any) -> Value:
-    """A value of members that the library gave, so that they need no check."""
-    value = object.__new__(cls)
-    value.__dict__.update(members)
-    return value
-
-
 def _only(field: str, lines: Tuple[Text, ...]) -> str:
     """The canonical field line of a field that has one."""
     found = _library.canonical_lines(field, _library.to_lines(field, lines))
@@ -153,7 +145,7 @@ class ETag:
 
     def __post_init__(self) -> None:
         if not isinstance(self.opaque, str) or not isinstance(self.weak, bool):
-            _library.check_types(self, opaque=str, weak=bool)
+            check_members(self)
         ETag.parse(str(self))
 
     if TYPE_CHECKING:
@@ -200,10 +192,7 @@ class ETags:
     _TAG = ETag
 
     def __post_init__(self) -> None:
-        object.__setattr__(self, "tags", tuple(self.tags))
-        _library.check_types(self, is_any=bool)
-        if not all(isinstance(it, ETag) for it in self.tags):
-            raise TypeError("tags: expected entity tags of ETag")
+        check_members(self)
         if self.is_any and self.tags:
             raise HeaderError("tags: expected either any or these")
         if ETags.parse(str(self)) != self:
@@ -259,7 +248,7 @@ class IfRange:
     date: Optional[datetime] = None
 
     def __post_init__(self) -> None:
-        _library.check_types(self, etag=(ETag, type(None)), date=(datetime, type(None)))
+        check_members(self)
         if (self.etag is None) == (self.date is None):
             raise HeaderError("if-range: expected either an entity tag or a date")
         if self.date is not None:
@@ -300,8 +289,7 @@ class MediaType:
     parameters: Tuple[Tuple[str, str], ...] = ()
 
     def __post_init__(self) -> None:
-        _library.check_types(self, type=str, subtype=str)
-        object.__setattr__(self, "parameters", _library.to_pairs(self.parameters, "parameters"))
+        check_members(self)
         read = MediaType.parse(str(self))
         given = (self.type.lower(), self.subtype.lower(), len(self.parameters))
         if (read.type, read.subtype, len(read.parameters)) != given:
@@ -397,15 +385,12 @@ class CacheControl:
     private_fields: Tuple[str, ...] = ()
 
     def __post_init__(self) -> None:
+        check_members(self)
         for name in _SECONDS + _STALE:
             seconds = getattr(self, name)
             if seconds is not None:
                 object.__setattr__(self, name, _library.to_number(seconds, name))
-        _library.check_types(self, **dict.fromkeys(_FLAGS, bool))
         for name in _NAMES:
-            if isinstance(getattr(self, name), str):
-                raise TypeError(f"{name}: expected field names, not a str")
-            object.__setattr__(self, name, tuple(getattr(self, name)))
             for field_name in getattr(self, name):
                 if not _library.TOKEN.fullmatch(field_name):
                     raise HeaderError(f"{name}: {field_name!r} is no field name (RFC 9110, section 5.1)")
@@ -529,7 +514,7 @@ class Range:
     text: str
 
     def __post_init__(self) -> None:
-        _library.check_types(self, text=str)
+        check_members(self)
         _ranges(self.text, (), 0)
 
     @classmethod
@@ -581,10 +566,9 @@ class ContentRange:
     length: Optional[int]
 
     def __post_init__(self) -> None:
-        _library.check_types(self, range=(ByteRange, type(None)))
-        numbers = [] if self.range is None else [self.range.first, self.range.last]
-        for number in (*numbers, 0 if self.length is None else self.length):
-            _library.to_number(number, "content-range")
+        check_members(self)
+        if self.length is not None:
+            object.__setattr__(self, "length", _library.to_number(self.length, "length"))
         _check("content-range", str(self))
 
     @classmethod
@@ -614,7 +598,7 @@ class RetryAfter:
     date: Optional[datetime] = None
 
     def __post_init__(self) -> None:
-        _library.check_types(self, delay=(timedelta, type(None)), date=(datetime, type(None)))
+        check_members(self)
         if (self.delay is None) == (self.date is None):
             raise HeaderError("retry-after: expected either a delay or a date")
         _check("retry-after", str(self))
@@ -653,7 +637,7 @@ class StrictTransportSecurity:
     include_subdomains: bool = False
 
     def __post_init__(self) -> None:
-        _library.check_types(self, include_subdomains=bool)
+        check_members(self)
         object.__setattr__(self, "max_age", _library.to_number(self.max_age, "max_age"))
 
     @classmethod
@@ -685,6 +669,12 @@ class ReferrerPolicy(Enum):
     STRICT_ORIGIN_WHEN_CROSS_ORIGIN = "strict-origin-when-cross-origin"
 
     @classmethod
+    def _missing_(cls, value: object) -> "ReferrerPolicy":
+        if not isinstance(value, str):
+            raise TypeError(f"referrer-policy: expected str, not {type_name(value)}")
+        raise _library.rejected("referrer-policy", _library.to_lines("referrer-policy", [value]))
+
+    @classmethod
     def parse(cls, line: Text, *more: Text) -> "ReferrerPolicy":
         """The last policy of the field lines that is known."""
         return cls(_only("referrer-policy", (line, *more)))
@@ -714,9 +704,7 @@ class Credentials:
     token: Optional[str] = field(default=None, repr=False)
 
     def __post_init__(self) -> None:
-        for given in (self.user, self.password, self.token):
-            if given is not None and not isinstance(given, str):
-                _library.check_types(self, **dict.fromkeys(("user", "password", "token"), (str, type(None))))
+        check_members(self)
         if (self.user is None) != (self.password is None) or (self.user is None) == (self.token is None):
             raise HeaderError("credentials: expected either a user name and a password, or a token")
         if Credentials.parse(str(self)) != self:
@@ -766,7 +754,7 @@ class Cookie:
     pairs: Tuple[Tuple[str, str], ...] = ()
 
     def __post_init__(self) -> None:
-        object.__setattr__(self, "pairs", _library.to_pairs(self.pairs, "pairs"))
+        check_members(self)
         if Cookie.parse(str(self)).pairs != self.pairs:
             raise _library.rejected("cookie", _library.to_lines("cookie", [str(self)]))
 
@@ -830,7 +818,7 @@ class Host:
     port: Optional[int] = None
 
     def __post_init__(self) -> None:
-        _library.check_types(self, name=str)
+        check_members(self)
         if self.port is not None:
             object.__setattr__(self, "port", _library.to_number(self.port, "port", 16))
         if Host.parse(str(self)) != self:
@@ -865,7 +853,7 @@ class Origin:
     port: Optional[int] = None
 
     def __post_init__(self) -> None:
-        _library.check_types(self, scheme=str, host=str)
+        check_members(self)
         if self.port is not None:
             object.__setattr__(self, "port", _library.to_number(self.port, "port", 16))
         if Origin.parse(str(self)) != self:

@@ -6,7 +6,8 @@ from enum import IntEnum
 from typing import Optional, Sequence, Tuple, Union
 
 from . import _library
-from ._library import Text
+from ._checks import check_members
+from ._library import Text, made
 from .cors import unsent_origin
 from .errors import HeaderError
 from .headers import Headers, HeadersLike, section_of
@@ -53,6 +54,9 @@ class Handshake:
     #: The fields of the response. A 101 has no other lines of Sec-WebSocket-Protocol and Sec-WebSocket-Extensions.
     fields: Fields
 
+    def __post_init__(self) -> None:
+        check_members(self)
+
 
 def _values(what: str, given: Union[str, Sequence[str]]) -> bytes:
     texts = (given,) if isinstance(given, str) else given
@@ -96,7 +100,8 @@ def websocket_respond(
         f"the request can't be answered: {_library.to_str(verb)!r} is no token, {version} no version of HTTP, "
         "or a byte of a protocol or an origin is none of a field value"
     ))
-    return Handshake(code, Fault(fault) if fault else None, tuple(Headers(text).pairs()))
+    lines = tuple(Headers(text).pairs())
+    return made(Handshake, status=code, fault=Fault(fault) if fault else None, fields=lines)
 
 
 def websocket_request(nonce: Optional[bytes] = None) -> Fields:

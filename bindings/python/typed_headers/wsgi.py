@@ -54,6 +54,7 @@ from ._exchange import (
     tagged,
 )
 from ._cached import Rules, Step, Turn, target_of
+from ._checks import check_members
 from ._files import ASKED, Folder
 from ._serving import DECIDING, Explanation, explained, list_alternatives, ranges
 from .caching import Ask, Cache, Reply, Wait
@@ -464,6 +465,9 @@ class Result:
     fields: Sequence[Tuple[str, str]] = ()
     content: Content = b""
 
+    def __post_init__(self) -> None:
+        check_members(self)
+
 
 @dataclass(frozen=True)
 class Served:
@@ -476,6 +480,9 @@ class Served:
     methods: Mapping[str, Callable[[Environ], Result]] = field(default_factory=dict)
     #: Why the request is denied, if it is.
     denied: Optional[Denied] = None
+
+    def __post_init__(self) -> None:
+        check_members(self)
 
 
 _VERSIONS = {"HTTP/0.9": 10, "HTTP/1.0": 10, "HTTP/2": 20, "HTTP/2.0": 20, "HTTP/3": 30, "HTTP/3.0": 30}
