@@ -866,7 +866,12 @@ enum typed_headers_form {
     TYPED_HEADERS_CHALLENGES = 1,
     /* As of `link` (RFC 8288, section 3). */
     TYPED_HEADERS_LINKS = 2,
-    /* As of `set-cookie` (RFC 6265, section 5.2). */
+    /*
+     * As of `set-cookie` (RFC 6265, section 5.2): the name and the value, then those of these that the attributes mean:
+     * `pPath=`, `pDomain=`, `pMax-Age=` with a number below 2^64, `pExpires=` with a date as 2021-06-09T10:18:14Z,
+     * `nSecure`, `nHttpOnly`, `pSameSite=`. After the other attributes `r` has `__Secure-`, `__Host-` or `SameSite`, if
+     * the attributes aren't what that demands.
+     */
     TYPED_HEADERS_SET_COOKIES = 3,
     /* Values with parameters that no comma separates, as of `content-disposition` (RFC 6266, section 4.1). */
     TYPED_HEADERS_VALUES = 4
@@ -1621,13 +1626,30 @@ uint8_t typed_headers_has_member(const uint8_t *lines, size_t lines_length, cons
 /*
  * The parts of the values of `content-disposition`, `set-cookie`, `te` and other fields, by all lines, as lines of
  * text. `form` is one of `typed_headers_form`. Each part is a letter, a text and a LF: `v` has a text, `n` a name
- * alone, `p` a name, `=` and what its value means, without quotes, `s` the scheme of a challenge, `k` what follows a
- * scheme and is no parameter; `!` is what is malformed. Parameters are those of RFC 9110, section 5.6.6; of a cookie
- * they are what stands around the first `=` (RFC 6265, section 5.2). An empty line ends each element, link, cookie and
- * value. Refused: `form` is none, or a line can't be one.
+ * alone, `p` a name, `=` and what its value means, without quotes, `s` the scheme of a challenge, `k` the token68 that
+ * may follow it; `!` is what is malformed. Parameters are those of RFC 9110, section 5.6.6. A cookie has its name and
+ * value, what its attributes mean (RFC 6265, section 5.2), its other attributes, and `r` for what browsers reject it
+ * by. An empty line ends each element, challenge, link, cookie and value. Refused: `form` is none, or a line can't be
+ * one.
  */
 uint8_t typed_headers_field_parts(uint8_t form, const uint8_t *lines, size_t lines_length, uint8_t *room,
                                   size_t room_length, size_t *written);
+
+/*
+ * The text, in UTF-8, that the value of a parameter means whose name ends in `*`, as of `filename*` (RFC 8187, section
+ * 3.2.1). Refused: it isn't by the grammar, its charset is neither UTF-8 nor ISO-8859-1, or its octets are no text of
+ * it.
+ */
+uint8_t typed_headers_extended_text(const uint8_t *value, size_t value_length, uint8_t *room, size_t room_length,
+                                    size_t *written);
+
+/*
+ * The parameter of a name for a text in UTF-8: a token or a quoted-string if it is spaces and visible ASCII (RFC 9110,
+ * section 5.6.6), else one whose name ends in `*` (RFC 8187). Refused: the name is no token, or the text isn't UTF-8.
+ * Memory: they are valid.
+ */
+uint8_t typed_headers_format_parameter(const uint8_t *name, size_t name_length, const uint8_t *text,
+                                       size_t text_length, uint8_t *room, size_t room_length, size_t *written);
 
 /* ---- sections and policies: what several calls are asked of is parsed once, behind a handle. Since 2.0. ---- */
 

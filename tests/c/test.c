@@ -2452,6 +2452,37 @@ static void check_parts(const struct row *row, uint8_t form) {
     check(row, call_parts, &call, TYPED_HEADERS_REFUSED, NO_NUMBER, NO_TEXT);
 }
 
+/* `extended VALUE` */
+static void check_extended(const struct row *row) {
+    struct bytes_call call = {typed_headers_extended_text,
+                              put(first_area, row->words[0].bytes, row->words[0].length)};
+    if (is_answer(row, "(refused)")) {
+        check(row, call_bytes, &call, TYPED_HEADERS_REFUSED, NO_NUMBER, NO_TEXT);
+    } else {
+        check(row, call_bytes, &call, TYPED_HEADERS_DONE, NO_NUMBER, answer_word(row, 0));
+    }
+}
+
+static uint8_t call_parameter(const void *arguments, uint64_t *number, uint8_t *room, size_t room_length,
+                              size_t *written) {
+    const struct word_call *call = arguments;
+    (void)number;
+    return typed_headers_format_parameter(call->word.bytes, call->word.length, call->lines.bytes, call->lines.length,
+                                          room, room_length, written);
+}
+
+/* `parameter NAME TEXT` */
+static void check_parameter(const struct row *row) {
+    const struct word *name = &row->words[0], *text = &row->words[1];
+    struct word_call call = {put(first_area, text->bytes, text->length), put(second_area, name->bytes, name->length),
+                             false};
+    if (is_answer(row, "(refused)")) {
+        check(row, call_parameter, &call, TYPED_HEADERS_REFUSED, NO_NUMBER, NO_TEXT);
+    } else {
+        check(row, call_parameter, &call, TYPED_HEADERS_DONE, NO_NUMBER, answer_word(row, 0));
+    }
+}
+
 /* The typed calls of a row. */
 static void check_typed(const struct row *row) {
     const char *call = row->call;
@@ -2474,6 +2505,10 @@ static void check_typed(const struct row *row) {
         check_parts(row, TYPED_HEADERS_SET_COOKIES);
     } else if (strcmp(call, "values") == 0) {
         check_parts(row, TYPED_HEADERS_VALUES);
+    } else if (strcmp(call, "extended") == 0) {
+        check_extended(row);
+    } else if (strcmp(call, "parameter") == 0) {
+        check_parameter(row);
     } else if (strcmp(call, "Cookie.get") == 0) {
         check_cookie(row);
     } else if (strcmp(call, "Cookie.decode") == 0) {

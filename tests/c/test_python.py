@@ -146,6 +146,16 @@ def parts(form):
     return given
 
 
+def text_of(call):
+    """A call over texts that gives one."""
+
+    def given(words, wanted):
+        status, text = call(*map(decode, words))
+        return status == 1 if wanted == [REFUSED] else status == 0 and text == decode(wanted[0])
+
+    return given
+
+
 def ranges(words, wanted):
     given = decoded(headers.Range.parse, words[1:])
     if wanted[0] == REFUSED:
@@ -833,6 +843,8 @@ CALLS = {
     "CacheControl.stale": stale,
     "CacheControl.arguments": named_fields,
     **{call: parts(form) for form, call in enumerate(("elements", "challenges", "links", "set_cookies", "values"))},
+    "extended": text_of(headers._library.calls.extended_text),
+    "parameter": text_of(headers._library.calls.format_parameter),
     "Range.satisfiable_ranges": ranges,
     "evaluate": evaluate,
     "select": select,

@@ -65,6 +65,13 @@ class Parts(unittest.TestCase):
             ("attachment; filename*=iso-8859-1'en'%A3%20rates", "attachment", "£ rates"),
             ("attachment; filename=a; filename*=UTF-8''%ff", "attachment", "a"),
             ("attachment; filename*=UTF-8%ff", "attachment", None),
+            ("attachment; filename=a; filename*=UTF-8''%e2%8", "attachment", "a"),
+            ("attachment; filename=a; filename*=UTF-8'en_US'b", "attachment", "a"),
+            ("attachment; filename=a; filename*=US-ASCII''b", "attachment", "a"),
+            ("attachment; filename=a; filename*=UTF-8''b*", "attachment", "a"),
+            ("attachment; filename*=ISO-8859-1''%80%ff; filename=a", "attachment", "\x80ÿ"),
+            ("attachment; filename*=UTF-8''%0A", "attachment", "\n"),
+            ("attachment; filename*=UTF-8''; filename=a", "attachment", ""),
             ('form-data; name="field"', "form-data", None),
         ]
         for line, kind, name in cases:
@@ -81,6 +88,9 @@ class Parts(unittest.TestCase):
         for wrong in ("a b", "a;b", ""):
             with self.assertRaises(HeaderError):
                 ContentDisposition(wrong)
+        with self.assertRaises(HeaderError):
+            ContentDisposition("attachment", "\ud800")
+        self.assertEqual(str(ContentDisposition("inline", "%'é")), "inline; filename*=UTF-8''%25%27%C3%A9")
         with self.assertRaises(InvalidField):
             ContentDisposition.parse("inline", "attachment")
         self.assertEqual(str(ContentDisposition("attachment", 'a"\\b')), 'attachment; filename="a\\"\\\\b"')
@@ -99,7 +109,7 @@ class Parts(unittest.TestCase):
         # RFC 7616, section 3.9.1.
         digest = Challenge.parse_all('Digest realm="http-auth@example.org", qop="auth, auth-int", algorithm=SHA-256')
         self.assertEqual(digest[0].parameter("qop"), "auth, auth-int")
-        for text in ('realm="a"', "Basic a b, c=d", 'Basic realm="a', "a/b"):
+        for text in ('realm="a"', "Basic a b", "Basic a, c=d", 'Basic realm="a', "a/b", "Basic ="):
             with self.assertRaises(InvalidField, msg=text):
                 Challenge.parse_all(text)
         for scheme in ("a b", "", "a=b"):
@@ -149,7 +159,17 @@ class Parts(unittest.TestCase):
         self.assertEqual(cookie.others, (("x", None),))
         self.assert_same(cookie, SetCookie.parse)
         cookie = SetCookie.parse("a=b=c; max-age=-1; MAX-AGE=5; path=b; secure; samesite=NONE; httponly; max-age=x")
-        self.assertEqual((cookie.value, cookie.max_age, cookie.path, cookie.same_site), ("b=c", None, None, "None"))
+        self.assertEqual((cookie.value, cookie.max_age, cookie.path, cookie.same_site), ("b=c", 5, None, "None"))
+        for text, seconds in (("-1", 0), ("-", 0), ("007", 7), ("9" * 5000, 2**64 - 1), ("+1", None), ("1s", None)):
+            self.assertEqual(SetCookie.parse(f"a=b; Max-Age={text}").max_age, seconds, text)
+        self.assertEqual(repr(SetCookie("a", "", max_age=0)), "SetCookie(name='a', max_age=0)")
+        lax = SetCookie.parse("a=b; Expires=Wednesday, 09-Jun-21 10:18:14 GMT; Domain=c; Domain=; Path=/d; Path=e")
+        self.assertEqual(lax.expires, datetime(2021, 6, 9, 10, 18, 14, tzinfo=timezone.utc))
+        self.assertEqual((lax.domain, lax.path), ("c", None))
+        self.assert_same(lax, SetCookie.parse)
+        early = SetCookie.parse("a=b; Expires=1 Jan 1969 0:00:00")
+        self.assertEqual(early.expires, datetime(1970, 1, 1, tzinfo=timezone.utc))
+        self.assert_same(early, SetCookie.parse)
         self.assertTrue(cookie.secure and cookie.http_only and cookie.is_allowed)
         self.assertNotIn("b=c", repr(cookie))
         self.assertFalse(SetCookie.parse("__Host-a=b; Secure").is_allowed)
@@ -165,6 +185,8 @@ class Parts(unittest.TestCase):
             ("", "a", {}),
             ("a", "b", {"path": "c"}),
             ("a", "b", {"same_site": "lax"}),
+            ("a", "b", {"max_age": -1}),
+            ("__Host-a", "b", {"secure": True}),
         ]
         for name, value, given in wrong:
             with self.assertRaises(HeaderError, msg=(name, value, given)):

@@ -4,13 +4,12 @@ Each type has `parse`, from field lines, and `str`, a field line. What is malfor
 """
 
 from dataclasses import dataclass, field
-from datetime import datetime
-from typing import Any, Dict, Iterator, List, NoReturn, Optional, Sequence, Tuple, Type, TypeVar
-from urllib.parse import quote, unquote
+from datetime import datetime, timezone
+from typing import Any, Callable, Dict, Iterator, List, NoReturn, Optional, Sequence, Tuple, Type, TypeVar
 
 from . import _library
 from ._library import Text
-from .errors import HeaderError, InvalidField
+from .errors import HeaderError
 from .negotiation import (
     CODING,
     LANGUAGE,
@@ -22,7 +21,7 @@ from .negotiation import (
     language_quality,
     type_quality,
 )
-from .values import _made, date, format_date
+from .values import _made, format_date
 
 __all__ = [
     "Accept",
@@ -239,21 +238,18 @@ def _extended(value: Optional[str]) -> Optional[str]:
     """What the value of a parameter whose name ends in `*` means (RFC 8187, section 3.2), or `None`."""
     if value is None:
         return None
-    charset, _, rest = value.partition("'")
-    _, quoted, text = rest.partition("'")
-    if not quoted or charset.lower() not in ("utf-8", "iso-8859-1"):
-        return None
-    try:
-        return unquote(text, charset, "strict")
-    except UnicodeDecodeError:
-        return None
+    status, text = _library.calls.extended_text(_library.to_bytes(value, "parameter"))
+    if status == _library.Status.NO_MEMORY:
+        raise MemoryError
+    return None if status else text.decode()
 
 
-def _named(name: str, text: str) -> List[str]:
-    """The parameters of a name for a text: in ASCII, or as RFC 8187 has others."""
-    if text.isascii() and text.isprintable():
-        return [f"{name}={_shown(text)}"]
-    return [f"{name}*=UTF-8''{quote(text, safe='!#$&+-.^_`|~')}"]
+def _named(name: str, text: str) -> str:
+    """The parameter of a name for a text."""
+    given = text.encode("utf-8", "surrogatepass")
+    status, shown = _library.calls.format_parameter(name.encode("ascii"), given)
+    _library.check(status, lambda: HeaderError(f"{name}: {text!r} has no encoding in UTF-8"))
+    return _library.to_str(shown)
 
 
 def _text_of(parameters: Parameters, name: str) -> Optional[str]:
@@ -320,7 +316,7 @@ class ContentDisposition:
         return _first(self.parameters, name)
 
     def __str__(self) -> str:
-        named = [] if self.filename is None else _named("filename", self.filename)
+        named = [] if self.filename is None else [_named("filename", self.filename)]
         return "; ".join([self.type, *named, *(_pair(name, value) for name, value in self.parameters)])
 
 
@@ -349,22 +345,13 @@ class Challenge:
     @classmethod
     def parse_all(cls, line: Text, *more: Text) -> List["Challenge"]:
         """The challenges of all field lines of `WWW-Authenticate` or `Proxy-Authenticate`."""
-        found: List[Challenge] = []
-        # (a token before the first scheme is none)
-        last: Dict[str, Any] = {"token": "", "parameters": ()}
-        for group in _groups(_CHALLENGES, "www-authenticate", line, more):
-            for kind, text, value in group:
-                if kind == "s":
-                    challenge = _made(cls, scheme=text, parameters=(), token=None)
-                    found.append(challenge)
-                    last = challenge.__dict__
-                elif kind == "k":
-                    if text:
-                        last["token"] = text
-                elif kind == "p" and last["token"] is None:
-                    last["parameters"] += ((text, value),)
-                else:
-                    _reject("www-authenticate", (line, *more), "a list of challenges (RFC 9110, section 11.6.1)")
+        found = []
+        for (kind, scheme, _), *rest in _groups(_CHALLENGES, "www-authenticate", line, more):
+            token = rest.pop(0)[1] if rest and rest[0][0] == "k" else None
+            parameters = _parameters(rest)
+            if kind != "s" or parameters is None:
+                _reject("www-authenticate", (line, *more), "a list of challenges (RFC 9110, section 11.6.1)")
+            found.append(_made(cls, scheme=scheme, parameters=parameters, token=token))
         return found
 
     @property
@@ -551,7 +538,7 @@ class SetCookie:
     path: Optional[str] = None
     #: The host below which it is sent, in lower case, or `None` for the host that set it alone.
     domain: Optional[str] = None
-    #: For how many seconds it is stored. It is removed at once if that isn't above 0.
+    #: For how many seconds it is stored. It is removed at once if that is 0.
     max_age: Optional[int] = None
     #: Until when it is stored. `max_age` goes before it.
     expires: Optional[datetime] = None
@@ -563,8 +550,9 @@ class SetCookie:
     others: Parameters = ()
 
     def __repr__(self) -> str:
-        given = {name: value for name, value in self.__dict__.items() if name != "value" and value not in (None, False, ())}
-        return f"SetCookie({', '.join(f'{name}={value!r}' for name, value in given.items())})"
+        given = {name: value for name, value in self.__dict__.items() if name != "value"}
+        shown = [f"{name}={value!r}" for name, value in given.items() if value or name == "max_age" and value == 0]
+        return f"SetCookie({', '.join(shown)})"
 
     def __post_init__(self) -> None:
         texts = dict.fromkeys(("path", "domain", "same_site"), (str, type(None)))
@@ -580,42 +568,27 @@ class SetCookie:
     @classmethod
     def parse(cls, line: Text, *more: Text) -> "SetCookie":
         """The cookie of the first field line (RFC 6265, section 5.2): of two attributes of a name the last counts, and
-        what an attribute can't be counts as not there."""
-        (_, first, content), *others = _groups(_SET_COOKIES, "set-cookie", line, more)[0]
-        if content is None:
+        what an attribute can't be counts as not there. `expires` may be any date of section 5.1.1, and one before 1970
+        is 1970's first second. A `max_age` past 2^64 - 1 is that, and one below 0 is 0."""
+        (kind, first, content), *attributes = _groups(_SET_COOKIES, "set-cookie", line, more)[0]
+        if kind == "!":
             _reject("set-cookie", (line,), "a name, = and a value (RFC 6265, section 5.2)")
-        given: Dict[str, str] = {}
-        unknown: List[Tuple[str, Optional[str]]] = []
-        for _, name, value in others:
-            lower = name.lower()
-            if lower in _ATTRIBUTES:
-                given[lower] = value or ""
-            elif name:
-                unknown.append((name, value))
-        path, same_site = given.get("path", ""), given.get("samesite", "").lower()
-        domain = given.get("domain", "").lower()
-        return _made(
-            cls,
-            name=first,
-            value=content,
-            path=path if path.startswith("/") else None,
-            domain=(domain[1:] if domain.startswith(".") else domain) or None,
-            max_age=_number(given.get("max-age")),
-            expires=_date(given.get("expires")),
-            secure="secure" in given,
-            http_only="httponly" in given,
-            same_site=same_site.capitalize() if same_site in ("strict", "lax", "none") else None,
-            others=tuple(unknown),
-        )
+        members: Dict[str, Any] = dict(name=first, value=content, path=None, domain=None, max_age=None, expires=None)
+        members.update(secure=False, http_only=False, same_site=None)
+        others: List[Tuple[str, Optional[str]]] = []
+        for kind, name, value in attributes:
+            if name in _ATTRIBUTES and kind != "r":
+                member, shown = _ATTRIBUTES[name]
+                members[member] = shown(value)
+            elif kind != "r":
+                others.append((name, value))
+        return _made(cls, **members, others=tuple(others))
 
     @property
     def is_allowed(self) -> bool:
         """Whether browsers take the cookie from a secure origin: what the prefixes `__Secure-` and `__Host-` promise
         is so, and `SameSite=None` is `Secure`."""
-        name = self.name.lower()
-        is_bound = self.secure and self.path == "/" and self.domain is None
-        is_prefixed = self.secure if name.startswith("__secure-") else is_bound or not name.startswith("__host-")
-        return is_prefixed and (self.secure or self.same_site != "None")
+        return all(kind != "r" for kind, _, _ in _groups(_SET_COOKIES, "set-cookie", str(self), ())[0])
 
     def __str__(self) -> str:
         shown = [f"{self.name}={self.value}"]
@@ -630,13 +603,21 @@ class SetCookie:
         return "; ".join(shown)
 
 
-_ATTRIBUTES = ("path", "domain", "max-age", "expires", "secure", "httponly", "samesite")
+def _is_there(value: Optional[str]) -> bool:
+    return True
 
 
-def _date(text: Optional[str]) -> Optional[datetime]:
-    if not text:
-        return None
-    try:
-        return date(text)
-    except InvalidField:
-        return None
+def _date(text: str) -> datetime:
+    return datetime.strptime(text, "%Y-%m-%dT%H:%M:%SZ").replace(tzinfo=timezone.utc)
+
+
+#: The member that each attribute of a cookie is, and what shows its value.
+_ATTRIBUTES: Dict[str, Tuple[str, Callable[[Any], Any]]] = {
+    "Path": ("path", str),
+    "Domain": ("domain", str),
+    "Max-Age": ("max_age", int),
+    "Expires": ("expires", _date),
+    "Secure": ("secure", _is_there),
+    "HttpOnly": ("http_only", _is_there),
+    "SameSite": ("same_site", str),
+}

@@ -8,16 +8,17 @@ ghost use Rattle.c_typed.{specs.Cookies.{FindsCookie, ShowsCookies, reads_cookie
 ghost use Rattle.c_typed.{specs.Credentials.{ShowsUserPassword, basic_reads, bearer_reads}, specs.Hosts.ShowsHost};
 ghost use Rattle.c_typed.{specs.Hosts.{ShowsOrigin, is_whole_host, is_whole_origin}, specs.Members.ShowsMembers};
 ghost use Rattle.c_typed.{specs.Members.{ShowsMembership, reads_list}, specs.Policies.{ShowsRetryTime, ShowsSecurity}};
-ghost use Rattle.c_typed.specs.{Directives.{ShowsArguments, ShowsStale}, Parts.ShowsForm};
-ghost use Rattle.c_typed.specs.{Shown.{FieldShows, FieldShowsIf, LinesShow}};
+ghost use Rattle.c_typed.specs.{Directives.{ShowsArguments, ShowsStale}, Parameters.{ShowsExtended, WritesParameter}};
+ghost use Rattle.c_typed.specs.{Parts.ShowsForm, Shown.{FieldShows, FieldShowsIf, LinesShow}};
 
 use crate::giving::give;
 use c_parts::{ContentRangeParts, DONE, copy_into};
 use c_typed::{
     OriginParts, PortNumber, RetryTime, StaleDirectives, TransportSecurity, arguments_text,
     cookies_text, find_cookie, has_member, members_text, parts_text, read_content_range,
-    read_disposition, read_host, read_origin, read_retry_after, read_stale_directives, read_token,
-    read_transport_security, read_user_password,
+    read_disposition, read_extended, read_host, read_origin, read_retry_after,
+    read_stale_directives, read_token, read_transport_security, read_user_password,
+    write_parameter,
 };
 use std::alloc::Global;
 
@@ -266,6 +267,41 @@ pub extern "C" fn typed_headers_field_parts(
 {
     match parts_text(alloc, form, lines) {
         Ok(text) => copy_into(text.as_slice(), DONE, room, written),
+        Err(failure) => failure.status(),
+    }
+}
+
+/// Gives the text that the value of an extended parameter means (RFC 8187, section 3.2.1).
+#[unsafe(no_mangle)]
+pub extern "C" fn typed_headers_extended_text(
+    alloc: Global,
+    value: &[u8],
+    room: &mut [u8],
+    written: &mut usize,
+) -> u8
+    ensures { Writes (λ text. text.items) (λ _. done) (ShowsExtended value.now)
+        room.old room.new written.old written.new result }
+{
+    match read_extended(alloc, value) {
+        Ok(text) => copy_into(text.as_slice(), DONE, room, written),
+        Err(failure) => failure.status(),
+    }
+}
+
+/// Formats the parameter of a name for a text (RFC 9110, section 5.6.6, and RFC 8187, section 3.2).
+#[unsafe(no_mangle)]
+pub extern "C" fn typed_headers_format_parameter(
+    alloc: Global,
+    name: &[u8],
+    text: &[u8],
+    room: &mut [u8],
+    written: &mut usize,
+) -> u8
+    ensures { Writes (λ parameter. parameter.items) (λ _. done) (WritesParameter name.now text.now)
+        room.old room.new written.old written.new result }
+{
+    match write_parameter(alloc, name, text) {
+        Ok(parameter) => copy_into(parameter.as_slice(), DONE, room, written),
         Err(failure) => failure.status(),
     }
 }

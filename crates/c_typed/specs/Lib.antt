@@ -4,6 +4,7 @@ pub mod Credentials
 pub mod Directives
 pub mod Hosts
 pub mod Members
+pub mod Parameters
 pub mod Parts
 pub mod Policies
 pub mod Shown

@@ -7,6 +7,7 @@ mod credentials;
 mod directives;
 mod hosts;
 mod members;
+mod parameters;
 mod parts;
 mod policies;
 
@@ -16,6 +17,7 @@ pub use crate::credentials::{UserPassword, read_token, read_user_password};
 pub use crate::directives::{StaleDirectives, arguments_text, read_stale_directives};
 pub use crate::hosts::{HostText, OriginParts, OriginText, PortNumber, read_host, read_origin};
 pub use crate::members::{has_member, members_text};
+pub use crate::parameters::{read_extended, write_parameter};
 pub use crate::parts::parts_text;
 pub use crate::policies::{
     RetryTime, TransportSecurity, read_retry_after, read_transport_security,

@@ -1,38 +1,37 @@
--- A text that is cut at each semicolon, one at a time.
-use Rattle.std.proofs.Common.{append-nil, ◌≡◌, ◌∙◌, inl, inr, ℕ, ◌<◌, ◌≤◌, ◌==◌, Bool, List, [], ◌∷◌, ◌++◌, length}
-use Rattle.std.proofs.Common.{ap, Some, None, flat_map}
-use Rattle.std.proofs.Common.{arith}
-use Rattle.std.{proofs.lemmas.Bool.{cases_Bool, cases_lt}, specs.List.{position_or_len, slice_split}}
-use Rattle.std.specs.Option.{option_map_or}
-use Rattle.std.proofs.lemmas.List.{Splits.{slice_split_first, slice_split_none}, Sums.fails_before_first}
+-- The last of some attributes, one at a time.
+use Rattle.std.proofs.Common.{◌≡◌, ◌∙◌, ℕ, List, Option, Some, None, ap, option_map, refl, sym}
+use denote.Ref.{Bor}
+use Rattle.std.specs.{Option.option_or}
 use Rattle.rfc_fields.specs.{Cuts.cut, Grammar.semicolon}
-use Rattle.rfc_lists.specs.SetCookies.{attribute_lines, pair_line}
+use Rattle.rfc_lists.specs.Attributes.{last_in, last_of, value_of}
+use Rattle.rfc_lists.specs.declared.attributes.Known.{Known}
+use Rattle.rfc_lists.proofs.SplitLemmas.{is_at, last_piece, next_piece}
 
-abbrev is_end : ℕ → Bool
-is_end b = b == semicolon
+or-or : (a b d : Option (List ℕ)) → option_or (option_or a b) d ≡ option_or a (option_or b d)
+or-or None b d = refl
+or-or (Some x) b d = refl
 
-module _ (text : List ℕ) where
-  abbrev Cuts : Type 0
-  Cuts =
-      slice_split is_end text
-      ≡ option_map_or (λ (sides : List ℕ × List ℕ). sides.0 ∷ slice_split is_end sides.1) (cut semicolon text)
-      (text ∷ [])
+abbrev pub shown : Option (Bor (List ℕ)) → Option (List ℕ)
+shown value = option_map (λ (v : Bor (List ℕ)). v.now) value
 
-  inside : position_or_len is_end text < length text → Cuts
-  inside h = let first = slice_split_first is_end text 0 h in grind (arith, cases_Bool)
+shown-or : (a b : Option (Bor (List ℕ))) → shown (option_or a b) ≡ option_or (shown a) (shown b)
+shown-or None b = refl
+shown-or (Some x) b = refl
 
-  outside : length text ≤ position_or_len is_end text → Cuts
-  outside h =
-      let whole = slice_split_none is_end text (λ k d l. fails_before_first is_end text k d (omega (arith, h, l))) in
-      grind (arith, cases_Bool)
+module _ (known : Known) (text : List ℕ) (all : Option (List ℕ)) (last new r : Option (Bor (List ℕ)))
+    (is : r ≡ option_or new last) (a : all ≡ option_or (last_of known text) (shown last)) where
+  pub next_value : (first others : List ℕ) → cut semicolon text ≡ Some (first, others)
+      → shown new ≡ value_of known first → all ≡ option_or (last_of known others) (shown r)
+  unfolding last_in
+  next_value first others e n =
+      a ∙ ap (λ texts. option_or (last_in known texts) (shown last)) (next_piece (is_at semicolon) text first others e)
+      ∙ or-or (last_of known others) (value_of known first) (shown last)
+      ∙ ap (λ v. option_or (last_of known others) (option_or v (shown last))) (sym n)
+      ∙ ap (option_or (last_of known others)) (sym (shown-or new last))
+      ∙ ap (λ v. option_or (last_of known others) (shown v)) (sym is)
 
-all_cuts : (text : List ℕ) → Cuts text
-all_cuts text =
-    elim (cases_lt (position_or_len is_end text) (length text)) [ inl h ↦ inside text h | inr h ↦ outside text h ]
-
-pub next_attribute : (text first others : List ℕ) → cut semicolon text ≡ Some (first, others)
-    → attribute_lines text ≡ pair_line first ++ attribute_lines others
-next_attribute text first others e = ap (flat_map pair_line) (rw e at (all_cuts text))
-
-pub last_attribute : (text : List ℕ) → cut semicolon text ≡ None → attribute_lines text ≡ pair_line text
-last_attribute text e = ap (flat_map pair_line) (rw e at (all_cuts text)) ∙ append-nil _
+  pub last_value : cut semicolon text ≡ None → shown new ≡ value_of known text → shown r ≡ all
+  unfolding last_in
+  last_value e n =
+      ap shown is ∙ shown-or new last ∙ ap (λ v. option_or v (shown last)) n
+      ∙ sym (a ∙ ap (λ texts. option_or (last_in known texts) (shown last)) (last_piece (is_at semicolon) text e))

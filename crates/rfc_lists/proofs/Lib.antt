@@ -1,2 +1,7 @@
 mod AttributeLemmas
+mod DateLemmas
+mod ExtendedLaws
+mod ExtendedLemmas
 mod LinkLemmas
+mod ParameterLaws
+mod SplitLemmas

@@ -1,5 +1,10 @@
+pub mod Attributes
 pub mod Challenges
+pub mod CookieDates
 pub mod Elements
+pub mod Extended
+pub mod Laws
 pub mod Lines
 pub mod Links
+pub mod Parameters
 pub mod SetCookies

@@ -1,10 +1,13 @@
 -- Cookies to be set (RFC 6265, section 5.2).
-use Rattle.std.specs.Prelude.{ℕ, Bool, false, not, ◌==◌, List, [], ◌∷◌, ◌++◌, length, Option, Some, None}
-use Rattle.std.specs.Prelude.{if◌then◌else◌}
+use Rattle.std.specs.Prelude.{ℕ, Bool, false, not, ◌&&◌, ◌||◌, ◌==◌, List, [], ◌∷◌, ◌++◌, length}
+use Rattle.std.specs.Prelude.{if◌then◌else◌, unwrap_or}
 use Rattle.std.specs.{List.{flat_map, slice_split}, Option.{option_map_or}}
-use Rattle.headers_syntax.specs.{Lines.Line, Text.trim}
+use Rattle.headers_syntax.specs.{AsciiCase.same_name, Lines.Line, Text.trim}
 use Rattle.rfc_fields.specs.{Cuts.cut, Directives.equals, Grammar.semicolon}
+use Rattle.rfc_lists.specs.Attributes.{attribute_in, broken_lines, meaning_lines, name_of}
 use Rattle.rfc_lists.specs.Lines.{line, malformed_line}
+use Rattle.rfc_lists.specs.declared.attributes.Known.TheVariants.{Path, Domain, MaxAge, Expires, Secure, HttpOnly}
+use Rattle.rfc_lists.specs.declared.attributes.Known.TheVariants.{SameSite}
 
 -- a name and a value around the first `=`, or a name alone, without the blanks around them
 abbrev pub pair_line : List ℕ → List ℕ
@@ -17,19 +20,38 @@ abbrev pub has_name : List ℕ → Bool
 has_name pair =
     option_map_or (λ (sides : List ℕ × List ℕ). not (length (trim sides.0) == 0)) (cut equals pair) false
 
-abbrev pub attribute_lines : List ℕ → List ℕ
-attribute_lines rest = flat_map pair_line (slice_split (λ b. b == semicolon) rest)
+-- one of the names that mean something
+abbrev pub is_known : List ℕ → Bool
+is_known name =
+    same_name name (name_of Path) || same_name name (name_of Domain) || same_name name (name_of MaxAge)
+    || same_name name (name_of Expires) || same_name name (name_of Secure) || same_name name (name_of HttpOnly)
+    || same_name name (name_of SameSite)
 
-abbrev pub cookie_lines : List ℕ → Option (List ℕ) → List ℕ
+-- an attribute that has another name
+abbrev pub is_other : List ℕ → Bool
+is_other name = not (length name == 0) && not (is_known name)
+
+abbrev pub other_line : List ℕ → List ℕ
+other_line text = if is_other (attribute_in text).0 then pair_line text else []
+
+-- the attributes that mean nothing, as they are
+abbrev pub other_lines : List ℕ → List ℕ
+other_lines attributes = flat_map other_line (slice_split (λ b. b == semicolon) attributes)
+
+-- the name and the value, what the attributes mean, the others, and the rules that the cookie breaks
+abbrev pub cookie_lines : List ℕ → List ℕ → List ℕ
 cookie_lines pair attributes =
-    if has_name pair then pair_line pair ++ option_map_or attribute_lines attributes [] else malformed_line
+    if has_name pair
+    then pair_line pair ++ meaning_lines attributes ++ other_lines attributes
+    ++ broken_lines (attribute_in pair).0 attributes
+    else malformed_line
 
--- the pair before the first semicolon of a line, and the attributes after it
+-- what is before the first semicolon of a line, and after it
+abbrev pub sides_of : Line → List ℕ × List ℕ
+sides_of text = unwrap_or (cut semicolon text) (text, [])
+
 abbrev pub shown_cookie : Line → List ℕ
-shown_cookie text =
-    option_map_or (λ (sides : List ℕ × List ℕ). cookie_lines sides.0 (Some sides.1)) (cut semicolon text)
-    (cookie_lines text None)
-    ++ 10 ∷ []
+shown_cookie text = cookie_lines (sides_of text).0 (sides_of text).1 ++ 10 ∷ []
 
 abbrev pub set_cookies_text : List Line → List ℕ
 set_cookies_text lines = flat_map shown_cookie lines

@@ -5,19 +5,27 @@
 //! - `v`: a text.
 //! - `n`: a name without a value.
 //! - `p`: a name, `=`, and the octets that its value means.
-//! - `s`: the scheme of a challenge. `k`: what follows a scheme and is no parameter.
+//! - `s`: the scheme of a challenge. `k`: the token68 that may follow it.
+//! - `r`: what browsers reject a cookie by.
 //! - `!`, without a text: what is here is malformed.
 //!
 //! An empty line ends each element. No text has a byte 10, since no field value has.
 #![tactic(auto)]
 
+mod attributes;
 mod challenges;
+mod cookie_dates;
 mod elements;
+mod extended;
+pub mod laws;
 mod lines;
 mod links;
+mod parameters;
 mod set_cookies;
 
 pub use crate::challenges::challenges_text;
 pub use crate::elements::{elements_text, values_text};
+pub use crate::extended::extended_text;
 pub use crate::links::links_text;
+pub use crate::parameters::parameter_text;
 pub use crate::set_cookies::set_cookies_text;

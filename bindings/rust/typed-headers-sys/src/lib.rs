@@ -931,6 +931,22 @@ extern "C" {
         room_length: usize,
         written: *mut usize,
     ) -> u8;
+    pub fn typed_headers_extended_text(
+        value: *const u8,
+        value_length: usize,
+        room: *mut u8,
+        room_length: usize,
+        written: *mut usize,
+    ) -> u8;
+    pub fn typed_headers_format_parameter(
+        name: *const u8,
+        name_length: usize,
+        text: *const u8,
+        text_length: usize,
+        room: *mut u8,
+        room_length: usize,
+        written: *mut usize,
+    ) -> u8;
     pub fn typed_headers_section_free(fields: *mut Section) -> u8;
     pub fn typed_headers_cors_policy_free(policy: *mut CorsPolicy) -> u8;
     pub fn typed_headers_resource_handle_free(handle: *mut ResourceHandle) -> u8;

@@ -1,0 +1,40 @@
+-- Theorems about the definitions alone.
+use Rattle.std.specs.Prelude.{◌≡◌, ℕ, Bool, true, List, map, nat_lt, Some, option_map}
+use Rattle.std.specs.{List.{flat_map, list_all}, Str.is_utf8}
+use Rattle.percent_encoding.specs.Percent.{percent_decode}
+use Rattle.rfc_fields.specs.{Directives.{DirectiveParts, IsDirective}, Values.{is_token, octets_of}}
+use Rattle.rfc_lists.specs.Extended.{ValueChar, are_value_chars, char_octet, char_text, extended_text, extended_value}
+use Rattle.rfc_lists.specs.{Extended.is_value_char, Parameters.{is_plain, parameter_text}}
+
+-- value-chars are found to be such, and mean the octet of each
+abbrev pub ValueCharsParse : Type 0
+ValueCharsParse = (chars : List ValueChar) → list_all is_value_char chars ≡ true
+    → (are_value_chars 0 (flat_map char_text chars) ≡ true)
+    × (percent_decode (flat_map char_text chars) ≡ map char_octet chars)
+
+-- a text is these value-chars
+pub record AreChars (text : List ℕ) (chars : List ValueChar) : Type 0 where
+  pub valid : list_all is_value_char chars ≡ true
+  pub written : text ≡ flat_map char_text chars
+
+-- no other text is
+abbrev pub ValueCharsAreSuch : Type 0
+ValueCharsAreSuch = (text : List ℕ) → are_value_chars 0 text ≡ true → (chars : List ValueChar) × AreChars text chars
+
+abbrev pub is_byte : ℕ → Bool
+is_byte b = nat_lt b 256
+
+-- a text in UTF-8 that is written as an ext-value decodes to the same text
+abbrev pub ExtendedReadsBack : Type 0
+ExtendedReadsBack = (text : List ℕ) → list_all is_byte text ≡ true → is_utf8 text ≡ true
+    → extended_text (extended_value text) ≡ Some text
+
+-- the directive has this name, and its argument means this text
+pub record Means (name text : List ℕ) (d : DirectiveParts) : Type 0 where
+  pub named : d.name ≡ name
+  pub meant : option_map octets_of d.argument ≡ Some text
+
+-- a plain text that is written as a parameter decodes to the same text
+abbrev pub ParametersReadBack : Type 0
+ParametersReadBack = (name text : List ℕ) → is_token name ≡ true → list_all is_plain text ≡ true
+    → (d : DirectiveParts) × IsDirective (parameter_text name text) d × Means name text d
