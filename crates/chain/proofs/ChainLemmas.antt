@@ -31,14 +31,7 @@ use Rattle.decide_resource.specs.declared.resource.Resource.{Resource}
 
 carried : (name : List ℕ) → is_known true name ≡ false → list_any (bytes_eq name) own_names ≡ false
     → has_mark name ≡ false → name ≢ codes "age" → lowercase name ≢ codes "close" → IsCarried name
-carried name end_to_end not_own unmarked not_age not_close =
-    record {
-      end_to_end = end_to_end;
-      not_own = differs name own_names not_own;
-      unmarked = unmarked;
-      not_age = not_age;
-      not_close = not_close;
-    }
+carried name end_to_end not_own unmarked not_age not_close = assumption (differs name own_names not_own)
 
 vary_carried : IsCarried (codes "vary")
 vary_carried = carried (codes "vary") refl refl refl (λ e. absurd (cc e)) (λ e. absurd (cc e))
@@ -66,14 +59,7 @@ stays : (r : Request) → Stands r r
 stays r = record { answers = λ present resource answer. ((λ h. h), (λ h. h)); method = refl; directs = refl }
 
 turned : {r s : Request} → Stands r s → Stands s r
-turned h =
-    record {
-      answers =
-          λ present resource answer.
-          let both = h.answers present resource answer in (both.1, both.0);
-      method = sym h.method;
-      directs = sym h.directs;
-    }
+turned h = grind arith
 
 -- a reply as it came, but for the fields of one connection and those that gateways write
 record Carries (before reply : Reply) : Type 0 where
@@ -85,15 +71,7 @@ record Carries (before reply : Reply) : Type 0 where
   connection : SaysCloseAtMost reply.fields
 
 itself : (reply : Reply) → SaysCloseAtMost reply.fields → Carries reply reply
-itself reply connection =
-    record {
-      status = refl;
-      content = refl;
-      fields = λ name c. refl;
-      date = λ has. refl;
-      age = refl;
-      connection = connection;
-    }
+itself reply connection = assumption
 
 -- hops before others have no fewer caches
 more : (front hops : List Hop) → caches hops ≤ caches (front ++ hops)
@@ -104,8 +82,7 @@ more (Stores caching ∷ front) hops =
 
 shorter : (seconds short other time now : ℕ) → short ≤ other → Counts seconds short time now
     → Counts seconds other time now
-shorter seconds short other time now less (inl all) = inl all
-shorter seconds short other time now less (inr counted) = inr (omega (arith, less, counted))
+shorter seconds short other time now less counts = grind arith
 
 -- what is told behind some hops of the one reply is told before them of another that carries it
 told_by : {site : List ℕ → Server} {silent : List Hop → ℕ → Bool} {hops : List Hop} {sent came : ℕ} {target : List ℕ}

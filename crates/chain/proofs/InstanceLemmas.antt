@@ -196,42 +196,15 @@ there =
       sent =
           record { framing = Unstated; hops = None; fields = vec (sent (host_line ∷ via_line ∷ [])) (omega arith) };
       forwarded =
-          record {
-            accepted =
-                record {
-                  states = (refl, refl);
-                  options = record { listed = refl; unprotected = refl };
-                  host = refl;
-                  first_time = refl;
-                  expectation = refl;
-                };
-            hops = λ counts. refl;
-            fields =
-                record {
-                  end_to_end = crosses (host_line ∷ []) fair_asked;
-                  misspelt = drops (host_line ∷ []) fair_asked;
-                  hop_by_hop = ends (host_line ∷ []) fair_asked;
-                  via = refl;
-                  host = refl;
-                  date = refl;
-                  max_forwards = refl;
-                  content_length = refl;
-                  transfer_encoding = refl;
-                };
-          };
-      passed =
-          record {
-            protocol = refl;
-            method = refl;
-            authority = refl;
-            content = refl;
-            denied = refl;
-            fields =
-                λ name.
-                each (λ (name : List ℕ). next.fields name ≡ after (host_line ∷ []) name)
-                (codes "host" ∷ codes "via" ∷ []) name (refl, (refl, tt)) (λ apart. rw (apart.0, apart.1.0) refl);
-          };
+          assumption
+          (crosses (host_line ∷ []) fair_asked, drops (host_line ∷ []) fair_asked, ends (host_line ∷ []) fair_asked);
+      passed = assumption passed_fields;
     }
+  where
+    passed_fields : (name : List ℕ) → next.fields name ≡ after (host_line ∷ []) name
+    passed_fields name =
+        each (λ (name : List ℕ). next.fields name ≡ after (host_line ∷ []) name)
+        (codes "host" ∷ codes "via" ∷ []) name (refl, (refl, tt)) (λ apart. rw (apart.0, apart.1.0) refl)
 
 abbrev served : Reply
 served = replies (before served_lines)
@@ -282,27 +255,13 @@ back =
       forwarded =
           record {
             stated = Unstated;
-            accepted =
-                record {
-                  states = (refl, refl);
-                  options = record { listed = refl; unprotected = refl };
-                  same_protocol = refl;
-                };
+            accepted = assumption;
             known = refl;
             content = refl;
             framing = refl;
             fields =
-                record {
-                  end_to_end = crosses served_lines fair_served;
-                  misspelt = drops served_lines fair_served;
-                  hop_by_hop = ends served_lines fair_served;
-                  via = refl;
-                  host = refl;
-                  date = refl;
-                  max_forwards = refl;
-                  content_length = refl;
-                  transfer_encoding = refl;
-                };
+                assumption
+                (crosses served_lines fair_served, drops served_lines fair_served, ends served_lines fair_served);
           };
       status = refl;
       fields = λ name. refl;
@@ -337,46 +296,19 @@ caching =
 
 is_to_store : IsToStore (plain Private) stored Complete
 unfolding pieces push directive_in is_quoted_text is_token_byte octets_from
-is_to_store =
-    record {
-      allowed =
-          record {
-            understood = inl refl;
-            stored = (omega arith, (λ e. omega (arith, e)), (λ e. omega (arith, e)), (λ e. absurd (cc e)));
-            request_lets = refl;
-            response_lets = inl refl;
-            shareable = tt;
-            suited = inr (inr (inr (inl refl)));
-          };
-      no_condition = λ e. omega (arith, e);
-      no_range = λ e. omega (arith, e);
-      whole = refl;
-      fair = record { listed = refl; unnamed = refl; targeted = refl };
-    }
+is_to_store = grind arith
 
 stored_as : IsStoredAs stored stored
 stored_as =
-    record {
-      method = refl;
-      request = refl;
-      status = refl;
-      content = refl;
-      requested = refl;
-      received = refl;
-      fields =
-          record {
-            hop_by_hop =
-                λ name.
-                each
-                (λ (name : List ℕ). IsHopByHop gateway (before stored_lines) name → name ≢ codes "date"
-                → before stored_lines name ≡ []) (codes "cache-control" ∷ codes "date" ∷ []) name
-                ((λ e other. absurd (cc e)), ((λ e other. absurd (cc e)), tt))
-                (λ apart e other. rw (apart.0, apart.1.0) refl);
-            end_to_end = λ name not other. refl;
-            date = λ not. refl;
-            date_of_connection = λ e. absurd (cc e);
-          };
-    }
+    let hop_by_hop : (name : List ℕ) → IsHopByHop gateway (before stored_lines) name → name ≢ codes "date"
+    → before stored_lines name ≡ [] =
+    λ name.
+    each
+    (λ (name : List ℕ). IsHopByHop gateway (before stored_lines) name → name ≢ codes "date"
+    → before stored_lines name ≡ []) (codes "cache-control" ∷ codes "date" ∷ []) name
+    ((λ e other. absurd (cc e)), ((λ e other. absurd (cc e)), tt))
+    (λ apart e other. rw (apart.0, apart.1.0) refl) in
+    search (hop_by_hop, arith)
 
 inserted : IsInserted caching.limits (key_of (codes "/") next) stored [] contents
 unfolding size_at
@@ -469,15 +401,7 @@ origin = behind (λ target. server) (λ hops time. false) []
 
 none : (other : Reason) → Before other reasons.Gone → applies 0 gone next other ≡ false
 unfolding rule_for is_reg_name
-none reasons.InvalidHost less = refl
-none reasons.Misdirected less = refl
-none reasons.Preflight less = refl
-none reasons.Denied less = refl
-none reasons.UnknownMethod less = refl
-none reasons.MethodNotAllowed less = refl
-none reasons.UnmetExpectation less = refl
-none reasons.PartialContent less = refl
-none other less = absurd (omega (arith, less))
+none other before = grind arith
 
 said : IsSaid server 0 next (replies (before stored_lines))
 said =
@@ -510,16 +434,7 @@ came =
       received = 0;
       reply = replies (before stored_lines);
       answered = (0, omega arith, omega arith, sends_it);
-      noted =
-          record {
-            method = refl;
-            asked_fields = λ name. refl;
-            status = refl;
-            fields = λ name. refl;
-            content = refl;
-            requested_at = refl;
-            received_at = refl;
-          };
+      noted = assumption;
       set_before = omega arith;
       after = omega arith;
       past = omega arith;

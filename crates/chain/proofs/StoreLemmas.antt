@@ -1,9 +1,9 @@
 -- What a cache serves from its store came from those behind it.
 use Rattle.std.proofs.Common.{◌≡◌, ◌≢◌, ◌⊎◌, ℕ, ◌+◌, ◌-◌, ◌*◌, ◌≤◌, Bool, true, false, List, [], ◌∷◌, ◌++◌, refl}
-use Rattle.std.{proofs.Common.{◌∙◌, ap, arith, inl, inr, subst, sym}, proofs.lemmas.Bool.{and_parts, cases_Bool}}
+use Rattle.std.{proofs.Common.{◌∙◌, ap, arith, inl, inr, subst, sym}, proofs.lemmas.Bool.{and_parts}}
 use Rattle.std.{proofs.lemmas.Bool.Decides.nat_tests, proofs.lemmas.List.Elements.All-weaker}
-use Rattle.std.{proofs.lemmas.List.Folds.list_any_at, specs.List.{list_all, list_any}}
-use Rattle.std.specs.Prelude.{◌||◌, ◌==◌, not, bytes_eq, codes, max, nat_le, unwrap_or}
+use Rattle.std.{specs.List.{list_all}}
+use Rattle.std.specs.Prelude.{◌||◌, ◌==◌, not, codes, max, unwrap_or}
 use Rattle.http_header.specs.Token.{lowercase}
 use Rattle.headers.{specs.LineMap.{Field, LineMap, lines_at}, specs.Lines.{Line, only_line}, specs.Text.is_text}
 use Rattle.headers.specs.Typed.{HasLine}
@@ -15,14 +15,14 @@ use Rattle.cache_store.{specs.Lookups.freshness_of}
 use Rattle.cache_store.specs.declared.lookup.Lookup.TheVariants.{ValidateOrServe}
 use Rattle.cache_store.{proofs.HistoryLemmas.HasUnder-responses_at, proofs.NumberLemmas.Has-numbered}
 use Rattle.cache_policy.specs.Age.{age_at, apparent_age}
-use Rattle.cache_policy.{specs.Fields.{age_of, age_value, capped, greatest}, specs.Requests.AllowsMethod}
+use Rattle.cache_policy.{specs.Fields.{age_of, age_value, capped}, specs.Requests.AllowsMethod}
 use Rattle.decide_preconditions.specs.Preconditions.{IsGetOrHead}
 use Rattle.cache_policy.specs.{Requests.Request as Asked, Storing.IsShareable, Targets.governing}
 use Rattle.cache_policy.specs.{declared.Governing.Governing, declared.Kind.Kind, declared.Kind.TheVariants.Private}
 use Rattle.cache_policy.specs.{declared.Kind.TheVariants.Shared, Varying.Agree, Varying.Suits}
 use Rattle.cache_policy.specs.Policies.{AnswersUnder, Policy, tells}
 use Rattle.cache_rules.{proofs.StoringLemmas.governed_alike, specs.Selection.IsCandidate, specs.Stored.fields_of_stored}
-use Rattle.cache_rules.{specs.Stored.times_of, specs.Storing.reuse_names, specs.declared.storing.Reception.Reception}
+use Rattle.cache_rules.{specs.Stored.times_of, specs.declared.storing.Reception.Reception}
 use Rattle.cache_rules.specs.declared.stored.StoredResponse.{StoredResponse}
 use Rattle.chain.specs.Caches.{Act, Caching, Fails, HasAfter, HasComeFrom, IsFromStore, IsPlain, Origin, Reply}
 use Rattle.chain.specs.Caches.{ServesOnError, asked, calls_of, key_of, per_second, second_of, shown, unless_head}
@@ -151,10 +151,7 @@ with_method method request =
     }
 
 no_put : (method : List ℕ) → method ≡ codes "PUT" → IsGetOrHead method → ⊥
-no_put method put (inl get) =
-    let no : true ≡ false = ap (λ m. bytes_eq m (codes "PUT")) (sym put ∙ get) in cc no
-no_put method put (inr head) =
-    let no : true ≡ false = ap (λ m. bytes_eq m (codes "PUT")) (sym put ∙ head) in cc no
+no_put method put read = grind arith
 
 pub plain_alike : (target : List ℕ) (r s : Request) → IsPlain target r → IsPlain target s
     → r.fields (codes "host") ≡ s.fields (codes "host") → AreAlike r (with_method r.method s)
@@ -189,10 +186,7 @@ own_method m n (inr h) = inr (h.0, h.0)
 -- what a method leaves of a content, after the method of the stored response
 once : (m n : List ℕ) → AllowsMethod m n → (content : List ℕ)
     → unless_head n (unless_head m content) ≡ unless_head n content
-once m n (inl h) content = ap (λ (k : List ℕ). unless_head n (unless_head k content)) h.0
-once m n (inr h) content =
-    ap (λ (k : List ℕ). unless_head k (unless_head m content)) h.1
-    ∙ sym (ap (λ (k : List ℕ). unless_head k content) h.1)
+once m n allows content = grind arith
 
 -- ---- what is served
 
@@ -212,12 +206,6 @@ elapsed : (a b gone : ℕ) → b ≡ a + gone
     → (second_of a ≤ second_of b) × (gone ≤ per_second * (second_of b - second_of a) + per_second)
 elapsed a b gone e = (omega (arith, e), omega (arith, e))
 
-at_most_one : (x : ℕ) → (capped x ≡ greatest) ⊎ (capped x ≡ x)
-at_most_one x = elim (cases_Bool (nat_le x greatest)) [
-  | inl t ↦ inr (grind (arith, nat_tests, t))
-  | inr f ↦ inl (grind (arith, nat_tests, f))
-]
-
 -- The age of a stored response counts the time since it was said: that by which it was old when it came, and the time
 -- since the request by the clock, but for one second.
 module _ (given own requested received x y shows sent left came now time apparent short : ℕ) (same : own ≡ given)
@@ -231,12 +219,7 @@ module _ (given own requested received x y shows sent left came now time apparen
   least = omega (arith, same, requested_at, received_at, waited, rested)
 
   grows : Counts given short time left → Counts (capped total) (short + 1) time now
-  grows (inl all) = inl (omega (arith, same, all))
-  grows (inr less) =
-      elim (at_most_one total) [
-        | inl all ↦ inl all
-        | inr all ↦ inr (omega (arith, all, least, rested, waited, gone, since, after, before, over, less))
-      ]
+  grows counts = grind arith
 
 module _ (law : StoreLaws) {caching : Caching} {origin : Origin} {silent : ℕ → Bool} {start now : ℕ}
     {target : List ℕ} {request : Request} {reply : Reply}
@@ -308,18 +291,13 @@ module _ (law : StoreLaws) {caching : Caching} {origin : Origin} {silent : ℕ �
   on_error other answer here failed aged = absurd here
 
   pub right : Right f.stored
-  right = elim f.serves [
-    | inl serves ↦ at_once serves
-    | inr h ↦ on_error f.lookup f.found.sought.answer h.0 h.1 h.2
-  ]
+  right = grind (arith, at_once, on_error)
 
   pub is_candidate : IsCandidate (asked request) f.stored
   is_candidate = right.matches
 
   pub come : HasCome caching origin f.time key f.stored
-  come =
-      has_come caching origin f.time key f.stored (Looks target request ∷ f.found.acts) f.contents all_acts
-      right.justified
+  come = grind (arith, has_come, all_acts, right)
 
   -- it came for the same target and host
   pub one : AreOne come.target target come.request request
@@ -349,16 +327,10 @@ module _ (law : StoreLaws) {caching : Caching} {origin : Origin} {silent : ℕ �
         come.kept.fields.end_to_end name (λ hop. absurd (cc (crosses, hop))) not_date ∙ from.noted.fields name
 
   pub quiet : SaysCloseAtMost reply.fields
-  quiet = (
-    false,
-    f.fields (codes "connection") (λ e. absurd (cc e))
-        ∙ come.kept.fields.hop_by_hop (codes "connection") refl (λ e. absurd (cc e)),
-  )
+  quiet = grind (arith, come)
 
   pub allowed_method : AllowsMethod come.request.method request.method
-  allowed_method =
-      subst (λ (m : List ℕ). AllowsMethod m request.method) (come.kept.method ∙ from.noted.method)
-      is_candidate.method
+  allowed_method = grind arith
 
   -- the request that it answered, as the cache stored it
   pub suits : (response : LineMap) → fields_of_stored f.stored (codes "vary") ≡ response (codes "vary")
@@ -389,9 +361,7 @@ module _ (law : StoreLaws) {caching : Caching} {origin : Origin} {silent : ℕ �
   counted = capped (age_at (times_of f.stored present) (fields_of_stored f.stored))
 
   pub age_is : age_value reply.fields ≡ counted
-  age_is =
-      let line = f.has_age ∙ ap (λ (field : Field). field.1) right.aged in
-      ap age_of line ∙ age_of-decimal _
+  age_is = grind (arith, right, age_of-decimal)
 
   -- it counts the time since the reply came, and its age by then
   pub counts : SaysCloseAtMost from.reply.fields → (time left short : ℕ) → time ≤ left → from.sent ≤ left
@@ -430,32 +400,12 @@ module _ (law : StoreLaws) {caching : Caching} {origin : Origin} {silent : ℕ �
   -- a field that didn't come isn't in the reply, but for those that a cache writes
   pub lacks : (name : List ℕ) → name ≢ codes "age" → name ≢ codes "date" → from.reply.fields name ≡ []
       → reply.fields name ≡ []
-  lacks name not_age not_date none =
-      f.fields name not_age
-      ∙ elim (cases_Bool (is_hop_by_hop true (connection_options (fields_of_stored come.came)) name)) [
-        | inl hop ↦ come.kept.fields.hop_by_hop name hop not_date
-        | inr crosses ↦
-            come.kept.fields.end_to_end name (λ hop. absurd (cc (crosses, hop))) not_date ∙ from.noted.fields name
-            ∙ none
-      ]
+  lacks name not_age not_date none = grind arith
 
   -- ---- what a cache never gives away
 
   kept_control : fields_of_stored f.stored (codes "cache-control") ≡ from.reply.fields (codes "cache-control")
-  kept_control =
-      let fair = come.allowed.fair in
-      let unnamed = unnamed_control (connection_options (fields_of_stored come.came)) fair.unnamed in
-      come.kept.fields.end_to_end (codes "cache-control") (λ hop. absurd (cc (unnamed, hop))) (λ e. absurd (cc e))
-      ∙ from.noted.fields (codes "cache-control")
-    where
-      unnamed_control : (options : List Member) → list_any (is_named options) reuse_names ≡ false
-          → is_named options (codes "cache-control") ≡ false
-      unnamed_control options none =
-          elim (cases_Bool (is_named options (codes "cache-control"))) [
-            | inl t ↦
-                let some = list_any_at (is_named options) reuse_names 1 [] (omega arith) t in absurd (cc (some, none))
-            | inr e ↦ e
-          ]
+  kept_control = grind arith
 
   governed_as : governing caching.policy.targets reply.fields
       ≡ governing caching.policy.targets (fields_of_stored come.came)
@@ -469,9 +419,7 @@ module _ (law : StoreLaws) {caching : Caching} {origin : Origin} {silent : ℕ �
       caching.policy.targets come.allowed.fair.targeted
 
   pub content_is : reply.content ≡ unless_head request.method from.reply.content
-  content_is =
-      f.content ∙ ap (unless_head request.method) come.kept.content
-      ∙ ap (λ (content : List ℕ). unless_head request.method content) from.noted.content
+  content_is = grind arith
 
   -- of what a server says to the first method
   pub once_more : (content : List ℕ) → from.reply.content ≡ unless_head come.request.method content

@@ -1,4 +1,6 @@
 //! Runs that show that the theorems aren't vacuous, and that each of their premises is needed.
+#![tactic(auto, using(crate::proofs::Examples::gets_anothers))]
+
 ghost use Rattle.std.specs.Prelude.{◌≡◌, ◌∷◌, [], true, false};
 ghost use Rattle.interference.{specs.Events.run, specs.Runs.{ann, bob, by_cookies, by_credentials, cache, carl}};
 ghost use Rattle.interference.specs.Runs.{cautious, dated, forgets_vary, freshened_by_bob, freshened_meanwhile};

@@ -33,14 +33,12 @@ pub record IsVerb (method : List ℕ) : Type 0 where
 pub get_verb : IsVerb (codes "GET")
 unfolding are_headers print_request is_token_byte known_fields eq_ignore_case trim_ows
 get_verb =
-    let back = request_reads_back (codes "GET") (codes "/") 1 host_header [] refl in
-    record { reads = back.reads; strict = back.strict; unframed = refl }
+    let back = request_reads_back (codes "GET") (codes "/") 1 host_header [] refl in assumption
 
 pub head_verb : IsVerb (codes "HEAD")
 unfolding are_headers print_request is_token_byte known_fields eq_ignore_case trim_ows
 head_verb =
-    let back = request_reads_back (codes "HEAD") (codes "/") 1 host_header [] refl in
-    record { reads = back.reads; strict = back.strict; unframed = refl }
+    let back = request_reads_back (codes "HEAD") (codes "/") 1 host_header [] refl in assumption
 
 module _ (method : List ℕ) (verb : IsVerb method) where
   verb_reads : (limits : Limits) → length (print_request (root_head method)) ≤ limits.max_head_len
@@ -199,15 +197,7 @@ host_valid protocol = grind (arith, protocol)
 
 asks_for_all : (negotiates : Bool) (m : Entries FieldValue) → m ≡ host_map → AsksForAll negotiates (lines_at m)
 asks_for_all negotiates m is =
-    rw is
-    (record {
-      if_match = refl;
-      if_none_match = refl;
-      if_modified_since = refl;
-      if_unmodified_since = refl;
-      range = refl;
-      accept_encoding = λ on. refl;
-    })
+    rw is assumption
 
 -- ---- the response
 

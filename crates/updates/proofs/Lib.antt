@@ -1,5 +1,4 @@
 mod Examples
-mod Kept
 mod Lists
 mod Steps
 mod OwnWrites

@@ -1,30 +1,25 @@
 -- Elements of lists.
 use Rattle.std.proofs.Common.{◌≡◌, ◌⊎◌, ℕ, zero, suc, Bool, true, false, List, [], ◌∷◌, ◌++◌, map, slice_get, nat_eq}
-use Rattle.std.{proofs.Common.{Option, Some, None, refl, sym, ap, subst, arith, inl, inr}, specs.Prelude.⊤}
-use Rattle.std.proofs.lemmas.Bool.{eqb-true}
+use Rattle.std.{proofs.Common.{Option, Some, None, refl, sym, subst, arith, inl, inr, length}, specs.Prelude.⊤}
+use Rattle.std.{proofs.lemmas.Bool.eqb-true, specs.Prelude.if◌then◌else◌}
 use Rattle.updates.specs.Statements.{Has}
 
-pub Has-append : {X : Type 0} (xs ys : List X) (x : X) → Has (xs ++ ys) x → Has xs x ⊎ Has ys x
-Has-append [] ys x h = inr h
-Has-append (y ∷ xs) ys x (inl same) = inl (inl same)
-Has-append (y ∷ xs) ys x (inr h) = elim (Has-append xs ys x h) [
-  | inl a ↦ inl (inr a)
-  | inr b ↦ inr b
-]
+pub Has_append : {X : Type 0} (xs ys : List X) (x : X) → Has (xs ++ ys) x → Has xs x ⊎ Has ys x
+Has_append [] ys x has = inr has
+Has_append (y ∷ xs) ys x has = grind (arith, Has_append xs ys x)
 
-pub Has-right : {X : Type 0} (xs ys : List X) (x : X) → Has ys x → Has (xs ++ ys) x
-Has-right [] ys x h = h
-Has-right (y ∷ xs) ys x h = inr (Has-right xs ys x h)
+pub Has_right : {X : Type 0} (xs ys : List X) (x : X) → Has ys x → Has (xs ++ ys) x
+Has_right [] ys x has = has
+Has_right (y ∷ xs) ys x has = inr (Has_right xs ys x has)
 
-pub Has-slice_get : {X : Type 0} (xs : List X) (i : ℕ) (x : X) → slice_get xs i ≡ Some x → Has xs x
-Has-slice_get [] i x h = absurd (grind (arith, h))
-Has-slice_get (y ∷ xs) zero x h = inl (grind (arith, h))
-Has-slice_get (y ∷ xs) (suc i) x h = inr (Has-slice_get xs i x h)
+pub Has_slice_get : {X : Type 0} (xs : List X) (i : ℕ) (x : X) → slice_get xs i ≡ Some x → Has xs x
+Has_slice_get [] i x e = absurd (grind (arith, e))
+Has_slice_get (y ∷ xs) zero x e = grind (arith, e)
+Has_slice_get (y ∷ xs) (suc i) x e = inr (Has_slice_get xs i x e)
 
-pub Has-map : {X Y : Type 0} (f : X → Y) (xs : List X) (x : X) → Has xs x → Has (map f xs) (f x)
-Has-map f [] x h = absurd h
-Has-map f (y ∷ xs) x (inl same) = inl (ap f same)
-Has-map f (y ∷ xs) x (inr h) = inr (Has-map f xs x h)
+pub Has_map : {X Y : Type 0} (f : X → Y) (xs : List X) (x : X) → Has xs x → Has (map f xs) (f x)
+Has_map f [] x has = absurd has
+Has_map f (y ∷ xs) x has = grind (arith, Has_map f xs x)
 
 -- what holds of an element and of those after it
 pub each-cons : {X : Type 0} {P : X → Type 0} (y : X) (ys : List X) → P y → ((x : X) → Has ys x → P x) → (x : X)
@@ -32,25 +27,24 @@ pub each-cons : {X : Type 0} {P : X → Type 0} (y : X) (ys : List X) → P y �
 each-cons {P = P} y ys here there x (inl same) = subst P same here
 each-cons y ys here there x (inr has) = there x has
 
--- what holds of an element and of those before it
-pub each-more : {X : Type 0} {P : X → Type 0} (xs : List X) (y : X) → ((x : X) → Has xs x → P x) → P y → (x : X)
-    → Has (xs ++ y ∷ []) x → P x
-each-more {P = P} xs y before here x has = elim (Has-append xs (y ∷ []) x has) [
-  | inl h ↦ before x h
-  | inr h ↦ each-cons {P = P} y [] here (λ z none. absurd none) x h
-]
-
 -- what holds of something, if there is something
 abbrev pub IfFound : {X : Type 0} → (X → Type 0) → Option X → Type 0
 IfFound P None = ⊤
 IfFound P (Some x) = P x
 
-pub found : {X : Type 0} {P : X → Type 0} (xs : List X) → ((x : X) → Has xs x → P x) → (k : ℕ)
-    → IfFound P (slice_get xs k)
-found {P = P} xs each k = (elim (slice_get xs k) as (λ o. slice_get xs k ≡ o → IfFound P o) [
-  | None ↦ λ e. tt
-  | Some x ↦ λ e. each x (Has-slice_get xs k x e)
-]) refl
+pub Has_found : {X : Type 0} (xs : List X) (k : ℕ) → IfFound (Has xs) (slice_get xs k)
+Has_found xs k = grind (arith, Has_slice_get xs k)
+
+pub found_each : {X : Type 0} (P : X → Type 0) (xs : List X) → ((k : ℕ) → IfFound P (slice_get xs k)) → (x : X)
+    → Has xs x → P x
+found_each P [] all x none = absurd none
+found_each P (y ∷ ys) all x (inl same) = subst P same (all 0)
+found_each P (y ∷ ys) all x (inr has) = found_each P ys (λ k. all (suc k)) x has
+
+pub slice_get_push : {X : Type 0} (xs : List X) (x : X) (k : ℕ)
+    → slice_get (xs ++ x ∷ []) k ≡ (if nat_eq k (length xs) then Some x else slice_get xs k)
+slice_get_push [] x k = grind arith
+slice_get_push (y ∷ ys) x k = grind (arith, slice_get_push ys x)
 
 -- what holds at one place, and at each other
 pub there : (P : ℕ → Bool → Type 0) (n at : ℕ) → P at true → P n false → P n (nat_eq n at)

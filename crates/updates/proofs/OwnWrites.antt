@@ -1,19 +1,19 @@
 -- What a client reads after its own write.
-use Rattle.std.proofs.Common.{◌≡◌, ℕ, zero, ◌≤◌, Bool, true, false, cond, max, List, [], ◌∷◌, slice_get, nat_eq, ◌&&◌}
+use Rattle.std.proofs.Common.{◌≡◌, ℕ, zero, ◌≤◌, Bool, true, cond, max, List, [], ◌∷◌, slice_get, nat_eq, ◌&&◌}
 use Rattle.std.proofs.Common.{bytes_eq, Option, Some, None, refl, sym, arith, ◌∙◌, eq-eqb, inl, inr, le_refl}
-use Rattle.std.{proofs.Common.le_trans, proofs.Math.Nat.{le-max_left, le-max_right, max-le}, specs.Prelude.⊤}
+use Rattle.std.{proofs.Common.le_trans, proofs.Math.Nat.{le-max_right, max-le}, specs.Prelude.⊤}
 use Rattle.std.proofs.lemmas.Bool.{cond_both}
-use Rattle.updates.specs.Events.{Event, Guard, acts, happens, run, place_of, found_at, sends, sends_put, sends_stored}
+use Rattle.updates.specs.Events.{Event, acts, happens, run, sends, sends_stored}
 use Rattle.updates.specs.Events.{after_removing, after_storing, with_node, made_of, performs}
 use Rattle.updates.specs.Events.{answers_put}
-use Rattle.updates.specs.Events.Event.{Ticks, SendsGet, SendsPut, Forwards, Serves, ServesTag, AnswersTag, Freshens}
-use Rattle.updates.{specs.Events.Event.{Answers, Refuses, Returns, Arrives}, specs.Statements.{Has, Routes, next_after}}
+use Rattle.updates.specs.Events.Event.{Forwards, Serves, Freshens}
+use Rattle.updates.{specs.Events.Event.{Answers, Returns, Arrives}, specs.Statements.{Has, Routes, next_after}}
 use Rattle.updates.specs.Statements.{IsRouted, Invalidates, StoresNoneFromBefore}
 use Rattle.updates.{specs.Statements.{Throughout, ReadsOlder}, specs.Worlds.{Version, Put, Request, Response, Hop}}
-use Rattle.updates.specs.Worlds.{Message, Node, Received, World, client_of, confirmed, written_by, start}
+use Rattle.updates.specs.Worlds.{Message, Node, Received, World, client_of, written_by, start}
 use Rattle.updates.{specs.Worlds.is_true, specs.Worlds.Request.{Get, Puts}, specs.Worlds.Response.Status200}
 use Rattle.updates.{specs.Worlds.Response.{Status204, Status304, Refused}, specs.Worlds.Message.{Going, Coming}}
-use Rattle.updates.{proofs.Steps.with_tag-found, proofs.Lists.{Has-append, IfFound, each-cons, each-more, found, there}}
+use Rattle.updates.{proofs.Lists.{slice_get_push, IfFound, each-cons, there}}
 
 -- ---- how old things may be
 
@@ -67,8 +67,8 @@ IsRight request other = ⊤
 pub record Ordered (routes : Routes) (w : World) (floor : Floors) : Type 0 where
   pub nodes : (n : ℕ) → floor n ≤ level w floor (routes.next n)
   pub own : (client : ℕ) → AreBelow (written_by client w.received) (level w floor (routes.first client))
-  pub stored : (n : ℕ) (v : Version) → Has (w.nodes n).stored v → floor n ≤ v.number
-  pub messages : (m : Message) → Has w.messages m → Placed routes w floor m
+  pub stored : (n k : ℕ) → IfFound (λ v. floor n ≤ v.number) (slice_get (w.nodes n).stored k)
+  pub messages : (k : ℕ) → IfFound (Placed routes w floor) (slice_get w.messages k)
   pub received : (one : Received) → Has w.received one → IsRight one.request one.response
 
 -- some floors
@@ -131,40 +131,20 @@ module _ (routes : Routes) {w v : World} {floor above : Floors} (rises : Rises w
   placed-rises (Coming left request response) placed =
       (way-rises request left placed.0, bounded-rises left request response placed.0 placed.1)
 
+  found-rises : (o : Option Message) → IfFound (Placed routes w floor) o → IfFound (Placed routes v above) o
+  found-rises o placed = grind (arith, placed-rises)
+
 -- ---- steps
 
 sends-ordered : {routes : Routes} {w : World} {floor : Floors} → Ordered routes w floor → (m : Message)
     → Placed routes w floor m → Ordered routes (sends m w) floor
-sends-ordered {w = w} ordered m placed =
-    record {
-      nodes = ordered.nodes;
-      own = ordered.own;
-      stored = ordered.stored;
-      messages = each-more w.messages m ordered.messages placed;
-      received = ordered.received;
-    }
+sends-ordered ordered m placed = grind (arith, slice_get_push)
 
 module _ {routes : Routes} {w : World} {floor : Floors} (ordered : Ordered routes w floor) where
-  -- ---- requests
-
-  sends_put-ordered : (client : ℕ) (guard : Guard) (content : List ℕ) (read : Option Version)
-      → Ordered routes (sends_put client guard content read w) floor
-  sends_put-ordered client guard content None = ordered
-  sends_put-ordered client guard content (Some v) =
-      sends-ordered ordered _ (tt, λ x none. absurd none, λ hop none. absurd none)
-
   forwards-ordered : (node : ℕ) (passed : List Hop) (request : Request)
       → next_after routes (client_of request) passed ≡ Some node → Placed routes w floor (Going passed request)
       → Ordered routes (acts (Forwards 0 node) (Some (Going passed request)) w) floor
-  forwards-ordered node passed request here placed =
-      let below = rw here at placed.1 in
-      let hops = rw here at placed.2 in
-      let up = ordered.nodes node in
-      sends-ordered ordered _ (
-        (here, below, le_refl _, placed.0),
-        λ x has. le_trans (below x has) up,
-        each-cons _ passed (λ e. up) (λ hop has e. le_trans (hops hop has e) up),
-      )
+  forwards-ordered node passed request here placed = grind (arith, sends-ordered)
 
   -- ---- caches
 
@@ -182,43 +162,12 @@ module _ {routes : Routes} {w : World} {floor : Floors} (ordered : Ordered route
       → IsWay routes w floor request passed → AreBelow (known request) (floor node)
       → HopsBelow w floor passed (floor node) → IfFound (λ v. floor node ≤ v.number) o
       → Ordered routes (sends_stored Status200 passed request o w) floor
-  serves-ordered passed request node None way below hops fresh = ordered
-  serves-ordered passed request node (Some v) way below hops fresh =
-      sends-ordered ordered _ (
-        way,
-        (λ x has. le_trans (below x has) fresh, λ hop has e. le_trans (hops hop has e) fresh),
-      )
-
-  serves_tag-ordered : (passed : List Hop) (request : Request) (o : Option Version)
-      → IsWay routes w floor request passed → Ordered routes (sends_stored Status304 passed request o w) floor
-  serves_tag-ordered passed request None way = ordered
-  serves_tag-ordered passed request (Some v) way = sends-ordered ordered _ (way, tt)
-
-  fresh : (node which : ℕ) → IfFound (λ v. floor node ≤ v.number) (slice_get (w.nodes node).stored which)
-  fresh node which = found (w.nodes node).stored (ordered.stored node) which
+  serves-ordered passed request node o way below hops fresh = grind (arith, sends-ordered)
 
   -- ---- the origin server
 
   performs-ordered : (put : Put) (etag : List ℕ) → Ordered routes (performs put (made_of put etag w) w) floor
-  performs-ordered put etag =
-      record {
-        nodes = λ n. le_trans (ordered.nodes n) (rises.levels (routes.next n));
-        own = λ client v has. le_trans (ordered.own client v has) (rises.levels (routes.first client));
-        stored = ordered.stored;
-        messages = λ m has. placed-rises routes rises m (ordered.messages m has);
-        received = ordered.received;
-      }
-    where
-      rises : Rises w floor (performs put (made_of put etag w) w) floor
-      rises =
-          record {
-            levels = elim [
-              | None ↦ omega arith
-              | Some n ↦ le_refl _
-            ];
-            removals = λ n. le_refl _;
-            same = λ n e. le_refl _;
-          }
+  performs-ordered put etag = grind arith
 
   answers_put-ordered : (etag : List ℕ) (says_applied : Bool) (passed : List Hop) (put : Put)
       → next_after routes put.client passed ≡ None → IsWay routes w floor (Puts put) passed
@@ -233,33 +182,15 @@ module _ {routes : Routes} {w : World} {floor : Floors} (ordered : Ordered route
 
   -- ---- clients
 
-  confirmed-below : (request : Request) (response : Response) → Bounded routes w floor [] request response
-      → AreBelow (confirmed response) (level w floor (routes.first (client_of request)))
-  confirmed-below request (Status204 v) bounded = each-cons v [] bounded (λ x none. absurd none)
-  confirmed-below request other bounded = λ x none. absurd none
-
-  right : (request : Request) (response : Response) → Bounded routes w floor [] request response
-      → IsRight request response
-  right request (Status200 v) bounded = bounded.0
-  right request other bounded = tt
-
   arrives-ordered : (request : Request) (response : Response) → Bounded routes w floor [] request response
       → Ordered routes (record w { received = record { request = request; response = response } ∷ w.received }) floor
   arrives-ordered request response bounded =
-      record {
-        nodes = ordered.nodes;
-        own = λ client v has. elim (Has-append (cond (nat_eq (client_of request) client) (confirmed response) [])
-            (written_by client w.received) v has) [
-              | inl new ↦ there (λ k b. AreBelow (confirmed response) (level w floor (routes.first k))
-                  → Has (cond b (confirmed response) []) v → v.number ≤ level w floor (routes.first client))
-                  (client_of request) client (λ below. below v) (λ below none. absurd none)
-                  (confirmed-below request response bounded) new
-              | inr old ↦ ordered.own client v old
-            ];
-        stored = ordered.stored;
-        messages = ordered.messages;
-        received = each-cons _ w.received (right request response bounded) ordered.received;
-      }
+      let one : Received = record { request = request; response = response } in
+      let own : (client : ℕ) → AreBelow (written_by client (one ∷ w.received)) (level w floor (routes.first client)) =
+      grind (arith, ordered.own) in
+      let right : IsRight request response = grind arith in
+      let received = each-cons {P = λ x. IsRight x.request x.response} one w.received right ordered.received in
+      assumption (own, received)
 
   -- ---- a response passes
 
@@ -267,45 +198,22 @@ module _ {routes : Routes} {w : World} {floor : Floors} (ordered : Ordered route
   rises-at : (at l : ℕ) (node : Node) → (w.nodes at).removals ≤ node.removals
       → ((w.nodes at).removals ≡ node.removals → l ≤ floor at)
       → Rises w floor (with_node at node w) (raised floor at l)
-  rises-at at l node more same =
-      record {
-        levels = elim [
-          | None ↦ le_refl _
-          | Some n ↦ there (λ k b. floor k ≤ cond b (max (floor at) l) (floor k)) n at (le-max_left _ l) (le_refl _)
-        ];
-        removals = λ n. there (λ k b. (w.nodes k).removals ≤ (cond b node (w.nodes k)).removals) n at more (le_refl _);
-        same = λ n. there (λ k b. (w.nodes k).removals ≡ (cond b node (w.nodes k)).removals
-            → cond b (max (floor at) l) (floor k) ≤ floor k) n at (λ e. max-le (le_refl _) (same e)) (λ e. le_refl _);
-      }
+  rises-at at l node more same = grind arith
 
   turned-ordered : (at l : ℕ) (node : Node) → Rises w floor (with_node at node w) (raised floor at l)
-      → l ≤ level w floor (routes.next at) → ((v : Version) → Has node.stored v → max (floor at) l ≤ v.number)
+      → l ≤ level w floor (routes.next at)
+      → ((k : ℕ) → IfFound (λ v. max (floor at) l ≤ v.number) (slice_get node.stored k))
       → Ordered routes (with_node at node w) (raised floor at l)
   turned-ordered at l node rises below stored =
       record {
         nodes = λ n. le_trans (there (λ k b. cond b (max (floor at) l) (floor k) ≤ level w floor (routes.next k)) n at
             (max-le (ordered.nodes at) below) (ordered.nodes n)) (rises.levels (routes.next n));
         own = λ client v has. le_trans (ordered.own client v has) (rises.levels (routes.first client));
-        stored = λ n v. there (λ k b. Has (cond b node (w.nodes k)).stored v
-            → cond b (max (floor at) l) (floor k) ≤ v.number) n at (stored v) (ordered.stored n v);
-        messages = λ m has. placed-rises routes rises m (ordered.messages m has);
+        stored = λ n. there (λ k b. (j : ℕ) → IfFound (λ v. cond b (max (floor at) l) (floor k) ≤ v.number)
+            (slice_get (cond b node (w.nodes k)).stored j)) n at stored (ordered.stored n);
+        messages = λ k. found-rises routes rises _ (ordered.messages k);
         received = ordered.received;
       }
-
-  more : (response : Response) (removes stores : Bool) (node : Node)
-      → node.removals ≤ (after_storing response stores (after_removing removes node)).removals
-  more (Status200 v) true true node = omega arith
-  more (Status200 v) false true node = le_refl _
-  more response true stores node = omega arith
-  more response false stores node = le_refl _
-
-  stored-fresh : (l : ℕ) (response : Response) (removes stores : Bool) (node : Node) → IsTimely l response stores
-      → ((v : Version) → Has node.stored v → l ≤ v.number) → (v : Version)
-      → Has (after_storing response stores (after_removing removes node)).stored v → l ≤ v.number
-  stored-fresh l (Status200 x) true true node timely h = each-cons x [] (timely refl) (λ v none. absurd none)
-  stored-fresh l (Status200 x) false true node timely h = each-cons x node.stored (timely refl) h
-  stored-fresh l response true stores node timely h = λ v none. absurd none
-  stored-fresh l response false stores node timely h = h
 
   -- what isn't a 204 leaves the floors
   passes : (hop : Hop) (left : List Hop) (request : Request) (response : Response) (removes stores : Bool)
@@ -315,9 +223,11 @@ module _ {routes : Routes} {w : World} {floor : Floors} (ordered : Ordered route
       (raised floor hop.node 0)
   passes hop left request response removes stores timely way bounded =
       let node : Node = after_storing response stores (after_removing removes (w.nodes hop.node)) in
-      let rises = rises-at hop.node 0 node (more response removes stores _) (λ e. omega arith) in
-      sends-ordered (turned-ordered hop.node 0 node rises (omega arith) (λ v has. max-le
-      (stored-fresh _ response removes stores _ timely (ordered.stored hop.node) v has) (omega arith)))
+      let more : (w.nodes hop.node).removals ≤ node.removals = grind arith in
+      let fresh : (k : ℕ) → IfFound (λ v. max (floor hop.node) 0 ≤ v.number) (slice_get node.stored k) =
+      grind (arith, ordered.stored hop.node) in
+      let rises = rises-at hop.node 0 node more (λ e. omega arith) in
+      sends-ordered (turned-ordered hop.node 0 node rises (omega arith) fresh)
       _ (way-rises routes rises request left way, bounded-rises routes rises left request response way bounded)
 
   -- after a 204 nothing older comes from here
@@ -328,7 +238,7 @@ module _ {routes : Routes} {w : World} {floor : Floors} (ordered : Ordered route
   confirms hop left request v stores placed =
       let rises = rises-at hop.node v.number (after_removing true (w.nodes hop.node)) (omega arith)
       (λ e. absurd (omega (arith, e))) in
-      sends-ordered (turned-ordered hop.node v.number _ rises placed.1 (λ x none. absurd none))
+      sends-ordered (turned-ordered hop.node v.number _ rises placed.1 (λ k. grind arith))
       _ (
         way-rises routes rises request left placed.0.3,
         rw (placed.0.0, eq-eqb hop.node hop.node refl) (le-max_right _ _),
@@ -338,59 +248,34 @@ module _ {routes : Routes} {w : World} {floor : Floors} (ordered : Ordered route
 
   acts-ordered : (event : Event) (o : Option Message) → IsRouted routes event o w → Invalidates event o w
       → StoresNoneFromBefore event o w → IfFound (Placed routes w floor) o → IsOrdered routes (acts event o w)
-  acts-ordered Ticks o here inv timely placed = (
-    floor,
-    record {
-      nodes = ordered.nodes;
-      own = ordered.own;
-      stored = ordered.stored;
-      messages = ordered.messages;
-      received = ordered.received;
-    },
-  )
-  acts-ordered (SendsGet client) o here inv timely placed =
-      (floor, sends-ordered ordered _ (tt, ordered.own client, λ hop none. absurd none))
-  acts-ordered (SendsPut client which guard content) o here inv timely placed =
-      (floor, sends_put-ordered client guard content _)
   acts-ordered (Forwards message node) (Some (Going passed request)) here inv timely placed =
       (floor, forwards-ordered node passed request here placed)
   acts-ordered (Serves message node which) (Some (Going passed (Get client written))) here inv timely placed = (
     floor,
     serves-ordered passed (Get client written) node _ placed.0 (rw here at placed.1) (rw here at placed.2)
-        (fresh node which),
+        (ordered.stored node which),
   )
-  acts-ordered (ServesTag message node which) (Some (Going passed (Get client written))) here inv timely placed =
-      (floor, serves_tag-ordered passed (Get client written) _ placed.0)
-  acts-ordered (AnswersTag message) (Some (Going passed (Get client written))) here inv timely placed =
-      (floor, sends-ordered ordered _ (placed.0, tt))
-  acts-ordered (Freshens message which) (Some (Coming (hop ∷ left) request (Status304 named))) here inv timely placed = (
+  acts-ordered (Freshens _ which) (Some (Coming (hop ∷ left) request (Status304 named))) here inv timely placed = (
     floor,
     serves-ordered left request hop.node _ placed.0.3 placed.0.1
-        (λ other has e. inner request hop left placed.0 other has)
-        (with_tag-found (λ v. floor hop.node ≤ v.number) named _ (fresh hop.node which)),
+        (λ other has e. inner request hop left placed.0 other has) (grind (arith, ordered.stored hop.node which)),
   )
   acts-ordered (Answers message etag says_applied) (Some (Going passed (Get client written))) here inv timely placed =
       (floor, sends-ordered ordered _ (placed.0, (rw here at placed.1, rw here at placed.2)))
   acts-ordered (Answers message etag says_applied) (Some (Going passed (Puts put))) here inv timely placed =
       (floor, answers_put-ordered etag says_applied passed put here placed.0)
-  acts-ordered (Refuses message status) (Some (Going passed request)) here inv timely placed =
-      (floor, sends-ordered ordered _ (placed.0, tt))
-  acts-ordered (Returns message removes stores) (Some (Coming (hop ∷ left) request (Status200 v))) here inv timely placed = (
+  acts-ordered (Returns _ removes stores) (Some (Coming (hop ∷ left) request (Status200 v))) here inv timely placed = (
     raised floor hop.node 0,
     passes hop left request (Status200 v) removes stores (λ yes. placed.1.1 hop (inl refl) (timely yes)) placed.0.3
         (placed.1.0, λ other has. placed.1.1 other (inr has)),
   )
-  acts-ordered (Returns message removes stores) (Some (Coming (hop ∷ left) request (Status204 v))) here inv timely placed =
+  acts-ordered (Returns _ removes stores) (Some (Coming (hop ∷ left) request (Status204 v))) here inv timely placed =
       (raised floor hop.node v.number, rw inv (confirms hop left request v stores placed))
-  acts-ordered (Returns message removes stores) (Some (Coming (hop ∷ left) request response)) here inv timely placed =
+  acts-ordered (Returns _ removes stores) (Some (Coming (hop ∷ left) request response)) here inv timely placed =
       (raised floor hop.node 0, passes hop left request response removes stores tt placed.0.3 tt)
   acts-ordered (Arrives message) (Some (Coming [] request response)) here inv timely placed =
       (floor, arrives-ordered request response placed.1)
-  acts-ordered other o here inv timely placed = (floor, ordered)
-
-  placed-at : (place : Option ℕ) → IfFound (Placed routes w floor) (found_at place w.messages)
-  placed-at None = tt
-  placed-at (Some place) = found w.messages ordered.messages place
+  acts-ordered event o here inv timely placed = (floor, grind (arith, sends-ordered, slice_get_push))
 
 pub run-ordered : (routes : Routes) (events : List Event) (w : World) → Throughout (IsRouted routes) events w
     → Throughout Invalidates events w → Throughout StoresNoneFromBefore events w → IsOrdered routes w
@@ -398,21 +283,11 @@ pub run-ordered : (routes : Routes) (events : List Event) (w : World) → Throug
 run-ordered routes [] w routed inv timely ordered = ordered
 run-ordered routes (event ∷ events) w routed inv timely (floor, ordered) =
     run-ordered routes events (happens w event) routed.1 inv.1 timely.1
-    (acts-ordered ordered event _ routed.0 inv.0 timely.0 (placed-at ordered (place_of event)))
+    (acts-ordered ordered event _ routed.0 inv.0 timely.0 (grind (arith, ordered.messages)))
 
 -- at the start nothing is below the first version but itself
 pub start-ordered : (routes : Routes) (first : Version) → IsOrdered routes (start first)
-start-ordered routes first = (
-  λ n. zero,
-  record {
-    nodes = λ n. omega arith;
-    own = λ client v none. absurd none;
-    stored = λ n v none. absurd none;
-    messages = λ m none. absurd none;
-    received = λ one none. absurd none;
-  },
-)
+start-ordered routes first = (λ n. zero, grind arith)
 
 pub reads-own : (routes : Routes) (w : World) → IsOrdered routes w → ReadsOlder w → ⊥
-reads-own routes w (floor, ordered) older =
-    let below = ordered.received _ older.got older.own older.knew in omega (arith, below, older.older)
+reads-own routes w ordered older = grind arith

@@ -1,32 +1,30 @@
 -- What follows for changes, and for what clients get.
 use Rattle.std.proofs.Common.{◌≡◌, ℕ, zero, suc, ◌<◌, cond, List, [], ◌∷◌, slice_get, nat_eq, Some, refl, ap}
-use Rattle.std.{proofs.Common.{arith, inl, inr}, proofs.lemmas.Bool.cond_both, proofs.lemmas.Option.same_Some}
+use Rattle.std.{proofs.Common.{arith, inl, inr}, proofs.lemmas.Option.same_Some}
 use Rattle.std.proofs.lemmas.Slice.Eq.{bytes_eq-Decides}
 use Rattle.updates.{specs.Statements.{Has, HasStrongTags, HasUniqueTags, IsGuarded, LeadsTo}, specs.Worlds.Version}
 use Rattle.updates.specs.Worlds.{Received, Change, World, client_of, given, shown, versions}
-use Rattle.updates.{proofs.Lists.{Has-append, Has-map}, proofs.Steps.{Holds, Links}}
+use Rattle.updates.{proofs.Lists.{Has_append, Has_map}, proofs.Steps.{Holds, Links}}
 
 -- what has been given was in a response
 among : (client : ℕ) (received : List Received) (v : Version) → Has (given client received) v
     → (one : Received) × Has received one × Has (shown one.response) v
-among client [] v h = absurd h
-among client (one ∷ earlier) v h =
-    elim (Has-append (cond (nat_eq (client_of one.request) client) (shown one.response) [])
-    (given client earlier) v h) [
-      | inl a ↦ cond_both (nat_eq (client_of one.request) client) (shown one.response) []
-          (λ vs. Has vs v → (other : Received) × Has (one ∷ earlier) other × Has (shown other.response) v)
-          (λ e k. (one, inl refl, k)) (λ e none. absurd none) a
-      | inr r ↦ let on = among client earlier v r in (on.0, inr on.1, on.2)
+among client [] v has = absurd has
+among client (one ∷ earlier) v has =
+    elim (Has_append (cond (nat_eq (client_of one.request) client) (shown one.response) [])
+    (given client earlier) v has) [
+      | inl here ↦ (one, inl refl, grind (arith, here))
+      | inr later ↦ let on = among client earlier v later in (on.0, inr on.1, on.2)
     ]
 
 module _ {first : Version} {w : World} (holds : Holds first w) (change : Change) (has : Has w.changes change) where
   read-version : Has (versions w) change.put.read
   read-version =
       let on = among change.put.client w.received change.put.read (holds.changes change has).0 in
-      (holds.received on.0 on.1).0 change.put.read on.2
+      grind (arith, holds.received on.0 on.1, on.2)
 
   replaced-version : Has (versions w) change.replaced
-  replaced-version = inr (Has-map (λ c. c.replaced) w.changes change has)
+  replaced-version = inr (Has_map (λ c. c.replaced) w.changes change has)
 
   -- the condition of a guarded change was true
   same-tag : IsGuarded change.put → change.put.read.etag ≡ change.replaced.etag

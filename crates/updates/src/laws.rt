@@ -74,6 +74,7 @@ pub fn clients_read_their_writes()
 
 /// Theorem: what was performed stays performed, in the same order: later changes come before it. So of two
 /// PUTs, one of which was answered before the other was sent, that one comes first.
+#[tactic(auto, using(crate::proofs::Steps::run_keeps))]
 pub fn changes_are_kept()
     ensures { (events : List Event) (world : World)
         → (newer : List Change) × ((run events world).changes ≡ newer ++ world.changes) }

@@ -1,4 +1,6 @@
 //! Runs that show that the theorems aren't vacuous, and that each of their premises is needed.
+#![tactic(auto, using(crate::proofs::Examples::reads_milk))]
+
 ghost use Rattle.std.specs.Prelude.{◌≡◌, ◌∷◌, [], None, codes, false, slice_get, true};
 ghost use Rattle.updates.{specs.Events.run, specs.Events.Guard.{ByDate, Not}, specs.Runs.{sent_again, ann, as_asked}};
 ghost use Rattle.updates.specs.Runs.{bob, both_change, bread, by_two_ways, carl, digested, eggs, guarded, milk};

@@ -229,11 +229,7 @@ module _ (parse : ParsesOneWay) (tag : Line) (parts : TagParts) (is : IsTag tag 
         (own_member weakly tag validators.etag own ((weakly_equal tag tag).1 (parts, parts, is, is, refl)))
 
     pub strongly_named : parts.is_weak ≡ false → IfMatchIsTrue (λ (name : List ℕ). tag ∷ []) (Current validators)
-    strongly_named strong =
-        named_by (of_member strongly validators.etag)
-        (own_member strongly tag validators.etag own
-        ((strongly_equal tag tag).1
-        (parts, parts, is, is, record { left = strong; right = strong; opaque = refl })))
+    strongly_named strong = grind (arith, named_by, own_member, strongly_equal, is)
 
 -- ==== The tag of a response, and a request that names it.
 
@@ -329,12 +325,8 @@ module _ (present : ℕ) (resource : Resource) (asked : Asked) where
 
   tells_own : (b : Bool) (reason : Reason) (status : Option ℕ) (sent : Sends) (own : List Field)
       → GivesIf b present resource asked reason status sent own → Tells (tags_of resource sent) own
-  tells_own true reason status sent own h =
-      rw (h.goes.sends, h.goes.has_fields) (tells_given h.place h.goes.response h.goes.answered)
-  tells_own false reason status sent own h =
-      rw (h.sends, h.has_fields, stopped_untagged resource reason)
-      (tells_none (reason_fields resource asked reason)
-      (sides_unnamed etag refl _ (reason_side resource asked reason)))
+  tells_own b reason status sent own gives =
+      grind (arith, tells_given, stopped_untagged, tells_none, sides_unnamed, reason_side)
 
   -- the field lines of ETag in a response with an answer's fields
   pub tags_given : (answer : Answer) → IsAnswer present resource asked answer → (has_policy : Bool)
@@ -419,12 +411,7 @@ module _ (site : Resource) (st : State) (v w : Vec Representation) (now later : 
   n = site.negotiation
 
   scores : map (score n f) v.items ≡ map (score n g) w.items
-  scores =
-      ap (map (score n f)) mine ∙ scores_are n f now fs
-      ∙ (λ i. map
-      (label_score n (same (codes "accept") refl i) (same (codes "accept-language") refl i)
-      (same (codes "accept-encoding") refl i)) (labels i))
-      ∙ sym (scores_are n g later gs) ∙ sym (ap (map (score n g)) theirs)
+  scores = grind (arith, scores_are, same)
 
   same_length : length v.items ≡ length w.items
   same_length = sym (length-map v.items (score n f)) ∙ ap length scores ∙ length-map w.items (score n g)
@@ -745,18 +732,7 @@ asks_so : (request : Request (List ℕ)) (asked : Asked) (authority : Option Lin
     → IsProtocolOf (head_of request).version asked.protocol → asked.authority ≡ authority
     → Asks request
     (reading asked.protocol asked.authority (head_of request).method (lines_at (head_of request).headers))
-asks_so request asked authority named protocol has_authority = (
-  authority,
-  named,
-  record {
-    protocol = protocol;
-    method = refl;
-    has_authority = has_authority;
-    content = refl;
-    fields = refl;
-    admitted = refl;
-  },
-)
+asks_so request asked authority named protocol has_authority = (authority, named, assumption)
 
 module _ (now later : Option ℕ) (left more : ℕ) (site : Site) (look other : List ℕ → Entry)
     (first second : Request (List ℕ)) (r s : Response) (a b : Option Source) (name : List ℕ) (tag : Line)
@@ -781,10 +757,7 @@ module _ (now later : Option ℕ) (left more : ℕ) (site : Site) (look other : 
       (rw again.uri at y.leads)
 
   same : AskAlike f g
-  same other is =
-      sym
-      (again.others other
-      (λ e. let t : true ≡ false = sym is ∙ ap (λ (n : List ℕ). list_any (bytes_eq n) deciding) e ∙ free in cc t))
+  same = grind arith
 
   first_read : IsReadBy (clock now x.found.files.items) before y.asked.protocol y.asked.authority f x.answer
   first_read =
@@ -797,10 +770,7 @@ module _ (now later : Option ℕ) (left more : ℕ) (site : Site) (look other : 
   second_read : IsReadBy (clock later y.found.files.items)
       (described_as site.resource y.found.state y.described.representations) y.asked.protocol y.asked.authority g
       y.answer
-  second_read =
-      read_answer later more site other second s b y again.read_again y.asked.protocol y.asked.authority
-      (asked_once second y.asked (reading y.asked.protocol y.asked.authority (head_of second).method g) y.asks
-      (asks_so second y.asked y.asks.0 y.asks.1 y.asks.2.protocol y.asks.2.has_authority))
+  second_read = grind (arith, read_answer, asked_once, head_of, asks_so)
 
   tagged : IsTagged (clock now x.found.files.items) before (reading y.asked.protocol y.asked.authority first_read.0 f)
       tag
@@ -853,14 +823,7 @@ unchanged : (fields : LineMap) → fields (codes "range") ≡ [] → (name : Lis
 unchanged fields none name = grind (arith, bytes_eq-Decides)
 
 get_is : (asked : Asked) → asked.method ≡ codes "GET" → asked.fields (codes "range") ≡ [] → get_of asked ≡ asked
-get_is asked is none = λ i. record {
-  protocol = asked.protocol;
-  method = sym is i;
-  authority = asked.authority;
-  content = asked.content;
-  denied = asked.denied;
-  fields = λ name. unchanged asked.fields none name i;
-}
+get_is asked is none = grind arith
 
 -- what is found, decided and sent answers another request, or a request at another store, where it is that there too
 pub answered_as : {now : Option ℕ} {left : ℕ} {site : Site} {has also : List ℕ → Entry → Type 0}
@@ -982,12 +945,7 @@ check_alike m n sent same h = grind arith
 
 passes_alike : (status : ℕ) (m n : LineMap) (sent : Sent) → IsReadAlike m n → PreflightPasses status m sent
     → PreflightPasses status n sent
-passes_alike status m n sent same h = record {
-  check = check_alike m n sent same h.check;
-  ok = h.ok;
-  method = rw (← (same (codes "access-control-allow-methods") refl)) h.method;
-  names = rw (← (same (codes "access-control-allow-headers") refl)) h.names;
-}
+passes_alike status m n sent same h = grind (arith, check_alike m n sent same)
 
 -- ---- the reason
 
@@ -1117,10 +1075,7 @@ module _ (now : Option ℕ) (left : ℕ) (site : Site) (look : List ℕ → Entr
   divider = string_bytes site.divider
 
   pieces_are : response.pieces.items ≡ Range (part_extent part) ∷ []
-  pieces_are =
-      x.carries.pieces
-      ∙ rw sends
-      (part_pieces divider (file_at x.found.files.items place) part (InMemory kept) (rw sends at x.opens))
+  pieces_are = grind arith
 
   pub sent_part : (sent : List ℕ) → AreSent (gives_of (Some (InMemory kept))) response.pieces.items sent
       → sent ≡ take (part.last + 1 - part.first) (drop part.first kept.content)
@@ -1131,9 +1086,4 @@ module _ (now : Option ℕ) (left : ℕ) (site : Site) (look : List ℕ → Entr
 pub halves : (content : List ℕ) (first second : Part) → JoinTo (length content) first second
     → take (first.last + 1 - first.first) (drop first.first content)
     ++ take (second.last + 1 - second.first) (drop second.first content) ≡ content
-halves content first second joins =
-    let k : ℕ = first.last + 1 in
-    let whole : k - 0 ≡ k = omega arith in
-    let rest : length (drop k content) ≤ second.last + 1 - k = omega (arith, length-drop k content, joins.ends) in
-    rw (joins.begins, joins.meet, whole, take_all (second.last + 1 - k) (drop k content) rest)
-    (take-append-drop k content)
+halves content first second joins = grind (arith, drop, length-drop, take_all, take-append-drop)

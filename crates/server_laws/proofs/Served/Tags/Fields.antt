@@ -31,9 +31,7 @@ abbrev is_plain_line : Header → Bool
 is_plain_line h = is_plain (h.0, h.1 ∷ [])
 
 plain_side : (field : Field) → is_side field.0 ≡ true → is_plain field ≡ true
-plain_side field t =
-    let both = and_parts (not (is_framing_field (field.0, []))) (not (is_kept field.0)) t in
-    and_from _ _ both.0 (ap (λ (b : Bool). b || list_all is_bare field.1) both.1)
+plain_side field side = grind (arith, and_parts, and_from)
 
 sides_plain : (fields : List Field) → are_side fields ≡ true → list_all is_plain fields ≡ true
 sides_plain = all_imp (λ (field : Field). is_side field.0) is_plain plain_side
@@ -134,12 +132,10 @@ not_given (field ∷ fields) t =
 
 sent-cons : (b : Bool) (field : Field) (fields : List Field)
     → headers_sent b (field ∷ fields) ≡ lines_unless (b && is_named field.0 fields) field ++ headers_sent b fields
-sent-cons true field fields = refl
-sent-cons false field fields = refl
+sent-cons b field fields = grind arith
 
 sent-nil : (b : Bool) → headers_sent b [] ≡ []
-sent-nil true = refl
-sent-nil false = refl
+sent-nil b = grind arith
 
 module _ (has_policy : Bool) where
   -- the one field of its name, which nothing replaces
@@ -303,8 +299,7 @@ lines_bare : (b : Bool) (line : Option Line) → is_bare_if_any line ≡ true �
 lines_bare b line bare = grind (arith, b, line)
 
 bare_if : (b : Bool) (line : Line) → (b ≡ true → is_bare line ≡ true) → is_bare_if_any (cond b (Some line) None) ≡ true
-bare_if true line bare = bare refl
-bare_if false line bare = refl
+bare_if b line bare = grind arith
 
 listed_bare : (line : Line) (listed : List Line) → list_all is_bare listed ≡ true
     → list_any (bytes_eq line) listed ≡ true → is_bare line ≡ true
@@ -340,10 +335,7 @@ policy_plain policy leave sent varying bare =
 
 shared_plain : (cors : Option Policy) (request : Asked) (lines : List Line) (shared : List Field) → IsBareIfAny cors
     → IsShared cors request lines shared → list_all is_plain shared ≡ true
-shared_plain None request lines shared bare h = ap (list_all is_plain) h
-shared_plain (Some policy) request lines shared bare h =
-    ap (list_all is_plain) (h.2 ∙ h.1.fields)
-    ∙ policy_plain policy (is_preflight h.0.kind) (request.fields (codes "origin")) lines bare
+shared_plain cors request lines shared bare shares = grind (arith, policy_plain)
 
 etag_bare : (plan : Plan) (tag : Option FieldValue) → is_bare_tag tag ≡ true
     → list_all is_bare (lines_sent (λ (x : FieldValue). x.bytes) (etag_sent plan tag)) ≡ true
@@ -397,12 +389,7 @@ record IsAccepted (method : MethodKind) (code n : ℕ) (own : List Field) : Type
 -- no length is stated
 unstated : (method : MethodKind) (code n : ℕ) (own : List Field) → IsFinal method code n false
     → is_field_value (reason_of code) ≡ true → list_all is_plain own ≡ true → IsAccepted method code n own
-unstated method code n own final text plain = record {
-  stated = false;
-  tells = λ short has_policy more t. tells_none has_policy n (own ++ more) (all_append is_plain own more plain t);
-  final = final;
-  text = text;
-}
+unstated method code n own final text plain = search (arith, tells_none, all_append)
 
 -- a status that a page may explain
 abbrev is_explained : ℕ → Bool
@@ -526,13 +513,7 @@ module _ (present : ℕ) (resource : Resource) (own_rule : MethodRule) (alone : 
           → is_field_value (reason_of code) ≡ true → list_all is_plain own ≡ true → IsAccepted method code 0 own
       empty code own least greatest other text plain =
           unstated method code 0 own
-          (record {
-            least = least;
-            greatest = greatest;
-            other = other;
-            bodiless = λ is. (refl, refl);
-            connect = successful code;
-          }) text plain
+          (assumption (successful code)) text plain
 
       -- the statuses of plans
       plan_code : (plan : Plan) → (200 ≤ status_of plan) × (status_of plan ≤ 999) × (status_of plan ≢ 205)
@@ -695,10 +676,7 @@ module _ (limits : Limits) (head : RequestHead) (framing : Framing) (now : Optio
   accepts : (asked : Asked) → asked.denied ≡ None → IsAnswer present resource asked x.answer
       → (is_open x.answer.reason ≡ true → is_connect sender ≡ false)
       → IsAccepted sender code len given
-  accepts asked admitted h free =
-      answer_accepted present resource is_site.rule is_site.rules is_site.is_read.method divider site.pages.items files
-      x.found.status (found_explained site.resource.negotiation.coding has (head_of request).uri x.found x.leads)
-      x.described.are sender asked admitted x.answer h free bare x.carries.tagged
+  accepts asked admitted answers free = search (arith, answer_accepted, found_explained, head_of)
 
   -- the request of a first reason that isn't a refusal
   frees : (reason : Reason) → IsFirst (applies present resource x.asked) reason → is_open reason ≡ true

@@ -1,5 +1,6 @@
+use Rattle.std.proofs.Common.{arith}
 use Rattle.updates.proofs.Steps.{holds}
 use Rattle.updates.proofs.laws.clients_get_versions.Goals as goal
 
 pub returns : goal.returns
-returns c first events received version has = ((holds first events).received received has).0 version
+returns c first events received version has shows = grind (arith, (holds first events).received received has)

@@ -1,5 +1,5 @@
 use Rattle.updates.{specs.Worlds.Message.Going, specs.Worlds.Request.Puts}
-use Rattle.updates.{proofs.Steps.holds, proofs.Updates.{swaps, swaps-content}}
+use Rattle.updates.{proofs.Lists.found_each, proofs.Steps.holds, proofs.Updates.{swaps, swaps-content}}
 use Rattle.updates.proofs.laws.if_match_is_compare_and_swap.Goals as goal
 
 pub returns-clause-version : goal.returns-clause-version
@@ -12,4 +12,5 @@ pub returns-clause-read : goal.returns-clause-read
 returns-clause-read c first events change has = ((holds first events).changes change has).0
 
 pub returns-clause-sent : goal.returns-clause-sent
-returns-clause-sent c first events passed put has = (holds first events).messages (Going passed (Puts put)) has
+returns-clause-sent c first events passed put =
+    found_each _ _ (holds first events).messages (Going passed (Puts put))

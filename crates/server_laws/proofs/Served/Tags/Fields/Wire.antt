@@ -32,24 +32,16 @@ states_none n = record { valid = refl; codings = refl; lengths = refl }
 -- a field line that says nothing of it
 pub states_other : (n : ℕ) (h : Header) → is_header h ≡ true → is_framing_field h ≡ false
     → StatesLength n false (h ∷ [])
-states_other n h valid other =
-    let neither = or_parts (has_name (codes "content-length") h) (has_name (codes "transfer-encoding") h) other in
-    record { valid = simp valid; codings = simp neither.1; lengths = simp neither.0 }
+states_other n h valid other = grind arith
 
 pub states_length : (n : ℕ) → n < 2 ^ 64 → StatesLength n true (length_header n ∷ [])
 unfolding eq_ignore_case is_token_byte
-states_length n short =
-    let is = decimal_is_numeral n short in
-    record { valid = and_from _ _ (decimal_is_trimmed n) refl; codings = refl; lengths = simp is }
+states_length n short = grind (arith, decimal_is_numeral, and_from, decimal_is_trimmed)
 
 pub states_both : (n : ℕ) (a b c : Bool) (xs ys : List Header) → StatesLength n a xs → StatesLength n b ys
     → cond a (decimal n ∷ []) [] ++ cond b (decimal n ∷ []) [] ≡ cond c (decimal n ∷ []) []
     → StatesLength n c (xs ++ ys)
-states_both n a b c xs ys x y lengths = record {
-  valid = simp (list_all-append, x.valid, y.valid);
-  codings = simp (flat_map-append, x.codings, y.codings);
-  lengths = simp (flat_map-append, x.lengths, y.lengths, lengths);
-}
+states_both n a b c xs ys x y lengths = grind (arith, list_all-append, flat_map-append)
 
 -- what field lines without Transfer-Encoding say, by the lengths that they state
 record Counts (lengths : List (List ℕ)) (hs : List Header) : Type 0 where
@@ -298,11 +290,7 @@ date_visible (suc (suc (suc (suc (suc (suc zero)))))) p = refl
 date_visible k p = refl
 
 date_trimmed : (p : Parts) → trim (imf_fixdate p) ≡ imf_fixdate p
-date_trimmed p =
-    trim_ended (imf_fixdate p) (date_visible (p.wday - 1) p)
-    (ends_append
-    (day_name p.wday ++ codes ", " ++ two_digits p.day ++ codes " " ++ month_name p.mon ++ codes " "
-    ++ four_digits p.year ++ codes " " ++ time_of_day p) (codes " GMT") refl)
+date_trimmed p = search (arith, trim_ended, date_visible, ends_append, codes)
 
 pub fixdate_trimmed : (seconds : ℕ) → trim (fixdate seconds) ≡ fixdate seconds
 unfolding fixdate
@@ -315,10 +303,7 @@ fixdate_trimmed seconds = date_trimmed (parts_at seconds)
 valid_by : (planned : Result WirePlan WriteError) (line : Bool) (hs : List Header) → plan_refusal planned line hs ≡ None
     → list_all is_header hs ≡ true
 unfolding are_headers
-valid_by (Ok p) line hs none =
-    (and_parts (list_all is_header hs) (list_all is_header p.extra)
-    (sym (list_all-append is_header hs p.extra) ∙ (not_refused line (hs ++ p.extra) none).1)).0
-valid_by (Err e) line hs none = cc
+valid_by planned line hs none = grind (arith, Ok, and_parts, list_all-append, not_refused, Err)
 
 module _ (tag : List ℕ) (len : ℕ) (media_type : List ℕ) (short : len < 2 ^ 64) where
   abbrev fields : Option ℕ → List Header
@@ -365,13 +350,7 @@ module _ (limits : Limits) (h : RequestHead) (framing : Framing) (plan : Respons
   n = content_len plan
 
   final : IsFinal (method_kind h.method) 200 n true
-  final = record {
-    least = omega arith;
-    greatest = omega arith;
-    other = λ is. omega (arith, is);
-    bodiless = λ is. absurd (elim is [ inl a ↦ omega (arith, a) | inr b ↦ omega (arith, b) ]);
-    connect = ap (λ (b : Bool). b && nat_lt 200 300) other;
-  }
+  final = grind arith
 
   ok_planned : (p : WirePlan) × (response_plan s plan.status (plan_size plan) (plan_fields plan) ≡ Ok p)
       × (p.extra ≡ []) × (p.framing ≡ cond (has_no_body (method_kind h.method) 200) NoBody (Sized n))
