@@ -6,6 +6,7 @@
 
 mod entry;
 mod held;
+mod known;
 mod paths;
 mod planning;
 mod settings;
@@ -14,6 +15,7 @@ mod tag;
 
 pub use crate::entry::Facts;
 pub use crate::held::HeldFiles;
+pub use crate::known::KnownFiles;
 pub use crate::paths::path_for;
 pub use crate::planning::plan_response;
 pub use crate::settings::{FilesOptions, new_files, settings_of};

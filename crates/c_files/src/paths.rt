@@ -10,8 +10,8 @@ use server_connection::ServerConnection;
 use server_files::{is_plain, store_path};
 use std::alloc::{AllocError, Global};
 
-// What the path at a place has appended.
-fn suffix_at(place: usize) -> Option<&'static str>
+/// What the path at a place has appended.
+pub(crate) fn suffix_at(place: usize) -> Option<&'static str>
     ensures { option_map (λ suffix. suffix.now) result ≡ suffix_at place }
 {
     match place {

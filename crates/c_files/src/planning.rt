@@ -6,8 +6,10 @@ ghost use Rattle.c_files.specs.Plans.{IsReadyFor, PlansFor, number_of};
 
 use crate::entry::Facts;
 use crate::held::HeldFiles;
-use crate::paths::next_path;
-use c_parts::Failure;
+use crate::known::KnownFiles;
+use crate::paths::{next_path, suffix_at};
+use crate::tag::is_unchanged;
+use c_parts::{Failure, HashKeys};
 use server_connection::{Handler, ResponsePlan, ServerConnection};
 use server_files::store_path;
 use server_service::{Reader, Source};
@@ -32,6 +34,28 @@ fn path_of(connection: &ServerConnection) -> &str
     connection.request().uri().path()
 }
 
+// Makes what the plan asks for of the files at the path that the target names, if it names one.
+fn learn_files(
+    alloc: Global,
+    known: &mut KnownFiles,
+    keys: &HashKeys,
+    named: &Option<String>,
+    found: &[Facts],
+    now: u64,
+) {
+    let Some(named) = named else {
+        return;
+    };
+    for (place, facts) in found.iter().enumerate() {
+        let Some(suffix) = suffix_at(place) else {
+            return;
+        };
+        if facts.is_file() && is_unchanged(now, facts) {
+            known.learn(alloc, keys, facts, named.as_str(), suffix);
+        }
+    }
+}
+
 // Tells the service what was found. `REFUSED` if a path is left to open.
 fn tell(
     alloc: Global,
@@ -49,6 +73,8 @@ fn tell(
         return Err(Failure::Refused);
     }
     files.service.store.entries = Vec::from_slice(alloc, found)?;
+    let store = &mut files.service.store;
+    learn_files(alloc, &mut store.known, &store.keys, &named, found, now);
     files.service.store.named = named;
     files.service.store.time = now;
     files.service.left = if is_last { 1 } else { 2 };

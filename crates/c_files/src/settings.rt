@@ -3,6 +3,7 @@ ghost use Rattle.std.specs.Prelude.{IfOk};
 ghost use Rattle.c_files.specs.Opening.{IsDividerOf, IsNew, IsSettingsOf};
 
 use crate::held::HeldFiles;
+use crate::known::KnownFiles;
 use crate::store::Found;
 use c_decisions::{optional_value, values_of};
 use c_parts::{Failure, HashKeys};
@@ -73,10 +74,12 @@ pub fn new_files(
                 time: 0,
                 named: None,
                 entries: Vec::new(alloc),
+                known: KnownFiles::new(alloc)?,
             },
             site,
             left: 0,
             source: None,
+            date: None,
         },
     })
 }

@@ -3,12 +3,13 @@ ghost use Rattle.std.specs.Prelude.{◌≡◌, IfOk, option_map, string_bytes};
 ghost use Rattle.c_files.specs.Entries.{entry_from, file_of, place_at, place_of, suffix_of};
 
 use crate::entry::Facts;
+use crate::known::KnownFiles;
 use crate::tag::tag_of;
 use bytes::Bytes;
 use c_parts::HashKeys;
 use http::Request;
 use server_connection::ResponsePlan as Response;
-use server_service::{Coding, Entry, File, FileStore, Opened, Reader, Source, media_type_at};
+use server_service::{Coding, Entry, File, FileStore, Opened, Reader, Source};
 use std::alloc::{AllocError, Global};
 
 /// What the host found at the paths of one request, and when.
@@ -22,6 +23,8 @@ pub struct Found {
     pub named: Option<String>,
     /// What is there, and at its precompressed copies, in this order: `.br`, `.gz`.
     pub entries: Vec<Facts>,
+    /// What was made of files before.
+    pub known: KnownFiles,
 }
 
 // What follows a path in another one that begins with it.
@@ -57,14 +60,14 @@ impl Found {
     ) -> Result<File, AllocError>
         ensures { IfOk result (λ file. file ≡ file_of self.now.keys self.now.time path.now place facts.now) }
     {
-        let tag = tag_of(alloc, &self.keys, self.time, facts)?;
+        let tag = tag_of(alloc, &self.known, &self.keys, self.time, facts)?;
         Ok(File {
             source: Source::Opened(Opened {
                 reader: Reader::Caller(place),
                 len: facts.length,
                 tag,
             }),
-            media_type: media_type_at(alloc, path)?,
+            media_type: self.known.media_type(alloc, path, facts)?,
             modified: facts.modified(),
             coding: Coding::Identity,
         })

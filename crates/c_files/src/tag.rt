@@ -6,14 +6,15 @@ ghost use Rattle.server_files.specs.Tags.{content_digest, strong_tag};
 ghost use Rattle.c_files.specs.Tags.{is_unchanged, stamp_of, tag_of};
 
 use crate::entry::Facts;
+use crate::known::KnownFiles;
 use bytes::Bytes;
 use c_parts::HashKeys;
 use headers::ETag;
 use server_files::Kept;
 use std::alloc::{AllocError, Global};
 
-// A file that changed fewer seconds ago may change again without another time.
-fn is_unchanged(now: u64, facts: &Facts) -> bool
+/// A file that changed fewer seconds ago may change again without another time.
+pub(crate) fn is_unchanged(now: u64, facts: &Facts) -> bool
     ensures { result ≡ is_unchanged now facts.now }
 {
     now.saturating_sub(facts.changed) > 2
@@ -41,8 +42,8 @@ fn stamp_of(alloc: Global, keys: &HashKeys, facts: &Facts) -> Result<Vec<u8>, Al
     Ok(bytes)
 }
 
-// The strong tag that says the digest of that.
-fn stamp_tag(alloc: Global, keys: &HashKeys, facts: &Facts) -> Result<ETag, AllocError>
+/// The strong tag that says the digest of that.
+pub(crate) fn stamp_tag(alloc: Global, keys: &HashKeys, facts: &Facts) -> Result<ETag, AllocError>
     ensures { IfOk result (λ tag. tag ≡ plain_value (strong_tag (content_digest (stamp_of keys.now facts.now)))) }
 {
     let stamp = stamp_of(alloc, keys, facts)?;
@@ -53,6 +54,7 @@ fn stamp_tag(alloc: Global, keys: &HashKeys, facts: &Facts) -> Result<ETag, Allo
 /// The tag of a file. None if it changed of late.
 pub(crate) fn tag_of(
     alloc: Global,
+    known: &KnownFiles,
     keys: &HashKeys,
     now: u64,
     facts: &Facts,
@@ -60,7 +62,7 @@ pub(crate) fn tag_of(
     ensures { IfOk result (λ tag. tag ≡ tag_of keys.now now facts.now) }
 {
     if is_unchanged(now, facts) {
-        let tag = stamp_tag(alloc, keys, facts)?;
+        let tag = known.tag(alloc, keys, facts)?;
         Ok(Some(tag))
     } else {
         Ok(None)

@@ -7,6 +7,7 @@ ghost use Rattle.server_files.specs.Path.{is_name_byte, is_plain, names_folder, 
 
 use percent_encoding::percent_decode;
 use std::alloc::{AllocError, Global};
+use std::borrow::CowSlice;
 
 fn is_name_byte(byte: u8) -> bool
     ensures { result ≡ is_name_byte byte }
@@ -68,9 +69,10 @@ fn is_rooted(path: &[u8]) -> bool
 fn decoded_bytes(alloc: Global, encoded: &[u8]) -> Result<Vec<u8>, AllocError>
     ensures { IfOk result (λ bytes. bytes.items ≡ percent_decode encoded.now) }
 {
-    let mut bytes = Vec::new(alloc);
-    percent_decode(encoded).append_to(&mut bytes)?;
-    Ok(bytes)
+    match percent_decode(encoded).into_cow(alloc)? {
+        CowSlice::Borrowed(bytes) => Vec::from_slice(alloc, bytes),
+        CowSlice::Owned(bytes) => Ok(bytes),
+    }
 }
 
 // A text, percent-decoded. `None` if that isn't UTF-8.

@@ -4,6 +4,7 @@ ghost use Rattle.server_service.specs.Stores.{ListsOwn};
 ghost use Rattle.server_program.specs.Entries.{entry_for, is_missing};
 
 use crate::kept::KeptFiles;
+use crate::log::{log_line, rejection_line};
 use crate::names::names_in;
 use crate::place::InnerPath;
 use crate::stamp::Stamp;
@@ -11,7 +12,6 @@ use bytes::Bytes;
 use headers::{Date, ETag, HeaderValue, LastModified, Refused};
 use http::{Request, StatusCode};
 use server_connection::ResponsePlan as Response;
-use server_log::{log_line, rejection_line};
 use server_service::{
     Coding, Entry, File, FileStore, Kept, Listing, Opened, Reader, Source, folder_of, media_type_at,
 };

@@ -4,6 +4,8 @@
 mod cors;
 mod folder;
 mod kept;
+mod laws;
+mod log;
 mod names;
 mod options;
 mod pages;
@@ -183,6 +185,7 @@ fn serve(
         site: Site::new(rt.alloc(), settings)?,
         left: requests,
         source: None,
+        date: None,
     };
     let (mut reader, mut writer) = (rt.stdin(), rt.stdout());
     match serve_store(

@@ -1,47 +1,21 @@
 //! The fields of a response.
-ghost use Rattle.std.specs.Prelude.{◌≡◌, ◌≤◌, false, true, [], ◌∷◌, ◌++◌, IfOk, OnErr, OnOk, bytes_eq};
+ghost use Rattle.std.specs.Prelude.{◌≡◌, ◌≤◌, false, true, ◌∷◌, ◌++◌, [], IfOk, OnErr, OnOk, bytes_eq};
 ghost use Rattle.std.specs.List.{list_all, list_any};
 ghost use Rattle.headers.specs.LineMap.{field_of, fields_of as encoded_fields};
 ghost use Rattle.headers.specs.Text.{trim};
 ghost use Rattle.http_server.specs.Response.{fields};
 ghost use Rattle.httparse.specs.Grammar.{is_ows};
-ghost use Rattle.server_service.specs.Answer.{closing_fields, date_fields, date_of, sniff_field};
+ghost use Rattle.server_service.specs.Answer.{closing_fields, sniff_field};
 ghost use Rattle.server_service.specs.Response.{fields_of, headers_of, headers_sent, headers_set};
 ghost use Rattle.server_service.specs.Response.{is_bare, is_bare_line, is_kept, is_line, is_named, lines_under};
 ghost use Rattle.server_service.specs.Response.{lines_unless, trimmed_line, trimmed_lines};
 
-use headers::{Date, Encoded, HeaderName, HeaderValue, encoding};
+use headers::{Encoded, HeaderName, HeaderValue};
 use headers_syntax::trim;
 use http_header::{CONNECTION, X_CONTENT_TYPE_OPTIONS};
 use server_connection::ResponsePlan as Response;
 use std::alloc::{AllocError, Global};
 use std::mem::replace;
-
-/// The date of a time, if there is a clock and its year has four digits.
-pub(crate) fn date_of(now: Option<u64>) -> Option<Date>
-    ensures { result ≡ date_of now }
-{
-    match now {
-        Some(seconds) if seconds < 253_402_300_800 => Some(Date::from_unix_secs(seconds)),
-        _ => None,
-    }
-}
-
-/// Adds a date, if there is one.
-pub(crate) fn put_date(
-    alloc: Global,
-    response: &mut Response,
-    date: &Option<Date>,
-) -> Result<(), AllocError>
-    requires { fields_of response.old ≡ [] }
-    ensures headers { OnOk result (fields_of response.new ≡ date_fields date.now) }
-    ensures pieces { response.new.pieces.items ≡ response.old.pieces.items }
-{
-    match date {
-        Some(date) => add_field(response, encoding(alloc, date)?),
-        None => Ok(()),
-    }
-}
 
 /// Tells browsers to take the response for what its media type says.
 pub(crate) fn put_sniff(response: &mut Response) -> Result<(), AllocError>
@@ -90,8 +64,8 @@ fn is_named(name: &HeaderName, fields: &[Encoded]) -> bool
     any_named(name, fields)
 }
 
-// Adds the field lines of a field.
-fn add_copy(response: &mut Response, field: &Encoded) -> Result<(), AllocError>
+/// Adds the field lines of a field.
+pub(crate) fn add_copy(response: &mut Response, field: &Encoded) -> Result<(), AllocError>
     ensures headers { OnOk result
         (fields_of response.new ≡ fields_of response.old ++ lines_under (field_of field.now)) }
     ensures status { response.new.status ≡ response.old.status }

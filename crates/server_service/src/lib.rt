@@ -6,6 +6,7 @@ mod answer;
 mod asked;
 mod cache;
 mod connection;
+mod date;
 mod fields;
 mod file;
 mod found;
@@ -21,6 +22,7 @@ mod source;
 mod store;
 
 pub use crate::connection::serve_store;
+pub use crate::date::KnownDate;
 pub use crate::file::{Entry, File, media_type_at};
 pub use crate::memory::Memory;
 pub use crate::service::FileService;

@@ -223,7 +223,7 @@ pub(crate) fn representations_of(
 ) -> Result<Vec<Representation>, AllocError>
     ensures { IfOk result (λ made. made.items ≡ map (representation_of present) files.now) }
 {
-    let mut made = Vec::new(alloc);
+    let mut made = Vec::with_capacity(alloc, files.len())?;
     for file in files {
         let representation = representation_of(alloc, present, file)?;
         made.push(representation)?;

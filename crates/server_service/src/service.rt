@@ -10,7 +10,8 @@ ghost use Rattle.server_service.specs.Response.{is_bare_tag};
 use crate::answer::decide;
 use crate::asked::{asked, authority_of};
 use crate::cache::put_cache_control;
-use crate::fields::{add_fields, date_of, put_closing, put_date, put_sniff, trim_values};
+use crate::date::{KnownDate, date_of, put_date};
+use crate::fields::{add_fields, put_closing, put_sniff, trim_values};
 use crate::file::File;
 use crate::found::{Found, look_up};
 use crate::multipart::{extent_of, push_parts};
@@ -42,6 +43,8 @@ pub struct FileService<S: FileStore> {
     pub left: u64,
     /// What the ranges of the last response are read from, if it has any.
     pub source: Option<Source>,
+    /// The date of the last response, if it had one.
+    pub date: Option<KnownDate>,
 }
 
 // Puts the pieces that a plan sends.
@@ -226,7 +229,7 @@ impl<S: FileStore> Handler for FileService<S> {
     fn plan(&mut self, request: &Request<Bytes>, plan: &mut Response) -> Result<(), AllocError> {
         let alloc = self.alloc;
         let date = date_of(self.store.now());
-        put_date(alloc, plan, &date)?;
+        put_date(alloc, &mut self.date, plan, &date)?;
         put_sniff(plan)?;
         put_closing(plan, self.left)?;
         self.left = self.left.saturating_sub(1);

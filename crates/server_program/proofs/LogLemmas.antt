@@ -4,7 +4,7 @@ use Rattle.std.{proofs.lemmas.Bool.Decides.nat_tests, proofs.lemmas.List.Element
 use Rattle.std.{proofs.lemmas.List.Sums.AllPass-from_list_all, specs.List.list_all, specs.Prelude.{All, codes}}
 use Rattle.std.specs.Prelude.{if◌then◌else◌, slice_index}
 use Rattle.hex.specs.Hex.{encode_lower, encode_with, lower_digits}
-use Rattle.server_log.specs.Log.{is_plain_byte, is_quotable, logged, logged_byte}
+use Rattle.server_program.specs.Log.{is_plain_byte, is_quotable, logged, logged_byte}
 
 digit : (n : ℕ) → n < 16 → is_quotable (slice_index lower_digits n) ≡ true
 digit n below = AllPass-from_list_all is_quotable lower_digits refl n 0 below

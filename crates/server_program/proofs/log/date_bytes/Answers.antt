@@ -2,7 +2,7 @@ use Rattle.std.proofs.Common.{sym, ◌∙◌, ap}
 use Rattle.httpdate.specs.Valid.{IsValid}
 use Rattle.headers.specs.Date.{fixdate}
 use Rattle.headers_syntax.proofs.DateLemmas.{fixdate-is}
-use Rattle.server_log.proofs.log.date_bytes.Goals as goal
+use Rattle.server_program.proofs.log.date_bytes.Goals as goal
 
 pub returns : goal.returns
 returns c =

@@ -1,12 +1,12 @@
-//! Lines of an access log.
+//! Lines of an access log, in the combined format. What a client chose can't break a line.
 ghost use Rattle.std.specs.Prelude.{◌≡◌, ◌++◌, IfOk, OnOk, decimal, option_copied};
 ghost use Rattle.http.specs.Request.{head_of};
 ghost use Rattle.headers.{specs.Date.fixdate, specs.LineMap.lines_at};
 ghost use Rattle.server_connection.specs.Encoding.{content_len};
-ghost use Rattle.server_log.specs.Log.{IsLogLine, IsProtocol, first_of, is_plain_byte, is_quotable, log_answered};
-ghost use Rattle.server_log.specs.Log.{log_asked, log_end, log_front, log_rejection, log_request, log_size, log_time};
-ghost use Rattle.server_log.specs.Log.{logged, logged_byte};
 ghost use Rattle.server_files.specs.Redirect.{query_text};
+ghost use Rattle.server_program.specs.Log.{IsLogLine, IsProtocol, first_of, is_plain_byte, is_quotable, log_answered};
+ghost use Rattle.server_program.specs.Log.{log_asked, log_end, log_front, log_rejection, log_request, log_size};
+ghost use Rattle.server_program.specs.Log.{log_time, logged, logged_byte};
 
 use bytes::Bytes;
 use headers::{Date, HeaderMap, HeaderName};

@@ -1,6 +1,6 @@
 use Rattle.std.proofs.Common.{◌≡◌, ◌++◌, take}
-use Rattle.server_log.specs.Log.{logged}
-use Rattle.server_log.proofs.log.push_logged.Given as goal
+use Rattle.server_program.specs.Log.{logged}
+use Rattle.server_program.proofs.log.push_logged.Given as goal
 
 abbrev pub invariant-loop-byte : goal.invariant-loop-byte
 invariant-loop-byte l =

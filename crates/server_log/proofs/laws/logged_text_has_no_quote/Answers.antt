@@ -1,5 +1,0 @@
-use Rattle.server_log.proofs.LogLemmas.{no_quote}
-use Rattle.server_log.proofs.laws.logged_text_has_no_quote.Goals as goal
-
-pub returns : goal.returns
-returns c = no_quote
