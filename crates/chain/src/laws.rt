@@ -21,9 +21,10 @@ use decide_resource::laws::{
 };
 
 /// Theorem: gateways are invisible to a resource. What any number of gateways forward gets exactly
-/// the answers that the client's request would get if the client sent it itself, without the fields
-/// for its connection to the first gateway. So no gateway changes what is selected, which
-/// preconditions are true, or which origins may read the answer.
+/// the answers that the client's request would get if the client sent it itself: in HTTP/1.1, for the
+/// host of its target, and without the fields for its connection to the first gateway. The server has
+/// to deny both alike. So no gateway changes what is selected, which preconditions are true, or which
+/// origins may read the answer.
 pub fn gateways_are_invisible()
     ensures { (present : ℕ) (resource : Resource) (gateway : Gateway) (gateways : List Gateway)
         (request last : Request) (answer : Answer) → Reaches (gateway ∷ gateways) request last
@@ -33,9 +34,9 @@ pub fn gateways_are_invisible()
     other_fields_change_nothing();
 }
 
-/// Theorem: the field lines of a response reach the client through any gateways as the server sent
-/// them, in order, if the server sends no connection option. This holds for each name of letters,
-/// digits and dashes that no gateway writes itself, and that isn't for one connection.
+/// Theorem: the field lines of a response reach the client as the server sent them, in order, through
+/// any gateways that forward it, if the server sends no connection option. This holds for each name of
+/// letters, digits and dashes that no gateway writes itself, and that isn't for one connection.
 #[tactic(auto, using(crate::proofs::ResponseLemmas::unchanged))]
 pub fn responses_return_unchanged()
     ensures { (gateways : List Gateway) (response last : Response) (name : List ℕ)
@@ -72,10 +73,11 @@ pub fn client_gets_the_answer()
 }
 
 /// Theorem: a stored answer that a cache uses for a request is the resource's answer to it. If a
-/// resource answers two requests with the same version, method, target, Host, Expect, content,
-/// conditions, Range and denial, and a cache that has stored the first answer uses it for the second
-/// request by method and Vary (RFC 9111, sections 4 and 4.1), then both answers are the same. A cache
-/// may compare the members of Accept and similar fields, and not their field lines.
+/// resource, in one state and at one time, answers two requests with the same version, method, target,
+/// Host, Expect, content, conditions, Range and denial, and a cache that has stored the first answer
+/// uses it for the second request by method and Vary (RFC 9111, sections 4 and 4.1), then both answers
+/// are the same. A cache may compare the members of Accept and similar fields, and not their field
+/// lines.
 pub fn stored_answer_is_the_answer()
     ensures { (present : ℕ) (resource : Resource) (r s : Request) (a b : Answer) (before : LineMap)
         → IsAnswer present resource r a → IsAnswer present resource s b → AreAlike r s
@@ -86,13 +88,15 @@ pub fn stored_answer_is_the_answer()
 }
 
 /// Theorem: what a client gets through any gateways and caches is what the resource says about its
-/// request, or what one of them answers by itself. It left the server when the resource said it, or
-/// later a cache on the way that finds it good enough for this request: by its policy, its bound of
-/// guesses and the Date that the client gets it is fresh, or each directive allows it stale, and
-/// `stale-if-error` only if those behind that cache fail. Age is short of the time between by at
-/// most a second for each cache. The status, the content and each field that neither a gateway nor a
-/// cache writes are the server's. An answer of their own has no content, no such field, and a reason:
-/// a rejected request or response, no stored response where the request wants one, or no answer.
+/// request, or what one of them answers by itself. It left the server when the resource said it. Or
+/// later it left a cache on the way, which found it good enough for a request with this method and
+/// Cache-Control: by its policy, its bound of guesses and the Date that the client gets it was fresh,
+/// or each directive allowed it stale; `stale-if-error` only if those behind that cache failed. Age,
+/// below 2^64 - 1, is short of the time between by at most a second for each cache. The status, the
+/// content and each carried field are the server's. A field is carried if its name has letters, digits
+/// and dashes alone and isn't Close, if it isn't for one connection, and if neither a gateway nor a
+/// cache writes it. An answer of their own has no content, no carried field, and a reason: a rejected
+/// request or response, no stored response where the request wants one, or no answer.
 pub fn client_gets_what_the_resource_says()
     ensures { (site : List ℕ → Server) (silent : List Hop → ℕ → Bool) (hops : List Hop) (start now : ℕ)
         (target : List ℕ) (request : Request) (reply : Reply) → behind site silent hops start now target request reply
@@ -131,8 +135,9 @@ pub fn key_is_of_one_target()
 
 /// Theorem: a shared cache serves nothing that is for one client. What it serves from its store
 /// isn't `private`, by what governs the response under the policy of the cache: without targeted
-/// fields its Cache-Control. It is the content of an answer to some request without Authorization,
-/// or of one that allows that others get it (RFC 9111, sections 3.5 and 5.2.2.7).
+/// fields its Cache-Control. Its content came to the cache as the answer to some request, or it has
+/// none, for a HEAD. If that request had Authorization, what is served allows that others get it (RFC
+/// 9111, sections 3.5 and 5.2.2.7).
 pub fn shared_caches_serve_nothing_private()
     ensures private { (site : List ℕ → Server) (silent : List Hop → ℕ → Bool) (hops : List Hop) (caching : Caching)
         (start now : ℕ) (target : List ℕ) (request : Request) (reply : Reply) → caching.policy.kind ≡ Shared

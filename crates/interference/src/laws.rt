@@ -41,8 +41,8 @@ pub fn only_what_may_be_shared_is_shared()
 /// Theorem: noninterference. In two runs with the same schedule, clients whom the origin server
 /// answers the same are told the same: the same contents, heads, dates and versions, in the same
 /// order, so that they also go on asking the same. The requests of the others may differ in the
-/// values of secret fields, but both have Authorization, or neither; and the answers to them in all
-/// that may not be stored, if no answer that may be stored varies by a secret field.
+/// values of secret fields, but both have Authorization, or neither; and the answers to these requests
+/// may differ where neither may be stored. No answer that may be stored may vary by a secret field.
 pub fn clients_learn_nothing_of_secrets()
     ensures { (watches : ℕ → Bool) (secret : List ℕ → Bool) (origin other : Origin) (clients others : Clients)
         (events : List Event) (client : ℕ) → DifferInSecrets watches secret clients others

@@ -148,9 +148,9 @@ pub fn response_is_shared_by_the_policy()
     answer_is_shared_by_rules();
 }
 
-/// Theorem: the bytes of `GET / HTTP/1.1`, `Host: a.example` and an empty line are one request, and
-/// a connection that reads a request from them gets a GET of the root, without content. HEAD is read
-/// in the same way.
+/// Theorem: a connection that reads a request from the bytes of `GET / HTTP/1.1`, `Host: a.example` and
+/// an empty line gets a GET of the root, without content, and no byte is left. HEAD is read in the
+/// same way. The bytes with GET are a request wherever a head may have 35 bytes.
 pub fn literal_requests_are_read()
     ensures get { (config : Config) (message : Wire.Request) (request : Request (List ℕ)) (rest : List ℕ)
         → ReadsCall config (request_text (codes "GET")) message request rest
@@ -163,8 +163,9 @@ pub fn literal_requests_are_read()
 {}
 
 /// Theorem: a store of one file, `index.html`, in a site without options answers a GET of the root by
-/// 200 with exactly these fields in this order. All of the file is sent, and of bytes in memory
-/// exactly these.
+/// 200. Its fields are exactly, in this order, Date if there is a clock, X-Content-Type-Options,
+/// `Connection: close` if it is the last response, and those of the file. All of the file is sent, and
+/// of bytes in memory exactly these.
 pub fn get_of_root_gets_the_file()
     ensures { (now : Option ℕ) (left : ℕ) (settings : Settings) (site : Site) (store : Memory)
         (request : Request (List ℕ)) (response : ResponsePlan) (source : Option Source)
@@ -174,8 +175,9 @@ pub fn get_of_root_gets_the_file()
         × IsWhole now left site file response source × SendsContent file response source }
 {}
 
-/// Theorem: the head of a 200 with these fields, literally as it is written. It answers a request of
-/// HTTP/1.1 that lets the connection stay open, if it is a response that `http1` sends.
+/// Theorem: the head of a 200 with Date if there is a clock, X-Content-Type-Options, ETag,
+/// Accept-Ranges, Content-Length and Content-Type, literally as it is written. It answers a request of
+/// HTTP/1.1 that lets the connection stay open and isn't CONNECT, if `http1` sends it.
 pub fn ok_is_written_out()
     ensures { (limits : Limits) (head : RequestHead) (framing : Framing) (plan : ResponsePlan) (now : Option ℕ)
         (tag media_type : List ℕ) → plan.status ≡ 200 → content_len plan < 2 ^ 64
@@ -186,9 +188,9 @@ pub fn ok_is_written_out()
         → head_text (answering limits head framing) plan ≡ ok_text now tag (content_len plan) media_type }
 {}
 
-/// Theorem: what the connection puts around the content of a 200 with these fields, literally: before it
-/// that head, to which it adds no field, and after it nothing. The fields state the content's length, and
-/// the request is one of HTTP/1.1 that lets the connection stay open.
+/// Theorem: what the connection puts around the content of a 200 with the fields of `ok_is_written_out`,
+/// literally: before it that head, to which it adds no field, and after it nothing. The fields state the
+/// content's length, and the request is one of HTTP/1.1 that lets the connection stay open.
 pub fn ok_is_framed_literally()
     ensures { (limits : Limits) (head : RequestHead) (framing : Framing) (plan : ResponsePlan) (server : Server)
         (now : Option ℕ) (tag media_type before tail after rest : List ℕ) → IsOk now tag media_type plan
@@ -208,9 +210,10 @@ pub fn ok_is_put_out_literally()
         × (x.tail ≡ []) }
 {}
 
-/// Theorem: `http1` sends each response with a final status whose field lines are valid, have no
-/// white space at their ends, and state the content's length once, or not at all. So a 500 never
-/// takes the place of such a response.
+/// Theorem: `http1` sends each response with a status of 200 to 999 whose field lines are valid, have
+/// no white space at their ends and no Transfer-Encoding, and state the content's length once, or not
+/// at all. Left out are 205, success to CONNECT, and 204 and 304 with a content or a length. So a 500
+/// never takes the place of such a response to a request of HTTP/1.0 or 1.1.
 pub fn ordinary_responses_are_sent()
     ensures { (limits : Limits) (head : RequestHead) (framing : Framing) (plan : ResponsePlan) (stated : Bool)
         → content_len plan < 2 ^ 64 → head.minor ≤ 1 → is_field_value (reason_of plan.status) ≡ true
@@ -233,9 +236,11 @@ pub fn answers_are_sendable()
         (plan_size response) (plan_fields response) ≡ None }
 {}
 
-/// Theorem: a connection of such a server that receives that GET alone, and ends without an error, has
-/// sent literally the head of a 200 with exactly these fields in this order, and the content of the
-/// file, which has no date. A client reads it, whole, as that response.
+/// Theorem: a connection of a server of one file, `index.html`, without options, that receives the GET of
+/// `literal_requests_are_read` alone, and ends without an error, has sent literally the head of
+/// `ok_is_written_out` and the content of the file. A client with room for this head reads it, whole, as
+/// that response. The file has no date, the head of a request may have 35 bytes, and the request isn't
+/// the last that the connection may have.
 pub fn get_is_answered_by_the_file()
     ensures { (config : Config) (settings : Settings) (first now : FileService Memory) (sent : List ℕ)
         → 35 ≤ config.limits.max_head_len → IsSiteOf settings first.site → HasNoOptions settings

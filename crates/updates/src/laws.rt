@@ -72,8 +72,8 @@ pub fn clients_read_their_writes()
         → Throughout StoresNoneFromBefore events (start first) → ReadsOlder (run events (start first)) → ⊥ }
 {}
 
-/// Theorem: what was performed stays performed, in the same order: later changes come before it. So of two
-/// PUTs, one of which was answered before the other was sent, that one comes first.
+/// Theorem: what was performed stays performed, in the same order: later changes come before it in the list. So a
+/// change that was made before a PUT was sent is older than each change that this PUT makes.
 #[tactic(auto, using(crate::proofs::Steps::run_keeps))]
 pub fn changes_are_kept()
     ensures { (events : List Event) (world : World)
