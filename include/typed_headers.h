@@ -1198,8 +1198,8 @@ uint8_t typed_headers_format_etag(bool is_weak, const uint8_t *opaque, size_t op
                                   size_t room_length, size_t *written);
 
 /*
- * What the preconditions of a request come to (RFC 9110, section 13.2.2): `*answer` is 0 if the method is to be
- * performed, 304 or 412. Of the section the fields If-Match, If-None-Match, If-Modified-Since and If-Unmodified-Since
+ * Whether the preconditions of a request let its method be performed (RFC 9110, section 13.2.2): `*answer` is 0 if they
+ * do, else 304 or 412. Of the section the fields If-Match, If-None-Match, If-Modified-Since and If-Unmodified-Since
  * count. A server asks this once it would otherwise answer with success, and before it performs the method.
  *
  * Refused: the method is no token, a line of the section before the first empty one is no field, `target->etag` is no
