@@ -96,7 +96,9 @@ pub fn stored_answer_is_the_answer()
 /// content and each carried field are the server's. A field is carried if its name has letters, digits
 /// and dashes alone and isn't Close, if it isn't for one connection, and if neither a gateway nor a
 /// cache writes it. An answer of their own has no content, no carried field, and a reason: a rejected
-/// request or response, no stored response where the request wants one, or no answer.
+/// request or response, no stored response where the request wants one, or no answer. It is no
+/// statement about a program: a server's content depends on neither the host nor who asks, no cache
+/// validates or serves ranges, and nothing is said of methods that a server performs.
 pub fn client_gets_what_the_resource_says()
     ensures { (site : List ℕ → Server) (silent : List Hop → ℕ → Bool) (hops : List Hop) (start now : ℕ)
         (target : List ℕ) (request : Request) (reply : Reply) → behind site silent hops start now target request reply
