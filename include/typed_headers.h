@@ -860,7 +860,7 @@ enum typed_headers_disposition {
 
 /* Forms of fields whose values have parts. */
 enum typed_headers_form {
-    /* A list of elements with parameters, as of `accept`, `te` and `forwarded` (RFC 9110, section 5.6.6). */
+    /* A list of elements with parameters, as of `accept` and `te` (RFC 9110, section 5.6.6). */
     TYPED_HEADERS_ELEMENTS = 0,
     /* As of `www-authenticate` (RFC 9110, section 11.6.1). */
     TYPED_HEADERS_CHALLENGES = 1,
@@ -873,8 +873,40 @@ enum typed_headers_form {
      * the attributes aren't what that demands.
      */
     TYPED_HEADERS_SET_COOKIES = 3,
-    /* Values with parameters that no comma separates, as of `content-disposition` (RFC 6266, section 4.1). */
-    TYPED_HEADERS_VALUES = 4
+    /*
+     * As of `content-disposition` (RFC 6266, section 4.1): no comma separates two, and the type is in lower case. It is
+     * malformed if it is no token.
+     */
+    TYPED_HEADERS_DISPOSITIONS = 4,
+    /*
+     * As of `forwarded` (RFC 7239, section 4): pairs. An element is malformed if something else is in it, if it has a
+     * name twice, in any case, or if it has more than 100 pairs.
+     */
+    TYPED_HEADERS_HOPS = 5,
+    /*
+     * As of `cache-status` (RFC 9211, section 2): the name of a cache, which is a string or a token, and parameters by
+     * their types (RFC 8941, section 3.3): `i` an integer, `n` what is true, `f` what is false, `p` a string, `t` a
+     * token, `o` another value. Of two of a name the last counts.
+     */
+    TYPED_HEADERS_CACHES = 6
+};
+
+/* How a parameter is written. */
+enum typed_headers_parameter {
+    /*
+     * As a token or a quoted-string if the text is spaces and visible ASCII (RFC 9110, section 5.6.6), else with a name
+     * that ends in `*` (RFC 8187). The text is in UTF-8.
+     */
+    TYPED_HEADERS_PARAMETER_EXTENDED = 0,
+    /* As a token or a quoted-string. */
+    TYPED_HEADERS_PARAMETER_PLAIN = 1,
+    /* As a quoted-string. */
+    TYPED_HEADERS_PARAMETER_QUOTED = 2,
+    /*
+     * As a challenge has it: `realm` (RFC 9110, section 11.5), `domain`, `nonce`, `opaque` and `qop` (RFC 7616, section
+     * 3.3) as a quoted-string, others as a token or a quoted-string.
+     */
+    TYPED_HEADERS_PARAMETER_IN_CHALLENGE = 3
 };
 
 /*
@@ -1629,8 +1661,9 @@ uint8_t typed_headers_has_member(const uint8_t *lines, size_t lines_length, cons
  * alone, `p` a name, `=` and what its value means, without quotes, `s` the scheme of a challenge, `k` the token68 that
  * may follow it; `!` is what is malformed. Parameters are those of RFC 9110, section 5.6.6. A cookie has its name and
  * value, what its attributes mean (RFC 6265, section 5.2), its other attributes, and `r` for what browsers reject it
- * by. An empty line ends each element, challenge, link, cookie and value. Refused: `form` is none, or a line can't be
- * one.
+ * by. Behind the parameters of a link are the relation types of its first `rel`, each in lower case as `l` (RFC 8288,
+ * section 3.3). An empty line ends each element, challenge, link, cookie, disposition, hop and cache. Refused: `form`
+ * is none, or a line can't be one.
  */
 uint8_t typed_headers_field_parts(uint8_t form, const uint8_t *lines, size_t lines_length, uint8_t *room,
                                   size_t room_length, size_t *written);
@@ -1644,11 +1677,11 @@ uint8_t typed_headers_extended_text(const uint8_t *value, size_t value_length, u
                                     size_t *written);
 
 /*
- * The parameter of a name for a text in UTF-8: a token or a quoted-string if it is spaces and visible ASCII (RFC 9110,
- * section 5.6.6), else one whose name ends in `*` (RFC 8187). Refused: the name is no token, or the text isn't UTF-8.
- * Memory: they are valid.
+ * The parameter of a name for a text. `kind` is one of `typed_headers_parameter`. Refused: `kind` is none, the name is
+ * no token, the text of an extended one isn't UTF-8, or that of another has a byte that no field value has. Memory:
+ * they are valid.
  */
-uint8_t typed_headers_format_parameter(const uint8_t *name, size_t name_length, const uint8_t *text,
+uint8_t typed_headers_format_parameter(uint8_t kind, const uint8_t *name, size_t name_length, const uint8_t *text,
                                        size_t text_length, uint8_t *room, size_t room_length, size_t *written);
 
 /* ---- sections and policies: what several calls are asked of is parsed once, behind a handle. Since 2.0. ---- */
@@ -2108,6 +2141,13 @@ uint8_t typed_headers_gate_field(struct typed_headers_gate *gate, const uint8_t 
 /* Its field lines as received, each with a LF. Absent also: there is no request. Memory: it has a field. */
 uint8_t typed_headers_gate_fields(struct typed_headers_gate *gate, uint8_t *room, size_t room_length,
                                   size_t *written);
+
+/*
+ * Whether (1 or 0) the request that waits or is passed on is for this host, in any case and at any port, and below this
+ * path. An empty host is each one. Absent also: there is no request.
+ */
+uint8_t typed_headers_gate_is_for(struct typed_headers_gate *gate, const uint8_t *host, size_t host_length,
+                                  const uint8_t *path, size_t path_length, uint8_t *answer);
 
 /*
  * Sends these If-None-Match and If-Modified-Since in place of its own, as a cache that validates does. Refused: a line

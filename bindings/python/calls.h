@@ -299,8 +299,8 @@ CALL(field_parts, MAY(REFUSED) | MAY(ABSENT) | MAY(NO_MEMORY), (at[0].u8, FIELD(
      OF_KIND(NUMBER, U8), PLAIN(LINES), PLAIN(ROOM_OF_BYTES))
 CALL(extended_text, MAY(REFUSED) | MAY(NO_MEMORY), (TEXT_OF(at[0]), ROOM(at[1])), PLAIN(GIVEN_TEXT),
      PLAIN(ROOM_OF_BYTES))
-CALL(format_parameter, MAY(REFUSED) | MAY(NO_MEMORY), (TEXT_OF(at[0]), TEXT_OF(at[1]), ROOM(at[2])),
-     PLAIN(GIVEN_TEXT), PLAIN(GIVEN_TEXT), PLAIN(ROOM_OF_BYTES))
+CALL(format_parameter, MAY(REFUSED) | MAY(NO_MEMORY), (at[0].u8, TEXT_OF(at[1]), TEXT_OF(at[2]), ROOM(at[3])),
+     OF_KIND(NUMBER, U8), PLAIN(GIVEN_TEXT), PLAIN(GIVEN_TEXT), PLAIN(ROOM_OF_BYTES))
 CALL(section_free, 0, (at[0].handle.at), OF_HANDLE(OPENED, section))
 CALL(cors_policy_free, 0, (at[0].handle.at), OF_HANDLE(OPENED, cors_policy))
 CALL(resource_handle_free, 0, (at[0].handle.at), OF_HANDLE(OPENED, resource_handle))
@@ -443,6 +443,8 @@ CALL(gate_field, MAY(REFUSED) | MAY(ABSENT) | MAY(NO_MEMORY), (at[0].handle.at, 
      OF_HANDLE(OPENED, gate), PLAIN(GIVEN_TEXT), PLAIN(ROOM_OF_BYTES))
 CALL(gate_fields, MAY(ABSENT) | MAY(NO_MEMORY), (at[0].handle.at, ROOM(at[1])), OF_HANDLE(OPENED, gate),
      PLAIN(ROOM_OF_BYTES))
+CALL(gate_is_for, MAY(ABSENT), (at[0].handle.at, TEXT_OF(at[1]), TEXT_OF(at[2]), &at[3].u8), OF_HANDLE(OPENED, gate),
+     PLAIN(GIVEN_TEXT), PLAIN(GIVEN_TEXT), OF_KIND(OUT_NUMBER, U8))
 CALL(gate_conditions, MAY(REFUSED) | MAY(ABSENT) | MAY(TOO_LARGE) | MAY(NO_MEMORY), (at[0].handle.at, TEXT_OF(at[1]),
      &keys), OF_HANDLE(OPENED, gate), PLAIN(GIVEN_TEXT))
 CALL(gate_forward, MAY(ABSENT), (at[0].handle.at, at[1].handle.at), OF_HANDLE(OPENED, gate),
@@ -498,7 +500,7 @@ enum { MOST_SLOTS = 9 };
     METHOD(gate_free), METHOD(gate_origin_free), METHOD(gate_rules_new), METHOD(gate_new), METHOD(gate_origin_new), \
     METHOD(gate_next), METHOD(gate_receive), METHOD(gate_finish), METHOD(gate_output), METHOD(gate_sent), \
     METHOD(gate_clock), METHOD(gate_timed_out), METHOD(gate_close_after), METHOD(gate_method), METHOD(gate_target), \
-    METHOD(gate_authority), METHOD(gate_key), METHOD(gate_field), METHOD(gate_fields), METHOD(gate_conditions), \
-    METHOD(gate_forward), METHOD(gate_again), METHOD(gate_answer), METHOD(gate_respond), METHOD(gate_push), \
-    METHOD(gate_end), METHOD(gate_response), METHOD(gate_pass), METHOD(gate_piece), METHOD(gate_take), \
-    METHOD(gate_own), METHOD(gate_tunnel), METHOD(gate_ask)
+    METHOD(gate_authority), METHOD(gate_key), METHOD(gate_field), METHOD(gate_fields), METHOD(gate_is_for), \
+    METHOD(gate_conditions), METHOD(gate_forward), METHOD(gate_again), METHOD(gate_answer), METHOD(gate_respond), \
+    METHOD(gate_push), METHOD(gate_end), METHOD(gate_response), METHOD(gate_pass), METHOD(gate_piece), \
+    METHOD(gate_take), METHOD(gate_own), METHOD(gate_tunnel), METHOD(gate_ask)

@@ -2448,7 +2448,7 @@ static void check_parts(const struct row *row, uint8_t form) {
     struct form_call call = {lines(row, 0), form};
     check(row, call_parts, &call, TYPED_HEADERS_DONE, NO_NUMBER,
           is_answer(row, "()") ? EMPTY : joined_words(answer_words(row), 0, "\n", true));
-    call.form = TYPED_HEADERS_VALUES + 1;
+    call.form = TYPED_HEADERS_CACHES + 1;
     check(row, call_parts, &call, TYPED_HEADERS_REFUSED, NO_NUMBER, NO_TEXT);
 }
 
@@ -2463,24 +2463,32 @@ static void check_extended(const struct row *row) {
     }
 }
 
+/* A parameter of a kind. */
+struct parameter_call {
+    struct typed_headers_text text, name;
+    uint8_t kind;
+};
+
 static uint8_t call_parameter(const void *arguments, uint64_t *number, uint8_t *room, size_t room_length,
                               size_t *written) {
-    const struct word_call *call = arguments;
+    const struct parameter_call *call = arguments;
     (void)number;
-    return typed_headers_format_parameter(call->word.bytes, call->word.length, call->lines.bytes, call->lines.length,
-                                          room, room_length, written);
+    return typed_headers_format_parameter(call->kind, call->name.bytes, call->name.length, call->text.bytes,
+                                          call->text.length, room, room_length, written);
 }
 
-/* `parameter NAME TEXT` */
-static void check_parameter(const struct row *row) {
+/* `parameter NAME TEXT` and the like */
+static void check_parameter(const struct row *row, uint8_t kind) {
     const struct word *name = &row->words[0], *text = &row->words[1];
-    struct word_call call = {put(first_area, text->bytes, text->length), put(second_area, name->bytes, name->length),
-                             false};
+    struct parameter_call call = {put(first_area, text->bytes, text->length),
+                                  put(second_area, name->bytes, name->length), kind};
     if (is_answer(row, "(refused)")) {
         check(row, call_parameter, &call, TYPED_HEADERS_REFUSED, NO_NUMBER, NO_TEXT);
     } else {
         check(row, call_parameter, &call, TYPED_HEADERS_DONE, NO_NUMBER, answer_word(row, 0));
     }
+    call.kind = TYPED_HEADERS_PARAMETER_IN_CHALLENGE + 1;
+    check(row, call_parameter, &call, TYPED_HEADERS_REFUSED, NO_NUMBER, NO_TEXT);
 }
 
 /* The typed calls of a row. */
@@ -2503,12 +2511,22 @@ static void check_typed(const struct row *row) {
         check_parts(row, TYPED_HEADERS_LINKS);
     } else if (strcmp(call, "set_cookies") == 0) {
         check_parts(row, TYPED_HEADERS_SET_COOKIES);
-    } else if (strcmp(call, "values") == 0) {
-        check_parts(row, TYPED_HEADERS_VALUES);
+    } else if (strcmp(call, "dispositions") == 0) {
+        check_parts(row, TYPED_HEADERS_DISPOSITIONS);
+    } else if (strcmp(call, "hops") == 0) {
+        check_parts(row, TYPED_HEADERS_HOPS);
+    } else if (strcmp(call, "caches") == 0) {
+        check_parts(row, TYPED_HEADERS_CACHES);
     } else if (strcmp(call, "extended") == 0) {
         check_extended(row);
     } else if (strcmp(call, "parameter") == 0) {
-        check_parameter(row);
+        check_parameter(row, TYPED_HEADERS_PARAMETER_EXTENDED);
+    } else if (strcmp(call, "plain") == 0) {
+        check_parameter(row, TYPED_HEADERS_PARAMETER_PLAIN);
+    } else if (strcmp(call, "quoted") == 0) {
+        check_parameter(row, TYPED_HEADERS_PARAMETER_QUOTED);
+    } else if (strcmp(call, "in_challenge") == 0) {
+        check_parameter(row, TYPED_HEADERS_PARAMETER_IN_CHALLENGE);
     } else if (strcmp(call, "Cookie.get") == 0) {
         check_cookie(row);
     } else if (strcmp(call, "Cookie.decode") == 0) {

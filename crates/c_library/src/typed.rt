@@ -292,15 +292,16 @@ pub extern "C" fn typed_headers_extended_text(
 #[unsafe(no_mangle)]
 pub extern "C" fn typed_headers_format_parameter(
     alloc: Global,
+    kind: u8,
     name: &[u8],
     text: &[u8],
     room: &mut [u8],
     written: &mut usize,
 ) -> u8
-    ensures { Writes (λ parameter. parameter.items) (λ _. done) (WritesParameter name.now text.now)
+    ensures { Writes (λ parameter. parameter.items) (λ _. done) (WritesParameter kind name.now text.now)
         room.old room.new written.old written.new result }
 {
-    match write_parameter(alloc, name, text) {
+    match write_parameter(alloc, kind, name, text) {
         Ok(parameter) => copy_into(parameter.as_slice(), DONE, room, written),
         Err(failure) => failure.status(),
     }

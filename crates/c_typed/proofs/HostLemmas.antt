@@ -1,5 +1,5 @@
 -- The only field line of a header.
-use Rattle.std.{proofs.Common.{◌≡◌, ℕ, List, [], ◌∷◌, Option, Some, None}, specs.Prelude.slice_get}
+use Rattle.std.{proofs.Common.{◌≡◌, ℕ, List, [], ◌∷◌, Some}, specs.Prelude.slice_get}
 use Rattle.http_header.specs.FieldValue.{FieldValue}
 use Rattle.headers.specs.Lines.{lines_of}
 

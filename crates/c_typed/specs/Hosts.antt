@@ -1,6 +1,6 @@
 -- Hosts and origins, as C sees them.
 use Rattle.std.specs.Prelude.{◌≡◌, ℕ, ◌^◌, ◌-◌, ◌==◌, Bool, true, ◌&&◌, ◌||◌, List, [], ◌∷◌, ◌++◌}
-use Rattle.std.{specs.Prelude.{length, drop, Option, Some, None, bytes_eq, codes}, specs.List.starts_with}
+use Rattle.std.{specs.Prelude.{length, drop, Option, Some, None, bytes_eq}, specs.List.starts_with}
 use Rattle.http_uri.{specs.Grammar.authority_host, specs.Port.{IsPortNumberOf, IsPortNumberOfSome}}
 use Rattle.headers.{specs.Host.host_bytes, specs.Origin.{origin_authority, origin_host, origin_is_null, origin_scheme}}
 use Rattle.headers.{specs.Origin.{origin_text, tuple_text}, specs.declared.Host.Host, specs.declared.Origin.Origin}

@@ -1,6 +1,10 @@
 -- Parameters, as C sees them.
-use Rattle.std.specs.{Prelude.{◌≡◌, ◌⊎◌, ℕ, ⊤, true, false, List, Some, None, Result, Ok, Err}, Global.Vec, Str.IsUtf8}
+use Rattle.std.specs.Prelude.{◌≡◌, ◌==◌, ℕ, ⊤, true, List, Option, Some, None, Result, Ok, Err, if◌then◌else◌}
+use Rattle.std.specs.{Global.Vec, List.list_all, Str.IsUtf8}
+use Rattle.http_header.specs.Token.{is_value_byte}
 use Rattle.{rfc_fields.specs.Values.is_token, rfc_lists.specs.{Extended.extended_text, Parameters.parameter_text}}
+use Rattle.rfc_lists.specs.declared.parameters.ParameterKind.{ParameterKind, TheVariants.{Extended, Plain}}
+use Rattle.rfc_lists.specs.declared.parameters.ParameterKind.TheVariants.{Quoted, Challenge}
 use Rattle.c_parts.specs.declared.status.Failure.{Failure, TheVariants.{Refused, Memory, Absent, TooLarge}}
 
 -- the text that a value means, or `Refused` if it means none
@@ -11,14 +15,33 @@ ShowsExtended value (Err Memory) = ⊤
 ShowsExtended value (Err Absent) = ⊥
 ShowsExtended value (Err TooLarge) = ⊥
 
--- a token and a text in UTF-8
-abbrev pub IsWritable : List ℕ → List ℕ → Type 0
-IsWritable name text = (is_token name ≡ true) × IsUtf8 text
+abbrev pub kind_of : ℕ → Option ParameterKind
+kind_of kind =
+    if kind == 0 then Some Extended
+    else (if kind == 1 then Some Plain
+    else (if kind == 2 then Some Quoted else (if kind == 3 then Some Challenge else None)))
+
+-- an extended parameter may have any text in UTF-8, another one any bytes of a field
+abbrev pub IsText : ParameterKind → List ℕ → Type 0
+IsText Extended text = IsUtf8 text
+IsText Plain text = list_all is_value_byte text ≡ true
+IsText Quoted text = list_all is_value_byte text ≡ true
+IsText Challenge text = list_all is_value_byte text ≡ true
+
+abbrev pub IsWritable : ParameterKind → List ℕ → List ℕ → Type 0
+IsWritable kind name text = (is_token name ≡ true) × IsText kind text
 
 -- the parameter, or `Refused` if there is none
-abbrev pub WritesParameter : List ℕ → List ℕ → Result (Vec ℕ) Failure → Type 0
-WritesParameter name text (Ok written) = IsWritable name text × (written.items ≡ parameter_text name text)
-WritesParameter name text (Err Refused) = IsWritable name text → ⊥
-WritesParameter name text (Err Memory) = IsWritable name text
-WritesParameter name text (Err Absent) = ⊥
-WritesParameter name text (Err TooLarge) = ⊥
+abbrev pub WritesKind : ParameterKind → List ℕ → List ℕ → Result (Vec ℕ) Failure → Type 0
+WritesKind kind name text (Ok written) = IsWritable kind name text × (written.items ≡ parameter_text kind name text)
+WritesKind kind name text (Err Refused) = IsWritable kind name text → ⊥
+WritesKind kind name text (Err Memory) = IsWritable kind name text
+WritesKind kind name text (Err Absent) = ⊥
+WritesKind kind name text (Err TooLarge) = ⊥
+
+abbrev pub WritesBy : Option ParameterKind → List ℕ → List ℕ → Result (Vec ℕ) Failure → Type 0
+WritesBy (Some kind) name text result = WritesKind kind name text result
+WritesBy None name text result = result ≡ Err Refused
+
+abbrev pub WritesParameter : ℕ → List ℕ → List ℕ → Result (Vec ℕ) Failure → Type 0
+WritesParameter kind name text result = WritesBy (kind_of kind) name text result

@@ -1,7 +1,7 @@
 //! Directives of `cache-control` with arguments that its typed header doesn't have.
-ghost use Rattle.std.specs.Prelude.{◌≡◌, ◌++◌, ◌∷◌, [], IfOk, OnOk, option_map};
+ghost use Rattle.std.specs.Prelude.{◌≡◌, IfOk, option_map};
 ghost use Rattle.headers.specs.Lines.{lines_of};
-ghost use Rattle.rfc_fields.{specs.Members.member_of, specs.Values.{octets_of, value_parts}};
+ghost use Rattle.rfc_fields.specs.{Members.member_of, Values.value_parts};
 ghost use Rattle.c_typed.{specs.Directives.{ShowsArguments, ShowsStale, argument_of, arguments_text, stale_shown}};
 ghost use Rattle.c_typed.specs.Shown.{LinesShow};
 
@@ -11,6 +11,7 @@ use cache_fields::{Directives, read_directives};
 use headers::{HeaderMap, HeaderValue};
 use http_header::{CACHE_CONTROL, GetAll};
 use rfc_fields::{FieldMembers, Malformed, Value, directive_in, has_line};
+use rfc_lists::push_octets;
 use std::alloc::{AllocError, Global};
 
 /// For how many seconds a response may be served once it is stale (RFC 5861).
@@ -90,15 +91,4 @@ fn argument_of<'a>(member: Result<&'a [u8], Malformed>, name: &[u8]) -> Option<V
         },
         Err(Malformed) => None,
     }
-}
-
-// Appends what a value means, and a byte 10.
-fn push_octets(text: &mut Vec<u8>, value: &Value<'_>) -> Result<(), AllocError>
-    ensures { OnOk result (text.new.items ≡ text.old.items ++ octets_of (value_parts value.now) ++ 10 ∷ []) }
-{
-    for octet in value.octets() {
-        text.push(octet)?;
-    }
-    text.push(b'\n')?;
-    Ok(())
 }

@@ -43,8 +43,8 @@ fn is_port(digits: &[u8]) -> bool
     }
 }
 
-// Whether it may follow a host.
-fn is_port_part(rest: &[u8]) -> bool
+/// Whether this may follow a host: nothing, or a colon and perhaps a port (RFC 3986, section 3.2).
+pub fn is_port_part(rest: &[u8]) -> bool
     ensures { result ≡ is_port_part rest.now }
 {
     match rest {

@@ -1,9 +1,11 @@
 //! Parameters, and texts of parameters whose names end in `*`.
-ghost use Rattle.c_typed.specs.Parameters.{ShowsExtended, WritesParameter};
+ghost use Rattle.std.specs.{Prelude.{◌≡◌}, Bool.MatchBool, List.list_all, Str.IsUtf8};
+ghost use Rattle.http_header.specs.Token.{is_value_byte};
+ghost use Rattle.c_typed.specs.Parameters.{IsText, ShowsExtended, WritesKind, WritesParameter, kind_of};
 
 use c_parts::Failure;
 use rfc_fields::is_token;
-use rfc_lists::{extended_text, parameter_text};
+use rfc_lists::{ParameterKind, extended_text, parameter_text};
 use std::alloc::Global;
 use std::str;
 
@@ -19,16 +21,76 @@ pub fn read_extended(alloc: Global, value: &[u8]) -> Result<Vec<u8>, Failure>
     }
 }
 
-/// Returns the parameter of a name for a text: as RFC 9110, section 5.6.6, has it if the text is visible ASCII and
-/// spaces, else an extended one. `Refused` if the name is no token, or the text isn't UTF-8.
-pub fn write_parameter(alloc: Global, name: &[u8], text: &[u8]) -> Result<Vec<u8>, Failure>
-    ensures { WritesParameter name.now text.now result }
+fn are_value_bytes(text: &[u8]) -> bool
+    ensures { result ≡ list_all is_value_byte text.now }
 {
-    if !is_token(name) {
-        return Err(Failure::Refused);
+    text.iter()
+        .all(|byte| *byte == b'\t' || (*byte >= b' ' && *byte != 127))
+}
+
+// How a parameter is written.
+fn kind_of(kind: u8) -> Option<ParameterKind>
+    ensures { result ≡ kind_of kind }
+{
+    match kind {
+        0 => Some(ParameterKind::Extended),
+        1 => Some(ParameterKind::Plain),
+        2 => Some(ParameterKind::Quoted),
+        3 => Some(ParameterKind::Challenge),
+        _ => None,
     }
+}
+
+fn is_utf8(text: &[u8]) -> bool
+    ensures { MatchBool result (IsUtf8 text.now) (IsUtf8 text.now → ⊥) }
+{
     match str::from_utf8(text) {
-        Ok(_) => Ok(parameter_text(alloc, name, text)?),
-        Err(_) => Err(Failure::Refused),
+        Ok(_) => true,
+        Err(_) => false,
+    }
+}
+
+// Whether a parameter may have this text.
+fn is_text(kind: ParameterKind, text: &[u8]) -> bool
+    ensures { MatchBool result (IsText kind text.now) (IsText kind text.now → ⊥) }
+{
+    match kind {
+        ParameterKind::Extended => is_utf8(text),
+        ParameterKind::Plain | ParameterKind::Quoted | ParameterKind::Challenge => are_value_bytes(
+            text,
+        ),
+    }
+}
+
+/// Returns the parameter of a name for a text: 0 as RFC 9110, section 5.6.6, has it if the text is visible ASCII and
+/// spaces, else an extended one; 1 as a token or a quoted-string; 2 as a quoted-string; 3 as a challenge has it
+/// (`rfc_lists::ParameterKind`). `Refused` for another number, or if the name is no token, the text of an extended one
+/// isn't UTF-8, or that of another has a byte that no field value has.
+pub fn write_parameter(
+    alloc: Global,
+    kind: u8,
+    name: &[u8],
+    text: &[u8],
+) -> Result<Vec<u8>, Failure>
+    ensures { WritesParameter kind name.now text.now result }
+{
+    match kind_of(kind) {
+        Some(kind) => write_kind(alloc, kind, name, text),
+        None => Err(Failure::Refused),
+    }
+}
+
+fn write_kind(
+    alloc: Global,
+    kind: ParameterKind,
+    name: &[u8],
+    text: &[u8],
+) -> Result<Vec<u8>, Failure>
+    ensures { WritesKind kind name.now text.now result }
+{
+    if is_token(name) && is_text(kind, text) {
+        Ok(parameter_text(alloc, kind, name, text)?)
+    } else {
+        Err(Failure::Refused)
     }
 }

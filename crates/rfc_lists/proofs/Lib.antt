@@ -1,5 +1,6 @@
 mod AttributeLemmas
 mod DateLemmas
+mod ElementLemmas
 mod ExtendedLaws
 mod ExtendedLemmas
 mod LinkLemmas

@@ -1,14 +1,15 @@
 -- Plain texts that are written as parameters.
-use Rattle.std.proofs.Common.{◌≡◌, ◌∙◌, ℕ, Bool, true, false, cond, List, [], ◌∷◌, ◌++◌, map, Some, ap, arith}
+use Rattle.std.proofs.Common.{◌≡◌, ◌∙◌, ℕ, Bool, true, false, cond, List, [], ◌∷◌, ◌++◌, map, Some, ap}
 use Rattle.std.proofs.Common.{refl}
-use Rattle.std.proofs.lemmas.Bool.{and_parts, Decides.nat_tests}
+use Rattle.std.proofs.lemmas.Bool.{and_parts}
 use Rattle.std.specs.{Prelude.{◌&&◌, ◌||◌, ◌==◌, not}, List.{flat_map, list_all}}
 use Rattle.{http_header.specs.Token.is_value_byte, rfc_fields.specs.Grammar.{Octet, Octet.{Pair, Plain}, backslash}}
 use Rattle.rfc_fields.specs.{Directives.{DirectiveParts, IsDirective, equals}, Grammar.{is_octet, octet_text}}
 use Rattle.rfc_fields.specs.{Grammar.{octet_value, quote}, Laws.QuotedTextsParse}
 use Rattle.rfc_fields.specs.Values.{ValueParts.{QuotedText, TokenText}, is_quoted_text, is_token, octets_from}
 use Rattle.rfc_lists.specs.{Extended.{extended_value, star}, Laws.{Means, ParametersReadBack}}
-use Rattle.rfc_lists.specs.Parameters.{is_plain, parameter_text, plain_value, quoted_octet, quoted_string}
+use Rattle.rfc_lists.specs.Parameters.{is_extended, is_quoted, parameter_text, quoted_octet, quoted_string, value_text}
+use Rattle.rfc_lists.specs.declared.parameters.ParameterKind.{ParameterKind}
 
 abbrev octet_if : ℕ → Bool → Octet
 octet_if b k = cond k (Pair b) (Plain b)
@@ -26,9 +27,6 @@ written (b ∷ text) =
     ap (λ t. t ++ flat_map quoted_octet text) (octet_written b (b == quote || b == backslash))
     ∙ ap (λ t. octet_text (octet_for b) ++ t) (written text)
 
-plain_is_value : (b : ℕ) → is_plain b ≡ true → is_value_byte b ≡ true
-plain_is_value b h = grind (arith, nat_tests)
-
 valid_octet : (b : ℕ) → is_value_byte b ≡ true → (j k : Bool) → (b == quote) ≡ j → (b == backslash) ≡ k
     → is_octet true (octet_if b (j || k)) ≡ true
 valid_octet b h true k e f = h
@@ -37,12 +35,13 @@ valid_octet b h false false e f =
     ap (λ x. x && not (b == quote) && not (b == backslash)) h ∙ ap (λ x. not x && not (b == backslash)) e
     ∙ ap not f
 
-all_valid : (text : List ℕ) → list_all is_plain text ≡ true → list_all (is_octet true) (map octet_for text) ≡ true
+all_valid : (text : List ℕ) → list_all is_value_byte text ≡ true
+    → list_all (is_octet true) (map octet_for text) ≡ true
 all_valid [] h = refl
 all_valid (b ∷ text) h =
-    let x = and_parts (is_plain b) (list_all is_plain text) h in
+    let x = and_parts (is_value_byte b) (list_all is_value_byte text) h in
     ap (λ k. k && list_all (is_octet true) (map octet_for text))
-    (valid_octet b (plain_is_value b x.0) (b == quote) (b == backslash) refl refl)
+    (valid_octet b x.0 (b == quote) (b == backslash) refl refl)
     ∙ all_valid text x.1
 
 octet_means : (b : ℕ) (k : Bool) → octet_value (octet_if b k) ≡ b
@@ -55,37 +54,44 @@ all_mean (b ∷ text) =
     ap (λ o. o ∷ map octet_value (map octet_for text)) (octet_means b (b == quote || b == backslash))
     ∙ ap (λ t. b ∷ t) (all_mean text)
 
-module _ (law : QuotedTextsParse) (name text : List ℕ) (n : is_token name ≡ true)
-    (plain : list_all is_plain text ≡ true) where
+module _ (law : QuotedTextsParse) (kind : ParameterKind) (name text : List ℕ) (n : is_token name ≡ true)
+    (bytes : list_all is_value_byte text ≡ true) (plain : is_extended kind text ≡ false) where
   abbrev ReadsBack : Type 0
-  ReadsBack = (d : DirectiveParts) × IsDirective (parameter_text name text) d × Means name text d
+  ReadsBack = (d : DirectiveParts) × IsDirective (parameter_text kind name text) d × Means name text d
 
-  is_written : parameter_text name text ≡ name ++ equals ∷ plain_value text
+  is_written : parameter_text kind name text ≡ name ++ equals ∷ value_text (is_quoted kind name) text
   is_written =
-      ap (λ k. cond k (name ++ equals ∷ plain_value text) (name ++ star ∷ equals ∷ extended_value text)) plain
+      ap (λ k. cond k (name ++ star ∷ equals ∷ extended_value text)
+      (name ++ equals ∷ value_text (is_quoted kind name) text)) plain
 
-  by_value : (k : Bool) → is_token text ≡ k → ReadsBack
-  by_value true e = (
-    record { name = name; argument = Some (TokenText text) },
-    record {
-      valid = ap (λ x. x && is_token text) n ∙ e;
-      written = is_written ∙ ap (λ k. name ++ equals ∷ cond k text (quoted_string text)) e;
-    },
-    record { named = refl; meant = refl },
-  )
-  by_value false e =
-      let parse = law (map octet_for text) (all_valid text plain) in
+  quoted : value_text (is_quoted kind name) text ≡ quoted_string text → ReadsBack
+  quoted e =
+      let parse = law (map octet_for text) (all_valid text bytes) in
       let inside = flat_map quoted_octet text in
-      let quoted : is_quoted_text false inside ≡ true = ap (is_quoted_text false) (written text) ∙ parse.0 in
+      let valid : is_quoted_text false inside ≡ true = ap (is_quoted_text false) (written text) ∙ parse.0 in
       let means : octets_from false inside ≡ text =
       ap (octets_from false) (written text) ∙ parse.1 ∙ all_mean text in (
         record { name = name; argument = Some (QuotedText inside) },
         record {
-          valid = ap (λ x. x && is_quoted_text false inside) n ∙ quoted;
-          written = is_written ∙ ap (λ k. name ++ equals ∷ cond k text (quoted_string text)) e;
+          valid = ap (λ x. x && is_quoted_text false inside) n ∙ valid;
+          written = is_written ∙ ap (λ t. name ++ equals ∷ t) e;
         },
         record { named = refl; meant = ap (λ t. Some t) means },
       )
 
+  by_value : (k j : Bool) → is_quoted kind name ≡ k → is_token text ≡ j → ReadsBack
+  by_value true j e f = quoted (ap (λ k. value_text k text) e)
+  by_value false false e f = quoted (ap (λ k. value_text k text) e ∙ ap (λ k. cond k text (quoted_string text)) f)
+  by_value false true e f =
+      let shown = ap (λ k. value_text k text) e ∙ ap (λ k. cond k text (quoted_string text)) f in (
+        record { name = name; argument = Some (TokenText text) },
+        record {
+          valid = ap (λ x. x && is_token text) n ∙ f;
+          written = is_written ∙ ap (λ t. name ++ equals ∷ t) shown;
+        },
+        record { named = refl; meant = refl },
+      )
+
 pub parameters_read_back : QuotedTextsParse → ParametersReadBack
-parameters_read_back law name text n plain = by_value law name text n plain (is_token text) refl
+parameters_read_back law kind name text n bytes plain =
+    by_value law kind name text n bytes plain (is_quoted kind name) (is_token text) refl refl

@@ -5,8 +5,7 @@ use Rattle.std.proofs.Common.{arith}
 use Rattle.std.{proofs.lemmas.Bool.{cases_Bool, cases_lt}, specs.List.{position_or_len, slice_split}}
 use Rattle.std.specs.Option.{option_map_or}
 use Rattle.std.proofs.lemmas.List.{Splits.{slice_split_first, slice_split_none}, Sums.fails_before_first}
-use Rattle.rfc_fields.specs.{Cuts.cut, Grammar.semicolon}
-use Rattle.rfc_lists.specs.SetCookies.{other_line, other_lines}
+use Rattle.rfc_fields.specs.Cuts.{cut}
 
 abbrev pub is_at : ℕ → ℕ → Bool
 is_at c b = b == c
@@ -40,9 +39,11 @@ module _ (p : ℕ → Bool) (text : List ℕ) where
   pub last_piece : cut_by p text ≡ None → slice_split p text ≡ text ∷ []
   last_piece e = rw e at all_cuts
 
-pub next_attribute : (text first others : List ℕ) → cut semicolon text ≡ Some (first, others)
-    → other_lines text ≡ other_line first ++ other_lines others
-next_attribute text first others e = ap (flat_map other_line) (next_piece (is_at semicolon) text first others e)
+-- what is written of each piece
+module _ (f : List ℕ → List ℕ) (c : ℕ) (text : List ℕ) where
+  pub next_line : (first others : List ℕ) → cut c text ≡ Some (first, others)
+      → flat_map f (slice_split (is_at c) text) ≡ f first ++ flat_map f (slice_split (is_at c) others)
+  next_line first others e = ap (flat_map f) (next_piece (is_at c) text first others e)
 
-pub last_attribute : (text : List ℕ) → cut semicolon text ≡ None → other_lines text ≡ other_line text
-last_attribute text e = ap (flat_map other_line) (last_piece (is_at semicolon) text e) ∙ append-nil _
+  pub last_line : cut c text ≡ None → flat_map f (slice_split (is_at c) text) ≡ f text
+  last_line e = ap (flat_map f) (last_piece (is_at c) text e) ∙ append-nil _

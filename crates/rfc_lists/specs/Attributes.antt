@@ -7,7 +7,7 @@ use Rattle.std.specs.{Prelude.{if◌then◌else◌, unwrap_or}, Char.is_ascii_di
 use Rattle.std.specs.Option.{option_map_or, option_or}
 use Rattle.{http_header.specs.Token.lowercase, headers_syntax.specs.{AsciiCase.same_name, Text.trim}}
 use Rattle.rfc_fields.specs.{Cuts.cut, Directives.equals, Grammar.semicolon, Numbers.number_within}
-use Rattle.rfc_lists.specs.{CookieDates.{cookie_date, date_text}, Extended.hyphen, Lines.line}
+use Rattle.rfc_lists.specs.{CookieDates.{cookie_date, date_text}, Extended.hyphen, Lines.{line, valued_line}}
 use Rattle.rfc_lists.specs.declared.{cookie_dates.CookieDate.CookieDate, attributes.Known.Known}
 use Rattle.rfc_lists.specs.declared.attributes.Known.TheVariants.{Path, Domain, MaxAge, Expires, Secure, HttpOnly}
 use Rattle.rfc_lists.specs.declared.attributes.Known.TheVariants.{SameSite}
@@ -101,27 +101,26 @@ same_site_of attributes = option_and_then enforcement (last_of SameSite attribut
 
 -- ---- lines
 
--- a name and a value
-abbrev pub valued : List ℕ → List ℕ → List ℕ
-valued name value = 112 ∷ (name ++ line equals value)
-
 abbrev pub path_line : List ℕ → List ℕ
-path_line attributes = option_map_or (valued (codes "Path")) (path_of attributes) []
+path_line attributes = option_map_or (valued_line 112 (codes "Path")) (path_of attributes) []
 
 abbrev pub domain_line : List ℕ → List ℕ
-domain_line attributes = option_map_or (λ host. valued (codes "Domain") (lowercase host)) (domain_of attributes) []
+domain_line attributes =
+    option_map_or (λ host. valued_line 112 (codes "Domain") (lowercase host)) (domain_of attributes) []
 
 abbrev pub max_age_line : List ℕ → List ℕ
-max_age_line attributes = option_map_or (λ age. valued (codes "Max-Age") (decimal age)) (max_age_of attributes) []
+max_age_line attributes =
+    option_map_or (λ age. valued_line 112 (codes "Max-Age") (decimal age)) (max_age_of attributes) []
 
 abbrev pub expires_line : List ℕ → List ℕ
-expires_line attributes = option_map_or (λ date. valued (codes "Expires") (date_text date)) (expires_of attributes) []
+expires_line attributes =
+    option_map_or (λ date. valued_line 112 (codes "Expires") (date_text date)) (expires_of attributes) []
 
 abbrev pub flag_line : Known → List ℕ → List ℕ
 flag_line known attributes = if has known attributes then line 110 (name_of known) else []
 
 abbrev pub same_site_line : List ℕ → List ℕ
-same_site_line attributes = option_map_or (valued (codes "SameSite")) (same_site_of attributes) []
+same_site_line attributes = option_map_or (valued_line 112 (codes "SameSite")) (same_site_of attributes) []
 
 -- what the attributes mean
 abbrev pub meaning_lines : List ℕ → List ℕ

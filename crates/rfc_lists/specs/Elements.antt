@@ -1,34 +1,91 @@
--- Lists of elements with parameters (RFC 9110, sections 5.6.1 and 5.6.6).
-use Rattle.std.specs.{Prelude.{ℕ, true, List, [], ◌∷◌, ◌++◌}, List.flat_map}
-use Rattle.headers_syntax.specs.{Lines.Line, Text.trim}
-use Rattle.rfc_fields.specs.{Members.{field_members, members_of}, Scan.Member, Scan.Member.{Whole, Malformed}}
-use Rattle.rfc_lists.specs.Lines.{between_semicolons, malformed_line, member_line, parameter_line, text_line}
+-- Elements with parameters: of lists (RFC 9110, sections 5.6.1 and 5.6.6), and those that are a line each.
+use Rattle.std.specs.Prelude.{ℕ, Bool, true, false, not, ◌&&◌, ◌==◌, List, [], ◌∷◌, ◌++◌, length, nat_lt, Option, None}
+use Rattle.std.specs.Prelude.{option_map, option_and_then, if◌then◌else◌}
+use Rattle.std.specs.{List.{flat_map, list_any}, Option.option_map_or}
+use Rattle.{http_header.specs.Token.lowercase, headers_syntax.specs.{AsciiCase.same_name, Lines.Line, Text.trim}}
+use Rattle.rfc_fields.specs.{Directives.{DirectiveParts, directive_in}, Members.{field_members, members_of}}
+use Rattle.rfc_fields.specs.{Scan.Member, Scan.Member.{Whole, Malformed}, Values.is_token}
+use Rattle.rfc_lists.specs.Caches.{item_line, name_line}
+use Rattle.rfc_lists.specs.Lines.{between_semicolons, line, malformed_line, member_line, parameter_line, text_line}
+use Rattle.rfc_lists.specs.Lines.{with_argument}
+use Rattle.rfc_lists.specs.declared.elements.Form.{Form}
+use Rattle.rfc_lists.specs.declared.elements.Form.TheVariants.{Element, Disposition, Hop, Cache}
 
--- what is before the first semicolon, and the parameters after it
-abbrev pub piece_lines : List Member → List ℕ
-piece_lines [] = malformed_line
-piece_lines (Whole first ∷ others) = text_line (trim first) ++ flat_map member_line (members_of others)
-piece_lines (Malformed ∷ others) = malformed_line
+-- the type of a disposition, in lower case (RFC 6266, section 4.1)
+abbrev pub type_line : List ℕ → List ℕ
+type_line text = if is_token text then line 110 (lowercase text) else malformed_line
 
-abbrev pub element_text : List ℕ → List ℕ
-element_text element = piece_lines (between_semicolons element)
+-- what is before the first semicolon
+abbrev pub first_line : Form → List ℕ → List ℕ
+first_line Element text = text_line text
+first_line Disposition text = type_line text
+first_line Hop text = text_line text
+first_line Cache text = name_line text
+
+-- each parameter after it; blanks may be beside the `=` of a disposition's
+abbrev pub part_line : Form → Member → List ℕ
+part_line Element member = member_line member
+part_line Disposition member = parameter_line member
+part_line Hop member = member_line member
+part_line Cache member = item_line member
+
+abbrev pub piece_lines : Form → List Member → List ℕ
+piece_lines form [] = malformed_line
+piece_lines form (Whole first ∷ others) =
+    first_line form (trim first) ++ flat_map (part_line form) (members_of others)
+piece_lines form (Malformed ∷ others) = malformed_line
+
+-- ---- hops (RFC 7239, section 4): pairs, and each name once
+
+-- the name of a pair, which is a parameter with a value
+abbrev pub name_of : DirectiveParts → List ℕ
+name_of d = d.name
+
+abbrev pub pair_name : Member → Option (List ℕ)
+pair_name (Whole text) = option_map name_of (option_and_then with_argument (directive_in text))
+pair_name Malformed = None
+
+-- the name is none of fewer than 100 others, in any case
+abbrev pub is_new : List (List ℕ) → List ℕ → Bool
+is_new names name = nat_lt (length names) 100 && not (list_any (same_name name) names)
+
+-- each member is a pair, whose name is new behind those before it
+unfoldable pub are_pairs : List (List ℕ) → List Member → Bool
+are_pairs names [] = true
+are_pairs names (member ∷ members) =
+    option_map_or (λ name. is_new names name && are_pairs (names ++ name ∷ []) members) (pair_name member) false
+
+-- a first member, unless it is empty
+abbrev pub with_first : List ℕ → List Member → List Member
+with_first first members = if length first == 0 then members else Whole first ∷ members
+
+abbrev pub are_hop : List Member → Bool
+are_hop [] = false
+are_hop (Whole first ∷ others) = are_pairs [] (members_of (Whole first ∷ others))
+are_hop (Malformed ∷ others) = false
+
+abbrev pub is_hop : List ℕ → Bool
+is_hop element = are_hop (between_semicolons element)
+
+-- ---- elements
+
+abbrev pub parts_text : Form → List ℕ → List ℕ
+parts_text form element = piece_lines form (between_semicolons element)
+
+abbrev pub element_text : Form → List ℕ → List ℕ
+element_text Element element = parts_text Element element
+element_text Disposition element = parts_text Disposition element
+element_text Hop element = if is_hop element then parts_text Hop element else malformed_line
+element_text Cache element = parts_text Cache element
 
 -- the lines of an element, and an empty one
-abbrev pub shown_element : Member → List ℕ
-shown_element (Whole element) = element_text element ++ 10 ∷ []
-shown_element Malformed = malformed_line ++ 10 ∷ []
+abbrev pub shown_element : Form → Member → List ℕ
+shown_element form (Whole element) = element_text form element ++ 10 ∷ []
+shown_element form Malformed = malformed_line ++ 10 ∷ []
 
-abbrev pub elements_text : List Line → List ℕ
-elements_text lines = flat_map shown_element (field_members true lines)
+abbrev pub elements_text : Form → List Line → List ℕ
+elements_text form lines = flat_map (shown_element form) (field_members true lines)
 
--- the same of a line that is one value, whose parameters may have blanks beside their `=`
-abbrev pub spaced_lines : List Member → List ℕ
-spaced_lines [] = malformed_line
-spaced_lines (Whole first ∷ others) = text_line (trim first) ++ flat_map parameter_line (members_of others)
-spaced_lines (Malformed ∷ others) = malformed_line
-
-abbrev pub value_text : Line → List ℕ
-value_text text = spaced_lines (between_semicolons text) ++ 10 ∷ []
-
-abbrev pub values_text : List Line → List ℕ
-values_text lines = flat_map value_text lines
+-- each line is one
+abbrev pub values_text : Form → List Line → List ℕ
+values_text form lines = flat_map (λ text. shown_element form (Whole text)) lines

@@ -1,10 +1,11 @@
 -- Theorems about the definitions alone.
-use Rattle.std.specs.Prelude.{◌≡◌, ℕ, Bool, true, List, map, nat_lt, Some, option_map}
+use Rattle.std.specs.Prelude.{◌≡◌, ℕ, Bool, true, false, List, map, nat_lt, Some, option_map}
 use Rattle.std.specs.{List.{flat_map, list_all}, Str.is_utf8}
-use Rattle.percent_encoding.specs.Percent.{percent_decode}
+use Rattle.{http_header.specs.Token.is_value_byte, percent_encoding.specs.Percent.percent_decode}
 use Rattle.rfc_fields.specs.{Directives.{DirectiveParts, IsDirective}, Values.{is_token, octets_of}}
 use Rattle.rfc_lists.specs.Extended.{ValueChar, are_value_chars, char_octet, char_text, extended_text, extended_value}
-use Rattle.rfc_lists.specs.{Extended.is_value_char, Parameters.{is_plain, parameter_text}}
+use Rattle.rfc_lists.specs.{Extended.is_value_char, Parameters.{is_extended, parameter_text}}
+use Rattle.rfc_lists.specs.declared.parameters.ParameterKind.{ParameterKind}
 
 -- value-chars are found to be such, and mean the octet of each
 abbrev pub ValueCharsParse : Type 0
@@ -34,7 +35,8 @@ pub record Means (name text : List ℕ) (d : DirectiveParts) : Type 0 where
   pub named : d.name ≡ name
   pub meant : option_map octets_of d.argument ≡ Some text
 
--- a plain text that is written as a parameter decodes to the same text
+-- a text of bytes that a field may have decodes to the same text, if it is written as a parameter that isn't extended
 abbrev pub ParametersReadBack : Type 0
-ParametersReadBack = (name text : List ℕ) → is_token name ≡ true → list_all is_plain text ≡ true
-    → (d : DirectiveParts) × IsDirective (parameter_text name text) d × Means name text d
+ParametersReadBack = (kind : ParameterKind) (name text : List ℕ) → is_token name ≡ true
+    → list_all is_value_byte text ≡ true → is_extended kind text ≡ false
+    → (d : DirectiveParts) × IsDirective (parameter_text kind name text) d × Means name text d

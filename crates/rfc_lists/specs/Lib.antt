@@ -1,4 +1,5 @@
 pub mod Attributes
+pub mod Caches
 pub mod Challenges
 pub mod CookieDates
 pub mod Elements

@@ -9,6 +9,10 @@ use Rattle.rfc_fields.specs.{Grammar.semicolon, Members.pieces_left, Scan.Member
 abbrev pub line : ℕ → List ℕ → List ℕ
 line letter text = letter ∷ (text ++ 10 ∷ [])
 
+-- a letter, a name, `=`, a text and a byte 10
+abbrev pub valued_line : ℕ → List ℕ → List ℕ → List ℕ
+valued_line letter name text = letter ∷ (name ++ line equals text)
+
 -- `!`
 abbrev pub malformed_line : List ℕ
 malformed_line = 33 ∷ 10 ∷ []
@@ -16,7 +20,7 @@ malformed_line = 33 ∷ 10 ∷ []
 -- `p`: a name, `=`, and the octets that the value means; `n`: a name alone
 abbrev pub directive_line : DirectiveParts → List ℕ
 directive_line d =
-    option_map_or (λ value. 112 ∷ (d.name ++ line equals (octets_of value))) d.argument (line 110 d.name)
+    option_map_or (λ value. valued_line 112 d.name (octets_of value)) d.argument (line 110 d.name)
 
 -- the line of a text: as a directive if it is one, else `v` and the text
 abbrev pub text_line : List ℕ → List ℕ

@@ -1,11 +1,12 @@
 -- Links (RFC 8288, section 3): a target between angle brackets, and parameters.
 use Rattle.std.specs.Prelude.{ℕ, ◌+◌, Bool, true, false, ◌&&◌, ◌==◌, List, [], ◌∷◌, ◌++◌, length, take, drop, Option}
-use Rattle.std.specs.Prelude.{Some, None, nat_lt}
-use Rattle.std.specs.{Prelude.{if◌then◌else◌}, List.flat_map, Option.option_map_or}
-use Rattle.headers_syntax.specs.{Lines.Line, Text.trim}
-use Rattle.rfc_fields.specs.{Cuts.cut, Grammar.{backslash, comma, quote}}
+use Rattle.std.specs.Prelude.{Some, None, codes, nat_lt, option_and_then, if◌then◌else◌}
+use Rattle.std.specs.{List.{flat_map, slice_split}, Option.{option_map_or, option_or}}
+use Rattle.{http_header.specs.Token.lowercase, headers_syntax.specs.{Lines.Line, Text.trim}}
+use Rattle.rfc_fields.specs.{Cuts.cut, Directives.{DirectiveParts, directive_in, is_named}, Values.octets_of}
+use Rattle.rfc_fields.specs.Grammar.{backslash, comma, quote, space}
 use Rattle.rfc_fields.specs.{Members.members_of, Scan.Member, Scan.Member.{Whole, Malformed}}
-use Rattle.rfc_lists.specs.Lines.{between_semicolons, line, malformed_line, parameter_line}
+use Rattle.rfc_lists.specs.Lines.{between_semicolons, line, malformed_line, parameter_line, squeezed}
 use Rattle.rfc_lists.specs.declared.links.Place.{Place}
 use Rattle.rfc_lists.specs.declared.links.Place.TheVariants.{Outside, Bracketed, Quoted, Escaped}
 
@@ -49,11 +50,40 @@ cut_link text =
     Some (take (link_len Outside text) text, drop (link_len Outside text + 1) text)
     else None
 
+-- ---- relation types (section 3.3)
+
+-- what the value of a parameter means, if that is a `rel`
+abbrev pub relations_by : DirectiveParts → Option (List ℕ)
+relations_by d = if is_named (codes "rel") d then Some (option_map_or octets_of d.argument []) else None
+
+abbrev pub relations_in : Member → Option (List ℕ)
+relations_in (Whole text) = option_and_then relations_by (directive_in (squeezed text))
+relations_in Malformed = None
+
+-- that of the first `rel`: later ones are ignored
+unfoldable pub relations_of : List Member → Option (List ℕ)
+relations_of [] = None
+relations_of (member ∷ members) = option_or (relations_in member) (relations_of members)
+
+-- `l` and a relation type, whose case doesn't count
+abbrev pub relation_line : List ℕ → List ℕ
+relation_line text = if length text == 0 then [] else line 108 (lowercase text)
+
+-- those between spaces
+abbrev pub relation_lines : List ℕ → List ℕ
+relation_lines text = flat_map relation_line (slice_split (λ b. b == space) text)
+
+-- ---- links
+
+abbrev pub parameter_lines : List Member → List ℕ
+parameter_lines members =
+    flat_map parameter_line members ++ option_map_or relation_lines (relations_of members) []
+
 -- what follows a target: nothing before the first semicolon, and parameters after it
 abbrev pub piece_lines : List Member → List ℕ
 piece_lines [] = malformed_line
 piece_lines (Whole first ∷ others) =
-    if length (trim first) == 0 then flat_map parameter_line (members_of others) else malformed_line
+    if length (trim first) == 0 then parameter_lines (members_of others) else malformed_line
 piece_lines (Malformed ∷ others) = malformed_line
 
 abbrev pub parameters_text : List ℕ → List ℕ

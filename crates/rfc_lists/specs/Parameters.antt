@@ -1,8 +1,11 @@
 -- Parameters as they are written (RFC 9110, section 5.6.6; RFC 8187, section 3.2).
-use Rattle.std.specs.Prelude.{ℕ, Bool, ◌&&◌, ◌||◌, ◌==◌, List, [], ◌∷◌, ◌++◌, nat_le, nat_lt, if◌then◌else◌}
-use Rattle.std.specs.List.{flat_map, list_all}
+use Rattle.std.specs.Prelude.{ℕ, Bool, true, false, not, ◌&&◌, ◌||◌, ◌==◌, List, [], ◌∷◌, ◌++◌, codes, nat_le, nat_lt}
+use Rattle.std.specs.{Prelude.if◌then◌else◌, List.{flat_map, list_all}}
+use Rattle.headers_syntax.specs.AsciiCase.{same_name}
 use Rattle.rfc_fields.specs.{Directives.equals, Grammar.{backslash, quote}, Values.is_token}
 use Rattle.rfc_lists.specs.Extended.{extended_value, star}
+use Rattle.rfc_lists.specs.declared.parameters.ParameterKind.{ParameterKind}
+use Rattle.rfc_lists.specs.declared.parameters.ParameterKind.TheVariants.{Extended, Plain, Quoted, Challenge}
 
 -- a space or visible ASCII
 abbrev pub is_plain : ℕ → Bool
@@ -19,8 +22,32 @@ quoted_string text = quote ∷ (flat_map quoted_octet text ++ quote ∷ [])
 abbrev pub plain_value : List ℕ → List ℕ
 plain_value text = if is_token text then text else quoted_string text
 
--- the parameter of a name for a text: one that isn't plain is the ext-value of the name with a `*`
-abbrev pub parameter_text : List ℕ → List ℕ → List ℕ
-parameter_text name text =
-    if list_all is_plain text then name ++ equals ∷ plain_value text
-    else name ++ star ∷ equals ∷ extended_value text
+-- the names of a challenge's parameters whose values are always in quotes (RFC 9110, section 11.5; RFC 7616, section
+-- 3.3)
+abbrev pub is_quoted_name : List ℕ → Bool
+is_quoted_name name =
+    same_name name (codes "realm") || same_name name (codes "domain") || same_name name (codes "nonce")
+    || same_name name (codes "opaque") || same_name name (codes "qop")
+
+-- the text is written between quotes, whatever it is
+abbrev pub is_quoted : ParameterKind → List ℕ → Bool
+is_quoted Extended name = false
+is_quoted Plain name = false
+is_quoted Quoted name = true
+is_quoted Challenge name = is_quoted_name name
+
+abbrev pub value_text : Bool → List ℕ → List ℕ
+value_text quoted text = if quoted then quoted_string text else plain_value text
+
+-- the text isn't plain, and is the ext-value of the name with a `*`
+abbrev pub is_extended : ParameterKind → List ℕ → Bool
+is_extended Extended text = not (list_all is_plain text)
+is_extended Plain text = false
+is_extended Quoted text = false
+is_extended Challenge text = false
+
+-- the parameter of a name for a text
+abbrev pub parameter_text : ParameterKind → List ℕ → List ℕ → List ℕ
+parameter_text kind name text =
+    if is_extended kind text then name ++ star ∷ equals ∷ extended_value text
+    else name ++ equals ∷ value_text (is_quoted kind name) text

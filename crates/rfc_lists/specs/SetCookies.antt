@@ -5,15 +5,15 @@ use Rattle.std.specs.{List.{flat_map, slice_split}, Option.{option_map_or}}
 use Rattle.headers_syntax.specs.{AsciiCase.same_name, Lines.Line, Text.trim}
 use Rattle.rfc_fields.specs.{Cuts.cut, Directives.equals, Grammar.semicolon}
 use Rattle.rfc_lists.specs.Attributes.{attribute_in, broken_lines, meaning_lines, name_of}
-use Rattle.rfc_lists.specs.Lines.{line, malformed_line}
+use Rattle.rfc_lists.specs.Lines.{line, malformed_line, valued_line}
 use Rattle.rfc_lists.specs.declared.attributes.Known.TheVariants.{Path, Domain, MaxAge, Expires, Secure, HttpOnly}
 use Rattle.rfc_lists.specs.declared.attributes.Known.TheVariants.{SameSite}
 
 -- a name and a value around the first `=`, or a name alone, without the blanks around them
 abbrev pub pair_line : List ℕ → List ℕ
 pair_line pair =
-    option_map_or (λ (sides : List ℕ × List ℕ). 112 ∷ (trim sides.0 ++ line equals (trim sides.1)))
-    (cut equals pair) (line 110 (trim pair))
+    option_map_or (λ (sides : List ℕ × List ℕ). valued_line 112 (trim sides.0) (trim sides.1)) (cut equals pair)
+    (line 110 (trim pair))
 
 -- there is a name before an `=`
 abbrev pub has_name : List ℕ → Bool

@@ -8,10 +8,10 @@ ghost use Rattle.rfc_lists.specs.Attributes.{expires_of, fits, flag_line, has};
 ghost use Rattle.rfc_lists.specs.Attributes.{host_line, is_anywhere, is_bound, is_root, is_seconds, last_of};
 ghost use Rattle.rfc_lists.specs.Attributes.{max_age_line};
 ghost use Rattle.rfc_lists.specs.Attributes.{max_age_of, meaning_lines, name_of, path_line, path_of, same_site_line};
-ghost use Rattle.rfc_lists.specs.Attributes.{same_site_of, secure_line, some_host, value_of, valued};
+ghost use Rattle.rfc_lists.specs.Attributes.{same_site_of, secure_line, some_host, value_of};
 
 use crate::cookie_dates::{CookieDate, cookie_date, push_date};
-use crate::lines::push_line;
+use crate::lines::{push_line, push_valued};
 use headers_syntax::trim;
 use rfc_fields::{cut, number};
 use std::alloc::{AllocError, Global};
@@ -205,25 +205,17 @@ fn same_site_of(attributes: &[u8]) -> Option<&'static [u8]>
     }
 }
 
-// Appends the line of a name and a value.
-fn push_valued(text: &mut Vec<u8>, name: &[u8], value: &[u8]) -> Result<(), AllocError>
-    ensures { OnOk result (text.new.items ≡ text.old.items ++ valued name.now value.now) }
-{
-    text.push(b'p')?;
-    text.extend_from_slice(name)?;
-    push_line(text, b'=', value)
-}
-
 fn push_path(text: &mut Vec<u8>, attributes: &[u8]) -> Result<(), AllocError>
     ensures { OnOk result (text.new.items ≡ text.old.items ++ path_line attributes.now) }
 {
     match path_of(attributes) {
-        Some(path) => push_valued(text, b"Path", path),
+        Some(path) => push_valued(text, b'p', b"Path", path),
         None => Ok(()),
     }
 }
 
-fn push_lowercase(text: &mut Vec<u8>, bytes: &[u8]) -> Result<(), AllocError>
+/// Appends bytes, with each letter in lower case.
+pub(crate) fn push_lowercase(text: &mut Vec<u8>, bytes: &[u8]) -> Result<(), AllocError>
     ensures { OnOk result (text.new.items ≡ text.old.items ++ lowercase bytes.now) }
 {
     for byte in bytes {
@@ -251,7 +243,7 @@ fn push_max_age(alloc: Global, text: &mut Vec<u8>, attributes: &[u8]) -> Result<
         return Ok(());
     };
     let digits = format!(in alloc; "{age}")?;
-    push_valued(text, b"Max-Age", digits.as_bytes())
+    push_valued(text, b'p', b"Max-Age", digits.as_bytes())
 }
 
 fn push_expires(text: &mut Vec<u8>, attributes: &[u8]) -> Result<(), AllocError>
@@ -280,7 +272,7 @@ fn push_same_site(text: &mut Vec<u8>, attributes: &[u8]) -> Result<(), AllocErro
     ensures { OnOk result (text.new.items ≡ text.old.items ++ same_site_line attributes.now) }
 {
     match same_site_of(attributes) {
-        Some(word) => push_valued(text, b"SameSite", word),
+        Some(word) => push_valued(text, b'p', b"SameSite", word),
         None => Ok(()),
     }
 }

@@ -14,14 +14,14 @@ pub fn value_chars_are_such()
     ensures { ValueCharsAreSuch }
 {}
 
-/// Theorem: a text that is written as the value of an extended parameter decodes to the same text.
+/// Theorem: a text in UTF-8 that is written as the value of an extended parameter decodes to the same text.
 #[tactic(auto, using(crate::proofs::ExtendedLaws::extended_reads_back))]
 pub fn extended_texts_read_back()
     ensures { ExtendedReadsBack }
 {}
 
-/// Theorem: a text of spaces and visible ASCII that is written as a parameter is that parameter's value (RFC 9110,
-/// section 5.6.6).
+/// Theorem: a text of bytes that a field may have, if it is written as a parameter that isn't extended, under a name
+/// that is a token, is that parameter's value (RFC 9110, section 5.6.6).
 pub fn parameters_read_back()
     ensures { ParametersReadBack }
 {

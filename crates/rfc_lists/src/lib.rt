@@ -13,6 +13,7 @@
 #![tactic(auto)]
 
 mod attributes;
+mod caches;
 mod challenges;
 mod cookie_dates;
 mod elements;
@@ -24,8 +25,9 @@ mod parameters;
 mod set_cookies;
 
 pub use crate::challenges::challenges_text;
-pub use crate::elements::{elements_text, values_text};
+pub use crate::elements::{Form, elements_text, values_text};
 pub use crate::extended::extended_text;
+pub use crate::lines::push_octets;
 pub use crate::links::links_text;
-pub use crate::parameters::parameter_text;
+pub use crate::parameters::{ParameterKind, parameter_text};
 pub use crate::set_cookies::set_cookies_text;

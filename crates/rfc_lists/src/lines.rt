@@ -3,7 +3,7 @@ ghost use Rattle.std.specs.{Prelude.{◌≡◌, ◌++◌, ◌∷◌, [], OnOk, I
 ghost use Rattle.rfc_fields.{specs.Directives.{directive_in, directive_parts}, specs.Members.member_of};
 ghost use Rattle.rfc_fields.specs.Values.{octets_of, value_parts};
 ghost use Rattle.rfc_lists.specs.Lines.{directive_line, line, member_line, parameter_in, parameter_line, squeezed};
-ghost use Rattle.rfc_lists.specs.Lines.{text_line};
+ghost use Rattle.rfc_lists.specs.Lines.{text_line, valued_line};
 
 use headers_syntax::trim;
 use rfc_fields::{Directive, Malformed, Value, cut, directive_in};
@@ -19,8 +19,22 @@ pub(crate) fn push_line(text: &mut Vec<u8>, letter: u8, bytes: &[u8]) -> Result<
     Ok(())
 }
 
-// Appends what a value means, and a byte 10.
-fn push_octets(text: &mut Vec<u8>, value: &Value<'_>) -> Result<(), AllocError>
+/// Appends a line: a letter, a name, `=` and a text.
+pub(crate) fn push_valued(
+    text: &mut Vec<u8>,
+    letter: u8,
+    name: &[u8],
+    value: &[u8],
+) -> Result<(), AllocError>
+    ensures { OnOk result (text.new.items ≡ text.old.items ++ valued_line letter name.now value.now) }
+{
+    text.push(letter)?;
+    text.extend_from_slice(name)?;
+    push_line(text, b'=', value)
+}
+
+/// Appends what a value means, and a byte 10 behind it.
+pub fn push_octets(text: &mut Vec<u8>, value: &Value<'_>) -> Result<(), AllocError>
     ensures { OnOk result (text.new.items ≡ text.old.items ++ octets_of (value_parts value.now) ++ 10 ∷ []) }
 {
     for octet in value.octets() {

@@ -5,7 +5,7 @@ ghost use Rattle.rfc_lists.specs.SetCookies.{cookie_lines, has_name, is_known, i
 ghost use Rattle.rfc_lists.specs.SetCookies.{pair_line, set_cookies_text, shown_cookie, sides_of};
 
 use crate::attributes::{Known, attribute_in, name_of, push_broken, push_meaning};
-use crate::lines::{push_line, push_malformed};
+use crate::lines::{push_line, push_malformed, push_valued};
 use headers_syntax::trim;
 use http_header::{GetAll, HeaderValue};
 use rfc_fields::cut;
@@ -117,10 +117,8 @@ fn has_name(pair: &[u8]) -> bool
 fn push_pair(text: &mut Vec<u8>, pair: &[u8]) -> Result<(), AllocError>
     ensures { OnOk result (text.new.items ≡ text.old.items ++ pair_line pair.now) }
 {
-    let Some((name, value)) = cut(b'=', pair) else {
-        return push_line(text, b'n', trim(pair));
-    };
-    text.push(b'p')?;
-    text.extend_from_slice(trim(name))?;
-    push_line(text, b'=', trim(value))
+    match cut(b'=', pair) {
+        Some((name, value)) => push_valued(text, b'p', trim(name), trim(value)),
+        None => push_line(text, b'n', trim(pair)),
+    }
 }

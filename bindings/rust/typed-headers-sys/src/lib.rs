@@ -939,6 +939,7 @@ extern "C" {
         written: *mut usize,
     ) -> u8;
     pub fn typed_headers_format_parameter(
+        kind: u8,
         name: *const u8,
         name_length: usize,
         text: *const u8,
@@ -1218,6 +1219,14 @@ extern "C" {
         written: *mut usize,
     ) -> u8;
     pub fn typed_headers_gate_fields(gate: *mut Gate, room: *mut u8, room_length: usize, written: *mut usize) -> u8;
+    pub fn typed_headers_gate_is_for(
+        gate: *mut Gate,
+        host: *const u8,
+        host_length: usize,
+        path: *const u8,
+        path_length: usize,
+        answer: *mut u8,
+    ) -> u8;
     pub fn typed_headers_gate_conditions(
         gate: *mut Gate,
         section: *const u8,

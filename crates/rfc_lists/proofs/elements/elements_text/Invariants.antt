@@ -5,5 +5,5 @@ use Rattle.rfc_lists.proofs.elements.elements_text.Given as goal
 
 abbrev pub invariant-loop-member : goal.invariant-loop-member
 invariant-loop-member l =
-    flat_map shown_element (field_left l.initial.member-iterator)
-    ≡ l.text.items ++ flat_map shown_element (field_left l.member-iterator)
+    flat_map (shown_element l.form) (field_left l.initial.member-iterator)
+    ≡ l.text.items ++ flat_map (shown_element l.form) (field_left l.member-iterator)

@@ -1,7 +1,0 @@
-use Rattle.std.proofs.Common.{◌≡◌, ◌++◌}
-use Rattle.rfc_fields.specs.Values.{octets_left}
-use Rattle.c_typed.proofs.directives.push_octets.Given as goal
-
-abbrev pub invariant-loop-octet : goal.invariant-loop-octet
-invariant-loop-octet l =
-    l.initial.text.items ++ octets_left l.initial.octet-iterator ≡ l.text.items ++ octets_left l.octet-iterator
