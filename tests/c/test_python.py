@@ -137,6 +137,10 @@ def named_fields(words, wanted):
     return names is None or list(names) == [name.strip() for text in hoped for name in text.split(",") if name]
 
 
+FORMS = "elements", "challenges", "links", "set_cookies", "dispositions", "hops", "caches"
+KINDS = "parameter", "plain", "quoted", "in_challenge"
+
+
 def parts(form):
     def given(words, wanted):
         status, text = headers._library.calls.field_parts(form, tuple(map(decode, words)))
@@ -842,9 +846,9 @@ CALLS = {
     "CacheControl.decode": cache_control,
     "CacheControl.stale": stale,
     "CacheControl.arguments": named_fields,
-    **{call: parts(form) for form, call in enumerate(("elements", "challenges", "links", "set_cookies", "values"))},
+    **{call: parts(form) for form, call in enumerate(FORMS)},
+    **{call: text_of(partial(headers._library.calls.format_parameter, kind)) for kind, call in enumerate(KINDS)},
     "extended": text_of(headers._library.calls.extended_text),
-    "parameter": text_of(headers._library.calls.format_parameter),
     "Range.satisfiable_ranges": ranges,
     "evaluate": evaluate,
     "select": select,

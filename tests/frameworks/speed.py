@@ -2,8 +2,8 @@
 
     speed.py
 
-Prints a table: microseconds of this process for a call, the least of fifteen runs that alternate with those of the
-other side, and ours as a multiple of the other's. A framework that isn't there is left out.
+Prints a table: microseconds of this process for a call, the least of a hundred runs of all calls, and ours as a
+multiple of the other's. A framework that isn't there is left out.
 """
 import email.utils
 import http.cookies
@@ -16,7 +16,7 @@ from typing import Any
 
 import typed_headers as ours
 
-RUNS, CALLS = 15, 2000
+RUNS, CALLS = 100, 300
 DATE = "Sun, 06 Nov 1994 08:49:37 GMT"
 TIME = datetime(1994, 11, 6, 8, 49, 37, tzinfo=timezone.utc)
 CONDITION = {"REQUEST_METHOD": "GET", "HTTP_IF_NONE_MATCH": '"a"'}
@@ -43,13 +43,15 @@ Call = Callable[[], object]
 Row = tuple[str, str, Call, Call]
 
 
-def micros(*calls: Call) -> list[float]:
-    """The times of calls, which alternate."""
-    found = [timeit.repeat(call, number=CALLS, repeat=1, timer=time.process_time) for call in calls]
-    for _ in range(RUNS - 1):
-        for place, call in enumerate(calls):
-            found[place] += timeit.repeat(call, number=CALLS, repeat=1, timer=time.process_time)
-    return [min(times) / CALLS * 1e6 for times in found]
+def micros(rows: list[Row]) -> list[list[float]]:
+    """The times of the calls of each row. Each run has all of them: a slow while of the machine is no row's own."""
+    found = [[float("inf"), float("inf")] for _ in rows]
+    for _ in range(RUNS):
+        for times, (_, _, *calls) in zip(found, rows):
+            for place, call in enumerate(calls):
+                taken = timeit.timeit(call, number=CALLS, timer=time.process_time) / CALLS * 1e6
+                times[place] = min(times[place], taken)
+    return found
 
 
 def other(name: str) -> Any:
@@ -135,7 +137,7 @@ def main() -> None:
         rows += beside_werkzeug(other("werkzeug.http"), other("werkzeug.datastructures"))
     if other("django"):
         rows += beside_django(other("django.utils.http"), other("django.http.cookie"))
-    found = [(micros(mine, theirs), title, name) for title, name, mine, theirs in rows]
+    found = [(times, title, name) for times, (title, name, _, _) in zip(micros(rows), rows)]
     print("| Call | beside | ours | theirs | ours / theirs |\n|---|---|---:|---:|---:|")
     for (mine, theirs), title, name in sorted(found, key=lambda it: it[0][0] / it[0][1]):
         print(f"| {title} | {name} | {mine:.2f} | {theirs:.2f} | {mine / theirs:.2f} |")

@@ -85,9 +85,18 @@ class Parts(unittest.TestCase):
         self.assertEqual(ContentDisposition.parse('form-data; name="a"').parameter("name"), "a")
         self.assertTrue(ContentDisposition("other").is_attachment)
         self.assertFalse(ContentDisposition("inline").is_attachment)
-        for wrong in ("a b", "a;b", ""):
+        for wrong in ("a b", "a;b", "", "A"):
             with self.assertRaises(HeaderError):
                 ContentDisposition(wrong)
+        for line in ("a/b", "a=b", '"a"', "", ";a=b", "a;b c=d", 'a;b="c'):
+            with self.assertRaises(InvalidField, msg=line):
+                ContentDisposition.parse(line)
+        first = ContentDisposition.parse("a; filename; filename=b; filename*=UTF-8''%80; FILENAME*=UTF-8''c; x; y=z")
+        self.assertEqual((first.filename, first.parameters), (None, (("x", None), ("y", "z"))))
+        long = "\u20ac" * 2000
+        self.assertEqual(ContentDisposition.parse(str(ContentDisposition("a", long))).filename, long)
+        with self.assertRaises(TypeError):
+            ContentDisposition.parse()  # type: ignore
         with self.assertRaises(HeaderError):
             ContentDisposition("attachment", "\ud800")
         self.assertEqual(str(ContentDisposition("inline", "%'é")), "inline; filename*=UTF-8''%25%27%C3%A9")
@@ -115,6 +124,10 @@ class Parts(unittest.TestCase):
         for scheme in ("a b", "", "a=b"):
             with self.assertRaises(HeaderError):
                 Challenge(scheme)
+        # RFC 7616, section 3.3: some values are always in quotes.
+        made = Challenge("Digest", (("Realm", "a"), ("nonce", "b"), ("algorithm", "MD5"), ("qop", "auth")))
+        self.assertEqual(str(made), 'Digest Realm="a", nonce="b", algorithm=MD5, qop="auth"')
+        self.assert_same(made, lambda text: Challenge.parse_all(text)[0])
 
     def test_links(self) -> None:
         # RFC 8288, section 3.5.
@@ -133,6 +146,9 @@ class Parts(unittest.TestCase):
                 Link.parse_all(text)
         with self.assertRaises(HeaderError):
             Link("/a>b")
+        # RFC 8288, section 3.3: the first `rel` counts, and relation types are between spaces.
+        several, none = Link.parse_all('</a>; REL="Next  x\xa0y"; rel=prev, </b>; title=c')
+        self.assertEqual((several.relations, none.relations), (["next", "x\xa0y"], []))
 
     def test_hops(self) -> None:
         # RFC 7239, section 4, and RFC 9211, section 2.
@@ -141,15 +157,45 @@ class Parts(unittest.TestCase):
         self.assertEqual((one.client, one.proto, one.by, one.host), ("192.0.2.60", "http", "203.0.113.43", None))
         self.assertEqual(two.client, "[2001:db8:cafe::17]:4711")
         self.assert_same(one, lambda text: Forwarded.parse_all(text)[0])
-        for text in ("for", "for=a;for=b", "for=a b", "for = a"):
+        many = ";".join(f"a{it}=b" for it in range(101))
+        for text in ("for", "for=a;for=b", "for=a;For=b", "for=a b", "for = a", many):
             with self.assertRaises(InvalidField, msg=text):
                 Forwarded.parse_all(text)
+        hundred, = Forwarded.parse_all(";".join(f"a{it}=b" for it in range(100)))
+        self.assertEqual(len(hundred.parameters), 100)
+        # The grammar has an element without pairs.
+        self.assertEqual(Forwarded.parse_all(str(Forwarded())), [Forwarded()])
+        self.assertEqual(str(Forwarded((("for", "[::1]"),))), 'for="[::1]"')
+        for wrong in ((("a b", "c"),), (("a", None),), (("a", "b"), ("A", "c")), (("a", "\n"),), (("a", "\u20ac"),)):
+            with self.assertRaises(HeaderError, msg=wrong):
+                Forwarded(wrong)
+
+    def test_caches(self) -> None:
+        # RFC 9211, sections 2 and 4.
         for text, ttl in (("A; hit; ttl=-412", -412), ("A; hit; ttl=1.5", None), ("A; hit", None)):
             status, = CacheStatus.parse_all(text)
             self.assertEqual((status.cache, status.is_hit, status.ttl), ("A", True, ttl))
-        status = CacheStatus("A", (("fwd", "stale"), ("fwd-status", "304"), ("collapsed", None)))
-        self.assertEqual((status.forwarded, status.parameter("fwd-status")), ("stale", "304"))
-        self.assert_same(status, lambda text: CacheStatus.parse_all(text)[0])
+        origin, company = CacheStatus.parse_all('OriginCache; hit; ttl=1100, "CDN Company Here"; fwd=uri-miss; stored')
+        self.assertEqual((origin.cache, company.cache), ("OriginCache", "CDN Company Here"))
+        self.assertEqual((company.forwarded, company.is_stored, company.is_collapsed), ("uri-miss", True, False))
+        status = CacheStatus("A", forwarded="stale", forwarded_status=304, is_collapsed=True, key='a"b', detail="c d")
+        self.assertEqual(str(status), '"A"; fwd=stale; fwd-status=304; collapsed; key="a\\"b"; detail="c d"')
+        for value in (status, origin, company):
+            self.assert_same(value, lambda text: CacheStatus.parse_all(text)[0])
+        # A parameter counts by its type, and of two of a name the last counts.
+        for text in ("hit=?0", "hit=1", 'hit="a"', "hit; hit=?0", 'ttl="1"', "key=a", "fwd=1", "x=y"):
+            self.assertEqual(CacheStatus.parse_all(f"A; {text}"), [CacheStatus("A")], text)
+        self.assertEqual(CacheStatus.parse_all("A; hit=?1; ttl=1; ttl=2"), [CacheStatus("A", True, ttl=2)])
+        for text in ("1; hit", "a b", "A; Hit", "A; ttl=1234567890123456", 'A; key="b', "?1"):
+            with self.assertRaises(InvalidField, msg=text):
+                CacheStatus.parse_all(text)
+        wrong: List[Dict[str, Any]] = [{"forwarded": "a b"}, {"ttl": 10**15}, {"key": "\t"}, {"cache": "\xe9"}]
+        for given in wrong:
+            members: Dict[str, Any] = {"cache": "A", **given}
+            with self.assertRaises(HeaderError, msg=given):
+                CacheStatus(**members)
+        with self.assertRaises(TypeError):
+            CacheStatus("A", ttl="1")  # type: ignore
 
     def test_cookies_to_be_set(self) -> None:
         # RFC 6265, sections 3.1 and 5.2.

@@ -315,7 +315,16 @@ VALUES: Dict[str, Any] = {
         name: call(getattr(it, name), some.lists(some.builds(it.Element, ANY_TEXT, PARAMETERS), max_size=3))
         for name in ("Accept", "AcceptEncoding", "AcceptLanguage")
     },
-    "CacheStatus": call(it.CacheStatus, ANY_TEXT, PARAMETERS),
+    "CacheStatus": call(
+        it.CacheStatus,
+        ANY_TEXT,
+        BOOL,
+        some.one_of(some.none(), ANY_TEXT),
+        *(some.one_of(some.none(), NUMBER) for _ in range(2)),
+        BOOL,
+        BOOL,
+        *(some.one_of(some.none(), ANY_TEXT) for _ in range(2)),
+    ),
     "Challenge": call(it.Challenge, ANY_TEXT, PARAMETERS, some.one_of(some.none(), ANY_TEXT)),
     "ContentDisposition": call(
         it.ContentDisposition,

@@ -11,6 +11,7 @@ import re
 from contextlib import contextmanager
 from datetime import datetime, timedelta, timezone
 from enum import IntEnum
+from types import BuiltinFunctionType
 from typing import (
     TYPE_CHECKING,
     Any,
@@ -134,6 +135,19 @@ def check_types(value: object, /, **kinds: Union[type, Tuple[type, ...]]) -> Non
             wanted = " or ".join("None" if it == "NoneType" else it for it in names)
             raise TypeError(f"{name}: expected {wanted}, not {type_name(given)}")
     check_members(value)
+
+
+class Parsed:
+    """A type whose `parse` is a function of the extension, which is bound to the type: Python calls it faster than a
+    class method. A subclass may have another."""
+
+    __slots__ = ()
+    _PARSE = ""
+
+    def __init_subclass__(cls) -> None:
+        super().__init_subclass__()
+        if isinstance(getattr(cls, "parse", calls.version), BuiltinFunctionType):
+            setattr(cls, "parse", calls.bound(cls._PARSE, cls))
 
 
 Value = TypeVar("Value")

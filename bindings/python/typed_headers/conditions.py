@@ -5,7 +5,7 @@ import time
 from dataclasses import dataclass
 from datetime import datetime
 from enum import IntEnum
-from typing import Iterable, List, Optional, Tuple, Union
+from typing import ClassVar, Iterable, List, Optional, Tuple, Union
 
 from . import _library
 from ._checks import check_members
@@ -41,6 +41,8 @@ class Target:
     exists: bool = True
     #: Whether that date is a strong validator (RFC 9110, section 8.8.2.2).
     is_date_strong: bool = False
+
+    _known: ClassVar[Optional[Tuple[bytes, Optional[int]]]] = None
 
     def __post_init__(self) -> None:
         # (this takes less time than `check_members`)
@@ -118,11 +120,13 @@ RESPONSE_FIELDS = ("etag", "last-modified", "accept-ranges", "content-range", "c
 _Facts = Tuple[bytes, Optional[int], int, bool, bool]
 
 _evaluate, _to_bytes = _library.calls.evaluate, _library.to_bytes
+#: Usual methods, which take less time so.
+_METHODS = {it: it.encode("ascii") for it in ("GET", "HEAD", "POST", "PUT", "PATCH", "DELETE", "OPTIONS")}
 
 
 def _facts(target: Target, now: Optional[Time]) -> _Facts:
     present = int(time.time()) if now is None else _library.to_seconds(now, "now")
-    known: Optional[Tuple[bytes, Optional[int]]] = target.__dict__.get("_known")
+    known = target._known
     if known is None:
         etag, modified = target.etag, target.last_modified
         known = (
@@ -130,7 +134,7 @@ def _facts(target: Target, now: Optional[Time]) -> _Facts:
             None if modified is None else _library.to_seconds(modified, "last_modified"),
         )
         # (a target doesn't change)
-        target.__dict__["_known"] = known
+        object.__setattr__(target, "_known", known)
     return known[0], known[1], present, target.exists, target.is_date_strong
 
 
@@ -163,7 +167,8 @@ def evaluate(
     >>> evaluate("PUT", {"If-Match": "*"}, Target(exists=False))
     <Precondition.FAILED: 412>
     """
-    verb, facts = _to_bytes(method, "method"), _facts(target, now)
+    verb = (_METHODS.get(method) if type(method) is str else None) or _to_bytes(method, "method")
+    facts = _facts(target, now)
     # (what is asked first takes no time)
     if type(request) is dict or not isinstance(request, Section):
         status, answer = _evaluate((verb, section_of(request)), facts)

@@ -281,17 +281,17 @@ class Headers(MutableMapping[str, str]):
 
     def __setitem__(self, name: str, value: str) -> None:
         """Puts a single field line where the first of that name is, or at the end."""
-        field = _pair(name, value) or _parse(_field_of(name, value))[0]
-        pairs, named = self._changing(field[0])
-        lines = named.get(field[0])
+        key, line = field = _pair(name, value) or _parse(_field_of(name, value))[0]
+        pairs, named = self._changing(key)
+        lines = named.get(key)
         if lines is None:
             pairs.append(field)
         else:
-            place = pairs.index((field[0], lines[0]))
+            place = pairs.index((key, lines[0]))
             pairs[place] = field
             if len(lines) > 1:
-                pairs[place + 1 :] = [it for it in pairs[place + 1 :] if it[0] != field[0]]
-        named[field[0]] = field[1:]
+                pairs[place + 1 :] = [it for it in pairs[place + 1 :] if it[0] != key]
+        named[key] = (line,)
         self._state = _State(None, pairs, named)
 
     def __delitem__(self, name: str) -> None:
@@ -311,12 +311,14 @@ class Headers(MutableMapping[str, str]):
     def _changing(self, replaced: str = "") -> Tuple[Fields, _Named]:
         """Copies of what the fields are parsed to, of which others than those of a name stay."""
         state = self._state
-        pairs = state.parsed()
+        pairs, named = state.pairs, state.by_name
+        if pairs is None or named is None:
+            pairs, named = state.parsed(), state.named()
         if not state.is_checked:
             for it in pairs:
                 if it[0] != replaced:
                     _field_of(*it)
-        return pairs[:], state.named().copy()
+        return pairs[:], named.copy()
 
     def pairs(self) -> Fields:
         """The names, in lower case, and values of the field lines, in order."""

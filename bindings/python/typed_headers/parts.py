@@ -3,12 +3,25 @@
 Each type has `parse`, from field lines, and `str`, a field line. What is malformed raises `InvalidField`.
 """
 
-from dataclasses import dataclass, field
+from dataclasses import dataclass, field, fields
 from datetime import datetime, timezone
-from typing import Any, Callable, Dict, Iterator, List, NoReturn, Optional, Sequence, Tuple, Type, TypeVar
+from typing import (
+    TYPE_CHECKING,
+    Any,
+    Callable,
+    Dict,
+    Iterator,
+    List,
+    NoReturn,
+    Optional,
+    Sequence,
+    Tuple,
+    Type,
+    TypeVar,
+)
 
 from . import _library
-from ._library import Text
+from ._library import Parsed, Text
 from .errors import HeaderError
 from .negotiation import (
     CODING,
@@ -39,13 +52,12 @@ __all__ = [
 #: Names and values, in order. A name without a value has `None`.
 Parameters = Tuple[Tuple[str, Optional[str]], ...]
 
-_ELEMENTS, _CHALLENGES, _LINKS, _SET_COOKIES, _VALUES = range(5)
-_is_token = _library.TOKEN.fullmatch
+_ELEMENTS, _CHALLENGES, _LINKS, _SET_COOKIES, _, _HOPS, _CACHES = range(7)
+_EXTENDED, _PLAIN, _QUOTED, _IN_CHALLENGE = range(4)
 _read_elements, _read_groups = _library.calls.elements_as, _library.calls.groups
 
 #: A part: a letter that says what it is, its name or its text, and its value, if it has one.
 _Part = Tuple[str, str, Optional[str]]
-_PARAMETER = ("n", "p")
 
 
 def _groups(form: int, name: str, line: Text, more: Tuple[Text, ...]) -> List[List[_Part]]:
@@ -60,25 +72,19 @@ def _reject(name: str, lines: Sequence[Text], expected: str) -> NoReturn:
     raise _library.rejected(name, _library.to_lines(name, lines), f"expected {expected}")
 
 
-def _parameters(parts: Sequence[_Part]) -> Optional[Parameters]:
-    """The parameters that all of these parts are, or `None` if one is something else."""
-    found = []
-    for kind, name, value in parts:
-        if kind not in _PARAMETER:
-            return None
-        found.append((name, value))
-    return tuple(found)
+def _parameters(parts: Sequence[_Part]) -> Parameters:
+    """The names and values of these parts."""
+    return tuple([(name, value) for _, name, value in parts])
 
 
-def _shown(text: str) -> str:
-    """A text as a token, or else as a quoted-string (RFC 9110, sections 5.6.2 and 5.6.4)."""
-    if _is_token(text):
-        return text
-    return '"' + text.replace("\\", "\\\\").replace('"', '\\"') + '"'
-
-
-def _pair(name: str, value: Optional[str]) -> str:
-    return name if value is None else f"{name}={_shown(value)}"
+def _pair(name: str, value: Optional[str], kind: int = _PLAIN) -> str:
+    """A parameter of a kind, as it is in a field line."""
+    if value is None:
+        return name
+    text = value.encode("utf-8", "surrogatepass") if kind == _EXTENDED else _library.to_bytes(value, name)
+    status, shown = _library.calls.format_parameter(kind, _library.to_bytes(name, "parameter"), text)
+    _library.check(status, lambda: HeaderError(f"{name}: {value!r} can't be the value of such a parameter"))
+    return _library.to_str(shown)
 
 
 def _first(parameters: Parameters, name: str) -> Optional[str]:
@@ -135,7 +141,6 @@ def _elements(
 _FORMS = {
     _ELEMENTS: "a list of values with parameters (RFC 9110, section 5.6.6)",
     _LINKS: "a list of links (RFC 8288, section 3)",
-    _VALUES: "a word with parameters (RFC 6266, section 4.1)",
 }
 
 
@@ -244,14 +249,6 @@ def _extended(value: Optional[str]) -> Optional[str]:
     return None if status else text.decode()
 
 
-def _named(name: str, text: str) -> str:
-    """The parameter of a name for a text."""
-    given = text.encode("utf-8", "surrogatepass")
-    status, shown = _library.calls.format_parameter(name.encode("ascii"), given)
-    _library.check(status, lambda: HeaderError(f"{name}: {text!r} has no encoding in UTF-8"))
-    return _library.to_str(shown)
-
-
 def _text_of(parameters: Parameters, name: str) -> Optional[str]:
     """The text of a parameter: as RFC 8187 has it if that decodes, else as it is."""
     extended = _extended(_first(parameters, name + "*"))
@@ -259,7 +256,7 @@ def _text_of(parameters: Parameters, name: str) -> Optional[str]:
 
 
 @dataclass(frozen=True)
-class ContentDisposition:
+class ContentDisposition(Parsed):
     """How content is to be presented, and under which name it is to be stored (RFC 6266).
 
     >>> found = ContentDisposition.parse("attachment; filename=rates; filename*=UTF-8''%e2%82%ac%20rates")
@@ -284,27 +281,19 @@ class ContentDisposition:
         if ContentDisposition.parse(str(self)) != self:
             raise HeaderError(f"content-disposition: {str(self)!r} means something else")
 
+    if TYPE_CHECKING:
+
+        @classmethod
+        def parse(cls, line: Text, *more: Text) -> "ContentDisposition":
+            """The disposition of the only field line."""
+            raise NotImplementedError
+
+    _PARSE = "parse_disposition"
+
     @classmethod
-    def parse(cls, line: Text, *more: Text) -> "ContentDisposition":
-        """The disposition of the only field line."""
-        found = _elements((Element, "value"), "content-disposition", line, more, _VALUES)
-        if len(found) != 1 or not _is_token(found[0].value):
-            _reject("content-disposition", (line, *more), _FORMS[_VALUES])
-        names: Dict[str, Optional[str]] = {}
-        others = []
-        for it in found[0].parameters:
-            name = it[0].lower()
-            if name == "filename" or name == "filename*":
-                names.setdefault(name, it[1])
-            else:
-                others.append(it)
-        filename = _extended(names["filename*"]) if "filename*" in names else None
-        if filename is None:
-            filename = names.get("filename")
-        value = object.__new__(cls)
-        members = value.__dict__
-        members["type"], members["filename"], members["parameters"] = found[0].value.lower(), filename, tuple(others)
-        return value
+    def _otherwise(cls, status: int, lines: Tuple[Text, ...]) -> NoReturn:
+        expected = "expected a word with parameters (RFC 6266, section 4.1)"
+        raise _library.failed(status, "content-disposition", lines, expected)
 
     @property
     def is_attachment(self) -> bool:
@@ -316,7 +305,7 @@ class ContentDisposition:
         return _first(self.parameters, name)
 
     def __str__(self) -> str:
-        named = [] if self.filename is None else [_named("filename", self.filename)]
+        named = [] if self.filename is None else [_pair("filename", self.filename, _EXTENDED)]
         return "; ".join([self.type, *named, *(_pair(name, value) for name, value in self.parameters)])
 
 
@@ -346,12 +335,12 @@ class Challenge:
     def parse_all(cls, line: Text, *more: Text) -> List["Challenge"]:
         """The challenges of all field lines of `WWW-Authenticate` or `Proxy-Authenticate`."""
         found = []
-        for (kind, scheme, _), *rest in _groups(_CHALLENGES, "www-authenticate", line, more):
-            token = rest.pop(0)[1] if rest and rest[0][0] == "k" else None
-            parameters = _parameters(rest)
-            if kind != "s" or parameters is None:
+        for parts in _groups(_CHALLENGES, "www-authenticate", line, more):
+            if "!" in [kind for kind, _, _ in parts]:
                 _reject("www-authenticate", (line, *more), "a list of challenges (RFC 9110, section 11.6.1)")
-            found.append(_made(cls, scheme=scheme, parameters=parameters, token=token))
+            (_, scheme, _), *rest = parts
+            token = rest.pop(0)[1] if rest and rest[0][0] == "k" else None
+            found.append(_made(cls, scheme=scheme, parameters=_parameters(rest), token=token))
         return found
 
     @property
@@ -365,9 +354,7 @@ class Challenge:
 
     def __str__(self) -> str:
         shown = [self.token] if self.token is not None else []
-        # (recipients want quotes around a realm: RFC 9110, section 11.5)
-        shown += [f'realm="{value}"' if name.lower() == "realm" and value is not None and _shown(value) == value
-                  else _pair(name, value) for name, value in self.parameters]
+        shown += [_pair(name, value, _IN_CHALLENGE) for name, value in self.parameters]
         return f"{self.scheme} {', '.join(shown)}".rstrip(" ")
 
 
@@ -399,8 +386,8 @@ class Link:
 
     @property
     def relations(self) -> List[str]:
-        """The relation types, in lower case (RFC 8288, section 3.3)."""
-        return (self.parameter("rel") or "").lower().split()
+        """The relation types of the first `rel`, in lower case (RFC 8288, section 3.3)."""
+        return [text for kind, text, _ in _groups(_LINKS, "link", str(self), ())[0] if kind == "l"]
 
     @property
     def title(self) -> Optional[str]:
@@ -435,12 +422,10 @@ class Forwarded:
     def parse_all(cls, line: Text, *more: Text) -> List["Forwarded"]:
         """The elements of all field lines of `Forwarded`: the nearest proxy's is the last."""
         found = []
-        for parts in _groups(_ELEMENTS, "forwarded", line, more):
-            pairs = _parameters([it for it in parts if it[:2] != ("v", "")])
-            names = [name.lower() for name, _ in pairs or ()]
-            if not pairs or len(set(names)) < len(names) or None in [value for _, value in pairs]:
+        for parts in _groups(_HOPS, "forwarded", line, more):
+            if parts[0][0] == "!":
                 _reject("forwarded", (line, *more), "a list of pairs, each name once (RFC 7239, section 4)")
-            found.append(_made(cls, parameters=pairs))
+            found.append(_made(cls, parameters=_parameters([it for it in parts if it[0] == "p"])))
         return found
 
     @property
@@ -464,61 +449,90 @@ class Forwarded:
         return _first(self.parameters, "proto")
 
     def __str__(self) -> str:
-        return ";".join(_pair(name, value) for name, value in self.parameters)
+        return ";".join(_pair(name, value) for name, value in self.parameters) or ";"
 
 
 @dataclass(frozen=True)
 class CacheStatus:
-    """What a cache did with a request (RFC 9211).
+    """What a cache did with a request (RFC 9211). A parameter of another type, or of another name, counts as not there.
 
     >>> origin, edge = CacheStatus.parse_all("origin; fwd=uri-miss; stored, edge; hit; ttl=376")
     >>> origin.is_hit, origin.forwarded, edge.is_hit, edge.ttl
     (False, 'uri-miss', True, 376)
+    >>> str(CacheStatus("edge", forwarded="stale", forwarded_status=304, key="a b"))
+    '"edge"; fwd=stale; fwd-status=304; key="a b"'
     """
 
     #: The name of the cache.
     cache: str
-    parameters: Parameters = ()
+    #: Whether it answered without forwarding the request.
+    is_hit: bool = False
+    #: `fwd`: why it forwarded the request.
+    forwarded: Optional[str] = None
+    #: The status of the next server's answer.
+    forwarded_status: Optional[int] = None
+    #: For how many more seconds the response is fresh: below 0 if it is stale.
+    ttl: Optional[int] = None
+    is_stored: bool = False
+    #: Whether the request waited for another one's answer.
+    is_collapsed: bool = False
+    #: The key of the response in the cache.
+    key: Optional[str] = None
+    detail: Optional[str] = None
 
     def __post_init__(self) -> None:
-        _library.check_types(self, cache=str)
-        object.__setattr__(self, "parameters", _to_parameters(self.parameters, "parameters"))
+        texts = dict.fromkeys(("forwarded", "key", "detail"), (str, type(None)))
+        numbers = dict.fromkeys(("forwarded_status", "ttl"), (int, type(None)))
+        _library.check_types(self, cache=str, **texts, **numbers)
         if CacheStatus.parse_all(str(self)) != [self]:
             raise HeaderError(f"cache-status: {str(self)!r} means something else")
 
     @classmethod
     def parse_all(cls, line: Text, *more: Text) -> List["CacheStatus"]:
         """The caches of all field lines of `Cache-Status`: the nearest to the client is the last."""
-        return _elements((cls, "cache"), "cache-status", line, more)
-
-    @property
-    def is_hit(self) -> bool:
-        """Whether the cache answered without forwarding the request."""
-        return "hit" in [name for name, _ in self.parameters]
-
-    @property
-    def forwarded(self) -> Optional[str]:
-        """`fwd`: why it forwarded the request, or `None`."""
-        return _first(self.parameters, "fwd")
-
-    @property
-    def ttl(self) -> Optional[int]:
-        """For how many more seconds the response is fresh: below 0 if it is stale. `None` if that isn't a number."""
-        return _number(_first(self.parameters, "ttl"))
-
-    def parameter(self, name: str) -> Optional[str]:
-        """The value of the first parameter of a name, without quotes."""
-        return _first(self.parameters, name)
+        found = []
+        for parts in _groups(_CACHES, "cache-status", line, more):
+            if "!" in [kind for kind, _, _ in parts]:
+                _reject("cache-status", (line, *more), "a list of caches (RFC 9211, section 2)")
+            last = {name: (kind, value) for kind, name, value in parts[1:]}
+            members = {"cache": parts[0][1]}
+            for name, (kind, value) in last.items():
+                if (kind, name) in _STATUS:
+                    member, shown = _STATUS[kind, name]
+                    members[member] = shown(value)
+            found.append(_made(cls, **{**_NO_STATUS, **members}))
+        return found
 
     def __str__(self) -> str:
-        return str(Element(self.cache, self.parameters))
+        shown = [_pair("a", self.cache, _QUOTED)[2:]]
+        shown += ["hit"] if self.is_hit else []
+        shown += [f"fwd={self.forwarded}"] if self.forwarded is not None else []
+        shown += [f"fwd-status={self.forwarded_status}"] if self.forwarded_status is not None else []
+        shown += [f"ttl={self.ttl}"] if self.ttl is not None else []
+        shown += ["stored"] if self.is_stored else []
+        shown += ["collapsed"] if self.is_collapsed else []
+        shown += [_pair("key", self.key, _QUOTED)] if self.key is not None else []
+        shown += [_pair("detail", self.detail, _QUOTED)] if self.detail is not None else []
+        return "; ".join(shown)
 
 
-def _number(text: Optional[str]) -> Optional[int]:
-    if not text:
-        return None
-    digits = text[1:] if text.startswith("-") else text
-    return int(text) if digits.isascii() and digits.isdigit() and len(digits) <= 15 else None
+def _is_there(value: Optional[str]) -> bool:
+    return True
+
+
+#: The member that each parameter of a type is, and what shows its value.
+_STATUS: Dict[Tuple[str, str], Tuple[str, Callable[[Any], Any]]] = {
+    ("n", "hit"): ("is_hit", _is_there),
+    ("t", "fwd"): ("forwarded", str),
+    ("i", "fwd-status"): ("forwarded_status", int),
+    ("i", "ttl"): ("ttl", int),
+    ("n", "stored"): ("is_stored", _is_there),
+    ("n", "collapsed"): ("is_collapsed", _is_there),
+    ("p", "key"): ("key", str),
+    ("p", "detail"): ("detail", str),
+    ("t", "detail"): ("detail", str),
+}
+_NO_STATUS: Dict[str, Any] = {it.name: it.default for it in fields(CacheStatus)}
 
 
 @dataclass(frozen=True)
@@ -601,10 +615,6 @@ class SetCookie:
         shown += [f"SameSite={self.same_site}"] if self.same_site is not None else []
         shown += [name if value is None else f"{name}={value}" for name, value in self.others]
         return "; ".join(shown)
-
-
-def _is_there(value: Optional[str]) -> bool:
-    return True
 
 
 def _date(text: str) -> datetime:

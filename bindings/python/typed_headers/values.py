@@ -12,7 +12,7 @@ from typing import TYPE_CHECKING, Iterator, List, Optional, Sequence, Tuple
 
 from . import _library
 from ._checks import check_members, type_name
-from ._library import Text, Time
+from ._library import Parsed, Text, Time
 from .errors import HeaderError, InvalidField
 
 # (a name of this module is found in half the time)
@@ -127,7 +127,7 @@ def _check(field: str, text: str) -> None:
 
 
 @dataclass(frozen=True)
-class ETag:
+class ETag(Parsed):
     """An entity tag (RFC 9110, section 8.8.3).
 
     >>> ETag.parse('W/"a"')
@@ -155,8 +155,7 @@ class ETag:
             """The entity tag that the only field line of `ETag` is."""
             raise NotImplementedError
 
-    else:
-        parse = classmethod(_library.calls.parse_etag)
+    _PARSE = "parse_etag"
 
     @classmethod
     def _otherwise(cls, status: int, lines: Tuple[Text, ...]) -> "ETag":
@@ -175,7 +174,7 @@ class ETag:
 
 
 @dataclass(frozen=True)
-class ETags:
+class ETags(Parsed):
     """The entity tags of `If-Match` or `If-None-Match`, or `*` for any (RFC 9110, sections 13.1.1 and 13.1.2).
 
     >>> tags = ETags.parse('"a", W/"b"')
@@ -205,8 +204,7 @@ class ETags:
             """The tags of all field lines."""
             raise NotImplementedError
 
-    else:
-        parse = classmethod(_library.calls.parse_etags)
+    _PARSE = "parse_etags"
 
     @classmethod
     def _otherwise(cls, status: int, lines: Tuple[Text, ...]) -> "ETags":
@@ -271,7 +269,7 @@ class IfRange:
 
 
 @dataclass(frozen=True)
-class MediaType:
+class MediaType(Parsed):
     """A media type (RFC 9110, section 8.3.1).
 
     >>> html = MediaType.parse('Text/HTML;Charset=UTF-8; a="b c"')
@@ -304,8 +302,7 @@ class MediaType:
             """The media type that the first field line of `Content-Type` is."""
             raise NotImplementedError
 
-    else:
-        parse = classmethod(_library.calls.parse_media_type)
+    _PARSE = "parse_media_type"
 
     @classmethod
     def _otherwise(cls, status: int, lines: Tuple[Text, ...]) -> "MediaType":
@@ -351,7 +348,7 @@ _FLAGS = (
 
 
 @dataclass(frozen=True)
-class CacheControl:
+class CacheControl(Parsed):
     """The directives of `Cache-Control` (RFC 9111, section 5.2, RFC 5861 and RFC 8246). A number of seconds is `None`
     if it isn't set. Other directives are ignored.
 
@@ -402,8 +399,7 @@ class CacheControl:
             """The directives of all field lines."""
             raise NotImplementedError
 
-    else:
-        parse = classmethod(_library.calls.parse_cache_control)
+    _PARSE = "parse_cache_control"
 
     @classmethod
     def _otherwise(cls, status: int, lines: Tuple[Text, ...]) -> "CacheControl":
@@ -684,7 +680,7 @@ class ReferrerPolicy(Enum):
 
 
 @dataclass(frozen=True)
-class Credentials:
+class Credentials(Parsed):
     """The credentials of Basic, a user name and a password (RFC 7617), or those of Bearer, a token (RFC 6750).
 
     >>> given = Credentials.parse("Basic QWxhZGRpbjpvcGVuIHNlc2FtZQ==")
@@ -717,8 +713,7 @@ class Credentials:
             """The credentials of the first field line of `Authorization` or of `Proxy-Authorization`."""
             raise NotImplementedError
 
-    else:
-        parse = classmethod(_library.calls.parse_credentials)
+    _PARSE = "parse_credentials"
 
     @classmethod
     def _otherwise(cls, status: int, lines: Tuple[Text, ...]) -> "Credentials":
@@ -736,7 +731,7 @@ class Credentials:
 
 
 @dataclass(frozen=True)
-class Cookie:
+class Cookie(Parsed):
     """The cookies of a request, in order (RFC 6265, section 5.4). Its `repr` has the names alone.
 
     >>> cookies = Cookie.parse("SID=31d4d96e407aad42; lang=en-US; lang=de")
@@ -765,8 +760,7 @@ class Cookie:
             """The cookies of all field lines. What has no `=` is skipped."""
             raise NotImplementedError
 
-    else:
-        parse = classmethod(_library.calls.parse_cookie)
+    _PARSE = "parse_cookie"
 
     @classmethod
     def _otherwise(cls, status: int, lines: Tuple[Text, ...]) -> "Cookie":
