@@ -105,6 +105,13 @@ static const char *take_origin(void *settings, char *value) {
     return add_origin(gateway, words[0], words[1], count == 4 ? words[3] : count == 3 ? "" : NULL);
 }
 
+/* Whether a route is asked first: those for one host are, and the longer path of two. */
+static bool is_before(const struct route *route, const struct route *other) {
+    if (!*route->host != !*other->host)
+        return *route->host != 0;
+    return strlen(route->path) > strlen(other->path);
+}
+
 static const char *take_route(void *settings, char *value) {
     struct gateway *gateway = settings;
     char *words[MOST_WORDS];
@@ -117,11 +124,13 @@ static const char *take_route(void *settings, char *value) {
         return wrong("no origin before has the group '%s'", words[1]);
     if (gateway->route_count == MOST_ROUTES || !length)
         return wrong("it has no host, or there are more than %d routes", MOST_ROUTES);
-    for (char *at = host; *at; at++)
-        *at = (char)tolower((unsigned char)*at);
     if (!strcmp(host, "*"))
         *host = 0;
-    gateway->routes[gateway->route_count++] = (struct route){host, path ? path : "/", group};
+    struct route route = {host, path ? path : "/", group};
+    size_t place = gateway->route_count++;
+    for (; place > 0 && is_before(&route, &gateway->routes[place - 1]); place--)
+        gateway->routes[place] = gateway->routes[place - 1];
+    gateway->routes[place] = route;
     return NULL;
 }
 
@@ -304,33 +313,6 @@ void free_gateway(struct gateway *gateway) {
 }
 
 /* ---- What it says of a request ---- */
-
-static bool is_below(const char *path, size_t length, const char *prefix) {
-    size_t count = strlen(prefix);
-    return length >= count && !memcmp(path, prefix, count) &&
-           (prefix[count - 1] == '/' || length == count || path[count] == '/' || path[count] == '?');
-}
-
-size_t route_of(const struct gateway *gateway, const char *host, size_t host_length, const char *path,
-                size_t path_length) {
-    const char *colon = memrchr(host, ':', host_length);
-    const struct route *best = NULL;
-    if (colon && !memchr(colon, ']', host_length - (size_t)(colon - host)))
-        host_length = (size_t)(colon - host);
-    for (size_t i = 0; i < gateway->route_count; i++) {
-        const struct route *route = &gateway->routes[i];
-        if (*route->host && (strlen(route->host) != host_length || strncasecmp(route->host, host, host_length)))
-            continue;
-        if (!is_below(path, path_length, route->path))
-            continue;
-        if (!best || (!*best->host && *route->host) ||
-            (!*best->host == !*route->host && strlen(route->path) > strlen(best->path)))
-            best = route;
-    }
-    if (best)
-        return best->group;
-    return gateway->route_count ? MOST_GROUPS : 0; /* without routes the first group gets all */
-}
 
 bool is_trusted(const struct gateway *gateway, const struct address *address) {
     for (size_t i = 0; i < gateway->trusted_count; i++) {

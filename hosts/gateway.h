@@ -30,7 +30,7 @@ struct origin {
 
 /* Which group of origins gets the requests for a host, below a path. */
 struct route {
-    const char *host; /* in lower case; empty for any */
+    const char *host; /* empty for any */
     const char *path;
     size_t group;
 };
@@ -47,7 +47,7 @@ struct gateway {
     struct entrance entrances[MOST_ADDRESSES];
     struct origin origins[MOST_ORIGINS];
     const char *groups[MOST_GROUPS];
-    struct route routes[MOST_ROUTES];
+    struct route routes[MOST_ROUTES]; /* in the order in which they are asked */
     struct range trusted[MOST_TRUSTED];
     size_t origin_count, group_count, route_count, trusted_count;
     const char *certificate, *key, *authorities; /* NULL for none, and for those of the system */
@@ -69,11 +69,6 @@ struct gateway {
  * used. A wrong word ends the process with status 2. */
 struct gateway *read_gateway(int count, char **words);
 void free_gateway(struct gateway *gateway);
-
-/* Which group gets the requests for a host and a path, or MOST_GROUPS if none does. The host may end with a port. Of
- * the routes for the host the longest path counts, then of those for any host. */
-size_t route_of(const struct gateway *gateway, const char *host, size_t host_length, const char *path,
-                size_t path_length);
 
 bool is_trusted(const struct gateway *gateway, const struct address *address);
 

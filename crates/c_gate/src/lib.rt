@@ -10,6 +10,7 @@ mod forwarding;
 mod moving;
 mod opening;
 mod reading;
+mod routing;
 
 pub use crate::answering::{answer, end, pass, push, respond};
 pub use crate::forwarding::{again, closes_after, forward, set_conditions, take_origin};
@@ -20,3 +21,4 @@ pub use crate::opening::{GatePeer, GateRules, open_gate, open_origin, open_rules
 pub use crate::reading::{
     GateText, fields_of, key_of, own_of, response_of, write_output, write_text,
 };
+pub use crate::routing::is_for;

@@ -1,13 +1,15 @@
 //! A gateway's connection, behind a handle.
-ghost use Rattle.std.specs.Prelude.{◌≡◌, None, length};
+ghost use Rattle.std.specs.Prelude.{◌≡◌, None, Ok, length};
 ghost use Rattle.gateway_exchange.specs.Steps.{AsksAgain, Passes, TimesOut};
 ghost use Rattle.c_parts.specs.Endings.{Gives, TellsAndWrites, Writes, done};
+ghost use Rattle.c_decisions.specs.Flags.{flag_of};
 ghost use Rattle.c_handles.specs.Handles.{OnHeld, Opens};
 ghost use Rattle.c_gate.specs.Answers.{AnswersNumber, EndsPieces, PushesPiece, Responds};
 ghost use Rattle.c_gate.specs.{Calls.{Does, OnGate, gate_in, rules_in}, Moves.{Asks, Finishes, OpensTunnel, Receives}};
 ghost use Rattle.c_gate.specs.{Moves.{Sent, SetsClock, TellsNext}, Openings.{IsGateHeld, IsOriginHeld, IsRulesHeld}};
 ghost use Rattle.c_gate.specs.Origins.{Forwards, LastAfterNext, SetsConditions, TakesOver};
-ghost use Rattle.c_gate.specs.Texts.{AreFields, IsAnswered, IsFront, IsKey, Shows, outputs_in, own_answer};
+ghost use Rattle.c_gate.specs.Routes.{is_for};
+ghost use Rattle.c_gate.specs.Texts.{AreFields, IsAnswered, IsFront, IsKey, Shows, of_asked, outputs_in, own_answer};
 ghost use Rattle.c_gate.specs.declared.reading.GateText.TheVariants.{Authority, Field, Method, Piece, Target};
 ghost use Rattle.c_library.specs.CacheStore.{Ends};
 
@@ -15,9 +17,9 @@ use crate::giving::give;
 use crate::store::ended;
 use c_gate::{
     GateFacts, GatePeer, GateRules, GateText, again, answer, ask_for, closes_after, end, fields_of,
-    finish, forward, key_of, next, open_gate, open_origin, open_rules, open_tunnel, own_of, pass,
-    push, receive, respond, response_of, sent, set_clock, set_conditions, take_origin, timed_out,
-    write_output, write_text,
+    finish, forward, is_for, key_of, next, open_gate, open_origin, open_rules, open_tunnel, own_of,
+    pass, push, receive, respond, response_of, sent, set_clock, set_conditions, take_origin,
+    timed_out, write_output, write_text,
 };
 use c_gateway::GatewayOptions;
 use c_handles::{Handle, close};
@@ -269,6 +271,23 @@ pub extern "C" fn typed_headers_gate_fields(
         Ok(text) => copy_into(text.as_slice(), DONE, room, written),
         Err(failure) => failure.status(),
     }
+}
+
+/// Gives whether the request is for this host, and below this path.
+#[unsafe(no_mangle)]
+pub extern "C" fn typed_headers_gate_is_for(
+    alloc: Global,
+    gate: &mut Handle,
+    host: &[u8],
+    path: &[u8],
+    answer: &mut u8,
+) -> u8
+    ensures same { gate.new.held ≡ gate.old.held }
+    ensures answer { Gives (OnHeld (λ held given. given
+        ≡ of_asked (λ a. Ok (flag_of (is_for host.now path.now a))) held.connection.asked) (gate_in gate.old.held))
+        answer.old answer.new result }
+{
+    give(is_for(alloc, gate, host, path), answer)
 }
 
 /// Puts other conditions in place of its own.
