@@ -157,7 +157,8 @@ fn respond_in(
     target: &TargetFacts<'_>,
     parts: &ContentParts<'_>,
 ) -> Result<Responded, Failure>
-    ensures { OnHeld (λ fields. RespondsOf fields method.now target.now parts.now) (section_in lent.now.loan.held) result }
+    ensures { OnHeld (λ fields. RespondsOf fields method.now target.now parts.now)
+        (section_in lent.now.loan.held) result }
 {
     match lent.section() {
         Some(fields) => respond_of(alloc, fields, method, target, parts),

@@ -62,7 +62,7 @@ use Rattle.gateway_exchange.specs.declared.{connection.GatewayConnection.Gateway
 use Rattle.gateway_exchange.specs.declared.{decision.AskedRequest.AskedRequest}
 use Rattle.gateway_exchange.specs.declared.decision.RequestDecision.{RequestDecision}
 use Rattle.gateway_exchange.specs.declared.{event.GatewayEvent.GatewayEvent, event.ExchangePhase.ExchangePhase}
-use Rattle.gateway_exchange.specs.declared.{date.DateField.DateField, own.Own.Own, pass.Heard.Heard, rules.Peer.Peer}
+use Rattle.gateway_exchange.specs.declared.{date.OwnDate.OwnDate, own.Own.Own, pass.Heard.Heard, rules.Peer.Peer}
 use Rattle.gateway_exchange.specs.declared.{rules.GatewayRules.GatewayRules}
 use Rattle.gateway_connection.specs.declared.event.OriginEvent.TheVariants as Comes
 use Rattle.gateway_connection.specs.declared.event.OriginFault.TheVariants as Faults
@@ -303,7 +303,7 @@ client_refuses {limits} {uses} {old} {new} nothing = λ p r s. record {
 abbrev own_response : List Header → StreamConnection → Own → Response
 own_response fields m own = Stream.begins m.server (own_status own) (reason_of (own_status own)) fields (Known 0)
 
-own_begins : {limits : Limits} {uses : Uses} (is_last : Bool) (date : Option DateField) (old new : StreamConnection)
+own_begins : {limits : Limits} {uses : Uses} (is_last : Bool) (date : Option OwnDate) (old new : StreamConnection)
     (own : Own)
     → StreamSteps.Responds old (own_status own) (reason_of (own_status own)) (own_fields is_last date own) (Known 0) new
     → ClientGoes limits uses old new
@@ -323,7 +323,7 @@ own_begins {limits} {uses} is_last date old new own responds = λ p r s.
       sent = refl;
     }
 
-own_goes : {limits : Limits} {uses : Uses} (is_last : Bool) (date : Option DateField) (old new : StreamConnection)
+own_goes : {limits : Limits} {uses : Uses} (is_last : Bool) (date : Option OwnDate) (old new : StreamConnection)
     (own : Own) → PutsOwn is_last date old own new → ClientGoes limits uses old new
 own_goes {limits} {uses} is_last date old new own h = λ p r s.
     let fields = own_fields is_last date own in
@@ -343,7 +343,7 @@ own_goes {limits} {uses} is_last date old new own h = λ p r s.
       sent = refl;
     }
 
-own_fails : {limits : Limits} {uses : Uses} (is_last : Bool) (date : Option DateField) (old new : StreamConnection)
+own_fails : {limits : Limits} {uses : Uses} (is_last : Bool) (date : Option OwnDate) (old new : StreamConnection)
     (own : Own) (error : WriteError) → RefusesOwn is_last date old own error new → ClientGoes limits uses old new
 own_fails is_last date old new own error (inl h) = client_refuses h.0
 own_fails is_last date old new own error (inr h) =
@@ -1942,7 +1942,8 @@ ended {limits} {uses} rules old new origin trailers h sent is among says heard f
     let s = says_in old.origin origin c.origin (Comes.End trailers) c.is says in
     let same : h ≡ t.heard = cc (sym heard ∙ t.is) in
     let last : Response = Stream.with_trailers sent t.response in
-    let final : Stream.change (Stream.with_trailers sent) p.answer.final ≡ Begun last = ap (Stream.change (Stream.with_trailers sent)) t.final in
+    let final : Stream.change (Stream.with_trailers sent) p.answer.final ≡ Begun last =
+    ap (Stream.change (Stream.with_trailers sent)) t.final in
     let q : Stream.Past = Stream.answers (Stream.change (Stream.with_trailers sent) p.answer.final) p in
     let o : Origin.Past = record (c.past) { now = Origin.tell (Comes.End trailers) c.past.now } in
     let passed : IsPassedOn limits uses t.a.head (Stream.with_trailers sent t.response) = record {

@@ -29,7 +29,7 @@ use Rattle.gateway_exchange.specs.Steps.{RefusesGiving, ReceivesOrigin, RefusesI
 use Rattle.gateway_exchange.specs.Steps.{TakesClient, TakesOrigin, TimesOut, is_origin_open, output_of}
 use Rattle.gateway_exchange.specs.declared.{connection.GatewayConnection.GatewayConnection}
 use Rattle.gateway_exchange.specs.declared.{decision.AskedRequest.AskedRequest, pass.Heard.Heard}
-use Rattle.gateway_exchange.specs.declared.{event.GatewayEvent.GatewayEvent, date.DateField.DateField, own.Own.Own}
+use Rattle.gateway_exchange.specs.declared.{event.GatewayEvent.GatewayEvent, date.OwnDate.OwnDate, own.Own.Own}
 use Rattle.gateway_exchange.specs.declared.{rules.Peer.Peer, rules.GatewayRules.GatewayRules}
 use Rattle.gateway_exchange.specs.declared.own.Own.TheVariants as Because
 use Rattle.gateway_exchange.specs.declared.connection.Stage.TheVariants as At
@@ -177,7 +177,7 @@ OriginIn limits None = ⊤
 -- the response is the gateway's own, which has no content
 abbrev pub IsOwn : Response → Type 0
 IsOwn r =
-    (own : Own) × (is_last : Bool) × (date : Option DateField) × (r.status ≡ own_status own)
+    (own : Own) × (is_last : Bool) × (date : Option OwnDate) × (r.status ≡ own_status own)
     × (r.reason ≡ reason_of (own_status own)) × (r.headers ≡ own_fields is_last date own) × (r.size ≡ Known 0)
     × (r.pieces ≡ [])
 

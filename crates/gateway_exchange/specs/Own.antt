@@ -9,7 +9,7 @@ use Rattle.gateway_messages.specs.Rejections.{status_of}
 use Rattle.server_stream.specs.Heads.{rejection_status}
 use Rattle.server_stream.specs.Steps.{Ends, RefusesWrite, Responds}
 use Rattle.server_stream.specs.declared.connection.StreamConnection.{StreamConnection}
-use Rattle.gateway_exchange.specs.declared.{date.DateField.DateField, own.Own.Own}
+use Rattle.gateway_exchange.specs.declared.{date.OwnDate.OwnDate, own.Own.Own}
 use Rattle.gateway_connection.specs.declared.event.OriginFault.{OriginFault}
 use Rattle.gateway_connection.specs.declared.event.OriginFault.TheVariants as Faults
 use Rattle.http1.specs.declared.error.WriteError.TheVariants as Write
@@ -64,14 +64,14 @@ abbrev pub close_fields : Bool → List Header
 close_fields closes = if closes then close_field ∷ [] else []
 
 -- the time at which it is sent (RFC 9110, section 6.6.1)
-abbrev pub date_field : DateField → Header
+abbrev pub date_field : OwnDate → Header
 date_field d = (codes "date", fixdate d.date)
 
-abbrev pub date_fields : Option DateField → List Header
+abbrev pub date_fields : Option OwnDate → List Header
 date_fields (Some d) = date_field d ∷ []
 date_fields None = []
 
-abbrev pub own_fields : Bool → Option DateField → Own → List Header
+abbrev pub own_fields : Bool → Option OwnDate → Own → List Header
 own_fields is_last date own = date_fields date ++ close_fields (is_last || own_closes own)
 
 -- a response without content, with these fields, is put to its end
@@ -89,8 +89,8 @@ RefusesWith fields old own error new =
     × Responds old (own_status own) (reason_of (own_status own)) fields (Known 0) between
     × RefusesWrite (finish_refusal between.server.writing []) between error new)
 
-abbrev pub PutsOwn : Bool → Option DateField → StreamConnection → Own → StreamConnection → Type 0
+abbrev pub PutsOwn : Bool → Option OwnDate → StreamConnection → Own → StreamConnection → Type 0
 PutsOwn is_last date old own = PutsWith (own_fields is_last date own) old own
 
-abbrev pub RefusesOwn : Bool → Option DateField → StreamConnection → Own → WriteError → StreamConnection → Type 0
+abbrev pub RefusesOwn : Bool → Option OwnDate → StreamConnection → Own → WriteError → StreamConnection → Type 0
 RefusesOwn is_last date old own = RefusesWith (own_fields is_last date own) old own

@@ -30,7 +30,7 @@ use Rattle.gateway_exchange.specs.declared.{connection.GatewayConnection.Gateway
 use Rattle.gateway_exchange.specs.declared.{decision.AskedRequest.AskedRequest, decision.Outgoing.Outgoing}
 use Rattle.gateway_exchange.specs.declared.decision.RequestDecision.{RequestDecision}
 use Rattle.gateway_exchange.specs.declared.{event.GatewayEvent.GatewayEvent, event.ExchangePhase.ExchangePhase}
-use Rattle.gateway_exchange.specs.declared.{date.DateField.DateField, own.Own.Own, event.Wants.Wants, pass.Heard.Heard}
+use Rattle.gateway_exchange.specs.declared.{date.OwnDate.OwnDate, own.Own.Own, event.Wants.Wants, pass.Heard.Heard}
 use Rattle.gateway_exchange.specs.declared.{rules.Peer.Peer, rules.GatewayRules.GatewayRules}
 use Rattle.gateway_exchange.specs.declared.{tunnel.TheConstants.MOST_WAITING}
 use Rattle.gateway_connection.specs.declared.event.OriginEvent.TheVariants as Comes
@@ -110,7 +110,7 @@ output_of None = []
 
 -- the caller says the time
 abbrev pub Dates : GatewayConnection → ℕ → GatewayConnection → Type 0
-Dates old now new = (d : DateField) × (d.date ≡ now) × (new ≡ record old { date = Some d })
+Dates old now new = (d : OwnDate) × (d.date ≡ now) × (new ≡ record old { date = Some d })
 
 -- it is put, and the exchange is over; or that fails, and the client's connection is cut off
 abbrev pub Answers : GatewayConnection → Own → GatewayConnection → Type 0

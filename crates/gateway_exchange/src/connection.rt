@@ -20,7 +20,7 @@ ghost use Rattle.gateway_exchange.specs.Steps.{RefusesBeginAt, RefusesContent, R
 ghost use Rattle.gateway_exchange.specs.Steps.{Settles, Steps, SwitchesTo, TellsHead, TimesOut, Transfers, output_of};
 ghost use Rattle.gateway_exchange.specs.Steps.{phase_of};
 
-use crate::date::DateField;
+use crate::date::OwnDate;
 use crate::decision::{AskedRequest, RequestDecision, decide};
 use crate::event::{ExchangePhase, GatewayEvent, Wants};
 use crate::own::{Own, close_if, put_own};
@@ -97,7 +97,7 @@ pub struct GatewayConnection {
     /// Whether the caller watches the response.
     pub(crate) watches: bool,
     /// When the caller last said the time.
-    pub(crate) date: Option<DateField>,
+    pub(crate) date: Option<OwnDate>,
     /// Whether the connection ends after the next response.
     pub(crate) is_last: bool,
     /// Whether all that was received of the client was used.
@@ -628,7 +628,7 @@ impl GatewayConnection {
         ensures ok { OnOk result (Dates self.old now self.new) }
         ensures err { OnErr result (self.new ≡ self.old) }
     {
-        self.date = Some(DateField::new(self.alloc, now)?);
+        self.date = Some(OwnDate::new(self.alloc, now)?);
         Ok(())
     }
 

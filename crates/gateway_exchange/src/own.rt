@@ -6,7 +6,7 @@ ghost use Rattle.http1_typed.specs.Parts.{reason_of};
 ghost use Rattle.gateway_exchange.specs.Own.{PutsOwn, PutsWith, RefusesOwn, RefusesWith, close_fields, closing};
 ghost use Rattle.gateway_exchange.specs.Own.{date_field, own_closes, own_status};
 
-use crate::date::DateField;
+use crate::date::OwnDate;
 use gateway_connection::OriginFault;
 use gateway_messages::Rejection;
 use http::StatusCode;
@@ -102,7 +102,7 @@ fn reason(status: StatusCode) -> &'static [u8]
     status.canonical_reason().unwrap_or("").as_bytes()
 }
 
-fn date_field(date: &DateField) -> Header<'_>
+fn date_field(date: &OwnDate) -> Header<'_>
     ensures { header_parts result ≡ date_field date.now }
 {
     Header {
@@ -146,7 +146,7 @@ fn put_with(
 fn put_dated(
     own: &Own,
     closes: bool,
-    date: &DateField,
+    date: &OwnDate,
     client: &mut StreamConnection,
 ) -> Result<(), WriteError>
     ensures { MatchResult result
@@ -164,7 +164,7 @@ fn put_dated(
 pub(crate) fn put_own(
     own: &Own,
     is_last: bool,
-    date: &Option<DateField>,
+    date: &Option<OwnDate>,
     client: &mut StreamConnection,
 ) -> Result<(), WriteError>
     ensures { MatchResult result (λ _. PutsOwn is_last date.now client.old own.now client.new)

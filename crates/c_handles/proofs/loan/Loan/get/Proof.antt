@@ -7,7 +7,8 @@ use base.Logic.{SProp, emp}
 use base.Fml.{Lft, ftrue, flft, fhide}
 use contract.Monad.{fact, fact_i}
 use contract.Running.{tables}
-use types.Kit.{‵, raw, ◌⊛◌, at_ret, ◌$◌, ◌∵◌, !, qed, by, move, keep, split, join, fsplit, fjoin, use0, use1, rewrite, feq_i}
+use types.Kit.{‵, raw, ◌⊛◌, at_ret, ◌$◌, ◌∵◌, !, qed, by, move, keep, split, join, fsplit, fjoin, use0, use1, rewrite}
+use types.Kit.{feq_i}
 use types.Part.{sub, whole, look_in}
 use types.Run.{stop, fld, load, addr, of_opd, first, blocks, exec, returns, enter}
 use types.ByLocal.{alloc_all, pass_all, free_all, look_at, get, through, sets, sets_last, env}
@@ -74,7 +75,8 @@ get_spec 𝓤 𝓛 𝓜 𝓡 wired =
     let ev : vs ≡ lone_val (block_ptr (block_of p) (count_of p)) ∷ [] =
     told p vs so ∙ ap (λ (r : Ptr). lone_val r ∷ []) (at_block p inb) in
     rewrite ! 1 (λ (ws : List Val). ‵ (cell_at q Data.mir ws b o)) ev refl $ first ! $ blocks ! $
-    sets ! (of_opd ! (load ! (through ! refl (fld ! refl (stop !))) (look_in ! 1 (sub ! 0 refl (whole !))))) refl (tt, tt) $
+    sets ! (of_opd ! (load ! (through ! refl (fld ! refl (stop !)))
+    (look_in ! 1 (sub ! 0 refl (whole !))))) refl (tt, tt) $
     sets ! (of_opd ! (get ! refl)) refl (tt, tt) $
     sets_last ! (addr ! (through ! refl (stop !))) refl (tt, tt) $
     exec ! 𝓣.C 𝓣.Λ Ev (tail fn.body) (at_ret Ev Post) $ sets ! (of_opd ! (get ! refl)) refl (tt, tt) $
@@ -83,4 +85,5 @@ get_spec 𝓤 𝓛 𝓜 𝓡 wired =
     move ! (2 ∷ []) $ feq_i ! (List Val) (there ∷ []) (there ∷ []) refl $ fjoin ! $
     use0 𝓛 (raw (fact 𝓤 (x.held ≡ Some v))) (fact_i 𝓤 (x.held ≡ Some v) (emp 𝓤) is) $ nothing ! $ nothing ! $
     fjoin ! $ returns ! (look_at ! 0 refl) $ free_all ! refl $ keep ! (3 ∷ 0 ∷ 2 ∷ 1 ∷ []) $
-    by ! (leaves 𝓛 ended stays c z there (record { ref_ptr = (block_of p, count_of p); now = v }) (tt, tt) (tt, tt)))))))))
+    by ! (leaves 𝓛 ended stays c z there
+    (record { ref_ptr = (block_of p, count_of p); now = v }) (tt, tt) (tt, tt)))))))))

@@ -34,7 +34,8 @@ closed_spec 𝓤 𝓛 𝓜 𝓡 wired =
     let Λ = (tables 𝓤 H 𝓜 𝓡 𝓡.env).Λ in
     proved_at 𝓛 ended stays c 𝓜 𝓡 tt #self fn (compiled.unfolded 𝓤 H 𝓜 𝓡 wired) (λ z are.
     let Post : Val → SProp 𝓤 = (walk_of 𝓛 ended stays c).post z in
-    let made : (view.the_row).Denot = record { at = null_ptr; is_open = false; held = None; opened = refl; life = 0; parts = 0 } in
+    let made : (view.the_row).Denot =
+    record { at = null_ptr; is_open = false; held = None; opened = refl; life = 0; parts = 0 } in
     qed 𝓛 ((raw (alive 𝓛 ended.signature z.0.0 z.0.1) ⊛ ‵ (owns
     (types_at ended.signature.params z.0.0) z.0.3 z.0.4)) ∷ ‵ ftrue ∷ []) ∵
     move ! (1 ∷ []) $ drop ! $ split ! $ move ! (1 ∷ []) $ drop ! $
