@@ -331,13 +331,18 @@ static void forward(struct exchange *exchange, struct upstream *upstream) {
         exchange->is_over = true;
 }
 
-/* Which group the request is for. */
+/* The group of the first route that the request is for, or MOST_GROUPS. */
 static size_t group_asked(struct exchange *exchange) {
-    size_t host, path;
-    if (typed_headers_gate_authority(&exchange->gate, own.buffer, BUFFER / 2, &host) ||
-        typed_headers_gate_target(&exchange->gate, own.buffer + BUFFER / 2, BUFFER / 2, &path))
-        return MOST_GROUPS;
-    return route_of(gateway, (const char *)own.buffer, host, (const char *)own.buffer + BUFFER / 2, path);
+    uint8_t is = 0;
+    for (size_t i = 0; i < gateway->route_count; i++) {
+        const struct route *route = &gateway->routes[i];
+        if (typed_headers_gate_is_for(&exchange->gate, (const uint8_t *)route->host, strlen(route->host),
+                                      (const uint8_t *)route->path, strlen(route->path), &is))
+            return MOST_GROUPS;
+        if (is)
+            return route->group;
+    }
+    return gateway->route_count ? MOST_GROUPS : 0; /* without routes the first group gets all */
 }
 
 /* Finds a connection for the request that waits. It goes out over one that is idle at once. */
@@ -776,6 +781,8 @@ static bool watch_end(struct end *end, bool wants_input, bool wants_output, uint
         return true;
     if (end->tls && tls_wants_output(end->tls))
         events |= EPOLLOUT;
+    if (!end->is_readable) /* input that isn't wanted is told once */
+        events |= end->source.watched & EPOLLIN;
     return watch(&end->source, events ? events : otherwise);
 }
 
@@ -785,7 +792,8 @@ static void wait_on(struct exchange *exchange, const struct typed_headers_gate_f
     struct upstream *upstream = exchange->upstream;
     if (queue != before || (exchange->has_moved && queue != &heads && queue != &answers && queue != &collapsed)) {
         wait_in(&exchange->end.source, queue);
-        if (exchange->end.source.socket >= 0 && ioctl(exchange->end.source.socket, SIOCOUTQ, &exchange->unsent))
+        if (queue == &silent && exchange->end.source.socket >= 0 &&
+            ioctl(exchange->end.source.socket, SIOCOUTQ, &exchange->unsent))
             exchange->unsent = 0;
     }
     exchange->has_moved = false;
