@@ -22,7 +22,8 @@ pub fn answers_are_right()
 
 /// Theorem: whatever steps of whatever passes come, in any order, with look-ups and removals between them, a
 /// response that is stored, or updates stored ones, was asked by its pass since its target was last removed (RFC
-/// 9111, section 4.4). So once the response to a PUT has come, nothing is stored that was asked before.
+/// 9111, section 4.4). So once the response to a PUT has come, nothing is stored under its target that was asked
+/// before.
 pub fn what_is_stored_was_asked_since_the_last_removal()
     ensures { (settings : Settings) (deeds : List (ℕ × Deed)) (world : World) → Reaches settings deeds world
         → AreCurrent world.log }

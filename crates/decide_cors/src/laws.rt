@@ -31,8 +31,9 @@ pub fn check_goes_by_rules()
         ↔ (AllowsOrigin rules request.origin × AllowsCredentials rules request.credentials) }
 {}
 
-/// Theorem: after a preflight, a browser sends the request exactly if the rules allow it. They must
-/// allow its origin, its credentials, its method and each field name that isn't safelisted.
+/// Theorem: after a preflight that is answered with a status of 200 to 299, a browser sends the
+/// request exactly if the rules allow it. They must allow its origin, its credentials, its method
+/// and each field name that isn't safelisted.
 pub fn preflight_goes_by_rules()
     ensures { (rules : CorsRules) (policy : Policy) (method : List ℕ) (sent response before : LineMap)
         (answer : CorsAnswer) (request : Request) (status : ℕ) → IsLawful rules → IsPolicyOf rules policy

@@ -35,7 +35,7 @@ pub fn unconditional_is_performed()
 {}
 
 /// Theorem: a GET or a HEAD of what is missing is performed, whatever preconditions it has (RFC
-/// 9110, section 13.2.1): its response is 404 and neither 304 nor 412.
+/// 9110, section 13.2.1): it gets neither 304 nor 412.
 #[tactic(auto, using(crate::proofs::PreconditionLemmas::missing_performed))]
 pub fn read_of_missing_is_performed()
     ensures { (present : ℕ) (request : LineMap) (method : List ℕ)

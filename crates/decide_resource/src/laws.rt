@@ -55,8 +55,8 @@ pub fn answer_is_shared_by_rules()
         ↔ (AllowsOrigin rules sent.origin × AllowsCredentials rules sent.credentials) }
 {}
 
-/// Theorem: after the answer to a preflight, which is an OPTIONS, a browser sends the request
-/// exactly if the policy's rules allow it.
+/// Theorem: after the answer to a preflight, which is an OPTIONS, sent with a status of 200 to 299,
+/// a browser sends the request exactly if the policy's rules allow it.
 pub fn preflight_passes_by_rules()
     ensures { (present : ℕ) (resource : Resource) (request : Request) (answer : Answer) (rules : CorsRules)
         (policy : Policy) (before : LineMap) (sent : Sent) (status : ℕ) → resource.cors ≡ Some policy
@@ -77,8 +77,8 @@ pub fn preconditions_come_last()
 /// Theorem: where a method needs a condition, it is never performed on what its client doesn't
 /// name: the selected representation has a tag that If-Match lists, by strong comparison; there is
 /// nothing to replace and If-None-Match is `*`; or, where dates are strong and If-Match is absent,
-/// its date is If-Unmodified-Since (RFC 6585, section 3). CONNECT, OPTIONS and TRACE, whose
-/// preconditions don't count, are left out (RFC 9110, section 13.2.1).
+/// its date is If-Unmodified-Since (RFC 6585, section 3). GET and HEAD are left out, and CONNECT,
+/// OPTIONS and TRACE, whose preconditions don't count (RFC 9110, section 13.2.1).
 pub fn performed_method_replaces_what_it_names()
     ensures { (present : ℕ) (resource : Resource) (request : Request) (answer : Answer)
         → needs_condition (rule resource request) ≡ true → is_read request.method ≡ false
@@ -101,9 +101,10 @@ pub fn head_is_answered_as_get()
 {}
 
 /// Theorem: Vary names each field that can change the answer (RFC 9110, section 12.5.5). If the
-/// Vary of an answer lets a cache use it for another request with the same method, target, content
-/// and conditions, that request would have got the same answer. No cache stores an answer to
-/// OPTIONS (section 9.3.7).
+/// Vary of an answer lets a cache use it for another request, that would have got the same answer.
+/// Both have the same version, method, target, Host, Expect, conditions, Range and If-Range, and the
+/// same content with its type and coding, and for PUT with Content-Range; and they are denied alike.
+/// No cache stores an answer to OPTIONS (section 9.3.7).
 pub fn vary_is_sound()
     ensures { (present : ℕ) (resource : Resource) (r s : Request) (a b : Answer) (before : LineMap)
         → IsAnswer present resource r a → IsAnswer present resource s b → AreAlike r s
@@ -120,8 +121,9 @@ pub fn conditions_are_about_the_selected()
         → p ≡ q }
 {}
 
-/// Theorem: the answer depends on the method, the target, the content and these fields alone, and
-/// not on other fields, such as those that a gateway adds.
+/// Theorem: the answer depends on what `vary_is_sound` names, and on Accept, Accept-Language,
+/// Accept-Encoding, Origin and Access-Control-Request-Method alone. It doesn't depend on other
+/// fields, such as those that a gateway adds.
 pub fn other_fields_change_nothing()
     ensures { (present : ℕ) (resource : Resource) (r s : Request) (answer : Answer) → AreAlike r s
         → ChooseAlike r.fields s.fields

@@ -23,9 +23,10 @@ pub fn values_read_back()
     ensures octets { (octets : Line) → IsFieldValue octets → octets_of (value_of octets) ≡ octets }
 {}
 
-/// Theorem: whatever was received, the gateway's own element is the last member of Forwarded. This
-/// holds also for a recipient that joins the field lines: no received text, such as an open quote,
-/// can include it (RFC 7239, section 4).
+/// Theorem: whatever was received, the gateway's own element is the last member of Forwarded, if
+/// the gateway writes that field, and the field may hold the values of the element. This holds also
+/// for a recipient that joins the field lines: no received text, such as an open quote, can include
+/// it (RFC 7239, section 4).
 pub fn own_element_is_last()
     ensures { (forwarding : Forwarding) (arrival : ArrivalParts) (received : List Line)
         → forwarding.writes_forwarded ≡ true → IsTold arrival

@@ -167,7 +167,8 @@ pub fn servers_disagree()
         × (framing_by (server spelling pick parse limit codings LengthFirst) request ≡ Some (Length len)) }
 {}
 
-/// Theorem: a request whose Max-Forwards is n passes at most n gateways (RFC 9110, section 7.6.2).
+/// Theorem: an OPTIONS or a TRACE whose Max-Forwards is n passes at most n gateways (RFC 9110,
+/// section 7.6.2).
 #[tactic(auto, using(crate::proofs::NextLemmas::bounded))]
 pub fn hops_bound_the_chain()
     ensures { (hops : ℕ) (request : Request) (passed : List Request) → IsTrue (counts_hops request.method)
@@ -183,8 +184,8 @@ pub fn own_request_is_a_loop()
         → is_loop gateway.pseudonym (lines_under (fields_of sent.fields.items) (codes "via") ++ added) ≡ true }
 {}
 
-/// Theorem: two gateways in a row are one that adds two field lines to Via, and forwards what both
-/// forward.
+/// Theorem: two gateways in a row are one that adds two field lines to Via. Of the fields that no
+/// gateway writes, it forwards those that both forward.
 pub fn gateways_in_a_row_are_one()
     ensures requests { (first second : Gateway) (request next : Request) (sent last : ForwardedRequest)
         → IsForwarded first request sent → IsReceivedAs request.method sent next

@@ -13,8 +13,8 @@ ghost use Rattle.cache_policy.specs.{Policies.Policy, Requests.Request, Updating
 ghost use Rattle.cache_rules.specs.{declared.stored.StoredResponse.StoredResponse, Stored.fields_of_stored};
 ghost use Rattle.cache_rules.specs.declared.storing.Reception.{Reception};
 
-/// If two parts are of one representation, so is their combination. So it has exactly the bytes that
-/// the representation has there, and which part came first makes no difference.
+/// If two parts that overlap or adjoin are of one representation, so is their combination. So it has
+/// exactly the bytes that the representation has there, and which part came first makes no difference.
 pub fn combinations_are_of_the_representation()
     ensures joined { (representation : List ℕ) (one other : Extent) (own new : List ℕ)
         → IsOf representation one own → IsOf representation other new → Touch one other
@@ -48,7 +48,7 @@ pub fn answers_are_of_the_representation()
         → IsOf representation inner (bytes_within outer content inner) }
 {}
 
-/// A strong validator is an entity tag, and not weak: with weak or malformed ones nothing is combined.
+/// A strong validator is an entity tag, and not weak.
 pub fn strong_tags_are_strong()
     ensures { (message : LineMap) (tag : Line) → strong_tag message ≡ Some tag
         → (is_tag tag ≡ true) × (is_weak tag ≡ false) }
