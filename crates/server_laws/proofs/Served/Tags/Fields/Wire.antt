@@ -6,23 +6,15 @@ unfoldable pub use Words.*
 
 -- ---- numbers
 
-digit_char_is : (d : ℕ) → d < 10 → digit_char d ≡ 48 + d
-digit_char_is d small = grind (arith, nat_tests)
-
 chars_are : (ds : List ℕ) → AllBelowBase 10 ds → map digit_char ds ≡ map (λ d. 48 + d) ds
 chars_are [] below = refl
-chars_are (d ∷ ds) below = λ i. digit_char_is d below.0 i ∷ chars_are ds below.1 i
+chars_are (d ∷ ds) below = grind (arith, nat_tests, chars_are ds)
 
 -- the two ways to write a number are one
 pub decimal_is_numeral : (n : ℕ) → n < 2 ^ 64 → decimal n ≡ numeral 10 n
 unfolding numeral
-decimal_is_numeral n short = by_test (eqb n 0) refl
-  where
-    by_test : (t : Bool) → eqb n 0 ≡ t → decimal n ≡ cond t (48 ∷ []) (map digit_char (digits_of 10 n))
-    by_test true is = ap decimal (eqb-true n 0 is) ∙ decimal_digit 0 (omega arith)
-    by_test false some =
-        decimal-digits_of n (omega (arith, eqb-false n 0 some)) short
-        ∙ sym (chars_are (digits_of 10 n) (all_below_base_digits_of 10 n (omega arith)))
+decimal_is_numeral n short =
+    grind (arith, nat_tests, decimal_digit, decimal-digits_of, chars_are, all_below_base_digits_of)
 
 -- ---- what fields say of the framing
 
@@ -53,38 +45,12 @@ counts : (hs : List Header) → values_named (codes "transfer-encoding") hs ≡ 
     → Counts (values_named (codes "content-length") hs) hs
 counts [] none = record { codings = refl; count = refl; plain = refl }
 counts (h ∷ hs) none =
-    by (has_name (codes "content-length") h) (has_name (codes "transfer-encoding") h) refl refl none (counts hs)
-  where
-    by : (sized coded : Bool) → has_name (codes "content-length") h ≡ sized
-        → has_name (codes "transfer-encoding") h ≡ coded
-        → cond coded (h.1 ∷ []) [] ++ values_named (codes "transfer-encoding") hs ≡ []
-        → (values_named (codes "transfer-encoding") hs ≡ [] → Counts (values_named (codes "content-length") hs) hs)
-        → Counts (cond sized (h.1 ∷ []) [] ++ values_named (codes "content-length") hs) (h ∷ hs)
-    by sized true s c none more = absurd (cc none)
-    by true false s c none more =
-        let rest = more none in
-        record {
-          codings = simp (c, rest.codings);
-          count = sum_by-cons _ h hs ∙ simp (s, c, rest.count) (omega arith);
-          plain = simp (s, c, rest.plain);
-        }
-    by false false s c none more =
-        let rest = more none in
-        record {
-          codings = simp (c, rest.codings);
-          count = sum_by-cons _ h hs ∙ simp (s, c, rest.count) (omega arith);
-          plain = simp (s, c, rest.plain);
-        }
-
-states_option : (n : ℕ) (b : Bool) (option : List ℕ) → is_trimmed_value option ≡ true
-    → StatesLength n false (cond b (connection_header option ∷ []) [])
-unfolding eq_ignore_case is_token_byte
-states_option n b option trimmed = grind (arith, b, states_other, states_none n)
+    let one = sum_by-cons (λ (x : Header). cond (is_framing_field x) 1 0) h hs in grind (arith, counts hs)
 
 states_connection : (n : ℕ) (r : Serving) (k : KnownFields) (keep : Bool)
     → StatesLength n false (connection_headers r k keep)
-states_connection n r k true = states_option n ((eqb r.minor 0) && not k.keep_alive) (codes "keep-alive") refl
-states_connection n r k false = states_option n (not k.close) (codes "close") refl
+unfolding eq_ignore_case is_token_byte
+states_connection n r k keep = grind (arith, keep, states_other, states_none n)
 
 -- the summary of such fields
 record Knows (n : ℕ) (stated : Bool) (k : KnownFields) : Type 0 where
@@ -96,56 +62,18 @@ record Knows (n : ℕ) (stated : Bool) (k : KnownFields) : Type 0 where
 knows : (n : ℕ) (stated : Bool) (hs : List Header) → n < 2 ^ 64 → StatesLength n stated hs
     → Knows n stated (known_fields hs)
 unfolding known_fields
-knows n stated hs short x = by stated x.lengths
-  where
-    by : (b : Bool) → values_named (codes "content-length") hs ≡ cond b (decimal n ∷ []) []
-        → Knows n b (known_fields hs)
-    by true lengths =
-        let c = counts hs x.codings in
-        let is = decimal_is_numeral n short in
-        record {
-          coding = simp c.codings;
-          len =
-              ap content_length lengths ∙ ap (λ (t : List ℕ). content_length (t ∷ [])) is
-              ∙ ap (λ (b : Bool). cond (b && true) (Length.Value (digits_value 10 (numeral 10 n))) Length.Invalid)
-              (decimal_is_number n short)
-              ∙ ap Length.Value (numeral_reads_back 10 n (omega arith) (omega arith)).value;
-          states = simp (c.count, lengths);
-          usual = simp (c.count, c.plain, lengths, is, decimal_is_plain n short);
-        }
-    by false lengths =
-        let c = counts hs x.codings in
-        record {
-          coding = simp c.codings;
-          len = simp lengths;
-          states = simp (c.count, lengths);
-          usual = simp (c.count, c.plain, lengths);
-        }
-
-framing_is : (none : Bool) (minor n : ℕ) (stated : Bool) (k : KnownFields) → Knows n stated k
-    → cond none (Ok NoBody) (by_fields minor UntilClose (Ok UntilClose) k.transfer_encoding k.content_length)
-    ≡ Ok (cond none NoBody (cond stated (Sized n) UntilClose))
-framing_is none minor n stated k x = grind (arith, none, stated)
+knows n stated hs short x =
+    grind (
+      arith,
+      stated,
+      counts hs x.codings,
+      decimal_is_numeral n short,
+      decimal_is_number n short,
+      decimal_is_plain n short,
+      numeral_reads_back 10 n,
+    )
 
 -- ---- the plan
-
-size_stated : (minor n : ℕ) → size_headers minor (size_for n) ≡ length_header n ∷ []
-size_stated minor n = grind (arith, nat_tests)
-
-sized_fits : (n : ℕ) → fits (Sized n) (size_for n) ≡ true
-sized_fits n = grind (arith, nat_tests)
-
--- the plan is made, and its field lines are valid; where the fields state the length, the connection adds only what it
--- says of itself
-pub record IsPlanned (r : Serving) (status n : ℕ) (stated : Bool) (hs : List Header)
-    (planned : Result WirePlan WriteError) : Type 0 where
-  pub plan : WirePlan
-  pub is : planned ≡ Ok plan
-  pub valid : list_all is_header (hs ++ plan.extra) ≡ true
-  pub extra : stated ≡ true
-      → plan.extra ≡ connection_headers r (known_fields (hs ++ []))
-      (stays_open r (known_fields (hs ++ [])) (cond (is_bodiless_status status) NoBody (Sized n)))
-  pub framing : stated ≡ true → plan.framing ≡ cond (has_no_body r.method status) NoBody (Sized n)
 
 abbrev framing_of : ℕ → ℕ → Bool → Framing
 framing_of status n stated = cond (is_bodiless_status status) NoBody (cond stated (Sized n) UntilClose)
@@ -182,10 +110,7 @@ module _ (r : Serving) (status n : ℕ) (hs : List Header) (short : n < 2 ^ 64) 
     plan_with other late fit =
         let told = knows n stated (hs ++ first) short x in
         let all = knows n stated (hs ++ (first ++ second)) short all_stated in
-        let framed = framing_is (is_bodiless_status status) r.minor n stated k told in
-        let framed_all = framing_is (has_no_body r.method status) r.minor n stated _ all in
-        rw framed
-        (simp (framed_all, told.states, late, ne_eqb status 205 other, told.coding, fit, all.usual, and-false))
+        grind (arith, nat_tests)
 
   module _ (stated : Bool) (x : StatesLength n stated hs) (s : IsFinal r.method status n stated) where
     -- the connection adds the length
@@ -197,55 +122,42 @@ module _ (r : Serving) (status n : ℕ) (hs : List Header) (short : n < 2 ^ 64) 
     bare_stated : StatesLength n stated (hs ++ [])
     bare_stated = rw append-nil x
 
-    states : states_framing (known_fields hs) ≡ stated
-    states = (knows n stated hs short x).states
-
-    is_bodiless : is_bodiless_status status ≡ (eqb status 204 || eqb status 304)
-    is_bodiless = let low = s.least in grind (arith, nat_tests)
-
     late : (eqb status 204 && stated) ≡ false
     late = let none = s.bodiless in grind (arith, nat_tests)
 
     kept : fits (framing_of status n stated) (size_for n) ≡ true
-    kept = let none = s.bodiless in let sized = sized_fits n in rw is_bodiless (grind (arith, nat_tests))
+    kept = let none = s.bodiless in let low = s.least in grind (arith, nat_tests)
 
-    planned_by : (t : Bool) → adds ≡ t → IsPlanned r status n stated hs (planned_for r status (size_for n) hs)
+    silent : adds ≡ true → (stated ≡ false) × (fits (framing_of status n true) (size_for n) ≡ true)
+        × ((eqb status 204 && true) ≡ false) × (size_headers r.minor (size_for n) ≡ length_header n ∷ [])
+    silent is = let states = (knows n stated hs short x).states in let low = s.least in grind (arith, nat_tests)
+
+    -- where the fields state the length, or need not, the connection adds only what it says of itself
+    stated_plan : (stated ≡ true) ⊎ (adds ≡ false)
+        → planned_for r status (size_for n) hs ≡ Ok (last [] stated bare_stated)
     unfolding planned_for
-    planned_by false is = record {
-      plan = last [] stated bare_stated;
-      is = rw is (plan_with [] stated bare_stated s.other late kept);
-      valid = (all_stated [] stated bare_stated).valid;
-      extra = λ says. simp says;
-      framing = λ says. simp says;
-    }
-    planned_by true is =
-        let one = and_parts (is_sized r (size_for n)) _ is in
-        let two = and_parts (not (eqb status 204)) _ one.1 in
-        let three = and_parts (not (eqb status 304)) _ two.1 in
-        let has_content : eqb status 204 ≡ false = not-true _ two.0 in
-        let is_sent : eqb status 304 ≡ false = not-true _ three.0 in
-        let silent : stated ≡ false = sym states ∙ not-true _ three.1 in
-        let body : is_bodiless_status status ≡ false = is_bodiless ∙ (λ i. has_content i || is_sent i) in
-        let added : StatesLength n true (hs ++ length_header n ∷ []) =
-        states_both n false true true hs (length_header n ∷ []) (rw silent at x) (states_length n short) refl in
-        record {
-          plan = last (length_header n ∷ []) true added;
-          is =
-              rw (is, size_stated r.minor n)
-              (plan_with (length_header n ∷ []) true added s.other (simp has_content) (simp body (sized_fits n)));
-          valid = (all_stated (length_header n ∷ []) true added).valid;
-          extra = λ says. absurd (cc (silent, says));
-          framing = λ says. absurd (cc (silent, says));
-        }
+    stated_plan says =
+        let states = (knows n stated hs short x).states in
+        let is : adds ≡ false = grind (arith, nat_tests) in rw is (plan_with [] stated bare_stated s.other late kept)
 
-    pub planned : IsPlanned r status n stated hs (planned_for r status (size_for n) hs)
-    planned = planned_by adds refl
+    -- the plan is made, and its field lines are valid
+    planned : (plan : WirePlan) × (planned_for r status (size_for n) hs ≡ Ok plan)
+        × (list_all is_header (hs ++ plan.extra) ≡ true)
+    unfolding planned_for
+    planned =
+        elim (cases_Bool adds) [
+          | inr is ↦ (last [] stated bare_stated, stated_plan (inr is), (all_stated [] stated bare_stated).valid)
+          | inl is ↦
+              let e = silent is in
+              let added : StatesLength n true (hs ++ length_header n ∷ []) =
+              states_both n false true true hs (length_header n ∷ []) (rw e.0 at x) (states_length n short) refl in (
+                last (length_header n ∷ []) true added,
+                rw (is, e.3) (plan_with (length_header n ∷ []) true added s.other e.2 e.1),
+                (all_stated (length_header n ∷ []) true added).valid,
+              )
+        ]
 
 -- ---- the response
-
-accepted : (line : Bool) (hs : List Header) → line ≡ true → list_all is_header hs ≡ true → head_refusal line hs ≡ None
-unfolding are_headers
-accepted line hs valid all = simp (valid, all)
 
 -- a response with such a status and such fields is sent
 pub plan_sent : (limits : Limits) (h : RequestHead) (framing : Framing) (plan : Response) (stated : Bool)
@@ -254,24 +166,20 @@ pub plan_sent : (limits : Limits) (h : RequestHead) (framing : Framing) (plan : 
     → IsFinal (method_kind h.method) plan.status (content_len plan) stated
     → response_refusal (answering limits h framing) plan.status (reason_of plan.status) (plan_size plan)
     (plan_fields plan) ≡ None
+unfolding are_headers
 plan_sent limits h framing plan stated short old text x s =
-    let status : ℕ = plan.status in
-    let server = answering limits h framing in
-    let p = planned server.request status (content_len plan) (plan_fields plan) short stated x s in
-    let low : nat_lt status 200 ≡ false = (let e = s.least in grind (arith, nat_tests)) in
-    let line : is_status_line h.minor status (reason_of status) ≡ true =
-    (let e = s.least in let f = s.greatest in grind (arith, nat_tests, text)) in
-    simp (low, s.connect, p.is) (accepted _ (plan_fields plan ++ p.plan.extra) line p.valid)
+    let p =
+    planned (answering limits h framing).request plan.status (content_len plan) (plan_fields plan) short stated x s in
+    let line : (nat_lt plan.status 200 ≡ false) × (is_status_line h.minor plan.status (reason_of plan.status) ≡ true) =
+    grind (arith, nat_tests, text) in
+    simp (line.0, s.connect, p.1, line.1, p.2)
 
 -- ==== Values of the server's own that have no white space at their ends.
 
 pub decimal_trimmed : (n : ℕ) → n < 2 ^ 64 → trim (decimal n) ≡ decimal n
 decimal_trimmed n short =
     let is = decimal_is_numeral n short in
-    let text : List ℕ = numeral 10 n in
-    let front = and_parts (starts_visible text) _ (decimal_is_trimmed n) in
-    let back = and_parts (starts_visible (reverse text)) (is_field_value text) front.1 in
-    ap trim is ∙ trim_visible text front.0 back.0 ∙ sym is
+    let trimmed = decimal_is_trimmed n in grind (arith, trim_visible (numeral 10 n), and_parts)
 
 -- a date, from the name of its day
 abbrev date_from : List ℕ → Parts → List ℕ
@@ -305,38 +213,26 @@ valid_by : (planned : Result WirePlan WriteError) (line : Bool) (hs : List Heade
 unfolding are_headers
 valid_by planned line hs none = grind (arith, Ok, and_parts, list_all-append, not_refused, Err)
 
-module _ (tag : List ℕ) (len : ℕ) (media_type : List ℕ) (short : len < 2 ^ 64) where
+module _ (tag : List ℕ) (len : ℕ) (media_type : List ℕ) where
   abbrev fields : Option ℕ → List Header
   fields now = ok_fields now tag len media_type
 
-  pub ok_states : (now : Option ℕ) → list_all is_header (fields now) ≡ true → StatesLength len true (fields now)
+  ok_states : (now : Option ℕ) → list_all is_header (fields now) ≡ true → StatesLength len true (fields now)
   unfolding eq_ignore_case
-  ok_states None valid = record { valid = valid; codings = refl; lengths = refl }
-  ok_states (Some seconds) valid = record { valid = valid; codings = refl; lengths = refl }
+  ok_states now valid = grind (arith, now)
 
   quiet : (r : Serving) (now : Option ℕ) → r.minor ≡ 1 → r.keep_alive ≡ true → r.expects_continue ≡ false
       → connection_headers r (known_fields (fields now ++ []))
       (stays_open r (known_fields (fields now ++ [])) (Sized len)) ≡ []
   unfolding known_fields eq_ignore_case
-  quiet r None minor keeps waits = simp (minor, keeps, waits)
-  quiet r (Some seconds) minor keeps waits = simp (minor, keeps, waits)
-
-  abbrev with_last : Option ℕ → List ℕ → List ℕ
-  with_last now last =
-      codes "HTTP/1.1 200 OK\r\n" ++ ((date_text now ++ (codes "x-content-type-options: nosniff\r\n"
-      ++ (field_text (codes "etag") tag ++ (codes "accept-ranges: bytes\r\n"
-      ++ (field_text (codes "content-length") (decimal len) ++ last))))) ++ codes "\r\n")
-
-  in_lines : (now : Option ℕ) → response_text 1 200 (reason_of 200) (fields now ++ [])
-      ≡ with_last now (field_text (codes "content-type") media_type ++ [])
-  unfolding print_response
-  in_lines None = refl
-  in_lines (Some seconds) = refl
+  quiet r now minor keeps waits = grind (arith, now)
 
   printed : (now : Option ℕ) → response_text 1 200 (reason_of 200) (fields now ++ []) ≡ ok_text now tag len media_type
-  printed now = in_lines now ∙ ap (with_last now) (append-nil _)
+  unfolding print_response
+  printed None = simp append-nil
+  printed (Some seconds) = simp append-nil
 
--- the plan of the response, if it is sent at all
+-- the response, if it is sent at all
 module _ (limits : Limits) (h : RequestHead) (framing : Framing) (plan : Response) (now : Option ℕ)
     (tag media_type : List ℕ) (status : plan.status ≡ 200) (short : content_len plan < 2 ^ 64)
     (fields_are : plan_fields plan ≡ ok_fields now tag (content_len plan) media_type) (minor : h.minor ≡ 1)
@@ -352,68 +248,37 @@ module _ (limits : Limits) (h : RequestHead) (framing : Framing) (plan : Respons
   final : IsFinal (method_kind h.method) 200 n true
   final = grind arith
 
-  ok_planned : (p : WirePlan) × (response_plan s plan.status (plan_size plan) (plan_fields plan) ≡ Ok p)
-      × (p.extra ≡ []) × (p.framing ≡ cond (has_no_body (method_kind h.method) 200) NoBody (Sized n))
-  ok_planned =
+  -- the head that is written, and that the content is written as it is, if it is not to a HEAD
+  pub ok_sent : (head_text s plan ≡ ok_text now tag n media_type)
+      × (writing (after_head s plan)
+      ≡ Writes.Body (encoder_for (cond (has_no_body (method_kind h.method) 200) NoBody (Sized n))))
+  ok_sent =
       let line = is_status_line h.minor 200 (reason_of 200) in
       let hs : List Header = ok_fields now tag n media_type in
       let valid = valid_by (response_plan s 200 (size_for n) hs) line hs (rw (status, fields_are) at none) in
-      let p = planned s.request 200 n hs short true (ok_states tag n media_type short now valid) final in
-      let late : (false || (is_connect (method_kind h.method) && nat_lt 200 300)) ≡ false = final.connect in (
-        p.plan,
-        (λ i. response_plan s (status i) (plan_size plan) (fields_are i)) ∙ cond-false _ _ _ late ∙ p.is,
-        p.extra refl ∙ quiet tag n media_type short s.request now minor keeps refl,
-        p.framing refl,
+      let states = ok_states tag n media_type now valid in
+      let made = stated_plan s.request 200 n hs short true states final (inl refl) in
+      let late : (false || (is_connect (method_kind h.method) && nat_lt 200 300)) ≡ false = final.connect in
+      let is = (λ i. response_plan s (status i) (plan_size plan) (fields_are i)) ∙ cond-false _ _ _ late ∙ made in (
+        (λ i. response_text (minor i) (status i) (reason_of (status i)) (planned_headers (is i) (fields_are i)))
+            ∙ ap (λ (extra : List Header). response_text 1 200 (reason_of 200) (hs ++ extra))
+            (quiet tag n media_type s.request now minor keeps refl)
+            ∙ printed tag n media_type now,
+        ap (λ (q : Result WirePlan WriteError). writing (responding s q)) is,
       )
 
-  pub head_written : head_text s plan ≡ ok_text now tag n media_type
-  head_written =
-      let p = ok_planned in
-      (λ i. response_text (minor i) (status i) (reason_of (status i)) (planned_headers (p.1 i) (fields_are i)))
-      ∙ ap (λ (extra : List Header). response_text 1 200 (reason_of 200) (ok_fields now tag n media_type ++ extra)) p.2
-      ∙ printed tag n media_type short now
-
-module _ (limits : Limits) (h : RequestHead) (framing : Framing) (plan : Response) (now : Option ℕ)
-    (tag media_type : List ℕ) (ok : IsOk now tag media_type plan) (stays : StaysOpen h) (server : Server)
-    (before tail after rest : List ℕ)
-    (frames : Frames false plan (answering limits h framing) before tail server after rest) where
-  -- the content is written as it is
-  sized_body : writing (after_head (answering limits h framing) plan)
-      ≡ Writes.Body (Encodes.Length (content_len plan))
-  sized_body =
-      let p =
-      ok_planned limits h framing plan now tag media_type ok.status frames.short ok.fields stays.minor stays.keeps
-      (ap is_connect stays.method) frames.valid in
-      ap (λ (q : Result WirePlan WriteError). writing (responding (answering limits h framing) q)) p.1
-      ∙ ap (λ (f : Framing). Writes.Body (encoder_for f))
-      (p.3 ∙ ap (λ (m : MethodKind). cond (has_no_body m 200) NoBody (Sized (content_len plan))) stays.method)
-
-  -- the head before the content, and nothing after it
-  pub framed_literally : (after ≡ before ++ ok_text now tag (content_len plan) media_type) × (rest ≡ tail)
-  framed_literally = (
-    frames.head
-        ∙ simp (
-          head_written limits h framing plan now tag media_type ok.status frames.short ok.fields stays.minor stays.keeps
-              (ap is_connect stays.method) frames.valid,
-          sized_body,
-          append-nil,
-        ),
-    frames.tail ∙ simp (sized_body, append-nil),
-  )
-
--- while such a response is sent, its head and a front of its content are out, and nothing is to follow the content
-pub put_out : {H : Type 0} (plans : Plans H) (gives : H → Gives) (first now : H) (config : Config) (h : History)
-    (x : IsSending plans gives first now config h) (time : Option ℕ) (tag media_type : List ℕ)
-    → IsOk time tag media_type x.plan → StaysOpen x.message.head
-    → (output h ++ x.lost
-    ≡ (x.text ++ x.interim) ++ (ok_text time tag (content_len x.plan) media_type ++ x.front)) × (x.tail ≡ [])
-put_out plans gives first now config h x time tag media_type ok stays =
-    let server = answering config.limits x.message.head x.reads.reads.framing in
-    let bodied : x.bodiless ≡ false = x.kind ∙ ap is_head stays.method in
-    let framed =
-    framed_literally config.limits x.message.head x.reads.reads.framing x.plan time tag media_type ok stays x.server []
-    [] x.head x.tail
-    (rw bodied at x.frames) in (
-      x.out ∙ ap (λ (l : List ℕ). (x.text ++ x.interim) ++ (l ++ x.front)) framed.0,
-      framed.1,
-    )
+-- the head before the content, which is written as it is, and nothing after it
+pub framed_literally : (limits : Limits) (h : RequestHead) (framing : Framing) {plan : Response} {server : Server}
+    {now : Option ℕ} {tag media_type before tail after rest : List ℕ} → IsOk now tag media_type plan → StaysOpen h
+    → Frames false plan (answering limits h framing) before tail server after rest
+    → (after ≡ before ++ ok_text now tag (content_len plan) media_type) × (rest ≡ tail)
+framed_literally limits h framing {plan} {server} {now} {tag} {media_type} ok stays frames =
+    let o =
+    ok_sent limits h framing plan now tag media_type ok.status frames.short ok.fields stays.minor stays.keeps
+    (ap is_connect stays.method) frames.valid in
+    let body : writing (after_head (answering limits h framing) plan)
+    ≡ Writes.Body (Encodes.Length (content_len plan)) =
+    o.1
+    ∙ ap (λ (m : MethodKind). Writes.Body (encoder_for (cond (has_no_body m 200) NoBody (Sized (content_len plan)))))
+    stays.method in
+    (frames.head ∙ simp (o.0, body, append-nil), frames.tail ∙ simp (body, append-nil))

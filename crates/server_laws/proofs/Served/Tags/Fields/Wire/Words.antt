@@ -1,137 +1,126 @@
 -- The words of the proofs.
-unfoldable pub use Rattle.decide_resource.specs.{Applies.{rule_for, is_unacceptable}, Representations.score}
+unfoldable pub use Rattle.decide_resource.specs.{Applies.{is_unacceptable, rule_for}, Representations.score}
 unfoldable pub use Rattle.{gateway_messages.specs.HostTests.is_reg_name, headers.specs.Date.fixdate}
 unfoldable pub use Rattle.http1.specs.{Fields.known_fields, Head.are_headers, Server.plan_fields as planned_for}
 unfoldable pub use Rattle.http1.specs.Text.{eq_ignore_case, numeral}
 unfoldable pub use Rattle.{http_header.specs.Token.is_token_byte as is_name_byte, httparse.specs.Grammar.is_token_byte}
-unfoldable pub use Rattle.httparse.specs.Grammar.{print_response, print_request, trim_ows}
+unfoldable pub use Rattle.httparse.specs.Grammar.{print_request, print_response, trim_ows}
 unfoldable pub use Rattle.percent_encoding.specs.Percent.{percent_decode}
-pub use Rattle.std.proofs.Common.{◌≡◌, ◌≢◌, ℕ, ◌+◌, ◌^◌, ◌<◌, ◌≤◌, ◌⊎◌, Bool, true, false, not, cond, eqb, ◌&&◌, ◌||◌}
-pub use Rattle.std.proofs.Common.{List, [], ◌∷◌, ◌++◌, codes, None, Result, Ok, Err, refl, sym, ap, ◌∙◌, subst, arith}
-pub use Rattle.std.proofs.Common.{append_assoc, append-nil, inl, inr, length, map, nat_lt, suc, zero, ◌-◌, reverse}
-pub use Rattle.std.proofs.Common.{Option, Some, get_or, take, ◌↔◌, drop}
-pub use Rattle.std.specs.Prelude.{count_by, decimal, slice_index_or, bytes_eq, ◌==◌, is_some, nat_le, slice_get}
-pub use Rattle.std.specs.Prelude.{string_bytes, filter, Any, All}
-pub use Rattle.decide_cors.specs.Browser.{CorsCheck, IsPreflightFor, PreflightPasses, Request as Sent}
-pub use Rattle.decide_cors.specs.{Elements.is_filled, Fields.{covers_origin, fields_sent as policy_fields, filled_line}}
-pub use Rattle.decide_cors.specs.{Fields.{grant, lines_if}, Kinds.is_preflight, Policy.Policy, Rules.AllowsCredentials}
-pub use Rattle.decide_cors.specs.Rules.{AllowsOrigin, AllowsRequest, IsLawful, IsPolicyOf}
-pub use Rattle.{decide_cors.specs.declared.rules.CorsRules.CorsRules, decide_negotiation.specs.Choice.Picks}
+pub use Rattle.std.proofs.Common.{Bool, Err, List, None, Ok, Option, Result, Some, [], ap, append-nil, append_assoc}
+pub use Rattle.std.proofs.Common.{arith, codes, cond, drop, eqb, false, get_or, inl, inr, length, map, nat_lt, not}
+pub use Rattle.std.proofs.Common.{refl, subst, suc, sym, take, true, zero, ℕ, ◌&&◌, ◌++◌, ◌+◌, ◌-◌, ◌<◌, ◌^◌, ◌||◌, ◌↔◌}
+pub use Rattle.std.proofs.{Common.{◌∙◌, ◌∷◌, ◌≡◌, ◌≢◌, ◌≤◌, ◌⊎◌}, Math.Bool.{and-false, or-true}, lemmas.Bool.and_from}
+pub use Rattle.std.proofs.lemmas.Bool.{and_parts, cases_Bool, cond-false, lt-ltb, ne_eqb, Decides.nat_tests}
+pub use Rattle.std.proofs.lemmas.{Fmt.{decimal-digits_of, decimal_digit}, Grind.flat_map-append}
+pub use Rattle.std.proofs.lemmas.{Int.Digits.all_below_base_digits_of, List.{get_or-map, length-append, length-drop}}
+pub use Rattle.std.proofs.lemmas.List.{length-map, map-append, map-id, take-append-drop, take_all}
+pub use Rattle.std.proofs.lemmas.List.{Concat.flat_map_single, Elements.{All-cons, All-nil}, Folds.flat_map-map}
+pub use Rattle.std.proofs.lemmas.List.{Folds.{list_all-append, list_all-map}, Sums.AllPass-from_list_all}
+pub use Rattle.std.proofs.lemmas.{List.Sums.{list_all-from_AllPass, sum_by-cons}, Option.slice_get-map}
+pub use Rattle.std.{proofs.lemmas.Slice.Eq.bytes_eq-Decides, specs.{Char.digit_char, Int.Digits.AllBelowBase}}
+pub use Rattle.std.specs.{List.{flat_map, list_all, list_any}, Option.{option_map, option_map_or}, Prelude.{All, Any}}
+pub use Rattle.std.specs.Prelude.{bytes_eq, count_by, decimal, is_some, nat_le, slice_get, slice_index_or, string_bytes}
+pub use Rattle.{std.specs.Prelude.◌==◌, decide_cors.specs.Browser.{CorsCheck, IsPreflightFor, PreflightPasses}}
+pub use Rattle.decide_cors.specs.{Browser.Request as Sent, Fields.{covers_origin, fields_sent as policy_fields, grant}}
+pub use Rattle.{decide_cors.specs.{Fields.lines_if, Policy.Policy}, decide_negotiation.specs.Choice.Picks}
 pub use Rattle.decide_negotiation.specs.{Codings.encoding_quality, Languages.language_says, MediaRanges.media_type_says}
 pub use Rattle.decide_negotiation.specs.Qualities.{quality_by}
 pub use Rattle.decide_preconditions.proofs.{HeadLemmas.never_unconditional, OnePlanLemmas.one_plan}
 pub use Rattle.decide_preconditions.{proofs.TagLemmas.{strongly_equal, weakly_equal}, specs.Conditions.IfMatchIsTrue}
 pub use Rattle.decide_preconditions.specs.{Conditions.IfNoneMatchIsFalse, Contents.{divisible_len, limits_of}}
-pub use Rattle.decide_preconditions.specs.Fields.{etag_of, fields_sent, is_known_by, length_sent, lines_sent, status_of}
-pub use Rattle.decide_preconditions.specs.{Fields.{etag_sent, is_whole, keeps_encoding}, Plans.IsPlan}
-pub use Rattle.decide_preconditions.specs.{Plans.{IsPlanned as IsPlanOrNone, IsSamePlan}, Preconditions.IsGetOrHead}
-pub use Rattle.decide_preconditions.specs.{Preconditions.{StateIsKept, Answers, AreIgnored}, Responses.IsAnswered}
-pub use Rattle.decide_preconditions.specs.{Tags.{are_tags, is_star}, declared.content.Content.Content}
-pub use Rattle.decide_preconditions.specs.declared.{limits.RangeLimits.RangeLimits, part.Part.Part, plan.Plan.Plan}
-pub use Rattle.decide_preconditions.specs.declared.plan.Plan.TheVariants.{NotModified, Failed, Single, Full}
+pub use Rattle.decide_preconditions.specs.Fields.{etag_of, etag_sent, fields_sent, is_known_by, length_sent, lines_sent}
+pub use Rattle.decide_preconditions.specs.{Fields.status_of, Plans.IsPlan, Preconditions.{Answers, IsGetOrHead}}
+pub use Rattle.decide_preconditions.specs.{Preconditions.StateIsKept, Responses.IsAnswered, Tags.{are_tags, is_star}}
+pub use Rattle.decide_preconditions.specs.declared.{content.Content.Content, limits.RangeLimits.RangeLimits}
+pub use Rattle.decide_preconditions.specs.declared.{part.Part.Part, plan.Plan.{Plan, TheVariants.{Failed, Full}}}
+pub use Rattle.decide_preconditions.specs.declared.plan.Plan.TheVariants.{NotModified, Single}
 pub use Rattle.decide_preconditions.specs.declared.resource.TargetState.{TargetState as Target, TheVariants.Current}
 pub use Rattle.decide_preconditions.specs.declared.resource.Validators.{Validators}
 pub use Rattle.decide_preconditions.specs.declared.response.Response.{Response as Planning}
-pub use Rattle.decide_resource.{proofs.AnswerLemmas.one_place, specs.Answers.{Gives as AnswerGives, GivesIf}}
-pub use Rattle.decide_resource.specs.Answers.{is_admitted, Goes, GoesOn, IsAnswer, at_place, content_of, is_sent}
-pub use Rattle.decide_resource.specs.Answers.{response_fields, sent_for, status_sent, target_of, with_metadata}
-pub use Rattle.decide_resource.specs.{Answers.{IsShared, IsSelected, bare, place_in, Stops, place_of}, Applies.applies}
-pub use Rattle.decide_resource.specs.Applies.{has_method, has_moved, rule, is_missing, is_misdirected}
-pub use Rattle.decide_resource.specs.Fields.{moved_status, status_of as code_of, vary_fields, vary_lines, describes}
-pub use Rattle.decide_resource.specs.{Fields.{metadata_fields, reason_fields}, Reasons.{IsFirst, Before, stage}}
-pub use Rattle.decide_resource.specs.{Representations.{are_unacceptable, joined, rank_by}, Requests.Request as Asked}
-pub use Rattle.decide_resource.specs.{Requests.{head_of as as_head, get_of}, declared.answer.Answer.Answer}
-pub use Rattle.decide_resource.specs.declared.{answer.Sends.{Sends, TheVariants.Planned}, reason.Reason.Reason}
-pub use Rattle.decide_resource.specs.declared.reason.Reason.TheVariants.{Admitted}
+pub use Rattle.decide_resource.{proofs.AnswerLemmas.one_place, specs.Answers.{Gives as AnswerGives, GivesIf, GoesOn}}
+pub use Rattle.decide_resource.specs.Answers.{IsAnswer, IsSelected, IsShared, Stops, at_place, bare, content_of}
+pub use Rattle.decide_resource.specs.Answers.{is_admitted, is_sent, place_in, place_of, response_fields, sent_for}
+pub use Rattle.decide_resource.specs.{Answers.{status_sent, target_of, with_metadata}, Applies.{applies, has_method}}
+pub use Rattle.decide_resource.specs.{Applies.{has_moved, is_misdirected, is_missing, rule}, Fields.metadata_fields}
+pub use Rattle.decide_resource.specs.{Fields.{moved_status, reason_fields, vary_fields, vary_lines}, Reasons.Before}
+pub use Rattle.decide_resource.specs.{Reasons.IsFirst, Representations.{are_unacceptable, joined, rank_by}}
+pub use Rattle.decide_resource.specs.Requests.{Request as Asked, get_of, head_of as as_head}
+pub use Rattle.decide_resource.specs.declared.answer.{Answer.Answer, Sends.{Sends, TheVariants.Planned}}
+pub use Rattle.decide_resource.specs.declared.reason.Reason.{Reason, TheVariants.Admitted}
 pub use Rattle.decide_resource.specs.declared.representation.{Negotiation.Negotiation, Representation.Representation}
 pub use Rattle.decide_resource.specs.declared.request.RequestContent.TheVariants.{Absent}
 pub use Rattle.decide_resource.specs.declared.resource.{MethodRule.MethodRule, Resource.Resource, State.State}
 pub use Rattle.gateway_messages.specs.{Expectations.has_known_expectation, Requests.has_host}
 pub use Rattle.{gateway_messages.specs.declared.protocol.Protocol.Protocol, headers.specs.Date.parts_at}
-pub use Rattle.headers.specs.EntityTag.{IsTag, TagParts, is_tag, is_tag_byte, parts_of, weak_prefix, IsSomeTag}
-pub use Rattle.headers.specs.LineMap.{Field, fields_of as encoded_fields, LineMap, lines_at, remove, set, set_all}
-pub use Rattle.headers.specs.{Lines.{Line, only_line}, Text.{trim, quote}, Typed.HasLine}
-pub use Rattle.{headers_syntax.proofs.EntityTagLemmas.{is_tag-true, passes_from_text}, http.specs.Request.head_of}
-pub use Rattle.http.specs.declared.{error.Error.Error, request.Request.Request}
+pub use Rattle.headers.specs.{EntityTag.{IsSomeTag, IsTag, TagParts, is_tag_byte, weak_prefix}, LineMap.Field}
+pub use Rattle.headers.specs.{LineMap.{LineMap, fields_of as encoded_fields, lines_at, set, set_all}, Lines.Line}
+pub use Rattle.headers.specs.{Lines.only_line, Text.{quote, trim}, Typed.HasLine}
+pub use Rattle.{headers_syntax.proofs.EntityTagLemmas.{is_tag-true, passes_from_text}, http.specs.Request.body_of}
+pub use Rattle.http.specs.{Request.head_of, declared.{error.Error.Error, request.Request.Request}}
 pub use Rattle.http1.proofs.{HeadRoundTrip.{not_refused, request_reads_back}, NumeralLemmas.decimal_is_number}
 pub use Rattle.http1.proofs.NumeralLemmas.{decimal_is_plain, decimal_is_trimmed, numeral_reads_back}
 pub use Rattle.http1.{proofs.OneParse.request_message_unique, specs.Body.{Body, body_of as whole_body}}
-pub use Rattle.http1.specs.Conn.{Plan as WirePlan, connection_header, fits, is_plain as is_usual, length_header}
-pub use Rattle.http1.specs.Conn.{plan_refusal, size_headers, states_framing, is_connect, keeps_alive, planned_headers}
-pub use Rattle.http1.specs.{Encoder.encoder_for, Fields.{Header, content_length, elements_named, values_named}}
-pub use Rattle.http1.specs.Fields.{frames_plainly, is_framing_field, is_named as has_name, is_plain_number}
-pub use Rattle.http1.specs.Framing.{by_fields, is_bodiless_status, has_no_body, response_framing, method_kind}
-pub use Rattle.http1.specs.{Framing.request_framing, Head.{head_refusal, is_field_value, is_header, is_status_line}}
-pub use Rattle.http1.specs.{Head.{is_trimmed_value, starts_visible, response_text}, Message.known_of}
-pub use Rattle.http1.specs.{Message.ReadsRequestMessage, Server.{connection_headers, is_205_with_content, is_coded_304}}
-pub use Rattle.http1.specs.Server.{is_sized, plan_stated, response_plan, response_refusal, stays_open, is_head}
-pub use Rattle.http1.specs.{Server.{responding, writing, request_of}, Text.HasNoBareLf, declared.conn.Limits.Limits}
-pub use Rattle.http1.specs.declared.{error.WriteError.WriteError, fields.KnownFields.KnownFields}
-pub use Rattle.http1.specs.declared.framing.Framing.{Framing, TheVariants.{NoBody, Length as Sized, UntilClose}}
+pub use Rattle.http1.specs.Conn.{Plan as WirePlan, fits, is_connect, is_plain as is_usual, keeps_alive, length_header}
+pub use Rattle.http1.specs.{Conn.{plan_refusal, planned_headers, size_headers, states_framing}, Encoder.encoder_for}
+pub use Rattle.http1.specs.Fields.{Header, content_length, elements_named, frames_plainly, is_framing_field}
+pub use Rattle.http1.specs.{Fields.{is_plain_number, values_named}, Framing.{has_no_body, is_bodiless_status}}
+pub use Rattle.http1.specs.{Framing.{method_kind, request_framing, response_framing}, Head.{is_field_value, is_header}}
+pub use Rattle.http1.specs.{Head.{is_status_line, response_text, starts_visible}, Message.ReadsRequestMessage}
+pub use Rattle.http1.specs.{Message.known_of, Server.{connection_headers, is_205_with_content, is_coded_304, is_sized}}
+pub use Rattle.http1.specs.Server.{plan_stated, responding, response_plan, response_refusal, stays_open, writing}
+pub use Rattle.http1.specs.{Text.HasNoBareLf, declared.{conn.Limits.Limits, error.WriteError.WriteError}}
+pub use Rattle.http1.specs.declared.{fields.KnownFields.KnownFields, framing.Framing.Framing}
+pub use Rattle.http1.specs.declared.framing.Framing.TheVariants.{Length as Sized, NoBody, UntilClose}
 pub use Rattle.http1.specs.declared.framing.{FramingError.TheVariants.UnexpectedTransferEncoding, MethodKind.MethodKind}
 pub use Rattle.http1.specs.declared.server.{Request.Request as Serving, Server.Server}
-pub use Rattle.{http1_typed.specs.Parts.reason_of, http_header.specs.{FieldName.IsFieldName, FieldValue.FieldValue}}
-pub use Rattle.http_header.specs.{FieldValue.IsFieldValue, HeaderMap.{Entries, RefusesAppend, value_count}}
-pub use Rattle.{http_header.specs.Token.is_value_byte, http_server.specs.Encoding.{answering, refusal_of}}
-pub use Rattle.http_server.specs.Exchange.{ArePartsOf, ReadsCall, Call, Exchanges, ExpectsContinue, Serves, map_of}
-pub use Rattle.http_server.specs.{Exchange.{IsAdded, IsAnswer as IsAnswerOf}, History.{History, output, HasInvalidHost}}
-pub use Rattle.http_server.specs.History.{HasInvalidPart, HasTooManyFields, HasUnknownCoding, IsPartError, Justifies}
-pub use Rattle.http_server.specs.{History.{NextIs, Stands}, Host.IsHostValid, declared.state.Config.Config}
-pub use Rattle.http_server.specs.declared.state.{Refusal.Refusal as Refusing, State.State as Stage}
+pub use Rattle.{http1_typed.specs.Parts.reason_of, http_header.specs.{FieldValue.FieldValue, HeaderMap.Entries}}
+pub use Rattle.http_header.specs.{HeaderMap.{RefusesAppend, value_count}, Token.is_value_byte}
+pub use Rattle.http_server.specs.{Encoding.{answering, refusal_of}, Exchange.{ArePartsOf, Call, Exchanges}}
+pub use Rattle.http_server.specs.Exchange.{ExpectsContinue, IsAdded, IsAnswer as IsAnswerOf, ReadsCall, Serves, map_of}
+pub use Rattle.http_server.specs.History.{HasInvalidHost, HasInvalidPart, HasTooManyFields, HasUnknownCoding}
+pub use Rattle.http_server.specs.{History.{IsPartError, IsServed, Justifies, NextIs, Stands}, Host.IsHostValid}
+pub use Rattle.http_server.specs.declared.state.{Config.Config, Refusal.Refusal as Refusing, State.State as Stage}
 pub use Rattle.http_server.specs.declared.state.State.TheVariants.{Closing}
 pub use Rattle.http_uri.{proofs.{PathLemmas.IsPathAndQuery_slash, UriLemmas.cut_first}, specs.Grammar.IsForm}
-pub use Rattle.http_uri.specs.{Grammar.{IsUriText, path_of, query_of}, Uri.{uri_path, uri_authority, uri_data}}
-pub use Rattle.{http_uri.specs.{Uri.uri_scheme, declared.uri.Uri.Uri}, httparse.proofs.GrammarLemmas.request_unique}
-pub use Rattle.httparse.{proofs.GrammarLemmas.ReadsRequest-append, specs.Grammar.{RequestHead, ReadsRequest}}
-pub use Rattle.httpdate.specs.Text.{day_name, four_digits, imf_fixdate, month_name, time_of_day, two_digits}
-pub use Rattle.{httpdate.specs.declared.parts.Parts.Parts, rfc_fields.specs.Grammar.{Element, comma, element_text}}
-pub use Rattle.rfc_fields.specs.Grammar.{is_element, is_octet, octet_text, Octet.Plain, Part.{Byte, Quoted}}
-pub use Rattle.rfc_fields.specs.{Laws.ParsesOneWay, Members.{field_members, is_member, members, members_of}}
-pub use Rattle.rfc_fields.specs.Scan.{Member, Member.{Whole, Malformed}}
+pub use Rattle.http_uri.specs.{Grammar.IsUriText, Uri.{uri_authority, uri_data, uri_path, uri_scheme}}
+pub use Rattle.{http_uri.specs.declared.uri.Uri.Uri, httparse.proofs.GrammarLemmas.ReadsRequest-append}
+pub use Rattle.httparse.{proofs.GrammarLemmas.request_unique, specs.Grammar.{ReadsRequest, RequestHead}}
+pub use Rattle.httpdate.specs.Text.{four_digits, imf_fixdate, month_name, time_of_day, two_digits}
+pub use Rattle.{httpdate.specs.declared.parts.Parts.Parts, rfc_fields.specs.Grammar.{Element, IsSeparator, comma}}
+pub use Rattle.rfc_fields.specs.Grammar.{element_text, is_element, is_octet, octet_text, Octet.Plain, Part.Byte}
+pub use Rattle.rfc_fields.specs.{Grammar.Part.Quoted, Laws.ParsesOneWay, Members.field_members, Scan.Member.Whole}
 pub use Rattle.server_connection.{proofs.PieceLemmas.Advances-length, specs.Connection.{Exchanged, IsClosing}}
-pub use Rattle.server_connection.specs.Encoding.{content_len, plan_fields, plan_size, size_for, head_text, Frames}
-pub use Rattle.server_connection.specs.{Encoding.after_head, Literal.{IsLiteral, SendsCall, SendsCalls}}
-pub use Rattle.server_connection.specs.{Machine.Sends as IsSending, Pieces.{Gives, total_len, AreSent}, Plan.Plans}
-pub use Rattle.server_connection.specs.declared.piece.Piece.{Piece, TheVariants.Range}
+pub use Rattle.server_connection.specs.Encoding.{Frames, after_head, content_len, head_text, plan_fields, plan_size}
+pub use Rattle.server_connection.specs.{Encoding.size_for, Literal.{IsLater, IsLiteral, SendsCall, SendsCalls}}
+pub use Rattle.server_connection.specs.{Pieces.{AreSent, Gives, total_len}, Plan.Plans}
+pub use Rattle.server_connection.specs.declared.piece.Piece.TheVariants.{Range}
 pub use Rattle.server_connection.specs.declared.plan.ResponsePlan.{ResponsePlan as Response}
 pub use Rattle.server_files.{proofs.DigestLemmas.{digest_is_boundary, tag_is_tag}, specs.Codings.coding_suffix}
-pub use Rattle.server_files.specs.{Path.{Names, IsStorePath}, Tags.{content_digest, strong_tag}}
-pub use Rattle.server_files.specs.declared.coding.Coding.{Coding, TheVariants.{Identity, Brotli, Gzip}}
-pub use Rattle.{server_files.specs.declared.kept.Kept.Kept, server_laws.specs.Answered.{line_named, lines_in, JoinTo}}
-pub use Rattle.server_laws.specs.{Answered.{HasNoOptions, IsWhole, SendsContent, whole_fields}, Literal.date_text}
-pub use Rattle.server_laws.specs.Literal.{field_text, ok_fields, ok_text, AsksForRoot, request_text, root_head, IsOk}
-pub use Rattle.server_laws.specs.{Literal.StaysOpen, Requests.{IsAgain, IsHeadOf}, Sendable.{IsFinal, StatesLength}}
-pub use Rattle.server_laws.specs.{Sendable.{IsBareIfAny, IsBarePolicy}, Served.{IsServedFile, gives, plans}}
-pub use Rattle.server_laws.specs.Stores.{Label, label_of, AreSimilar, HaveSimilar, has_at, HaveAlike}
-pub use Rattle.server_service.proofs.{AnswerLemmas.Fits-from_plan, ContentLemmas.sent_bytes}
-pub use Rattle.server_service.proofs.{OneResponseLemmas.asked_once, TrimLemmas.{ends_append, trim_ended, trim_visible}}
-pub use Rattle.server_service.proofs.TrimLemmas.{trim_bare, trim_bare_text, tag_bare as tag_is_bare}
-pub use Rattle.server_service.{proofs.WholeLemmas.get_whole, specs.Answer.{Carries, cache_fields, cache_sent}}
-pub use Rattle.server_service.specs.Answer.{closing_fields, date_fields, explained_fields, first_fields, sniff_field}
-pub use Rattle.server_service.specs.Answer.{IsAnswerAt, clock, file_at, pieces_for, pieces_of, sends_several}
-pub use Rattle.server_service.specs.Answer.{status_for, tag_in, tag_sent, Decides, source_of, source_sent, AsksForAll}
-pub use Rattle.server_service.specs.{Answer.date_of, Asked.{Asks, HasAuthority, IsProtocolOf}, File.len_of}
-pub use Rattle.server_service.specs.File.{representation_of, coding_value, is_settled, tag_of, gives_of}
-pub use Rattle.server_service.specs.{File.{content_of as file_content, current_of}, Found.{FindsEntry, LeadsTo}}
-pub use Rattle.server_service.specs.{Memory.{HasOne, IsKept}, Parts.{Fits, bytes_of, part_extent}}
-pub use Rattle.server_service.specs.Representations.{AreContents, HasEntryAt, offered, represented}
-pub use Rattle.server_service.specs.Response.{headers_sent, is_bare, is_kept, is_line, lines_under, lines_unless}
-pub use Rattle.server_service.specs.Response.{trimmed_line, trimmed_lines, fields_of, is_named, is_bare_tag}
-pub use Rattle.server_service.specs.{Response.headers_set, SiteSettings.{IsSiteOf, hosts_in}, Sites.IsSite}
-pub use Rattle.server_service.specs.declared.file.{Entry.{Entry, TheVariants.Readable}, File.File}
-pub use Rattle.server_service.specs.declared.{memory.Memory.Memory, service.FileService.FileService, settings.Page.Page}
-pub use Rattle.server_service.specs.declared.{settings.{Settings.Settings, Site.Site}, source.Source.Source}
-pub use Rattle.server_service.specs.declared.source.Source.TheVariants.{Kept as InMemory, Opened}
-pub use Rattle.std.proofs.{Math.Bool.{and-false, or-true}, lemmas.Bool.{and_parts, and_from, ne_eqb, cond-true}}
-pub use Rattle.std.proofs.lemmas.Bool.{cond-false, cases_Bool, eqb-true, eqb-false, not-true, or_parts, leb-true}
-pub use Rattle.std.proofs.lemmas.{Bool.{lt-ltb, Decides.nat_tests}, Fmt.{decimal-digits_of, decimal_digit}}
-pub use Rattle.std.proofs.lemmas.{Grind.flat_map-append, Int.Digits.all_below_base_digits_of, List.map-append}
-pub use Rattle.std.proofs.lemmas.List.{length-map, take_all, length-drop, take-append-drop, length-append}
-pub use Rattle.std.proofs.lemmas.List.{Elements.{All-nil, All-cons}, Folds.{list_all-append, list_all-map}}
-pub use Rattle.std.proofs.lemmas.List.{Folds.list_any-append, Sums.{sum_by-cons, list_all-from_AllPass}}
-pub use Rattle.std.proofs.lemmas.{List.Sums.AllPass-from_list_all, Option.slice_get-map, Slice.Eq.bytes_eq-Decides}
-pub use Rattle.std.specs.{Char.digit_char, Global.Vec, Int.Digits.{AllBelowBase, digits_of}, List.{list_all, list_any}}
-pub use Rattle.std.specs.{List.flat_map, Option.{option_map, option_map_or}, Str.Parse.digits_value}
+pub use Rattle.server_files.specs.{Path.{IsStorePath, Names}, Tags.{content_digest, strong_tag}}
+pub use Rattle.server_files.specs.declared.coding.Coding.{Coding, TheVariants.{Brotli, Gzip, Identity}}
+pub use Rattle.{server_files.specs.declared.kept.Kept.Kept, server_laws.specs.Answered.{HasNoOptions, IsWhole, JoinTo}}
+pub use Rattle.server_laws.specs.{Answered.{SendsContent, line_named, lines_in, whole_fields}, Literal.AsksForRoot}
+pub use Rattle.server_laws.specs.Literal.{IsOk, StaysOpen, ok_fields, ok_text, request_text, root_head}
+pub use Rattle.server_laws.specs.{Requests.IsAgain, Sendable.{IsBareIfAny, IsBarePolicy, IsFinal, StatesLength}}
+pub use Rattle.server_laws.specs.{Served.{IsServedFile, gives, plans}, Stores.{AreSimilar, HaveAlike, HaveSimilar}}
+pub use Rattle.{server_laws.specs.Stores.{Label, has_at, label_of}, server_service.proofs.AnswerLemmas.Fits-from_plan}
+pub use Rattle.server_service.proofs.{ContentLemmas.sent_bytes, OneResponseLemmas.asked_once, TrimLemmas.ends_append}
+pub use Rattle.server_service.proofs.TrimLemmas.{tag_bare as tag_is_bare, trim_bare, trim_bare_text, trim_ended}
+pub use Rattle.server_service.{proofs.{TrimLemmas.trim_visible, WholeLemmas.get_whole}, specs.Answer.AsksForAll}
+pub use Rattle.server_service.specs.Answer.{Decides, IsAnswerAt, cache_fields, cache_sent, clock, date_of}
+pub use Rattle.server_service.specs.Answer.{explained_fields, file_at, first_fields, pieces_for, pieces_of}
+pub use Rattle.server_service.specs.{Answer.{sends_several, source_of, source_sent, status_for, tag_sent}, Asked.Asks}
+pub use Rattle.server_service.specs.{Asked.{HasAuthority, IsProtocolOf}, File.coding_value}
+pub use Rattle.server_service.specs.File.{content_of as file_content, current_of, gives_of, len_of, representation_of}
+pub use Rattle.server_service.specs.{File.{tag_of, validators_of}, Found.{FindsEntry, LeadsTo}, Memory.{HasOne, IsKept}}
+pub use Rattle.server_service.specs.{Parts.{Fits, part_extent}, Representations.{AreContents, HasEntryAt, offered}}
+pub use Rattle.server_service.specs.{Representations.represented, Response.{fields_of, headers_sent, headers_set}}
+pub use Rattle.server_service.specs.Response.{is_bare, is_bare_tag, is_kept, is_line, is_named, lines_under}
+pub use Rattle.server_service.specs.{Response.{lines_unless, trimmed_line, trimmed_lines}, SiteSettings.IsSiteOf}
+pub use Rattle.server_service.specs.{SiteSettings.hosts_in, Sites.IsSite, declared.file.Entry.Entry}
+pub use Rattle.server_service.specs.declared.{file.{Entry.TheVariants.Readable, File.File}, memory.Memory.Memory}
+pub use Rattle.server_service.specs.declared.{service.FileService.FileService, settings.{Settings.Settings, Site.Site}}
+pub use Rattle.server_service.specs.declared.source.Source.{Source, TheVariants.{Kept as InMemory, Opened}}
 pub use Rattle.http.specs.declared.error.Error.TheVariants as Invalid
 pub use Rattle.http1.specs.Message
 pub use Rattle.http1.specs.declared.conn.Writing.TheVariants as Writes
@@ -142,7 +131,6 @@ pub use Rattle.http1.specs.declared.fields.TransferEncoding.TheVariants as Coded
 pub use Rattle.http1.specs.declared.framing.MethodKind.TheVariants as Method
 pub use Rattle.http_server.specs.declared.state.Reason.TheVariants as ended
 pub use Rattle.http_server.specs.declared.state.Refusal.TheVariants as refusal
-pub use Rattle.decide_preconditions.specs.declared.plan.Plan.TheVariants as the_plan
 pub use Rattle.decide_preconditions.specs.declared.precondition.Precondition.TheVariants as precondition
 pub use Rattle.decide_resource.specs.declared.answer.Sends.TheVariants as sends
 pub use Rattle.decide_resource.specs.declared.resource.State.TheVariants as state
