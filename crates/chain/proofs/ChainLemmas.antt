@@ -1,6 +1,6 @@
 -- What a client receives through gateways and caches is what the resource says.
 use Rattle.std.proofs.Common.{◌≡◌, ◌≢◌, ◌⊎◌, ◌↔◌, ℕ, ◌+◌, ◌≤◌, Bool, true, false, List, [], ◌∷◌, ◌++◌, Some, None, refl}
-use Rattle.std.proofs.Common.{◌∙◌, ap, append_assoc, subst, sym, inl, inr, arith, option_map}
+use Rattle.std.proofs.Common.{◌∙◌, ap, append_assoc, subst, sym, inl, inr, arith, option_map, Option}
 use Rattle.std.{proofs.lemmas.Bool.{cases_Bool, cond_both}, proofs.lemmas.Slice.Eq.bytes_eq-Decides}
 use Rattle.std.{specs.Prelude.{All, bytes_eq, codes}, specs.List.list_any}
 use Rattle.http_header.specs.Token.{lowercase}
@@ -9,8 +9,8 @@ use Rattle.decide_preconditions.specs.Preconditions.{IsGetOrHead}
 use Rattle.cache_policy.{specs.Fields.{age_of, age_value}, specs.Requests.AllowsMethod}
 use Rattle.chain.specs.Caches.{Caching, HasComeFrom, IsFromStore, IsPlain, Origin, Reply, second_of, unless_head}
 use Rattle.chain.specs.Chains.{Counts, Hop, IsBlank, IsForwardedBack, IsOwn, IsSentBack, IsTold, behind, caches, meant}
-use Rattle.chain.{specs.Chains.Hop.{Forwards, Stores}, specs.Ways.sent_directly, specs.Servers.IsCarried}
-use Rattle.chain.{specs.Servers.{SaysCloseAtMost, Server, sent_of}, proofs.ConnectionLemmas.crosses_if}
+use Rattle.chain.{specs.Chains.Hop.{Forwards, Stores}, specs.Ways.{named_host, sent_directly}, specs.Servers.IsCarried}
+use Rattle.chain.{specs.Servers.{IsSaid, SaysCloseAtMost, Site, sent_of}, proofs.ConnectionLemmas.crosses_if}
 use Rattle.chain.{proofs.ServerLemmas.{same_sent, says_close_at_most}, proofs.StoreLemmas.{StoreLaws, age_is}}
 use Rattle.chain.proofs.StoreLemmas.{alike_first, allowed_method, asked_first, come, counts, from, good_at, once_more}
 use Rattle.chain.proofs.StoreLemmas.{with_method, lacks, plain_first, quiet, stored_as, suits}
@@ -48,15 +48,22 @@ nothing method =
 
 -- ---- one request in place of another
 
--- an answer to the one is an answer to the other, and both direct caches alike
+-- an answer to the one is an answer to the other, and both name one host and direct caches alike
 record Stands (r s : Request) : Type 0 where
   answers : (present : ℕ) (resource : Resource) (answer : Answer)
       → IsAnswer present resource r answer ↔ IsAnswer present resource s answer
   method : r.method ≡ s.method
+  host : named_host r ≡ named_host s
   directs : r.fields (codes "cache-control") ≡ s.fields (codes "cache-control")
 
 stays : (r : Request) → Stands r r
-stays r = record { answers = λ present resource answer. ((λ h. h), (λ h. h)); method = refl; directs = refl }
+stays r =
+    record { answers = λ present resource answer. ((λ h. h), (λ h. h)); method = refl; host = refl; directs = refl }
+
+named_alike : (r s : Request) → AreAlike r s → named_host r ≡ named_host s
+named_alike r s h =
+    ap (λ (authority : Option Line). replaced authority (r.fields (codes "host"))) h.authority
+    ∙ ap (λ (lines : List Line). replaced s.authority lines) h.host
 
 turned : {r s : Request} → Stands r s → Stands s r
 turned h = grind arith
@@ -85,20 +92,23 @@ shorter : (seconds short other time now : ℕ) → short ≤ other → Counts se
 shorter seconds short other time now less counts = grind arith
 
 -- what is told behind some hops of the one reply is told before them of another that carries it
-told_by : {site : List ℕ → Server} {silent : List Hop → ℕ → Bool} {hops : List Hop} {sent came : ℕ} {target : List ℕ}
+told_by : {site : Site} {silent : List Hop → ℕ → Bool} {hops : List Hop} {sent came : ℕ} {target : List ℕ}
     {r s : Request} {before reply : Reply} → (front : List Hop) (start now : ℕ) → start ≤ sent → came ≤ now
     → Stands r s → IsTold site silent hops sent came target r before → Carries before reply
     → IsTold site silent (front ++ hops) start now target s reply
-told_by {site = site} {hops = hops} {sent = sent} {came = came} {target = target} front start now early late h t k =
+told_by {site = site} {hops = hops} {sent = sent} {came = came} {target = target} {r = r} {s = s} {before = before}
+    front start now early late h t k =
+    let said : IsSaid (site (named_host s) target) t.time r before =
+    subst (λ (lines : List Line). IsSaid (site lines target) t.time r before) h.host t.said in
     record {
       time = t.time;
       said =
           record {
-            answer = t.said.answer;
-            is = (h.answers (second_of t.time) ((site target).resource t.time) t.said.answer).0 t.said.is;
-            status = t.said.status ∙ ap (λ (n : ℕ). Some n) (sym k.status);
-            content = rw (sym h.method, k.status) (k.content ∙ t.said.content);
-            fields = λ name c. rw k.status (k.fields name c ∙ t.said.fields name c);
+            answer = said.answer;
+            is = (h.answers (second_of t.time) ((site (named_host s) target).resource t.time) said.answer).0 said.is;
+            status = said.status ∙ ap (λ (n : ℕ). Some n) (sym k.status);
+            content = rw (sym h.method, k.status) (k.content ∙ said.content);
+            fields = λ name c. rw k.status (k.fields name c ∙ said.fields name c);
           };
       left = t.left;
       since = t.since;
@@ -134,7 +144,7 @@ told_by {site = site} {hops = hops} {sent = sent} {came = came} {target = target
       connection = k.connection;
     }
 
-told_as : {site : List ℕ → Server} {silent : List Hop → ℕ → Bool} {hops : List Hop} {start now : ℕ} {target : List ℕ}
+told_as : {site : Site} {silent : List Hop → ℕ → Bool} {hops : List Hop} {start now : ℕ} {target : List ℕ}
     {r s : Request} {reply : Reply} → Stands r s → IsTold site silent hops start now target r reply
     → IsTold site silent hops start now target s reply
 told_as {start = start} {now = now} {reply = reply} h t =
@@ -147,6 +157,7 @@ module _ (reads : ReadsNoMore) where
       record {
         answers = λ present resource answer. reads present resource r s answer alike choose;
         method = alike.method;
+        host = named_alike r s alike;
         directs = line;
       }
 
@@ -235,7 +246,7 @@ module _ {gateway : Gateway} {behind reply : Reply} (f : IsSentBack gateway behi
       record { content = f.content ∙ b.content; fields = λ name c. lacks_behind name c (b.fields name c) }
 
 through : ReadsNoMore → {gateway : Gateway} {origin : Origin} {start now : ℕ} {target : List ℕ} {request : Request}
-    {reply : Reply} {site : List ℕ → Server} {silent : List Hop → ℕ → Bool} {hops : List Hop}
+    {reply : Reply} {site : Site} {silent : List Hop → ℕ → Bool} {hops : List Hop}
     → (f : IsForwardedBack gateway origin start now target request reply)
     → IsTold site silent hops f.passed.sent f.passed.came target f.passed.next f.behind
     → IsTold site silent (Forwards gateway ∷ hops) start now target (sent_directly gateway request) reply
@@ -314,7 +325,7 @@ module _ (reads : ReadsNoMore) (heads : HeadIsAsGet) (sound : VaryIsSound) (memb
     status_is : reply.status ≡ came.reply.status
     status_is = f.status ∙ (come law f).kept.status ∙ came.noted.status
 
-  module _ (site : List ℕ → Server) (silent : List Hop → ℕ → Bool) (hops : List Hop) {caching : Caching} {start now : ℕ}
+  module _ (site : Site) (silent : List Hop → ℕ → Bool) (hops : List Hop) {caching : Caching} {start now : ℕ}
       {target : List ℕ} {request : Request} {reply : Reply}
       (f : IsFromStore caching (behind site silent hops) (silent hops) start now target request reply) where
     own_stored : IsOwn site silent hops (came f).sent (came f).received target (first f) (came f).reply
@@ -346,7 +357,7 @@ module _ (reads : ReadsNoMore) (heads : HeadIsAsGet) (sound : VaryIsSound) (memb
     from_store : IsTold site silent hops (came f).sent (came f).received target (first f) (came f).reply
         → IsTold site silent (Stores caching ∷ hops) start now target request reply
     from_store t =
-        let server = site target in
+        let server = site (named_host (first f)) target in
         let said = t.said in
         let at_most = t.connection in
         let stored = λ (name : List ℕ) (c : IsCarried name). stored_as law f at_most name
@@ -360,30 +371,34 @@ module _ (reads : ReadsNoMore) (heads : HeadIsAsGet) (sound : VaryIsSound) (memb
         (set_all (server.own t.time (came f).reply.status) (fields_of said.answer.fields.items)) varies)
         in
         let aged = counts law f at_most t.time t.left (caches hops) t.since t.after t.past t.aged in
+        let told : IsSaid server t.time request reply =
+        record {
+          answer = now_said.0;
+          is =
+              allowed_answer reads heads target request f.found.sought.plain (first f).method
+              (allowed_method law f) (second_of t.time) (server.resource t.time)
+              now_said.0 now_said.1;
+          status = sym same.status ∙ said.status ∙ ap (λ (n : ℕ). Some n) (sym (status_is f));
+          content =
+              once_more law f
+              (server.content t.time (came f).reply.status (sent_of said.answer.sends)) said.content ∙ ap
+              (λ (sent : _). unless_head request.method (server.content t.time (came f).reply.status sent))
+              (same_sent _ _ same.sends) ∙ ap
+              (λ (n : ℕ). unless_head request.method (server.content t.time n (sent_of now_said.0.sends)))
+              (sym (status_is f));
+          fields = λ name c.
+              f.fields name c.not_age ∙ stored name c ∙ said.fields name c
+              ∙ ap (λ fields. set_all (server.own t.time (came f).reply.status) fields name) same.fields
+              ∙ ap
+              (λ (n : ℕ). set_all (server.own t.time n) (fields_of now_said.0.fields.items) name)
+              (sym (status_is f));
+        }
+        in
         record {
           time = t.time;
           said =
-              record {
-                answer = now_said.0;
-                is =
-                    allowed_answer reads heads target request f.found.sought.plain (first f).method
-                    (allowed_method law f) (second_of t.time) (server.resource t.time)
-                    now_said.0 now_said.1;
-                status = sym same.status ∙ said.status ∙ ap (λ (n : ℕ). Some n) (sym (status_is f));
-                content =
-                    once_more law f
-                    (server.content t.time (came f).reply.status (sent_of said.answer.sends)) said.content ∙ ap
-                    (λ (sent : _). unless_head request.method (server.content t.time (came f).reply.status sent))
-                    (same_sent _ _ same.sends) ∙ ap
-                    (λ (n : ℕ). unless_head request.method (server.content t.time n (sent_of now_said.0.sends)))
-                    (sym (status_is f));
-                fields = λ name c.
-                    f.fields name c.not_age ∙ stored name c ∙ said.fields name c
-                    ∙ ap (λ fields. set_all (server.own t.time (came f).reply.status) fields name) same.fields
-                    ∙ ap
-                    (λ (n : ℕ). set_all (server.own t.time n) (fields_of now_said.0.fields.items) name)
-                    (sym (status_is f));
-              };
+              subst (λ (lines : List Line). IsSaid (site lines target) t.time request reply)
+              (named_alike (first f) asked_now both_alike) told;
           left = f.time;
           since = omega (arith, t.since, t.past, (came f).past);
           after = f.after;
@@ -413,7 +428,7 @@ module _ (reads : ReadsNoMore) (heads : HeadIsAsGet) (sound : VaryIsSound) (memb
 
   -- ---- a chain
 
-  module _ (site : List ℕ → Server) (silent : List Hop → ℕ → Bool) where
+  module _ (site : Site) (silent : List Hop → ℕ → Bool) where
     pub tells : (hops : List Hop) (start now : ℕ) (target : List ℕ) (request : Request) (reply : Reply)
         → behind site silent hops start now target request reply
         → IsTold site silent hops start now target (meant hops request) reply

@@ -397,7 +397,7 @@ server =
     }
 
 abbrev origin : Origin
-origin = behind (λ target. server) (λ hops time. false) []
+origin = behind (λ host target. server) (λ hops time. false) []
 
 none : (other : Reason) → Before other reasons.Gone → applies 0 gone next other ≡ false
 unfolding rule_for is_reg_name

@@ -8,8 +8,8 @@ use Rattle.cache_policy.specs.Policies.{Policy, asks as counted_of, tells}
 use Rattle.cache_rules.{specs.Stored.fields_of_stored, specs.declared.stored.StoredResponse.StoredResponse}
 use Rattle.chain.specs.Caches.{CacheAnswers, Caching, Fails, IsFromStore, IsPlain, IsUnanswered, Origin, Reply}
 use Rattle.chain.specs.Caches.{per_second, shown}
-use Rattle.chain.{specs.Servers.{IsCarried, IsSaid, IsSent, SaysCloseAtMost, Server}, specs.Ways.{IsSentOn, received}}
-use Rattle.chain.specs.Ways.{sent_directly}
+use Rattle.chain.{specs.Servers.{IsCarried, IsSaid, IsSent, SaysCloseAtMost, Site}, specs.Ways.{IsSentOn, received}}
+use Rattle.chain.specs.Ways.{named_host, sent_directly}
 use Rattle.gateway_messages.specs.{FieldLines.fields_of as sent_fields, FieldLines.lines_under, Rejections.status_of}
 use Rattle.gateway_messages.specs.{Requests.Rejects, Responses.{IsForwardedResponse, RejectsResponse, Response}}
 use Rattle.gateway_messages.specs.{declared.gateway.Gateway.Gateway, declared.rejection.Rejection.Rejection}
@@ -97,14 +97,14 @@ pub record HasBeenGiven (origin : Origin) (now : ℕ) (target : List ℕ) (reply
   pub given : origin sent came target first given_reply
   pub status : reply.status ≡ given_reply.status
 
--- The server of each target; and when a request to those behind a place in a chain may get no answer, by the hops
+-- The server of each host and target; and when a request to those behind a place in a chain may get no answer, by the hops
 -- behind it: a server or a gateway is down, or the network is.
-module _ (site : List ℕ → Server) (silent : List Hop → ℕ → Bool) where
+module _ (site : Site) (silent : List Hop → ℕ → Bool) where
   -- What those behind a list of hops give, the hop nearest to the client first, to a request that is sent at the first
   -- time, by the second. The last one forwards to the server of the target.
   abbrev pub behind : List Hop → Origin
   behind [] start now target request reply =
-      (time : ℕ) × (start ≤ time) × (time ≤ now) × IsSent (site target) time request reply
+      (time : ℕ) × (start ≤ time) × (time ≤ now) × IsSent (site (named_host request) target) time request reply
   behind (Forwards gateway ∷ hops) start now target request reply =
       IsForwardedBack gateway (behind hops) start now target request reply
       ⊎ (GatewayAnswers gateway (behind hops) (silent hops) start now target request reply.status × IsBlank reply)
@@ -173,7 +173,7 @@ pub record FindsGood (caching : Caching) (origin : Origin) (silent : ℕ → Boo
       ⊎ (IsGoodOnError caching.policy request.fields (fields_of_stored stored) freshness
       × Fails origin silent start now target request)
 
-module _ (site : List ℕ → Server) (silent : List Hop → ℕ → Bool) where
+module _ (site : Site) (silent : List Hop → ℕ → Bool) where
   -- A cache on the way found the reply good enough for a request with this method and Cache-Control, which came to it
   -- after the first time, and served it at the second. What it had stored has the status of the reply, its carried
   -- fields, and its Date, unless the cache's clock shows a year after 9999.
@@ -202,7 +202,7 @@ module _ (site : List ℕ → Server) (silent : List Hop → ℕ → Bool) where
   pub record IsTold (hops : List Hop) (start now : ℕ) (target : List ℕ) (request : Request) (reply : Reply) : Type 0
     where
       pub time : ℕ
-      pub said : IsSaid (site target) time request reply
+      pub said : IsSaid (site (named_host request) target) time request reply
       pub left : ℕ
       pub since : time ≤ left
       pub after : start ≤ left

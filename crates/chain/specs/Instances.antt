@@ -14,7 +14,7 @@ pub record IsInstance : Type 0 where
   pub caching : Caching
   pub request : Request
   pub reply : Reply
-  pub given : behind (λ target. server) (λ hops time. false) (Forwards gateway ∷ Stores caching ∷ []) per_second
+  pub given : behind (λ host target. server) (λ hops time. false) (Forwards gateway ∷ Stores caching ∷ []) per_second
       per_second (codes "/") request reply
   pub age : 1 ≤ age_value reply.fields
   pub without_age : (time status : ℕ) → server.own time status (codes "age") ≡ []

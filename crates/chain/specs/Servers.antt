@@ -39,6 +39,10 @@ pub record Server : Type 0 where
   pub content : ℕ → ℕ → Sent → List ℕ
   pub frames : Bool
 
+-- the server of each host, by the field lines of Host, and of each target
+abbrev pub Site : Type 0
+Site = List Line → List ℕ → Server
+
 -- ---- what it says
 
 -- The field is for all recipients, and neither a gateway nor a cache writes it. Its name has letters, digits and dashes

@@ -1,6 +1,6 @@
 -- The way of a request through gateways to a resource (RFC 9110, section 7.6).
 use Rattle.std.specs.Prelude.{◌≡◌, ℕ, List, [], ◌∷◌, None, bytes_eq, codes, if◌then◌else◌}
-use Rattle.headers.specs.LineMap.{LineMap}
+use Rattle.headers.specs.{LineMap.LineMap, Lines.Line}
 use Rattle.gateway_messages.specs.{FieldLines.fields_of, FieldLines.lines_under, Forwarding.replaced}
 use Rattle.gateway_messages.specs.{HopByHop.connection_options, HopByHop.is_hop_by_hop, Requests.IsForwarded}
 use Rattle.gateway_messages.specs.{Requests.Request as Received, declared.gateway.Gateway.Gateway}
@@ -41,11 +41,15 @@ Reaches [] request last = request ≡ last
 Reaches (gateway ∷ gateways) request last =
     (next : Request) × IsSentOn gateway request next × Reaches gateways next last
 
+-- the host that a request names: that of its target, or else that of Host (RFC 9110, section 7.1)
+abbrev pub named_host : Request → List Line
+named_host request = replaced request.authority (request.fields (codes "host"))
+
 -- the field lines of a request that are meant for the server behind a gateway: those of the connection to the gateway
 -- are left out, and Host is that of the target
 abbrev pub end_to_end_lines : Gateway → Request → LineMap
 end_to_end_lines gateway request name =
-    if bytes_eq (codes "host") name then replaced request.authority (request.fields (codes "host"))
+    if bytes_eq (codes "host") name then named_host request
     else (if is_hop_by_hop gateway.consumes_credentials (connection_options request.fields) name then []
     else request.fields name)
 

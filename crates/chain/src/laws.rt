@@ -5,7 +5,7 @@ ghost use Rattle.cache_policy.specs.{Varying.Suits, Fields.IsPresent, Policies.t
 ghost use Rattle.cache_policy.specs.{declared.Kind.TheVariants.Shared};
 ghost use Rattle.chain.specs.Caches.{Caching, IsFromStore, IsPlain, Reply, asked, key_of, unless_head};
 ghost use Rattle.chain.specs.Chains.{Hop, IsForwardedBack, IsOwn, IsTold, behind, meant};
-ghost use Rattle.chain.specs.{Instances.IsInstance, Servers.{IsSent, SaysCloseAtMost, Server}};
+ghost use Rattle.chain.specs.{Instances.IsInstance, Servers.{IsSent, SaysCloseAtMost, Server, Site}};
 ghost use Rattle.chain.specs.{Responses.HasNoOptions, Responses.Returns, Ways.Reaches, Ways.sent_directly};
 ghost use Rattle.decide_cors.specs.Browser.{CorsCheck, Request as Sent};
 ghost use Rattle.gateway_messages.specs.{Forwarding.IsHopByHop, Forwarding.own_names, Spellings.has_mark};
@@ -97,10 +97,10 @@ pub fn stored_answer_is_the_answer()
 /// and dashes alone and isn't Close, if it isn't for one connection, and if neither a gateway nor a
 /// cache writes it. An answer of their own has no content, no carried field, and a reason: a rejected
 /// request or response, no stored response where the request wants one, or no answer. It is no
-/// statement about a program: a server's content depends on neither the host nor who asks, no cache
-/// validates or serves ranges, and nothing is said of methods that a server performs.
+/// statement about a program: a server's content doesn't depend on who asks, no cache validates or
+/// serves ranges, and nothing is said of methods that a server performs.
 pub fn client_gets_what_the_resource_says()
-    ensures { (site : List ℕ → Server) (silent : List Hop → ℕ → Bool) (hops : List Hop) (start now : ℕ)
+    ensures { (site : Site) (silent : List Hop → ℕ → Bool) (hops : List Hop) (start now : ℕ)
         (target : List ℕ) (request : Request) (reply : Reply) → behind site silent hops start now target request reply
         → IsTold site silent hops start now target (meant hops request) reply
         ⊎ IsOwn site silent hops start now target request reply }
@@ -141,11 +141,11 @@ pub fn key_is_of_one_target()
 /// none, for a HEAD. If that request had Authorization, what is served allows that others get it (RFC
 /// 9111, sections 3.5 and 5.2.2.7).
 pub fn shared_caches_serve_nothing_private()
-    ensures private { (site : List ℕ → Server) (silent : List Hop → ℕ → Bool) (hops : List Hop) (caching : Caching)
+    ensures private { (site : Site) (silent : List Hop → ℕ → Bool) (hops : List Hop) (caching : Caching)
         (start now : ℕ) (target : List ℕ) (request : Request) (reply : Reply) → caching.policy.kind ≡ Shared
         → IsFromStore caching (behind site silent hops) (silent hops) start now target request reply
         → (tells caching.policy reply.fields).private ≡ false }
-    ensures credentials { (site : List ℕ → Server) (silent : List Hop → ℕ → Bool) (hops : List Hop)
+    ensures credentials { (site : Site) (silent : List Hop → ℕ → Bool) (hops : List Hop)
         (caching : Caching) (start now : ℕ) (target : List ℕ) (request : Request) (reply : Reply)
         → caching.policy.kind ≡ Shared
         → IsFromStore caching (behind site silent hops) (silent hops) start now target request reply
@@ -162,11 +162,11 @@ pub fn shared_caches_serve_nothing_private()
 /// Transfer-Encoding, fields that Connection names included, and no field of RFC 9110, section 7.6.1,
 /// or of a proxy comes from a store.
 pub fn no_connection_field_crosses()
-    ensures forwarded { (site : List ℕ → Server) (silent : List Hop → ℕ → Bool) (hops : List Hop)
+    ensures forwarded { (site : Site) (silent : List Hop → ℕ → Bool) (hops : List Hop)
         (gateway : Gateway) (start now : ℕ) (target : List ℕ) (request : Request) (reply : Reply) (name : List ℕ)
         → (f : IsForwardedBack gateway (behind site silent hops) start now target request reply)
         → IsHopByHop gateway f.behind.fields name → name ≢ codes "transfer-encoding" → reply.fields name ≡ [] }
-    ensures stored { (site : List ℕ → Server) (silent : List Hop → ℕ → Bool) (hops : List Hop) (caching : Caching)
+    ensures stored { (site : Site) (silent : List Hop → ℕ → Bool) (hops : List Hop) (caching : Caching)
         (start now : ℕ) (target : List ℕ) (request : Request) (reply : Reply) (name : List ℕ)
         → IsFromStore caching (behind site silent hops) (silent hops) start now target request reply
         → is_known true name ≡ true → reply.fields name ≡ [] }
