@@ -2,7 +2,9 @@ mod AgeLemmas
 mod ChainLemmas
 mod CheckLemmas
 mod ConnectionLemmas
+mod EventLemmas
 mod InstanceLemmas
+mod NameLemmas
 mod ResponseLemmas
 mod ServerLemmas
 mod ServingLemmas

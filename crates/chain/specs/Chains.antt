@@ -97,8 +97,8 @@ pub record HasBeenGiven (origin : Origin) (now : ℕ) (target : List ℕ) (reply
   pub given : origin sent came target first given_reply
   pub status : reply.status ≡ given_reply.status
 
--- The server of each host and target; and when a request to those behind a place in a chain may get no answer, by the hops
--- behind it: a server or a gateway is down, or the network is.
+-- The server of each host and target; and when a request to those behind a place in a chain may get no answer, by the
+-- hops behind it: a server or a gateway is down, or the network is.
 module _ (site : Site) (silent : List Hop → ℕ → Bool) where
   -- What those behind a list of hops give, the hop nearest to the client first, to a request that is sent at the first
   -- time, by the second. The last one forwards to the server of the target.

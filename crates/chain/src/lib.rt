@@ -5,5 +5,6 @@
 
 mod cache;
 pub mod laws;
+pub mod updating;
 
 pub use crate::cache::{Action, ArrivedResponse, Pending, answer_from_store, take_response};
