@@ -1,6 +1,6 @@
 //! A store served over one connection.
 ghost use Rattle.std.{specs.Prelude.{◌≡◌, ◌-◌, ℕ, List, is_ok}, specs.Io.KnownBytes.{Appends, Consumes}};
-ghost use Rattle.server_connection.specs.Connection.{Exchanged};
+ghost use Rattle.server_connection.specs.Connection.{Exchanged, WaitsAtRest};
 ghost use Rattle.server_service.{specs.Answer.{IsAnswer, IsSameSite}, specs.File.gives_of};
 
 use crate::service::FileService;
@@ -16,7 +16,9 @@ use std::io::{Read, Write};
 ///
 /// What is written is, request by request, a response that `IsAnswer` says, with the bytes of the file
 /// that was opened for it. A file is read while it is sent. If it ends before its length, or reading it
-/// fails, the connection ends there, with an error, and so it does when out of memory.
+/// fails, the connection ends there, with an error, and so it does when out of memory. Each whole request
+/// is answered before more input is awaited, but for a rejected content that is dropped, and the input ends
+/// only where that of the reader does.
 pub fn serve_store<S: FileStore, R: Read, W: Write>(
     keys: RandomState,
     config: Config,
@@ -31,7 +33,12 @@ pub fn serve_store<S: FileStore, R: Read, W: Write>(
         (λ before request plan after.
         IsAnswer (S.tells before.store) before.left before.site (S.has before.store) request plan after.source
         × IsSameSite before.site after.site × (after.store ≡ before.store) × (after.left ≡ before.left - 1))
-        (λ now. gives_of now.source) config service.old service.new received sent (is_ok result) }
+        (λ now. gives_of now.source) config service.old service.new received sent (is_ok result)
+        × WaitsAtRest
+        (λ before request plan after.
+        IsAnswer (S.tells before.store) before.left before.site (S.has before.store) request plan after.source
+        × IsSameSite before.site after.site × (after.store ≡ before.store) × (after.left ≡ before.left - 1))
+        (λ now. gives_of now.source) config service.old service.new received sent (R.remaining reader.new) }
 {
     serve_exchanges(service.alloc, keys, config, service, reader, writer)
 }
