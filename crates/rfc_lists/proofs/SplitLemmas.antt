@@ -39,7 +39,7 @@ module _ (p : ℕ → Bool) (text : List ℕ) where
   pub last_piece : cut_by p text ≡ None → slice_split p text ≡ text ∷ []
   last_piece e = rw e at all_cuts
 
--- what is written of each piece
+-- the values of a function at each piece
 module _ (f : List ℕ → List ℕ) (c : ℕ) (text : List ℕ) where
   pub next_line : (first others : List ℕ) → cut c text ≡ Some (first, others)
       → flat_map f (slice_split (is_at c) text) ≡ f first ++ flat_map f (slice_split (is_at c) others)
