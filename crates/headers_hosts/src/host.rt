@@ -72,8 +72,7 @@ impl Host {
     }
 }
 
-/// Theorem: a host survives a round trip exactly if it has at most 65,534 bytes. Only a host that
-/// is made of an authority can have more.
+/// Theorem: a host survives a round trip exactly if it has at most 65,534 bytes.
 pub fn hosts_read_back(host: &Host)
     ensures { host_reads (host_writes host.now) host.now ↔ (length (host_bytes host.now) ≤ 65534) }
 {
