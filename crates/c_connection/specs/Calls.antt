@@ -1,26 +1,21 @@
 -- What the calls on a handle do to its connection.
 use Rattle.std.specs.Prelude.{◌≡◌, ◌≢◌, ◌⊎◌, ℕ, ◌≤◌, List, [], ◌∷◌, ◌++◌, length, Option, Some, None, ⊤, codes, true}
-use Rattle.std.specs.Prelude.{Result, Ok, Err, false, take, min, slice_range}
-use Rattle.std.{specs.Option.option_map, specs.Global.Vec}
-use Rattle.http_header.{specs.FieldValue.FieldValue, specs.HeaderMap.get}
-use Rattle.http.{specs.declared.request.Request.Request, specs.declared.request.Parts.Parts, specs.Request.body_of}
-use Rattle.http.{specs.Request.head_of, specs.StatusCode.code_digits}
-use Rattle.http.specs.declared.version.TheConstants.Version.{HTTP_10}
-use Rattle.http_uri.specs.Uri.{uri_path, uri_query}
-use Rattle.http_server.{specs.declared.state.Config.Config, specs.Refusal.refusal_text}
+use Rattle.std.specs.{Prelude.{Result, Ok, Err, false, take, min, slice_range}, Option.option_map, Global.Vec}
+use Rattle.{http_header.specs.{FieldValue.FieldValue, HeaderMap.get}, http.specs.declared.request.Request.Request}
+use Rattle.http.specs.{declared.{request.Parts.Parts, version.TheConstants.Version.HTTP_10}, Request.{body_of, head_of}}
+use Rattle.{http.specs.StatusCode.code_digits, http_uri.specs.Uri.{uri_path, uri_query}}
+use Rattle.http_server.specs.{declared.state.Config.Config, Refusal.refusal_text}
 use Rattle.http_server.specs.declared.state.Reason.TheVariants as reason
-use Rattle.server_connection.{specs.declared.piece.OpenRange.OpenRange, specs.declared.plan.ResponsePlan.ResponsePlan}
-use Rattle.server_connection.specs.Plan.{IsBlank}
-use Rattle.server_connection.specs.declared.connection.Event.{Event}
+use Rattle.server_connection.specs.declared.{piece.OpenRange.OpenRange, plan.ResponsePlan.ResponsePlan}
+use Rattle.server_connection.specs.{declared.connection.Event.Event, Plan.IsBlank}
 use Rattle.server_connection.specs.declared.connection.Event.TheVariants as event
 use Rattle.server_connection.{specs.declared.machine.Phase.TheVariants.{Receiving, Asking}, specs.Connection.HasRested}
 use Rattle.server_connection.{specs.Connection.{IsReached, IsSaid}, specs.Machine.{HandsOut as HandsOutBytes}}
 use Rattle.server_connection.specs.Machine.{HandsOutRange, HasNoRange, IsNextRange, Moves, Offers, OffersCount}
-use Rattle.c_parts.{specs.Endings.{Writes, done}, specs.FieldText.IsNameOf, specs.declared.status.Failure.Failure}
+use Rattle.c_parts.specs.{Endings.{Writes, done}, FieldText.IsNameOf, declared.status.Failure.Failure}
 use Rattle.c_parts.specs.declared.status.Failure.TheVariants.{Refused, Memory, Absent}
-use Rattle.c_pass.specs.Validating.{map_text}
-use Rattle.c_handles.{specs.Handles.{OnHeld, connection_in}, specs.Views.IsSame, specs.declared.held.Held.Held}
-use Rattle.c_handles.specs.declared.view.View.{View}
+use Rattle.{c_pass.specs.Validating.map_text, c_handles.specs.{Handles.{OnHeld, connection_in}, Views.IsSame}}
+use Rattle.c_handles.specs.declared.{held.Held.Held, view.View.View}
 use Rattle.c_handles.specs.declared.held.Held.TheVariants as held
 use Rattle.c_handles.specs.declared.held.HeldConnection.{HeldConnection}
 use Rattle.c_connection.{specs.declared.host.HostHistory.HostHistory, specs.declared.reading.Text.Text}

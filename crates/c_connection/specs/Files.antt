@@ -1,13 +1,10 @@
 -- Calls on a service of files, for the request that waits on a connection.
 use Rattle.std.specs.Prelude.{◌≡◌, ℕ, Bool, List, Option, Some, None, Result, Ok, Err}
-use Rattle.c_parts.{specs.declared.keys.HashKeys.HashKeys, specs.declared.status.Failure.Failure}
-use Rattle.c_parts.specs.declared.status.Failure.TheVariants.{Absent}
-use Rattle.server_service.specs.declared.settings.Settings.{Settings}
-use Rattle.c_files.specs.Opening.{AreSettings, IsNew, IsSettingsOf}
-use Rattle.c_files.{specs.Paths.IsPathFor, specs.Plans.PlansFor}
-use Rattle.c_files.{specs.declared.entry.Facts.Facts, specs.declared.held.HeldFiles.HeldFiles}
-use Rattle.c_files.specs.declared.settings.FilesOptions.{FilesOptions}
-use Rattle.c_handles.{specs.declared.held.Held.Held, specs.declared.held.HeldConnection.HeldConnection}
+use Rattle.c_parts.specs.declared.{keys.HashKeys.HashKeys, status.Failure.{Failure, TheVariants.Absent}}
+use Rattle.{server_service.specs.declared.settings.Settings.Settings, c_files.specs.Opening.{AreSettings, IsNew}}
+use Rattle.c_files.specs.{Opening.IsSettingsOf, Paths.IsPathFor, Plans.PlansFor, declared.entry.Facts.Facts}
+use Rattle.c_files.specs.declared.{held.HeldFiles.HeldFiles, settings.FilesOptions.FilesOptions}
+use Rattle.c_handles.specs.declared.held.{Held.Held, HeldConnection.HeldConnection}
 use Rattle.c_handles.specs.declared.held.Held.TheVariants as held
 use Rattle.c_connection.specs.Plans.{KeepsConnection}
 

@@ -1,11 +1,9 @@
 -- What the calls on a handle do to its plan.
 use Rattle.std.specs.Prelude.{◌≡◌, ◌⊎◌, ℕ, List, [], ◌∷◌, ◌++◌, Result, Ok, Err}
-use Rattle.http.specs.StatusCode.{IsStatusCode}
-use Rattle.http_header.{specs.FieldName.IsFieldName, specs.FieldValue.{FieldValue, IsFieldValue, plain_value}}
-use Rattle.http_header.specs.Token.{lowercase}
-use Rattle.http_server.specs.Response.{fields}
-use Rattle.server_connection.specs.declared.piece.Piece.{Piece}
-use Rattle.c_parts.{specs.declared.status.Failure.Failure, specs.declared.status.Failure.TheVariants.{Refused, Memory}}
+use Rattle.{http.specs.StatusCode.IsStatusCode, http_header.specs.{FieldName.IsFieldName, FieldValue.FieldValue}}
+use Rattle.http_header.specs.{FieldValue.{IsFieldValue, plain_value}, Token.lowercase}
+use Rattle.{http_server.specs.Response.fields, server_connection.specs.declared.piece.Piece.Piece}
+use Rattle.c_parts.specs.declared.status.Failure.{Failure, TheVariants.{Refused, Memory}}
 use Rattle.c_handles.specs.declared.held.HeldConnection.{HeldConnection}
 
 -- the connection stays as it is, whatever becomes of the plan

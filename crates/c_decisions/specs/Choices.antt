@@ -1,10 +1,8 @@
 -- Which of a server's offers a request is served, by what a caller hands in.
 use Rattle.std.specs.Prelude.{◌⊎◌, ℕ, List, Option, Some, None, Result, Ok, Err}
-use Rattle.http_header.specs.FieldValue.{FieldValue}
-use Rattle.headers.specs.Lines.{Line}
-use Rattle.c_parts.{specs.FieldText.field_lines, specs.declared.status.Failure.Failure}
-use Rattle.c_parts.specs.declared.status.Failure.TheVariants.{Absent}
-use Rattle.c_decisions.specs.Texts.{AreValuesOf, FailsAt}
+use Rattle.{http_header.specs.FieldValue.FieldValue, headers.specs.Lines.Line, c_parts.specs.FieldText.field_lines}
+use Rattle.{c_parts.specs.declared.status.Failure.{Failure, TheVariants.Absent}, c_decisions.specs.Texts.AreValuesOf}
+use Rattle.c_decisions.specs.Texts.{FailsAt}
 
 -- the place that a call gives, if there is one
 abbrev pub given : Option ℕ → Result ℕ Failure

@@ -1,12 +1,10 @@
 -- What a response carries of a representation, by what a caller hands in.
 use Rattle.std.specs.Prelude.{◌≡◌, ℕ, Bool, true, false, List, Option, Some, None, Result, Ok, Err, if◌then◌else◌}
-use Rattle.http_header.specs.FieldValue.{FieldValue}
-use Rattle.decide_preconditions.{specs.Boundaries.{is_boundary, multipart_type}, specs.Limits.usual_limits}
-use Rattle.decide_preconditions.{specs.declared.content.Content.Content, specs.declared.limits.RangeLimits.RangeLimits}
-use Rattle.c_decisions.{specs.Numbers.known, specs.Texts.IsOptionalValue}
-use Rattle.c_decisions.specs.declared.content.ContentParts.{ContentParts}
-use Rattle.c_parts.{specs.declared.status.Failure.Failure, specs.declared.status.Failure.TheVariants.{Refused, Memory}}
-use Rattle.c_parts.specs.declared.status.Failure.TheVariants.{Absent, TooLarge}
+use Rattle.{http_header.specs.FieldValue.FieldValue, decide_preconditions.specs.Boundaries.is_boundary}
+use Rattle.decide_preconditions.specs.{Boundaries.multipart_type, Limits.usual_limits, declared.content.Content.Content}
+use Rattle.{decide_preconditions.specs.declared.limits.RangeLimits.RangeLimits, c_decisions.specs.Numbers.known}
+use Rattle.c_decisions.specs.{Texts.IsOptionalValue, declared.content.ContentParts.ContentParts}
+use Rattle.c_parts.specs.declared.status.Failure.{Failure, TheVariants.{Refused, Memory, Absent, TooLarge}}
 
 -- the usual limits, if ranges are sent
 abbrev pub limits_of : Bool → Option RangeLimits

@@ -1,16 +1,13 @@
 -- What a server answers a request from another origin, by what a caller hands in.
 use Rattle.std.specs.Prelude.{◌≡◌, ◌⊎◌, ℕ, List, Result, Ok, Err}
-use Rattle.http_header.{specs.FieldValue.FieldValue, specs.HeaderMap.Entries, specs.Token.IsToken}
-use Rattle.headers.specs.LineMap.{fields_of, lines_at}
-use Rattle.headers_section.specs.Section.{Holds}
-use Rattle.decide_cors.{specs.Answer.IsAnswer, specs.Policy.Policy, specs.declared.kind.CorsKind.CorsKind}
-use Rattle.decide_cors.specs.declared.kind.CorsKind.TheVariants.{Preflight, Plain, NoOrigin}
-use Rattle.decide_cors.specs.declared.policy.CorsAnswer.{CorsAnswer}
-use Rattle.c_decisions.{specs.Flags.flag_of, specs.FieldLines.fields_text, specs.Methods.IsMethodOf}
-use Rattle.c_decisions.{specs.Rules.{IsPolicyAnswer, IsPolicyFor}, specs.declared.cors.CorsFacts.CorsFacts}
-use Rattle.c_decisions.{specs.declared.cors.PolicyAnswer.PolicyAnswer, specs.declared.request.RequestTexts.RequestTexts}
-use Rattle.c_decisions.specs.declared.rules.Rules.{Rules}
-use Rattle.c_parts.{specs.Endings.TellsAndWrites, specs.SectionMap.IsMapOf, specs.declared.status.Failure.Failure}
+use Rattle.http_header.specs.{FieldValue.FieldValue, HeaderMap.Entries, Token.IsToken}
+use Rattle.{headers.specs.LineMap.{fields_of, lines_at}, headers_section.specs.Section.Holds}
+use Rattle.decide_cors.specs.{Answer.IsAnswer, Policy.Policy, declared.kind.CorsKind.{CorsKind, TheVariants.Preflight}}
+use Rattle.decide_cors.specs.declared.{kind.CorsKind.TheVariants.{Plain, NoOrigin}, policy.CorsAnswer.CorsAnswer}
+use Rattle.c_decisions.specs.{Flags.flag_of, FieldLines.fields_text, Methods.IsMethodOf, Rules.IsPolicyAnswer}
+use Rattle.c_decisions.specs.{Rules.IsPolicyFor, declared.cors.{CorsFacts.CorsFacts, PolicyAnswer.PolicyAnswer}}
+use Rattle.c_decisions.specs.declared.{request.RequestTexts.RequestTexts, rules.Rules.Rules}
+use Rattle.c_parts.specs.{Endings.TellsAndWrites, SectionMap.IsMapOf, declared.status.Failure.Failure}
 use Rattle.c_parts.specs.declared.status.Failure.TheVariants.{Memory}
 
 abbrev pub kind_number : CorsKind → ℕ

@@ -1,14 +1,12 @@
 -- What the preconditions of a request come to, by what a caller hands in.
 use Rattle.std.specs.Prelude.{◌≡◌, ◌⊎◌, ℕ, List, Result, Ok, Err}
-use Rattle.http_header.{specs.FieldValue.FieldValue, specs.HeaderMap.Entries, specs.Token.IsToken}
-use Rattle.headers.specs.LineMap.{lines_at}
-use Rattle.headers_section.specs.Section.{Holds}
-use Rattle.decide_preconditions.{specs.Preconditions.Answers, specs.declared.precondition.Precondition.Precondition}
-use Rattle.decide_preconditions.specs.declared.precondition.Precondition.TheVariants.{Perform, NotModified, Failed}
-use Rattle.decide_preconditions.specs.declared.resource.TargetState.{TargetState}
-use Rattle.c_parts.{specs.SectionMap.IsMapOf, specs.declared.status.Failure.Failure}
-use Rattle.c_decisions.{specs.Methods.IsMethodOf, specs.Targets.IsResourceOf}
-use Rattle.c_decisions.{specs.declared.request.RequestTexts.RequestTexts, specs.declared.target.TargetFacts.TargetFacts}
+use Rattle.{http_header.specs.{FieldValue.FieldValue, HeaderMap.Entries, Token.IsToken}, headers.specs.LineMap.lines_at}
+use Rattle.{headers_section.specs.Section.Holds, decide_preconditions.specs.Preconditions.Answers}
+use Rattle.decide_preconditions.specs.declared.precondition.Precondition.{Precondition, TheVariants.Perform}
+use Rattle.decide_preconditions.specs.declared.precondition.Precondition.TheVariants.{NotModified, Failed}
+use Rattle.{decide_preconditions.specs.declared.resource.TargetState.TargetState, c_parts.specs.SectionMap.IsMapOf}
+use Rattle.{c_parts.specs.declared.status.Failure.Failure, c_decisions.specs.{Methods.IsMethodOf, Targets.IsResourceOf}}
+use Rattle.c_decisions.specs.declared.{request.RequestTexts.RequestTexts, target.TargetFacts.TargetFacts}
 
 abbrev pub code_of : Precondition → ℕ
 code_of Perform = 0

@@ -1,6 +1,5 @@
 -- The field lines of a decision, as text.
-use Rattle.std.specs.Prelude.{ℕ, List, flat_map}
-use Rattle.headers.specs.LineMap.{Field}
+use Rattle.{std.specs.Prelude.{ℕ, List, flat_map}, headers.specs.LineMap.Field}
 use Rattle.headers_section.specs.CanonicalText.{line_text}
 
 -- each field line of a field, after its name

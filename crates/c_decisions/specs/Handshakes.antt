@@ -1,30 +1,25 @@
 -- Both ends of the opening handshake of a WebSocket, by what a caller hands in.
 use Rattle.std.specs.Prelude.{◌≡◌, ◌≢◌, ◌⊎◌, ℕ, true, false, List, [], length, Option, Some, None, Result, Ok, Err}
-use Rattle.std.{specs.Prelude.{◌==◌, All, IsSome, if◌then◌else◌}, specs.Global.Vec}
-use Rattle.http.{specs.declared.version.Version.Version, specs.declared.version.TheConstants.Version.{HTTP_09, HTTP_10}}
-use Rattle.http.specs.declared.version.TheConstants.Version.{HTTP_11, HTTP_2, HTTP_3}
-use Rattle.http_header.{specs.FieldValue.{FieldValue, IsFieldValue}, specs.HeaderMap.Entries, specs.Token.IsToken}
-use Rattle.websocket.specs.Handshake.{base64}
-use Rattle.headers.{specs.LineMap.{LineMap, lines_at}, specs.Lines.Line}
-use Rattle.headers_section.specs.Section.{Holds}
-use Rattle.decide_cors.specs.SentOrigins.{unsent_place}
-use Rattle.decide_handshake.{specs.Client.Checks, specs.Messages.{answer_fields, request_fields, status_of}}
-use Rattle.decide_handshake.{specs.Server.{Answers, IsAccepted}, specs.declared.client.Checked.Checked}
-use Rattle.decide_handshake.{specs.declared.client.Checked.TheVariants.{Open, Fail}, specs.declared.client.Flaw.Flaw}
+use Rattle.std.specs.{Prelude.{◌==◌, All, IsSome, if◌then◌else◌}, Global.Vec}
+use Rattle.http.specs.declared.version.{Version.Version, TheConstants.Version.{HTTP_09, HTTP_10, HTTP_11, HTTP_2}}
+use Rattle.{http.specs.declared.version.TheConstants.Version.HTTP_3, http_header.specs.FieldValue.FieldValue}
+use Rattle.http_header.specs.{FieldValue.IsFieldValue, HeaderMap.Entries, Token.IsToken}
+use Rattle.{websocket.specs.Handshake.base64, headers.specs.{LineMap.{LineMap, lines_at}, Lines.Line}}
+use Rattle.{headers_section.specs.Section.Holds, decide_cors.specs.SentOrigins.unsent_place}
+use Rattle.decide_handshake.specs.{Client.Checks, Messages.{answer_fields, request_fields, status_of}, Server.Answers}
+use Rattle.decide_handshake.specs.{Server.IsAccepted, declared.client.Checked.{Checked, TheVariants.{Open, Fail}}}
+use Rattle.decide_handshake.specs.declared.client.Flaw.{Flaw}
 use Rattle.decide_handshake.specs.declared.client.Flaw.TheVariants as flaw
-use Rattle.decide_handshake.{specs.Origins.OriginList, specs.declared.server.HandshakeAnswer.HandshakeAnswer}
+use Rattle.decide_handshake.specs.{Origins.OriginList, declared.server.HandshakeAnswer.HandshakeAnswer}
 use Rattle.decide_handshake.specs.declared.server.HandshakeAnswer.TheVariants.{Switch, BadRequest, UpgradeRequired}
-use Rattle.decide_handshake.specs.declared.server.HandshakeAnswer.TheVariants.{Forbidden}
-use Rattle.decide_handshake.specs.declared.server.Fault.{Fault}
+use Rattle.decide_handshake.specs.declared.server.{HandshakeAnswer.TheVariants.Forbidden, Fault.Fault}
 use Rattle.decide_handshake.specs.declared.server.Fault.TheVariants as fault
-use Rattle.c_parts.{specs.FieldText.field_lines, specs.SectionMap.IsMapOf, specs.declared.status.Failure.Failure}
+use Rattle.c_parts.specs.{FieldText.field_lines, SectionMap.IsMapOf, declared.status.Failure.Failure}
 use Rattle.c_parts.specs.declared.status.Failure.TheVariants.{Refused, Memory, Absent, TooLarge}
-use Rattle.c_decisions.{specs.FieldLines.fields_text, specs.Methods.IsMethodOf, specs.Star.is_any}
-use Rattle.c_decisions.{specs.StatusCodes.IsStatusOf, specs.Texts.{AreValuesOf, FailsAt}}
-use Rattle.c_decisions.specs.declared.handshake.AnsweredHandshake.{AnsweredHandshake}
+use Rattle.c_decisions.specs.{FieldLines.fields_text, Methods.IsMethodOf, Star.is_any, StatusCodes.IsStatusOf}
+use Rattle.c_decisions.specs.{Texts.{AreValuesOf, FailsAt}, declared.handshake.AnsweredHandshake.AnsweredHandshake}
+use Rattle.c_decisions.specs.declared.handshake.{HandshakeExchange.HandshakeExchange, HandshakeRules.HandshakeRules}
 use Rattle.c_decisions.specs.declared.request.RequestTexts.{RequestTexts}
-use Rattle.c_decisions.specs.declared.handshake.HandshakeExchange.{HandshakeExchange}
-use Rattle.c_decisions.specs.declared.handshake.HandshakeRules.{HandshakeRules}
 
 -- ---- the server's end
 

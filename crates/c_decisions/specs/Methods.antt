@@ -1,8 +1,7 @@
 -- Methods, as a caller hands them in.
 use Rattle.std.specs.Prelude.{◌≡◌, ℕ, ◌<◌, List, length, Result, Ok, Err}
-use Rattle.http_header.specs.Token.{IsToken}
-use Rattle.c_parts.specs.declared.status.Failure.{Failure}
-use Rattle.c_parts.specs.declared.status.Failure.TheVariants.{Refused, Memory, Absent, TooLarge}
+use Rattle.{http_header.specs.Token.IsToken, c_parts.specs.declared.status.Failure.{Failure, TheVariants.Refused}}
+use Rattle.c_parts.specs.declared.status.Failure.TheVariants.{Memory, Absent, TooLarge}
 
 -- how many bytes of a method lie in the method itself: a longer one is copied to the heap
 abbrev pub inline_room : ℕ

@@ -1,11 +1,10 @@
 -- How acceptable an offer is, by what a caller hands in.
 use Rattle.std.specs.Prelude.{◌≡◌, ℕ, List, Result, Ok, Err}
-use Rattle.http_header.specs.FieldValue.{FieldValue}
-use Rattle.headers.specs.Lines.{Line}
-use Rattle.decide_negotiation.specs.declared.acceptability.Quality.{Quality}
-use Rattle.decide_negotiation.specs.declared.acceptability.Quality.TheVariants.{NotAcceptable, Unlisted, Weight}
-use Rattle.c_parts.{specs.FieldText.field_lines, specs.declared.status.Failure.Failure}
-use Rattle.c_decisions.{specs.Texts.{AreValuesOf, FailsAt}, specs.declared.quality.OfferQuality.OfferQuality}
+use Rattle.{http_header.specs.FieldValue.FieldValue, headers.specs.Lines.Line}
+use Rattle.decide_negotiation.specs.declared.acceptability.Quality.{Quality, TheVariants.{NotAcceptable, Unlisted}}
+use Rattle.decide_negotiation.specs.declared.acceptability.Quality.TheVariants.{Weight}
+use Rattle.{c_parts.specs.{FieldText.field_lines, declared.status.Failure.Failure}, c_decisions.specs.Texts.AreValuesOf}
+use Rattle.c_decisions.specs.{Texts.FailsAt, declared.quality.OfferQuality.OfferQuality}
 
 abbrev pub shown : Quality → OfferQuality
 shown NotAcceptable = record { weight = 0; is_acceptable = 0 }

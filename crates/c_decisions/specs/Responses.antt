@@ -1,17 +1,15 @@
 -- The whole response to a request for a representation, by what a caller hands in.
 use Rattle.std.specs.Prelude.{◌≡◌, ◌⊎◌, ℕ, Bool, List, [], map, Option, Some, None, Result, Ok, Err}
-use Rattle.http_header.{specs.FieldValue.FieldValue, specs.HeaderMap.Entries, specs.Token.IsToken}
-use Rattle.headers.specs.LineMap.{fields_of, lines_at}
-use Rattle.headers_section.specs.Section.{Holds}
-use Rattle.decide_preconditions.{specs.Fields.{is_known_by, keeps_encoding}, specs.Plans.parts_sent}
-use Rattle.decide_preconditions.{specs.Responses.IsAnswered, specs.declared.content.Content.Content}
-use Rattle.decide_preconditions.specs.declared.resource.TargetState.{TargetState}
-use Rattle.decide_preconditions.specs.declared.response.Response.{Response}
-use Rattle.c_parts.{specs.SectionMap.IsMapOf, specs.declared.status.Failure.Failure}
-use Rattle.c_decisions.{specs.Contents.{IsBoundaryOf, IsContentOf}, specs.FieldLines.fields_text, specs.Flags.flag_of}
-use Rattle.c_decisions.{specs.Methods.IsMethodOf, specs.Selection.range_of, specs.Targets.IsResourceOf}
-use Rattle.c_decisions.{specs.declared.content.ContentParts.ContentParts, specs.declared.response.Responded.Responded}
-use Rattle.c_decisions.{specs.declared.request.RequestTexts.RequestTexts, specs.declared.target.TargetFacts.TargetFacts}
+use Rattle.http_header.specs.{FieldValue.FieldValue, HeaderMap.Entries, Token.IsToken}
+use Rattle.{headers.specs.LineMap.{fields_of, lines_at}, headers_section.specs.Section.Holds}
+use Rattle.decide_preconditions.specs.{Fields.{is_known_by, keeps_encoding}, Plans.parts_sent, Responses.IsAnswered}
+use Rattle.decide_preconditions.specs.declared.{content.Content.Content, resource.TargetState.TargetState}
+use Rattle.{decide_preconditions.specs.declared.response.Response.Response, c_parts.specs.SectionMap.IsMapOf}
+use Rattle.{c_parts.specs.declared.status.Failure.Failure, c_decisions.specs.Contents.{IsBoundaryOf, IsContentOf}}
+use Rattle.c_decisions.specs.{FieldLines.fields_text, Flags.flag_of, Methods.IsMethodOf, Selection.range_of}
+use Rattle.c_decisions.specs.{Targets.IsResourceOf, declared.content.ContentParts.ContentParts}
+use Rattle.c_decisions.specs.declared.{response.Responded.Responded, request.RequestTexts.RequestTexts}
+use Rattle.c_decisions.specs.declared.target.TargetFacts.{TargetFacts}
 
 -- the status of a response, its parts, and the field lines of its fields
 pub record IsShownResponse (is_known : Bool) (response : Response) (shown : Responded) : Type 0 where

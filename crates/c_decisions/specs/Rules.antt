@@ -1,15 +1,13 @@
 -- A server's rules for requests from other origins, as a caller hands them in.
-use Rattle.std.{specs.Prelude.{◌≡◌, ◌⊎◌, ℕ, ⊤, false, List, [], ◌∷◌, All, Result, Ok, Err, true}, specs.Global.Vec}
-use Rattle.std.specs.List.{AllZip}
-use Rattle.http_header.{specs.FieldName.IsFieldName, specs.FieldValue.IsFieldValue, specs.Token.{IsToken, lowercase}}
-use Rattle.headers.{specs.Lines.Line, specs.Origin.origin_reads, specs.Typed.HasLine, specs.declared.Origin.Origin}
-use Rattle.decide_cors.{specs.Allowed.names_of, specs.Policy.Policy, specs.Rules.{IsLawful, IsPolicyOf, IsReadable}}
-use Rattle.decide_cors.{specs.Rules.{IsWritten, Refuses}, specs.declared.error.RulesError.RulesError}
-use Rattle.decide_cors.{specs.declared.rules.Allowed.Allowed, specs.declared.rules.Allowed.TheVariants.{Any, Listed}}
-use Rattle.decide_cors.specs.declared.rules.CorsRules.{CorsRules}
-use Rattle.c_parts.{specs.FieldText.field_lines, specs.declared.status.Failure.Failure}
-use Rattle.c_parts.specs.declared.status.Failure.TheVariants.{Refused, Memory, Absent, TooLarge}
-use Rattle.c_decisions.{specs.Numbers.known, specs.Star.is_any, specs.declared.rules.Rules.Rules}
+use Rattle.std.specs.{Prelude.{◌≡◌, ◌⊎◌, ℕ, ⊤, false, List, [], ◌∷◌, All, Result, Ok, Err, true}, Global.Vec}
+use Rattle.{std.specs.List.AllZip, http_header.specs.{FieldName.IsFieldName, FieldValue.IsFieldValue, Token.IsToken}}
+use Rattle.{http_header.specs.Token.lowercase, headers.specs.{Lines.Line, Origin.origin_reads, Typed.HasLine}}
+use Rattle.{headers.specs.declared.Origin.Origin, decide_cors.specs.{Allowed.names_of, Policy.Policy, Rules.IsLawful}}
+use Rattle.decide_cors.specs.{Rules.{IsPolicyOf, IsReadable, IsWritten, Refuses}, declared.error.RulesError.RulesError}
+use Rattle.decide_cors.specs.declared.rules.{Allowed.{Allowed, TheVariants.{Any, Listed}}, CorsRules.CorsRules}
+use Rattle.c_parts.specs.{FieldText.field_lines, declared.status.Failure.{Failure, TheVariants.{Refused, Memory}}}
+use Rattle.{c_parts.specs.declared.status.Failure.TheVariants.{Absent, TooLarge}, c_decisions.specs.Numbers.known}
+use Rattle.c_decisions.specs.{Star.is_any, declared.rules.Rules.Rules}
 
 -- the line is an origin, as the field Origin has it
 abbrev pub reads_origin : Line → Origin → Type 0

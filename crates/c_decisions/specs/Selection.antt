@@ -1,19 +1,16 @@
 -- Which part of a representation a request selects, by what a caller hands in.
 use Rattle.std.specs.Prelude.{◌≡◌, ◌⊎◌, ⊤, ℕ, false, List, [], map, Result, Ok, Err}
-use Rattle.http_header.{specs.FieldValue.FieldValue, specs.HeaderMap.Entries, specs.Token.IsToken}
-use Rattle.headers.specs.LineMap.{lines_at}
-use Rattle.headers_section.specs.Section.{Holds}
-use Rattle.decide_preconditions.specs.Limits.{usual_limits}
+use Rattle.{http_header.specs.{FieldValue.FieldValue, HeaderMap.Entries, Token.IsToken}, headers.specs.LineMap.lines_at}
+use Rattle.{headers_section.specs.Section.Holds, decide_preconditions.specs.Limits.usual_limits}
 use Rattle.decide_preconditions.specs.Selection.{Applies, Selects as SelectsOf}
-use Rattle.decide_preconditions.{specs.declared.part.Part.Part, specs.declared.resource.TargetState.TheVariants.Current}
-use Rattle.decide_preconditions.specs.declared.resource.Validators.{Validators}
-use Rattle.decide_preconditions.specs.declared.selection.Selection.{Selection}
+use Rattle.decide_preconditions.specs.declared.{part.Part.Part, resource.TargetState.TheVariants.Current}
+use Rattle.decide_preconditions.specs.declared.{resource.Validators.Validators, selection.Selection.Selection}
 use Rattle.decide_preconditions.specs.declared.selection.Selection.TheVariants.{Whole, Parts, Unsatisfiable}
-use Rattle.c_parts.{specs.Endings.TellsAndWrites, specs.SectionMap.IsMapOf, specs.declared.status.Failure.Failure}
-use Rattle.c_parts.specs.declared.status.Failure.TheVariants.{Memory, Absent}
-use Rattle.c_decisions.{specs.Methods.IsMethodOf, specs.Targets.IsResourceOf}
-use Rattle.c_decisions.{specs.declared.request.RequestTexts.RequestTexts, specs.declared.target.TargetFacts.TargetFacts}
-use Rattle.c_decisions.{specs.declared.selection.BytesRange.BytesRange, specs.declared.selection.Selected.Selected}
+use Rattle.c_parts.specs.{Endings.TellsAndWrites, SectionMap.IsMapOf, declared.status.Failure.Failure}
+use Rattle.{c_parts.specs.declared.status.Failure.TheVariants.{Memory, Absent}, c_decisions.specs.Methods.IsMethodOf}
+use Rattle.c_decisions.specs.{Targets.IsResourceOf, declared.request.RequestTexts.RequestTexts}
+use Rattle.c_decisions.specs.declared.{target.TargetFacts.TargetFacts, selection.BytesRange.BytesRange}
+use Rattle.c_decisions.specs.declared.selection.Selected.{Selected}
 
 abbrev pub range_of : Part → BytesRange
 range_of part = record { first = part.first; last = part.last }

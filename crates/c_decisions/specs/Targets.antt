@@ -1,12 +1,11 @@
 -- What a server knows of the target of a request, by what a caller hands in.
 use Rattle.std.specs.Prelude.{◌≡◌, ◌⊎◌, ℕ, Bool, true, false, List, [], Option, Some, None, Result, Ok, Err}
-use Rattle.http_header.specs.FieldValue.{FieldValue}
-use Rattle.headers.{specs.Date.IsDated, specs.HeaderLaws.ReadsBy, specs.Lines.Line, specs.Shapes.only_tag}
-use Rattle.decide_preconditions.specs.declared.resource.TargetState.{TargetState}
+use Rattle.{http_header.specs.FieldValue.FieldValue, headers.specs.{Date.IsDated, HeaderLaws.ReadsBy, Lines.Line}}
+use Rattle.{headers.specs.Shapes.only_tag, decide_preconditions.specs.declared.resource.TargetState.TargetState}
 use Rattle.decide_preconditions.specs.declared.resource.TargetState.TheVariants.{Missing, Current}
-use Rattle.c_parts.{specs.FieldText.{FieldDecodes, field_lines}, specs.declared.status.Failure.Failure}
-use Rattle.c_parts.specs.declared.status.Failure.TheVariants.{Refused, Absent}
-use Rattle.c_decisions.{specs.Numbers.known, specs.declared.target.TargetFacts.TargetFacts}
+use Rattle.c_parts.specs.{FieldText.{FieldDecodes, field_lines}, declared.status.Failure.{Failure, TheVariants.Refused}}
+use Rattle.{c_parts.specs.declared.status.Failure.TheVariants.Absent, c_decisions.specs.Numbers.known}
+use Rattle.c_decisions.specs.declared.target.TargetFacts.{TargetFacts}
 
 -- the only line is an entity tag, which the value has
 abbrev pub reads_etag : List Line → FieldValue → Type 0

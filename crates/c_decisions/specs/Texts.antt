@@ -1,9 +1,8 @@
 -- Field lines and offers, as a caller hands them in.
-use Rattle.std.{specs.Prelude.{◌≡◌, ◌≢◌, ℕ, List, [], All, Option, Some, None, Result, Ok, Err}, specs.Global.Vec}
-use Rattle.http_header.{specs.FieldValue.{FieldValue, IsFieldValue, plain_value}, specs.HeaderMap.{Entries, get_all}}
-use Rattle.headers.{specs.Lines.lines_of, specs.Typed.HasLine}
-use Rattle.c_parts.{specs.FieldText.field_lines, specs.declared.status.Failure.Failure}
-use Rattle.c_parts.specs.declared.status.Failure.TheVariants.{Refused, Memory, Absent, TooLarge}
+use Rattle.std.specs.{Prelude.{◌≡◌, ◌≢◌, ℕ, List, [], All, Option, Some, None, Result, Ok, Err}, Global.Vec}
+use Rattle.http_header.specs.{FieldValue.{FieldValue, IsFieldValue, plain_value}, HeaderMap.{Entries, get_all}}
+use Rattle.{headers.specs.{Lines.lines_of, Typed.HasLine}, c_parts.specs.FieldText.field_lines}
+use Rattle.c_parts.specs.declared.status.Failure.{Failure, TheVariants.{Refused, Memory, Absent, TooLarge}}
 
 -- the values are the lines of the text
 abbrev pub AreValuesOf : List ℕ → List FieldValue → Type 0

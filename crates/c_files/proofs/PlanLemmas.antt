@@ -1,18 +1,13 @@
 -- The answer of a service that was told what the host found.
 use Rattle.std.proofs.Common.{◌≡◌, ◌∙◌, ℕ, Bool, List, Option, Some, None, ap, subst, length}
-use Rattle.std.specs.Prelude.{option_map, string_bytes}
-use Rattle.http.{specs.declared.request.Request.Request, specs.Request.head_of}
-use Rattle.http_uri.specs.Uri.{uri_path}
-use Rattle.c_parts.specs.declared.keys.HashKeys.{HashKeys}
+use Rattle.{std.specs.Prelude.{option_map, string_bytes}, http.specs.declared.request.Request.Request}
+use Rattle.{http.specs.Request.head_of, http_uri.specs.Uri.uri_path, c_parts.specs.declared.keys.HashKeys.HashKeys}
 use Rattle.server_files.specs.Path.{Names}
 use Rattle.server_connection.specs.declared.connection.ServerConnection.{ServerConnection}
-use Rattle.server_connection.specs.declared.plan.ResponsePlan.{ResponsePlan}
-use Rattle.server_connection.specs.declared.machine.Phase.TheVariants.{Asking}
-use Rattle.server_service.{specs.Answer.{IsAnswer, IsSameSite}, specs.declared.settings.Site.Site}
-use Rattle.server_service.specs.declared.source.Source.{Source}
-use Rattle.c_files.{specs.Entries.{entry_at, entry_in}, specs.Paths.{negotiates_of, next_path}}
-use Rattle.c_files.specs.Plans.{IsPlanned, Knows, left_for, number_of}
-use Rattle.c_files.{specs.declared.entry.Facts.Facts, specs.declared.held.HeldFiles.HeldFiles}
+use Rattle.server_connection.specs.declared.{plan.ResponsePlan.ResponsePlan, machine.Phase.TheVariants.Asking}
+use Rattle.server_service.specs.{Answer.{IsAnswer, IsSameSite}, declared.{settings.Site.Site, source.Source.Source}}
+use Rattle.c_files.specs.{Entries.{entry_at, entry_in}, Paths.{negotiates_of, next_path}, Plans.{IsPlanned, Knows}}
+use Rattle.c_files.specs.{Plans.{left_for, number_of}, declared.{entry.Facts.Facts, held.HeldFiles.HeldFiles}}
 use Rattle.c_files.specs.declared.store.Found.{Found}
 
 pub answer_told : (named : Option (List ℕ)) (found : List Facts) (now : ℕ) (is_last : Bool) (old told : HeldFiles)

@@ -1,14 +1,12 @@
 -- What the host found, as entries of a store.
 use Rattle.std.specs.Prelude.{ℕ, ◌==◌, nat_lt, Bool, if◌then◌else◌, List, [], length, take, drop, bytes_eq, codes}
 use Rattle.std.specs.Prelude.{Option, Some, None, option_map, slice_get, string_bytes}
-use Rattle.http_header.specs.FieldValue.{plain_value}
-use Rattle.c_parts.specs.declared.keys.HashKeys.{HashKeys}
-use Rattle.server_files.specs.declared.coding.Coding.TheVariants.{Identity}
-use Rattle.server_service.{specs.File.media_type_at, specs.declared.file.Entry.Entry}
-use Rattle.server_service.specs.declared.file.Entry.TheVariants.{Missing, Forbidden, Unavailable, Folder, Readable}
-use Rattle.server_service.{specs.declared.file.File.File, specs.declared.source.Reader.TheVariants.Caller}
-use Rattle.server_service.specs.declared.source.Source.TheVariants.{Opened}
-use Rattle.c_files.{specs.Tags.tag_of, specs.declared.entry.Facts.Facts, specs.declared.store.Found.Found}
+use Rattle.{http_header.specs.FieldValue.plain_value, c_parts.specs.declared.keys.HashKeys.HashKeys}
+use Rattle.{server_files.specs.declared.coding.Coding.TheVariants.Identity, server_service.specs.File.media_type_at}
+use Rattle.server_service.specs.declared.file.Entry.{Entry, TheVariants.{Missing, Forbidden, Unavailable, Folder}}
+use Rattle.server_service.specs.declared.file.{Entry.TheVariants.Readable, File.File}
+use Rattle.server_service.specs.declared.source.{Reader.TheVariants.Caller, Source.TheVariants.Opened}
+use Rattle.c_files.specs.{Tags.tag_of, declared.{entry.Facts.Facts, store.Found.Found}}
 
 abbrev pub is_file : Facts → Bool
 is_file facts = facts.kind == 1

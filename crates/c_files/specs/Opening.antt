@@ -1,12 +1,10 @@
 -- How a service is made.
 use Rattle.std.specs.Prelude.{◌≡◌, ◌⊎◌, ℕ, false, List, [], Option, Some, None, Result, Ok, Err, ⊤, string_bytes}
-use Rattle.decide_preconditions.specs.Boundaries.{is_boundary}
-use Rattle.c_parts.{specs.declared.keys.HashKeys.HashKeys, specs.declared.status.Failure.Failure}
-use Rattle.c_parts.specs.declared.status.Failure.TheVariants.{Refused, Memory, Absent, TooLarge}
+use Rattle.{decide_preconditions.specs.Boundaries.is_boundary, c_parts.specs.declared.keys.HashKeys.HashKeys}
+use Rattle.c_parts.specs.declared.status.Failure.{Failure, TheVariants.{Refused, Memory, Absent, TooLarge}}
 use Rattle.c_decisions.specs.Texts.{AreValuesOf, IsOptionalValue, IsValuesOf}
-use Rattle.server_service.{specs.SiteSettings.IsSiteOf, specs.declared.settings.Divider.Divider}
-use Rattle.server_service.specs.declared.settings.Settings.{Settings}
-use Rattle.c_files.{specs.declared.held.HeldFiles.HeldFiles, specs.declared.settings.FilesOptions.FilesOptions}
+use Rattle.server_service.specs.{SiteSettings.IsSiteOf, declared.settings.{Divider.Divider, Settings.Settings}}
+use Rattle.c_files.specs.declared.{held.HeldFiles.HeldFiles, settings.FilesOptions.FilesOptions}
 
 -- the boundary of these bytes; `Refused` only if they are none
 abbrev pub IsDividerOf : List ℕ → Result Divider Failure → Type 0

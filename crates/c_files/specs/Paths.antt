@@ -1,14 +1,12 @@
 -- Which path the host is to open next.
-use Rattle.std.specs.Prelude.{◌≡◌, ℕ, ◌==◌, Bool, true, ◌&&◌, if◌then◌else◌, List, [], ◌++◌, length, codes}
-use Rattle.std.specs.Prelude.{Option, Some, None, Result, Ok, Err, slice_get}
-use Rattle.http.specs.Request.{head_of}
-use Rattle.http_uri.specs.Uri.{uri_path}
-use Rattle.c_parts.{specs.declared.status.Failure.Failure, specs.declared.status.Failure.TheVariants.{Refused, Memory}}
-use Rattle.c_parts.specs.declared.status.Failure.TheVariants.{Absent, TooLarge}
-use Rattle.server_files.specs.Path.{Names, is_plain}
+use Rattle.std.specs.Prelude.{◌≡◌, ℕ, ◌==◌, Bool, true, ◌&&◌, if◌then◌else◌, List, [], ◌++◌, length, codes, Option}
+use Rattle.{std.specs.Prelude.{Some, None, Result, Ok, Err, slice_get}, http.specs.Request.head_of}
+use Rattle.{http_uri.specs.Uri.uri_path, c_parts.specs.declared.status.Failure.{Failure, TheVariants.{Refused, Memory}}}
+use Rattle.{c_parts.specs.declared.status.Failure.TheVariants.{Absent, TooLarge}, server_files.specs.Path.Names}
+use Rattle.server_files.specs.Path.{is_plain}
 use Rattle.server_connection.specs.declared.connection.ServerConnection.{ServerConnection}
-use Rattle.server_connection.specs.declared.machine.Phase.TheVariants.{Asking}
-use Rattle.c_files.{specs.Entries.is_file, specs.declared.entry.Facts.Facts, specs.declared.held.HeldFiles.HeldFiles}
+use Rattle.{server_connection.specs.declared.machine.Phase.TheVariants.Asking, c_files.specs.Entries.is_file}
+use Rattle.c_files.specs.declared.{entry.Facts.Facts, held.HeldFiles.HeldFiles}
 
 -- what the path at a place has appended: the target's own has nothing, those of its precompressed copies their coding
 abbrev pub suffix_at : ℕ → Option (List ℕ)

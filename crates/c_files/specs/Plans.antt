@@ -1,20 +1,14 @@
 -- The plan of a response.
 use Rattle.std.specs.Prelude.{◌≡◌, ◌⊎◌, ℕ, Bool, if◌then◌else◌, List, length, Option, Some, None, Result, Ok, Err, ⊤}
-use Rattle.std.specs.Prelude.{option_map, string_bytes}
-use Rattle.http.specs.Request.{head_of}
-use Rattle.http_uri.specs.Uri.{uri_path}
-use Rattle.c_parts.{specs.declared.status.Failure.Failure, specs.declared.status.Failure.TheVariants.{Refused, Memory}}
-use Rattle.c_parts.specs.declared.status.Failure.TheVariants.{Absent, TooLarge}
+use Rattle.{std.specs.Prelude.{option_map, string_bytes}, http.specs.Request.head_of, http_uri.specs.Uri.uri_path}
+use Rattle.c_parts.specs.declared.status.Failure.{Failure, TheVariants.{Refused, Memory, Absent, TooLarge}}
 use Rattle.server_files.specs.Path.{Names}
 use Rattle.server_connection.specs.declared.connection.ServerConnection.{ServerConnection}
-use Rattle.server_connection.specs.declared.plan.ResponsePlan.{ResponsePlan}
-use Rattle.server_connection.specs.declared.machine.Phase.TheVariants.{Asking}
-use Rattle.server_service.{specs.Answer.{IsAnswer, IsSameSite}, specs.declared.source.Reader.Reader}
-use Rattle.server_service.specs.declared.source.Reader.TheVariants.{System, Caller}
-use Rattle.server_service.specs.declared.source.Source.{Source}
-use Rattle.server_service.specs.declared.source.Source.TheVariants.{Kept, Opened}
-use Rattle.c_files.{specs.Entries.entry_at, specs.Paths.{IsNextPath, negotiates_of, next_path}}
-use Rattle.c_files.{specs.declared.entry.Facts.Facts, specs.declared.held.HeldFiles.HeldFiles}
+use Rattle.server_connection.specs.declared.{plan.ResponsePlan.ResponsePlan, machine.Phase.TheVariants.Asking}
+use Rattle.server_service.specs.{Answer.{IsAnswer, IsSameSite}, declared.source.Reader.{Reader, TheVariants.System}}
+use Rattle.server_service.specs.declared.source.{Reader.TheVariants.Caller, Source.{Source, TheVariants.{Kept, Opened}}}
+use Rattle.c_files.specs.{Entries.entry_at, Paths.{IsNextPath, negotiates_of, next_path}, declared.entry.Facts.Facts}
+use Rattle.c_files.specs.declared.held.HeldFiles.{HeldFiles}
 
 -- how many responses are left
 abbrev pub left_for : Bool → ℕ

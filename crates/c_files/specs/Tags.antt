@@ -1,9 +1,7 @@
 -- Entity tags of files that the host opens.
 use Rattle.std.specs.Prelude.{ℕ, ◌-◌, nat_lt, Bool, if◌then◌else◌, List, [], ◌++◌, Option, Some, None}
-use Rattle.std.specs.Int.{to_be_bytes, w64}
-use Rattle.http_header.specs.FieldValue.{FieldValue, plain_value}
-use Rattle.c_parts.specs.declared.keys.HashKeys.{HashKeys}
-use Rattle.server_files.specs.Tags.{content_digest, strong_tag}
+use Rattle.{std.specs.Int.{to_be_bytes, w64}, http_header.specs.FieldValue.{FieldValue, plain_value}}
+use Rattle.{c_parts.specs.declared.keys.HashKeys.HashKeys, server_files.specs.Tags.{content_digest, strong_tag}}
 use Rattle.c_files.specs.declared.entry.Facts.{Facts}
 
 -- It changed more than two seconds ago, so that its next change has another time.

@@ -1,10 +1,7 @@
 -- Responses of the caller's.
-use Rattle.std.proofs.Common.{◌≡◌, ℕ, List, Result, Ok, Err, inr, subst}
-use Rattle.http.specs.StatusCode.{IsStatusCode}
-use Rattle.http_header.{specs.FieldValue.FieldValue, specs.HeaderMap.Entries}
-use Rattle.headers_section.specs.Section.{Holds}
-use Rattle.c_parts.specs.declared.status.Failure.{Failure}
-use Rattle.c_handles.specs.declared.held.HeldGate.{HeldGate}
+use Rattle.{std.proofs.Common.{◌≡◌, ℕ, List, Result, Ok, Err, inr, subst}, http.specs.StatusCode.IsStatusCode}
+use Rattle.{http_header.specs.{FieldValue.FieldValue, HeaderMap.Entries}, headers_section.specs.Section.Holds}
+use Rattle.{c_parts.specs.declared.status.Failure.Failure, c_handles.specs.declared.held.HeldGate.HeldGate}
 use Rattle.c_gate.specs.Answers.{Responds, RespondsWith}
 
 pub responds : (number status length : ℕ) (section : List ℕ) (fields : Entries FieldValue) (old new : HeldGate)

@@ -1,22 +1,17 @@
 -- How a request is answered.
 use Rattle.std.specs.Prelude.{◌≡◌, ◌⊎◌, ℕ, ◌==◌, ◌||◌, Bool, false, List, [], map, length, bytes_eq, codes}
 use Rattle.std.specs.Prelude.{if◌then◌else◌, Option, Some, None, Result, Ok, Err}
-use Rattle.http.specs.StatusCode.{IsStatusCode}
-use Rattle.http_header.{specs.FieldValue.FieldValue, specs.HeaderMap.{Entries, pairs}}
+use Rattle.{http.specs.StatusCode.IsStatusCode, http_header.specs.{FieldValue.FieldValue, HeaderMap.{Entries, pairs}}}
 use Rattle.http1.specs.{Conn.{data_refusal, finish_refusal}, Fields.Header, declared.conn.BodySize.BodySize}
-use Rattle.http1.specs.{declared.conn.BodySize.TheVariants.{Empty, Known}, declared.error.WriteError.WriteError}
-use Rattle.http1_typed.specs.Parts.{reason_of}
-use Rattle.headers_section.specs.Section.{Holds}
+use Rattle.http1.specs.declared.{conn.BodySize.TheVariants.{Empty, Known}, error.WriteError.WriteError}
+use Rattle.{http1_typed.specs.Parts.reason_of, headers_section.specs.Section.Holds}
 use Rattle.server_stream.specs.Steps as Stream
 use Rattle.gateway_exchange.specs.Steps.{Answers, ChangesClient, EndsGiving, Gives, IsAsking, RefusesGiving}
 use Rattle.gateway_exchange.specs.Steps.{RefusesInGiving, Settles}
-use Rattle.gateway_exchange.specs.declared.{connection.GatewayConnection.GatewayConnection}
-use Rattle.gateway_exchange.specs.declared.{connection.Stage.TheVariants.Giving, decision.AskedRequest.AskedRequest}
-use Rattle.gateway_exchange.specs.declared.own.Own.TheVariants.{Chosen}
-use Rattle.c_parts.{specs.SectionMap.IsMapOf, specs.declared.status.Failure.Failure}
-use Rattle.c_parts.specs.declared.status.Failure.TheVariants.{Refused, Memory}
-use Rattle.c_handles.specs.declared.held.HeldGate.{HeldGate}
-use Rattle.c_gate.specs.Calls.{Becomes}
+use Rattle.gateway_exchange.specs.declared.connection.{GatewayConnection.GatewayConnection, Stage.TheVariants.Giving}
+use Rattle.gateway_exchange.specs.declared.{decision.AskedRequest.AskedRequest, own.Own.TheVariants.Chosen}
+use Rattle.c_parts.specs.{SectionMap.IsMapOf, declared.status.Failure.{Failure, TheVariants.{Refused, Memory}}}
+use Rattle.{c_handles.specs.declared.held.HeldGate.HeldGate, c_gate.specs.Calls.Becomes}
 use Rattle.http1.specs.declared.error.WriteError.TheVariants as Write
 
 -- ---- the gateway's own answer

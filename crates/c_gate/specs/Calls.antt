@@ -1,11 +1,9 @@
 -- What a call on a handle does to the gateway's connection, or to the tunnel, that the handle has.
 use Rattle.std.specs.Prelude.{◌≡◌, ◌≢◌, ℕ, List, [], Option, Some, None, Result, Ok, Err}
-use Rattle.gateway_exchange.specs.declared.{connection.GatewayConnection.GatewayConnection}
-use Rattle.gateway_exchange.specs.declared.{rules.GatewayRules.GatewayRules}
-use Rattle.gateway_exchange.specs.declared.{tunnel.Tunnel.Tunnel}
-use Rattle.c_parts.{specs.declared.status.Failure.Failure}
-use Rattle.c_parts.specs.declared.status.Failure.TheVariants.{Refused, Memory, Absent}
-use Rattle.c_handles.{specs.declared.held.Held.Held, specs.declared.held.HeldGate.HeldGate}
+use Rattle.gateway_exchange.specs.declared.connection.GatewayConnection.{GatewayConnection}
+use Rattle.gateway_exchange.specs.declared.{rules.GatewayRules.GatewayRules, tunnel.Tunnel.Tunnel}
+use Rattle.c_parts.specs.declared.status.Failure.{Failure, TheVariants.{Refused, Memory, Absent}}
+use Rattle.c_handles.specs.declared.held.{Held.Held, HeldGate.HeldGate}
 use Rattle.c_handles.specs.declared.held.Held.TheVariants as held
 
 -- the gateway's connection that a handle has

@@ -1,19 +1,16 @@
 -- Calls that move bytes, and what comes next.
 use Rattle.std.specs.Prelude.{◌≡◌, ◌⊎◌, ℕ, ◌≤◌, ◌<◌, Bool, true, false, not, List, [], ◌++◌, length, filter, flat_map}
-use Rattle.std.specs.Prelude.{codes, Option, Some, None, Result, Ok, Err}
-use Rattle.headers.{specs.Date.IsDated, specs.Lines.Line}
+use Rattle.{std.specs.Prelude.{codes, Option, Some, None, Result, Ok, Err}, headers.specs.{Date.IsDated, Lines.Line}}
 use Rattle.headers_section.specs.Section.{input_lines}
 use Rattle.server_stream.specs.Steps as Stream
 use Rattle.gateway_connection.specs.Steps as Origin
 use Rattle.gateway_exchange.specs.Steps.{ChangesClient, ChangesOrigin, Dates, FinishesClient, HandsOutOrigin}
-use Rattle.gateway_exchange.specs.Steps.{ReceivesClient}
-use Rattle.gateway_exchange.specs.{Steps.{ReceivesOrigin, Says, is_empty, output_of}, Tunnels.Begins}
+use Rattle.gateway_exchange.specs.{Steps.{ReceivesClient, ReceivesOrigin, Says, is_empty, output_of}, Tunnels.Begins}
 use Rattle.gateway_exchange.specs.Tunnels as Tunneled
 use Rattle.gateway_exchange.specs.declared.{event.GatewayEvent.GatewayEvent, rules.GatewayRules.GatewayRules}
-use Rattle.gateway_exchange.specs.declared.{tunnel.Tunnel.Tunnel}
-use Rattle.c_parts.{specs.declared.status.Failure.Failure}
+use Rattle.{gateway_exchange.specs.declared.tunnel.Tunnel.Tunnel, c_parts.specs.declared.status.Failure.Failure}
 use Rattle.c_parts.specs.declared.status.Failure.TheVariants.{Refused, Memory, Absent}
-use Rattle.c_handles.{specs.declared.held.Held.Held, specs.declared.held.HeldGate.HeldGate}
+use Rattle.c_handles.specs.declared.held.{Held.Held, HeldGate.HeldGate}
 use Rattle.c_handles.specs.declared.held.Held.TheVariants as held
 use Rattle.c_gate.specs.Calls.{AllOrNone, Becomes, Does, OnEither, OnSide}
 use Rattle.c_gate.{specs.Numbers.{gate_facts, tunnel_facts}, specs.declared.moving.GateFacts.GateFacts}

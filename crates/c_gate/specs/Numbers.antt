@@ -1,10 +1,8 @@
 -- The numbers of include/typed_headers.h: events, phases, and what to wait for.
 use Rattle.std.specs.Prelude.{ℕ, ◌&&◌, ◌==◌, false, length}
-use Rattle.gateway_exchange.specs.Steps.{phase_of, wants_of}
-use Rattle.gateway_exchange.specs.Tunnels.{tunnel_wants}
+use Rattle.gateway_exchange.specs.{Steps.{phase_of, wants_of}, Tunnels.tunnel_wants}
 use Rattle.gateway_exchange.specs.declared.{connection.GatewayConnection.GatewayConnection, tunnel.Tunnel.Tunnel}
-use Rattle.gateway_exchange.specs.declared.{event.GatewayEvent.GatewayEvent, event.ExchangePhase.ExchangePhase}
-use Rattle.gateway_exchange.specs.declared.{event.Wants.Wants}
+use Rattle.gateway_exchange.specs.declared.event.{GatewayEvent.GatewayEvent, ExchangePhase.ExchangePhase, Wants.Wants}
 use Rattle.gateway_exchange.specs.declared.event.GatewayEvent.TheVariants as Tells
 use Rattle.gateway_exchange.specs.declared.event.ExchangePhase.TheVariants as Does
 use Rattle.c_gate.specs.declared.moving.GateFacts.{GateFacts}

@@ -1,17 +1,14 @@
 -- What the handles are opened with.
 use Rattle.std.specs.Prelude.{◌≡◌, ◌⊎◌, ℕ, false, List, Result, Ok, Err}
 use Rattle.http_header.specs.FieldValue.{FieldValue, IsFieldValue, plain_value}
-use Rattle.http1.specs.declared.conn.Limits.{Limits}
-use Rattle.gateway_hops.specs.declared.fields.{Forwarding.Forwarding, Received.TheVariants.KeptFromTrusted}
-use Rattle.gateway_hops.specs.declared.node.Node.{Node}
+use Rattle.{http1.specs.declared.conn.Limits.Limits, gateway_hops.specs.declared.fields.Forwarding.Forwarding}
+use Rattle.gateway_hops.specs.declared.{fields.Received.TheVariants.KeptFromTrusted, node.Node.Node}
 use Rattle.gateway_connection.specs.Steps as Origin
-use Rattle.gateway_exchange.specs.Steps.{IsNew}
-use Rattle.gateway_exchange.specs.declared.{rules.Peer.Peer, rules.GatewayRules.GatewayRules}
-use Rattle.c_gateway.{specs.Gateways.IsGatewayOf, specs.Hops.scheme_of, specs.Nodes.IsNodeOf}
+use Rattle.gateway_exchange.specs.{Steps.IsNew, declared.rules.{Peer.Peer, GatewayRules.GatewayRules}}
+use Rattle.c_gateway.specs.{Gateways.IsGatewayOf, Hops.scheme_of, Nodes.IsNodeOf}
 use Rattle.c_gateway.specs.declared.gateway.GatewayOptions.{GatewayOptions}
-use Rattle.c_parts.{specs.declared.status.Failure.Failure}
-use Rattle.c_parts.specs.declared.status.Failure.TheVariants.{Refused, Memory, Absent, TooLarge}
-use Rattle.c_handles.{specs.declared.held.Held.Held, specs.declared.held.HeldGate.HeldGate}
+use Rattle.c_parts.specs.declared.status.Failure.{Failure, TheVariants.{Refused, Memory, Absent, TooLarge}}
+use Rattle.c_handles.specs.declared.held.{Held.Held, HeldGate.HeldGate}
 use Rattle.c_handles.specs.declared.held.Held.TheVariants as held
 use Rattle.c_gate.specs.declared.opening.{GatePeer.GatePeer, GateRules.GateRules}
 

@@ -1,14 +1,11 @@
 -- How a request goes to an origin.
 use Rattle.std.specs.Prelude.{◌≡◌, ◌≢◌, ◌⊎◌, ℕ, Bool, true, false, List, codes, Option, Some, None, Result, Ok, Err}
-use Rattle.http_header.{specs.FieldValue.FieldValue, specs.HeaderMap.{Entries, get}}
-use Rattle.headers_section.specs.Section.{Holds}
+use Rattle.{http_header.specs.{FieldValue.FieldValue, HeaderMap.{Entries, get}}, headers_section.specs.Section.Holds}
 use Rattle.gateway_connection.specs.declared.origin.OriginConnection.{OriginConnection}
 use Rattle.gateway_exchange.specs.Steps.{Conditions, Sends, TakesOrigin}
-use Rattle.gateway_exchange.specs.declared.{connection.GatewayConnection.GatewayConnection}
-use Rattle.gateway_exchange.specs.declared.{connection.Stage.TheVariants.Asking}
-use Rattle.c_parts.{specs.SectionMap.IsMapOf, specs.declared.status.Failure.Failure}
-use Rattle.c_parts.specs.declared.status.Failure.TheVariants.{Refused, Memory, Absent}
-use Rattle.c_handles.{specs.declared.held.Held.Held, specs.declared.held.HeldGate.HeldGate}
+use Rattle.gateway_exchange.specs.declared.connection.{GatewayConnection.GatewayConnection, Stage.TheVariants.Asking}
+use Rattle.c_parts.specs.{SectionMap.IsMapOf, declared.status.Failure.{Failure, TheVariants.{Refused, Memory, Absent}}}
+use Rattle.c_handles.specs.declared.held.{Held.Held, HeldGate.HeldGate}
 use Rattle.c_handles.specs.declared.held.Held.TheVariants as held
 use Rattle.c_gate.specs.Calls.{Becomes}
 

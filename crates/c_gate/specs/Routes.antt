@@ -1,9 +1,7 @@
 -- Which requests a route is for.
 use Rattle.std.specs.Prelude.{ℕ, Bool, true, ◌&&◌, ◌||◌, ◌==◌, List, [], ◌∷◌, codes, drop, length, nat_le, take}
-use Rattle.std.specs.List.{ends_with, starts_with}
-use Rattle.headers_syntax.specs.AsciiCase.{same_name}
-use Rattle.gateway_exchange.specs.declared.decision.AskedRequest.{AskedRequest}
-use Rattle.c_typed.specs.Hosts.{is_port_part}
+use Rattle.{std.specs.List.{ends_with, starts_with}, headers_syntax.specs.AsciiCase.same_name}
+use Rattle.{gateway_exchange.specs.declared.decision.AskedRequest.AskedRequest, c_typed.specs.Hosts.is_port_part}
 use Rattle.c_gate.specs.Texts.{authority_of}
 
 -- The authority is this host, in any case and at any port (RFC 9110, section 4.2.3). An empty host is each one.

@@ -1,17 +1,14 @@
 -- What a gateway's connection has, as text.
-use Rattle.std.specs.Prelude.{◌≡◌, ◌≢◌, ℕ, List, ◌++◌, find, codes, Option, Some, None, Result}
-use Rattle.std.specs.Prelude.{Ok, Err}
-use Rattle.std.{specs.Global.Vec, specs.Option.option_map}
-use Rattle.http_header.{specs.FieldValue.FieldValue, specs.HeaderMap.get, specs.Token.lowercase}
+use Rattle.std.specs.{Prelude.{◌≡◌, ◌≢◌, ℕ, List, ◌++◌, find, codes, Option, Some, None, Result, Ok, Err}, Global.Vec}
+use Rattle.{std.specs.Option.option_map, http_header.specs.{FieldValue.FieldValue, HeaderMap.get, Token.lowercase}}
 use Rattle.gateway_connection.specs.declared.event.OriginResponse.{OriginResponse}
-use Rattle.gateway_hops.{specs.Arrivals.scheme_text, specs.declared.arrival.Scheme.Scheme}
+use Rattle.gateway_hops.specs.{Arrivals.scheme_text, declared.arrival.Scheme.Scheme}
 use Rattle.gateway_exchange.specs.{Decisions.{is_host_line, value_or_none}, Own.own_status, Steps.output_of}
 use Rattle.gateway_exchange.specs.declared.{decision.AskedRequest.AskedRequest, own.Own.Own, pass.Heard.Heard}
-use Rattle.c_parts.{specs.Endings.{Writes, done}, specs.FieldText.IsNameOf, specs.declared.status.Failure.Failure}
+use Rattle.c_parts.specs.{Endings.{Writes, done}, FieldText.IsNameOf, declared.status.Failure.Failure}
 use Rattle.c_parts.specs.declared.status.Failure.TheVariants.{Refused, Memory, Absent}
-use Rattle.c_pass.specs.Validating.{map_text}
-use Rattle.c_connection.specs.Calls.{front_of, is_found}
-use Rattle.c_handles.{specs.Handles.OnHeld, specs.declared.held.Held.Held, specs.declared.held.HeldGate.HeldGate}
+use Rattle.{c_pass.specs.Validating.map_text, c_connection.specs.Calls.{front_of, is_found}}
+use Rattle.c_handles.specs.{Handles.OnHeld, declared.held.{Held.Held, HeldGate.HeldGate}}
 use Rattle.c_handles.specs.declared.held.Held.TheVariants as held
 use Rattle.c_gate.{specs.Calls.gate_in, specs.declared.reading.GateText.GateText}
 use Rattle.c_gate.specs.declared.reading.GateText.TheVariants.{Method, Target, Authority, Field, Piece}

@@ -1,11 +1,10 @@
 -- Names of fields that lines are.
 use Rattle.std.proofs.Common.{◌≡◌, ◌∙◌, ℕ, ◌+◌, ◌<◌, List, [], ◌∷◌, ◌++◌, All, length, map, take, get_or, sym, ap}
-use Rattle.std.{proofs.Common.{subst, arith, Err}, proofs.lemmas.List.{get_or-map, length-map, map-append, take_more}}
+use Rattle.std.proofs.{Common.{subst, arith, Err}, lemmas.List.{get_or-map, length-map, map-append, take_more}}
 use Rattle.std.proofs.lemmas.List.Elements.{All-append, All-cons, All-nil, All-weaker}
-use Rattle.http_header.{specs.FieldName.IsFieldName, specs.FieldValue.{FieldValue, IsFieldValue}}
+use Rattle.http_header.specs.{FieldName.IsFieldName, FieldValue.{FieldValue, IsFieldValue}}
 use Rattle.http_header.proofs.TokenLemmas.{IsFieldValue-from_visible, IsVisibleAscii-from_token}
-use Rattle.headers.specs.Lines.{Line, lines_of}
-use Rattle.c_parts.{specs.FieldText.IsNameOf, specs.declared.status.Failure.Failure}
+use Rattle.{headers.specs.Lines.{Line, lines_of}, c_parts.specs.{FieldText.IsNameOf, declared.status.Failure.Failure}}
 use Rattle.c_parts.specs.declared.status.Failure.TheVariants.{Refused, Memory, Absent, TooLarge}
 use Rattle.c_gateway.specs.Names.{ReadsNames}
 

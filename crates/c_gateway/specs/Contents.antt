@@ -1,9 +1,8 @@
 -- How the content of a message is delimited (RFC 9112, section 6.3), as a caller is told.
 use Rattle.gateway_messages.specs.declared.framing.Framing.{Framing}
 use Rattle.gateway_messages.specs.declared.framing.Framing.TheVariants as stated
-use Rattle.gateway_messages.specs.declared.response.ContentFraming.{ContentFraming}
-use Rattle.gateway_messages.specs.declared.response.ContentFraming.TheVariants.{Tunnel, Absent, Length, Chunked}
-use Rattle.gateway_messages.specs.declared.response.ContentFraming.TheVariants.{UntilClose}
+use Rattle.gateway_messages.specs.declared.response.ContentFraming.{ContentFraming, TheVariants.{Tunnel, Absent}}
+use Rattle.gateway_messages.specs.declared.response.ContentFraming.TheVariants.{Length, Chunked, UntilClose}
 use Rattle.c_gateway.specs.declared.content.ContentFacts.{ContentFacts}
 
 -- a request of which nothing is stated has no content

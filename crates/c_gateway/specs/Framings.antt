@@ -1,17 +1,15 @@
 -- How the content of a message is delimited (RFC 9112, section 6.3), by what a caller hands in.
 use Rattle.std.specs.Prelude.{◌≡◌, ◌≢◌, ◌⊎◌, ℕ, Bool, List, Option, Some, None, Result, Ok, Err, is_some, if◌then◌else◌}
-use Rattle.http_header.{specs.FieldValue.FieldValue, specs.HeaderMap.Entries, specs.Token.IsToken}
-use Rattle.headers.specs.LineMap.{LineMap, lines_at}
-use Rattle.headers_section.specs.Section.{Holds}
-use Rattle.gateway_messages.{specs.Framing.{RejectsFraming, States}, specs.Rejections.status_of}
-use Rattle.gateway_messages.{specs.Responses.{DelimitsContent, RejectsContent}, specs.declared.framing.Framing.Framing}
-use Rattle.gateway_messages.{specs.declared.protocol.Protocol.Protocol, specs.declared.rejection.Rejection.Rejection}
-use Rattle.gateway_messages.specs.declared.response.ContentFraming.{ContentFraming}
-use Rattle.c_parts.{specs.SectionMap.IsMapOf, specs.declared.status.Failure.Failure}
-use Rattle.c_decisions.{specs.Methods.IsMethodOf, specs.StatusCodes.IsStatusOf}
-use Rattle.c_gateway.{specs.Contents.{content_facts, no_content, request_content}, specs.Protocols.IsProtocolOf}
-use Rattle.c_gateway.{specs.Reasons.reason_number, specs.declared.framing.FramingFacts.FramingFacts}
-use Rattle.c_gateway.specs.declared.framing.MessageParts.{MessageParts}
+use Rattle.{http_header.specs.{FieldValue.FieldValue, HeaderMap.Entries, Token.IsToken}, headers.specs.LineMap.LineMap}
+use Rattle.{headers.specs.LineMap.lines_at, headers_section.specs.Section.Holds}
+use Rattle.gateway_messages.specs.{Framing.{RejectsFraming, States}, Rejections.status_of, Responses.DelimitsContent}
+use Rattle.gateway_messages.specs.{Responses.RejectsContent, declared.framing.Framing.Framing}
+use Rattle.gateway_messages.specs.declared.{protocol.Protocol.Protocol, rejection.Rejection.Rejection}
+use Rattle.{gateway_messages.specs.declared.response.ContentFraming.ContentFraming, c_parts.specs.SectionMap.IsMapOf}
+use Rattle.{c_parts.specs.declared.status.Failure.Failure, c_decisions.specs.Methods.IsMethodOf}
+use Rattle.{c_decisions.specs.StatusCodes.IsStatusOf, c_gateway.specs.Contents.{content_facts, no_content}}
+use Rattle.c_gateway.specs.{Contents.request_content, Protocols.IsProtocolOf, Reasons.reason_number}
+use Rattle.c_gateway.specs.declared.framing.{FramingFacts.FramingFacts, MessageParts.MessageParts}
 
 -- the status code of a response; 0 says that the message is a request
 abbrev pub IsCodeOf : ℕ → Result (Option ℕ) Failure → Type 0

@@ -1,10 +1,8 @@
 -- A gateway, as a caller hands it in.
 use Rattle.std.specs.Prelude.{◌≡◌, ◌⊎◌, ℕ, List, Result, Ok, Err}
-use Rattle.http_header.specs.Token.{IsToken}
-use Rattle.gateway_messages.specs.declared.gateway.Gateway.{Gateway}
-use Rattle.c_gateway.{specs.Names.AreNamesOf, specs.declared.gateway.GatewayOptions.GatewayOptions}
-use Rattle.c_parts.{specs.declared.status.Failure.Failure, specs.declared.status.Failure.TheVariants.{Refused, Memory}}
-use Rattle.c_parts.specs.declared.status.Failure.TheVariants.{Absent, TooLarge}
+use Rattle.{http_header.specs.Token.IsToken, gateway_messages.specs.declared.gateway.Gateway.Gateway}
+use Rattle.c_gateway.specs.{Names.AreNamesOf, declared.gateway.GatewayOptions.GatewayOptions}
+use Rattle.c_parts.specs.declared.status.Failure.{Failure, TheVariants.{Refused, Memory, Absent, TooLarge}}
 
 -- the name in Via; `Refused` only if the text is no token
 abbrev pub IsPseudonymOf : List ℕ → Result (List ℕ) Failure → Type 0

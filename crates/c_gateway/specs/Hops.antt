@@ -1,14 +1,11 @@
 -- How a request arrived, and what is known of the next connection, as a caller hands it in.
 use Rattle.std.specs.Prelude.{◌⊎◌, Bool, Option, Some, None, Result, Ok, Err, codes, if◌then◌else◌}
-use Rattle.headers.{specs.LineMap.LineMap, specs.Lines.{Line, first_line}}
-use Rattle.gateway_hops.{specs.Arrivals.ArrivalParts, specs.declared.arrival.Scheme.Scheme}
-use Rattle.gateway_hops.specs.declared.arrival.Scheme.TheVariants.{Http, Https}
-use Rattle.gateway_hops.specs.declared.fields.Forwarding.{Forwarding}
-use Rattle.gateway_hops.specs.declared.fields.Received.TheVariants.{KeptFromTrusted}
-use Rattle.gateway_messages.specs.declared.protocol.Protocol.{Protocol}
-use Rattle.gateway_hops.{specs.Connections.ConnectionParts, specs.Sent.Hop}
-use Rattle.c_gateway.{specs.Nodes.{IsNodeOf, IsOptionalNodeOf}, specs.declared.hop.HopOptions.HopOptions}
-use Rattle.c_gateway.specs.declared.hop.Nodes.{Nodes}
+use Rattle.{headers.specs.{LineMap.LineMap, Lines.{Line, first_line}}, gateway_hops.specs.Arrivals.ArrivalParts}
+use Rattle.gateway_hops.specs.declared.arrival.Scheme.{Scheme, TheVariants.{Http, Https}}
+use Rattle.gateway_hops.specs.declared.fields.{Forwarding.Forwarding, Received.TheVariants.KeptFromTrusted}
+use Rattle.gateway_hops.specs.{Connections.ConnectionParts, Sent.Hop}
+use Rattle.{gateway_messages.specs.declared.protocol.Protocol.Protocol, c_gateway.specs.Nodes.IsNodeOf}
+use Rattle.c_gateway.specs.{Nodes.IsOptionalNodeOf, declared.hop.{HopOptions.HopOptions, Nodes.Nodes}}
 use Rattle.c_parts.specs.declared.status.Failure.{Failure}
 
 -- the client and the node at which it was received

@@ -1,6 +1,5 @@
 -- Field lines as text.
-use Rattle.std.specs.Prelude.{ℕ, List, flat_map}
-use Rattle.gateway_messages.specs.FieldLines.{Field}
+use Rattle.{std.specs.Prelude.{ℕ, List, flat_map}, gateway_messages.specs.FieldLines.Field}
 use Rattle.headers_section.specs.CanonicalText.{line_text}
 
 -- each field line, in order, after its name

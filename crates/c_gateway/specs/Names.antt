@@ -1,9 +1,8 @@
 -- Names of fields, as a caller hands them in.
-use Rattle.std.{specs.Prelude.{◌≡◌, ℕ, List, All, map, Result, Ok, Err}, specs.Global.Vec}
-use Rattle.http_header.{specs.FieldName.IsFieldName, specs.Token.lowercase}
-use Rattle.headers.{specs.Lines.Line, specs.Typed.HasLine}
-use Rattle.c_parts.{specs.FieldText.field_lines, specs.declared.status.Failure.Failure}
-use Rattle.c_parts.specs.declared.status.Failure.TheVariants.{Refused, Memory, Absent, TooLarge}
+use Rattle.std.specs.{Prelude.{◌≡◌, ℕ, List, All, map, Result, Ok, Err}, Global.Vec}
+use Rattle.{http_header.specs.{FieldName.IsFieldName, Token.lowercase}, headers.specs.{Lines.Line, Typed.HasLine}}
+use Rattle.c_parts.specs.{FieldText.field_lines, declared.status.Failure.{Failure, TheVariants.{Refused, Memory}}}
+use Rattle.c_parts.specs.declared.status.Failure.TheVariants.{Absent, TooLarge}
 
 -- The names that the lines are, in lower case. `Refused` only if a line is no field name, and `Memory` only if there is
 -- a line.

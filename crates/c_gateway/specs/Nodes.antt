@@ -1,12 +1,10 @@
 -- Nodes, as a caller hands them in.
 use Rattle.std.specs.Prelude.{◌≡◌, ◌≢◌, ℕ, ◌==◌, true, false, List, [], Option, Some, None, Result, Ok, Err}
-use Rattle.std.{specs.Prelude.if◌then◌else◌, specs.Net.Grammar.IsIpText, specs.declared.net.ip_addr.IpAddr.IpAddr}
-use Rattle.gateway_hops.{specs.Nodes.is_obfuscated, specs.declared.node.Node.Node}
-use Rattle.gateway_hops.{specs.declared.node.NodeName.NodeName, specs.declared.node.NodeName.TheVariants.Address}
-use Rattle.gateway_hops.specs.declared.node.NodeName.TheVariants.{Unknown, Hidden}
-use Rattle.gateway_hops.{specs.declared.node.NodePort.NodePort, specs.declared.node.NodePort.TheVariants.Number}
-use Rattle.c_parts.{specs.declared.status.Failure.Failure, specs.declared.status.Failure.TheVariants.{Refused, Memory}}
-use Rattle.c_parts.specs.declared.status.Failure.TheVariants.{Absent, TooLarge}
+use Rattle.std.specs.{Prelude.if◌then◌else◌, Net.Grammar.IsIpText, declared.net.ip_addr.IpAddr.IpAddr}
+use Rattle.gateway_hops.specs.{Nodes.is_obfuscated, declared.node.{Node.Node, NodeName.{NodeName, TheVariants.Address}}}
+use Rattle.gateway_hops.specs.declared.node.{NodeName.TheVariants.{Unknown, Hidden}, NodePort.NodePort}
+use Rattle.{gateway_hops.specs.declared.node.NodePort.TheVariants.Number, c_parts.specs.declared.status.Failure.Failure}
+use Rattle.c_parts.specs.declared.status.Failure.TheVariants.{Refused, Memory, Absent, TooLarge}
 
 -- an identifier that hides a node (RFC 7239, section 6.3); `Refused` only if the text is none
 abbrev pub IsHiddenOf : List ℕ → Result (List ℕ) Failure → Type 0

@@ -1,8 +1,7 @@
 -- Versions of HTTP, as a caller hands them in.
 use Rattle.std.specs.Prelude.{◌≡◌, ℕ, ◌==◌, Option, Some, None, Result, Ok, Err, if◌then◌else◌}
-use Rattle.gateway_messages.specs.declared.protocol.Protocol.{Protocol}
-use Rattle.gateway_messages.specs.declared.protocol.Protocol.TheVariants.{Http10, Http11}
-use Rattle.c_parts.{specs.declared.status.Failure.Failure, specs.declared.status.Failure.TheVariants.Refused}
+use Rattle.gateway_messages.specs.declared.protocol.Protocol.{Protocol, TheVariants.{Http10, Http11}}
+use Rattle.c_parts.specs.declared.status.Failure.{Failure, TheVariants.Refused}
 
 -- the version that a number says, as 11 says HTTP/1.1
 abbrev pub protocol_of : ℕ → Option Protocol

@@ -1,6 +1,5 @@
 -- Why a message isn't forwarded, as a caller is told.
-use Rattle.std.specs.Prelude.{ℕ}
-use Rattle.gateway_messages.specs.declared.rejection.Rejection.{Rejection}
+use Rattle.{std.specs.Prelude.ℕ, gateway_messages.specs.declared.rejection.Rejection.Rejection}
 
 -- the place of each reason in the list of typed_headers.h
 abbrev pub reason_number : Rejection → ℕ

@@ -1,22 +1,18 @@
 -- What a gateway sends of a request on its next connection, by what a caller hands in.
 use Rattle.std.specs.Prelude.{◌≡◌, ◌⊎◌, ℕ, Bool, true, false, List, [], Option, option_map, Result, Ok, Err}
-use Rattle.http_header.{specs.FieldValue.FieldValue, specs.HeaderMap.Entries, specs.Token.IsToken}
-use Rattle.headers.specs.LineMap.{lines_at}
-use Rattle.headers_section.specs.Section.{Holds}
-use Rattle.gateway_messages.{specs.FieldLines.{Field, fields_of}, specs.Rejections.status_of, specs.Requests.Request}
-use Rattle.gateway_messages.specs.declared.expectation.Expectation.{Expectation}
+use Rattle.{http_header.specs.{FieldValue.FieldValue, HeaderMap.Entries, Token.IsToken}, headers.specs.LineMap.lines_at}
+use Rattle.{headers_section.specs.Section.Holds, gateway_messages.specs.FieldLines.{Field, fields_of}}
+use Rattle.gateway_messages.specs.{Rejections.status_of, Requests.Request, declared.expectation.Expectation.Expectation}
 use Rattle.gateway_messages.specs.declared.expectation.Expectation.TheVariants as expectation
-use Rattle.gateway_messages.{specs.declared.gateway.Gateway.Gateway, specs.declared.protocol.Protocol.Protocol}
-use Rattle.gateway_hops.{specs.Sent.IsHopOutcome, specs.declared.request.HopOutcome.HopOutcome}
-use Rattle.gateway_hops.specs.declared.request.HopOutcome.TheVariants.{Send, RequireLength, Respond, Reject}
-use Rattle.c_parts.{specs.SectionMap.IsMapOf, specs.declared.status.Failure.Failure}
-use Rattle.c_decisions.{specs.Flags.flag_of, specs.Methods.IsMethodOf, specs.Texts.IsOptionalValue}
-use Rattle.c_decisions.specs.declared.request.RequestTexts.{RequestTexts}
-use Rattle.c_gateway.{specs.Contents.{content_facts, no_content, request_content}, specs.Gateways.IsGatewayOf}
-use Rattle.c_gateway.{specs.Hops.{AreNodesOf, hop_of}, specs.Lines.lines_text, specs.Protocols.IsProtocolOf}
-use Rattle.c_gateway.specs.Reasons.{length_required, reason_number}
-use Rattle.c_gateway.{specs.declared.gateway.GatewayOptions.GatewayOptions, specs.declared.hop.HopOptions.HopOptions}
-use Rattle.c_gateway.{specs.declared.hop.Nodes.Nodes, specs.declared.request.RequestFacts.RequestFacts}
+use Rattle.gateway_messages.specs.declared.{gateway.Gateway.Gateway, protocol.Protocol.Protocol}
+use Rattle.gateway_hops.specs.{Sent.IsHopOutcome, declared.request.HopOutcome.{HopOutcome, TheVariants.Send}}
+use Rattle.gateway_hops.specs.declared.request.HopOutcome.TheVariants.{RequireLength, Respond, Reject}
+use Rattle.{c_parts.specs.{SectionMap.IsMapOf, declared.status.Failure.Failure}, c_decisions.specs.Flags.flag_of}
+use Rattle.c_decisions.specs.{Methods.IsMethodOf, Texts.IsOptionalValue, declared.request.RequestTexts.RequestTexts}
+use Rattle.c_gateway.specs.{Contents.{content_facts, no_content, request_content}, Gateways.IsGatewayOf}
+use Rattle.c_gateway.specs.{Hops.{AreNodesOf, hop_of}, Lines.lines_text, Protocols.IsProtocolOf}
+use Rattle.c_gateway.specs.{Reasons.{length_required, reason_number}, declared.gateway.GatewayOptions.GatewayOptions}
+use Rattle.c_gateway.specs.declared.{hop.{HopOptions.HopOptions, Nodes.Nodes}, request.RequestFacts.RequestFacts}
 use Rattle.c_gateway.specs.declared.request.RequestStep.{RequestStep}
 
 -- ---- what a caller is told

@@ -1,20 +1,16 @@
 -- What a gateway forwards of a response, by what a caller hands in.
 use Rattle.std.specs.Prelude.{◌≡◌, ◌⊎◌, ℕ, List, [], Result, Ok, Err}
-use Rattle.http_header.{specs.FieldValue.FieldValue, specs.HeaderMap.Entries, specs.Token.IsToken}
-use Rattle.headers.specs.LineMap.{lines_at}
-use Rattle.headers_section.specs.Section.{Holds}
-use Rattle.gateway_messages.{specs.FieldLines.{Field, fields_of}, specs.Responses.{IsResponseOutcome, Response}}
-use Rattle.gateway_messages.{specs.declared.gateway.Gateway.Gateway, specs.declared.protocol.Protocol.Protocol}
-use Rattle.gateway_messages.specs.declared.response.ResponseOutcome.{ResponseOutcome}
+use Rattle.{http_header.specs.{FieldValue.FieldValue, HeaderMap.Entries, Token.IsToken}, headers.specs.LineMap.lines_at}
+use Rattle.{headers_section.specs.Section.Holds, gateway_messages.specs.FieldLines.{Field, fields_of}}
+use Rattle.gateway_messages.specs.{Responses.{IsResponseOutcome, Response}, declared.gateway.Gateway.Gateway}
+use Rattle.gateway_messages.specs.declared.{protocol.Protocol.Protocol, response.ResponseOutcome.ResponseOutcome}
 use Rattle.gateway_messages.specs.declared.response.ResponseOutcome.TheVariants.{Forward, Discard, Reject}
-use Rattle.c_parts.{specs.SectionMap.IsMapOf, specs.declared.status.Failure.Failure}
-use Rattle.c_decisions.{specs.Methods.IsMethodOf, specs.StatusCodes.IsStatusOf}
-use Rattle.c_gateway.{specs.Contents.{content_facts, no_content, sent_content}, specs.Dates.IsDateOf}
-use Rattle.c_gateway.{specs.Gateways.IsGatewayOf, specs.Lines.lines_text, specs.Protocols.IsProtocolOf}
-use Rattle.c_gateway.{specs.Reasons.reason_number, specs.declared.gateway.GatewayOptions.GatewayOptions}
-use Rattle.c_gateway.specs.declared.framing.MessageParts.{MessageParts}
-use Rattle.c_gateway.specs.declared.response.ForwardedFacts.{ForwardedFacts}
-use Rattle.c_gateway.specs.declared.response.ResponseStep.{ResponseStep}
+use Rattle.{c_parts.specs.{SectionMap.IsMapOf, declared.status.Failure.Failure}, c_decisions.specs.Methods.IsMethodOf}
+use Rattle.{c_decisions.specs.StatusCodes.IsStatusOf, c_gateway.specs.Contents.{content_facts, no_content}}
+use Rattle.c_gateway.specs.{Contents.sent_content, Dates.IsDateOf, Gateways.IsGatewayOf, Lines.lines_text}
+use Rattle.c_gateway.specs.{Protocols.IsProtocolOf, Reasons.reason_number}
+use Rattle.c_gateway.specs.declared.{gateway.GatewayOptions.GatewayOptions, framing.MessageParts.MessageParts}
+use Rattle.c_gateway.specs.declared.response.{ForwardedFacts.ForwardedFacts, ResponseStep.ResponseStep}
 
 -- ---- what a caller is told
 

@@ -1,24 +1,14 @@
 -- A `&` to a loan is a `&` to what is lent. Assumes `Logic`.
 use Rattle.std.proofs.Common.{◌≡◌, ◌∙◌, ◌++◌, ℕ, List, [], ◌∷◌, Option, Some, None, refl}
+use Rattle.{left_right.proofs.PartSteps.{Lends-part, lent_laws}, c_parts.proofs.HandleValues.lone_val}
+use Rattle.c_handles.specs.{Ownership.{loan_owns, loan_shares}, contracts.{held.Held.the_row, loan.Loan.the_type}}
 use seplogic.Ra.Ura.{Ura}
 use mir.Val.{Val, vstruct, of_list}
 use base.Fml.{Lft, ftrue}
 use types.Logic.{Logic}
-use denote.Copied.{Struct-Copied}
-use denote.Laws.{Is}
-use denote.Opens.{Opens}
-use denote.RattleType.{RattleType, RowLaws}
-use denote.RawPtr.{Ptr}
-use denote.Sharing.{ShrLaws}
-use denote.SharingLaws.{nothing_shr_laws}
-use denote.Struct.Laws.{RawPtr-copy}
-use denote.Struct.Lending.{Lends, Lends-nothing, lent_at, lent_at_shr_laws}
-use denote.Struct.Owning.{shape}
-use denote.Struct.Struct.{Struct}
-use Rattle.left_right.proofs.PartSteps.{Lends-part, lent_laws}
-use Rattle.c_parts.proofs.HandleValues.{lone_val}
-use Rattle.c_handles.{specs.Ownership.{loan_owns, loan_shares}, specs.contracts.held.Held.{the_row}}
-use Rattle.c_handles.specs.contracts.loan.Loan.{the_type}
+use denote.{Copied.Struct-Copied, Laws.Is, Opens.Opens, RattleType.{RattleType, RowLaws}, RawPtr.Ptr, Sharing.ShrLaws}
+use denote.{SharingLaws.nothing_shr_laws, Struct.{Laws.RawPtr-copy, Lending.{Lends, Lends-nothing, lent_at}}}
+use denote.Struct.{Lending.lent_at_shr_laws, Owning.shape, Struct.Struct}
 
 pub loan_laws : RowLaws the_row → (at : Ptr) (has : Option the_row.Denot) (life : ℕ)
     → ShrLaws (loan_shares at has life)

@@ -1,8 +1,7 @@
 -- A handle that is opened with what was made.
-use Rattle.std.proofs.Common.{◌≡◌, ◌⊎◌, inl, inr, Option, Some, None, Result, Ok, Err, IsOkAnd, MatchResult, subst}
-use Rattle.std.proofs.Common.{sym}
-use Rattle.c_parts.{specs.declared.status.Failure.Failure, specs.declared.status.Failure.TheVariants.Memory}
-use Rattle.c_handles.{specs.Handles.Opens, specs.declared.held.Held.Held}
+use Rattle.std.proofs.Common.{◌≡◌, ◌⊎◌, inl, inr, Option, Some, None, Result, Ok, Err, IsOkAnd, MatchResult, subst, sym}
+use Rattle.{c_parts.specs.declared.status.Failure.{Failure, TheVariants.Memory}, c_handles.specs.Handles.Opens}
+use Rattle.c_handles.specs.declared.held.Held.{Held}
 
 -- what holds of what was made, and of no memory, holds of what the handle is opened with
 pub opened : (P : Result Held Failure → Type 0) (made : Result Held Failure) (old new : Option Held)

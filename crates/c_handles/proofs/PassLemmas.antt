@@ -1,15 +1,12 @@
 -- A pass that has begun, and for which memory ran out then.
 use Rattle.std.proofs.Common.{◌≡◌, ◌⊎◌, ◌∙◌, ℕ, List, Option, Some, None, Ok, Err, ap, inl, inr, refl, subst, sym}
-use Rattle.std.{specs.Prelude.{Result, string_bytes}, specs.declared.alloc.AllocError.AllocError}
-use Rattle.cache_store.specs.History.Call.{Looked}
-use Rattle.cache_pass.{specs.Effects.{Does, kept_of, settings_of}, specs.Passes.key_of, specs.Queue.Enters}
-use Rattle.c_parts.specs.declared.status.Failure.TheVariants.{Memory}
-use Rattle.c_pass.{specs.Steps.{Begins, FailsBegin, IsBegun, IsLookedUp, IsStarted, IsWaiting}, specs.Telling.waiting}
-use Rattle.c_pass.{specs.Waiting.{IsAhead, IsPlaced}, specs.declared.held.Place.Place}
-use Rattle.c_pass.specs.declared.held.Shared.{Shared}
-use Rattle.c_pass.{specs.declared.held.Stepped.Stepped, specs.declared.reading.CacheRequest.CacheRequest}
-use Rattle.c_pass.specs.declared.telling.PassFacts.{PassFacts}
-use Rattle.c_handles.{specs.Passes.{BeginsThrough, OnCache}, specs.declared.held.Held.Held}
+use Rattle.std.specs.{Prelude.{Result, string_bytes}, declared.alloc.AllocError.AllocError}
+use Rattle.{cache_store.specs.History.Call.Looked, cache_pass.specs.Effects.{Does, kept_of, settings_of}}
+use Rattle.{cache_pass.specs.{Passes.key_of, Queue.Enters}, c_parts.specs.declared.status.Failure.TheVariants.Memory}
+use Rattle.c_pass.specs.{Steps.{Begins, FailsBegin, IsBegun, IsLookedUp, IsStarted, IsWaiting}, Telling.waiting}
+use Rattle.c_pass.specs.{Waiting.{IsAhead, IsPlaced}, declared.held.{Place.Place, Shared.Shared, Stepped.Stepped}}
+use Rattle.c_pass.specs.declared.{reading.CacheRequest.CacheRequest, telling.PassFacts.PassFacts}
+use Rattle.c_handles.specs.{Passes.{BeginsThrough, OnCache}, declared.held.Held.Held}
 use Rattle.c_handles.specs.declared.held.Held.TheVariants as held
 
 -- its target was looked up

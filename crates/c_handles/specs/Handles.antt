@@ -1,12 +1,11 @@
 -- Calls on a handle.
 use Rattle.std.specs.Prelude.{◌≡◌, Option, Some, None, Result, Ok, Err}
-use Rattle.http_header.{specs.FieldValue.FieldValue, specs.HeaderMap.Entries}
-use Rattle.decide_cors.specs.Policy.{Policy}
-use Rattle.decide_resource.specs.declared.resource.Resource.{Resource}
-use Rattle.c_parts.{specs.declared.status.Failure.Failure, specs.declared.status.Failure.TheVariants.{Refused, Absent}}
-use Rattle.c_pass.{specs.declared.held.Shared.Shared, specs.declared.held.Stepped.Stepped}
-use Rattle.c_files.specs.declared.held.HeldFiles.{HeldFiles}
-use Rattle.c_handles.{specs.declared.held.Held.Held, specs.declared.held.HeldConnection.HeldConnection}
+use Rattle.{http_header.specs.{FieldValue.FieldValue, HeaderMap.Entries}, decide_cors.specs.Policy.Policy}
+use Rattle.{decide_resource.specs.declared.resource.Resource.Resource, c_parts.specs.declared.status.Failure.Failure}
+use Rattle.c_parts.specs.declared.status.Failure.TheVariants.{Refused, Absent}
+use Rattle.c_pass.specs.declared.held.{Shared.Shared, Stepped.Stepped}
+use Rattle.{c_files.specs.declared.held.HeldFiles.HeldFiles, c_handles.specs.declared.held.Held.Held}
+use Rattle.c_handles.specs.declared.held.HeldConnection.{HeldConnection}
 use Rattle.c_handles.specs.declared.held.Held.TheVariants as held
 
 -- the fields of the section that a handle has

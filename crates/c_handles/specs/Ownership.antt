@@ -1,11 +1,8 @@
 -- What a handle owns, and what a view of one does.
-use Rattle.std.specs.Prelude.{ℕ, Option, Some, None}
+use Rattle.{std.specs.Prelude.{ℕ, Option, Some, None}, left_right.specs.Parted.{part_owns, part_shares}}
+use Rattle.{c_parts.specs.Ownership.handle_owns, c_handles.specs.contracts.held.Held.the_row}
 use base.Fml.{Fml, Lft, ftrue}
-use denote.RawPtr.{Ptr}
-use denote.Sharing.{nothing}
-use Rattle.left_right.specs.Parted.{part_owns, part_shares}
-use Rattle.c_parts.specs.Ownership.{handle_owns}
-use Rattle.c_handles.specs.contracts.held.Held.{the_row}
+use denote.{RawPtr.Ptr, Sharing.nothing}
 
 -- what a box at the pointer owns, or nothing if the handle is closed
 abbrev pub held_owns : Ptr → Option the_row.Denot → Fml

@@ -1,11 +1,9 @@
 -- Calls on the handles of a cache and of a pass.
-use Rattle.std.specs.Prelude.{◌≡◌, ℕ, List, Option, Some, None, Result, Ok, Err}
-use Rattle.std.specs.Global.{Vec}
-use Rattle.c_parts.{specs.declared.status.Failure.Failure, specs.declared.status.Failure.TheVariants.{Refused, Absent}}
-use Rattle.c_pass.{specs.Steps.{Copies, FailsBegin, IsBegun}, specs.declared.held.Shared.Shared}
-use Rattle.c_pass.{specs.declared.held.Stepped.Stepped, specs.declared.reading.CacheRequest.CacheRequest}
-use Rattle.c_pass.{specs.Validating.ShowsValidation, specs.declared.telling.PassFacts.PassFacts}
-use Rattle.c_handles.specs.declared.held.Held.{Held}
+use Rattle.std.specs.{Prelude.{◌≡◌, ℕ, List, Option, Some, None, Result, Ok, Err}, Global.Vec}
+use Rattle.{c_parts.specs.declared.status.Failure.{Failure, TheVariants.{Refused, Absent}}, c_pass.specs.Steps.Copies}
+use Rattle.c_pass.specs.{Steps.{FailsBegin, IsBegun}, declared.held.{Shared.Shared, Stepped.Stepped}}
+use Rattle.c_pass.specs.declared.{reading.CacheRequest.CacheRequest, telling.PassFacts.PassFacts}
+use Rattle.{c_pass.specs.Validating.ShowsValidation, c_handles.specs.declared.held.Held.Held}
 use Rattle.c_handles.specs.declared.held.Held.TheVariants as held
 
 -- a handle is made with a cache of which P holds

@@ -1,14 +1,11 @@
 -- A policy for requests from other origins that was made, and what it answers.
 use Rattle.std.specs.Prelude.{◌≡◌, ◌⊎◌, ℕ, List, Option, Some, None, Result, Ok, Err}
-use Rattle.http_header.{specs.FieldValue.FieldValue, specs.HeaderMap.Entries, specs.Token.IsToken}
-use Rattle.headers_section.specs.Section.{Holds}
-use Rattle.decide_cors.specs.Policy.{Policy}
-use Rattle.c_parts.{specs.SectionMap.IsMapOf, specs.declared.status.Failure.Failure}
-use Rattle.c_parts.specs.declared.status.Failure.TheVariants.{Memory, Absent}
-use Rattle.c_decisions.{specs.Cors.IsSharedBy, specs.Methods.IsMethodOf, specs.Rules.IsPolicyAnswer}
-use Rattle.c_decisions.{specs.declared.cors.PolicyAnswer.PolicyAnswer, specs.declared.rules.Rules.Rules}
-use Rattle.c_handles.{specs.Sections.OfEach, specs.declared.held.Held.Held}
-use Rattle.c_handles.specs.declared.policy.CorsExchange.{CorsExchange}
+use Rattle.http_header.specs.{FieldValue.FieldValue, HeaderMap.Entries, Token.IsToken}
+use Rattle.{headers_section.specs.Section.Holds, decide_cors.specs.Policy.Policy, c_parts.specs.SectionMap.IsMapOf}
+use Rattle.c_parts.specs.declared.status.Failure.{Failure, TheVariants.{Memory, Absent}}
+use Rattle.c_decisions.specs.{Cors.IsSharedBy, Methods.IsMethodOf, Rules.IsPolicyAnswer}
+use Rattle.c_decisions.specs.declared.{cors.PolicyAnswer.PolicyAnswer, rules.Rules.Rules}
+use Rattle.c_handles.specs.{Sections.OfEach, declared.{held.Held.Held, policy.CorsExchange.CorsExchange}}
 use Rattle.c_handles.specs.declared.held.Held.TheVariants as held
 
 -- the policy of the rules, or why there is none; `Memory` also for the handle

@@ -1,15 +1,13 @@
 -- A resource that was read, and what it answers.
 use Rattle.std.specs.Prelude.{◌≡◌, ◌⊎◌, List, Option, Some, None, Result, Ok, Err}
-use Rattle.http_header.{specs.FieldValue.FieldValue, specs.HeaderMap.Entries}
-use Rattle.decide_resource.specs.declared.resource.Resource.{Resource}
-use Rattle.c_parts.{specs.declared.status.Failure.Failure, specs.declared.status.Failure.TheVariants.{Memory, Absent}}
-use Rattle.c_decisions.specs.declared.rules.Rules.{Rules}
-use Rattle.c_resource.{specs.Answers.AnswersBy, specs.Resources.IsResourceAnswer}
-use Rattle.c_resource.specs.declared.answer.Answered.{Answered}
+use Rattle.http_header.specs.{FieldValue.FieldValue, HeaderMap.Entries}
+use Rattle.{decide_resource.specs.declared.resource.Resource.Resource, c_parts.specs.declared.status.Failure.Failure}
+use Rattle.c_parts.specs.declared.status.Failure.TheVariants.{Memory, Absent}
+use Rattle.{c_decisions.specs.declared.rules.Rules.Rules, c_resource.specs.Answers.AnswersBy}
+use Rattle.c_resource.specs.{Resources.IsResourceAnswer, declared.answer.Answered.Answered}
 use Rattle.c_resource.specs.declared.representation.RepresentationParts.{RepresentationParts}
-use Rattle.c_resource.{specs.declared.request.DenialParts.DenialParts, specs.declared.request.RequestParts.RequestParts}
-use Rattle.c_resource.specs.declared.resource.ResourceParts.{ResourceParts}
-use Rattle.c_handles.specs.declared.held.Held.{Held}
+use Rattle.c_resource.specs.declared.request.{DenialParts.DenialParts, RequestParts.RequestParts}
+use Rattle.{c_resource.specs.declared.resource.ResourceParts.ResourceParts, c_handles.specs.declared.held.Held.Held}
 use Rattle.c_handles.specs.declared.held.Held.TheVariants as held
 
 -- the resource that was handed in, or why there is none; `Memory` also for the handle

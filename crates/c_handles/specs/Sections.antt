@@ -1,18 +1,15 @@
 -- What is asked of a section that was parsed. An answer is that of the call without a handle, to each text that has
 -- these fields.
-use Rattle.std.{specs.Prelude.{◌≡◌, ◌⊎◌, ℕ, false, List, [], Option, Some, None, Result, Ok, Err}, specs.Global.Vec}
-use Rattle.http_header.{specs.FieldName.IsFieldName, specs.FieldValue.FieldValue, specs.HeaderMap.{Entries, get_all}}
-use Rattle.http_header.specs.Token.{lowercase}
-use Rattle.headers.{specs.Lines.{Line, lines_of}, specs.Typed.HasLine}
-use Rattle.headers_section.specs.Section.{Holds}
-use Rattle.c_parts.{specs.FieldText.IsNameOf, specs.SectionMap.IsMapOf, specs.declared.status.Failure.Failure}
-use Rattle.c_parts.specs.declared.status.Failure.TheVariants.{Refused, Memory, Absent, TooLarge}
-use Rattle.c_parts.specs.Written.{IsWrittenBlock}
-use Rattle.c_decisions.{specs.Contents.{IsBoundaryOf, IsContentOf}, specs.Evaluations.IsEvaluated}
-use Rattle.c_decisions.{specs.Methods.IsMethodOf, specs.Responses.IsResponded, specs.Selection.{HasRange, IsSelected}}
-use Rattle.c_decisions.{specs.Targets.IsResourceOf, specs.Texts.{AreValuesOf, FailsAt}}
-use Rattle.c_decisions.{specs.declared.content.ContentParts.ContentParts, specs.declared.response.Responded.Responded}
-use Rattle.c_decisions.{specs.declared.selection.Selected.Selected, specs.declared.target.TargetFacts.TargetFacts}
+use Rattle.std.specs.{Prelude.{◌≡◌, ◌⊎◌, ℕ, false, List, [], Option, Some, None, Result, Ok, Err}, Global.Vec}
+use Rattle.http_header.specs.{FieldName.IsFieldName, FieldValue.FieldValue, HeaderMap.{Entries, get_all}}
+use Rattle.{http_header.specs.Token.lowercase, headers.specs.{Lines.{Line, lines_of}, Typed.HasLine}}
+use Rattle.{headers_section.specs.Section.Holds, c_parts.specs.{FieldText.IsNameOf, SectionMap.IsMapOf}}
+use Rattle.c_parts.specs.declared.status.Failure.{Failure, TheVariants.{Refused, Memory, Absent, TooLarge}}
+use Rattle.{c_parts.specs.Written.IsWrittenBlock, c_decisions.specs.Contents.{IsBoundaryOf, IsContentOf}}
+use Rattle.c_decisions.specs.{Evaluations.IsEvaluated, Methods.IsMethodOf, Responses.IsResponded, Selection.HasRange}
+use Rattle.c_decisions.specs.{Selection.IsSelected, Targets.IsResourceOf, Texts.{AreValuesOf, FailsAt}}
+use Rattle.c_decisions.specs.declared.{content.ContentParts.ContentParts, response.Responded.Responded}
+use Rattle.c_decisions.specs.declared.{selection.Selected.Selected, target.TargetFacts.TargetFacts}
 use Rattle.c_handles.specs.declared.held.Held.{Held}
 use Rattle.c_handles.specs.declared.held.Held.TheVariants as held
 

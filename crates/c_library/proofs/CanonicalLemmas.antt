@@ -1,9 +1,8 @@
 -- A section without a line.
 use Rattle.std.proofs.Common.{◌≡◌, ℕ, false, List, [], ◌∷◌, ◌++◌, ap, arith, length, length-append, refl, subst, sym}
-use Rattle.std.proofs.lemmas.List.Elements.{All-nil}
-use Rattle.headers.specs.Lines.{Line}
-use Rattle.headers_section.specs.CanonicalText.{Block, IsBlock, IsCanonicalText, lines_under}
-use Rattle.headers_section.specs.Section.{AreFields, Field, FillsMap, HasTooManyFields, section}
+use Rattle.{std.proofs.lemmas.List.Elements.All-nil, headers.specs.Lines.Line}
+use Rattle.headers_section.specs.{CanonicalText.{Block, IsBlock, IsCanonicalText, lines_under}, Section.AreFields}
+use Rattle.headers_section.specs.Section.{Field, FillsMap, HasTooManyFields, section}
 
 no_fields : (fields : List Field) → AreFields [] fields → ¬ (FillsMap fields)
 no_fields [] are fills =

@@ -1,8 +1,7 @@
 -- What the lines of `cache-control` say of `proxy-revalidate`.
-use Rattle.std.{proofs.Common.{◌≡◌, List, None, Some, ap, inl, inr, sym}, specs.Prelude.codes, specs.List.list_any}
-use Rattle.std.proofs.lemmas.Bool.{cases_Bool}
-use Rattle.headers.{specs.CacheControl.{Directives, directives, directives_of, is_bad, is_set}, specs.Lines.Line}
-use Rattle.headers_items.specs.Entries.{entries}
+use Rattle.std.{proofs.{Common.{◌≡◌, List, None, Some, ap, inl, inr, sym}, lemmas.Bool.cases_Bool}, specs.Prelude.codes}
+use Rattle.{std.specs.List.list_any, headers.specs.CacheControl.{Directives, directives, directives_of, is_bad, is_set}}
+use Rattle.{headers.specs.Lines.Line, headers_items.specs.Entries.entries}
 
 directed : (lines : List Line) (given : Directives) → directives_of lines ≡ Some given
     → given ≡ directives (entries lines)

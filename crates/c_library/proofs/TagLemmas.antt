@@ -1,10 +1,8 @@
 -- Entity tags without `W/`.
 use Rattle.std.proofs.Common.{◌≡◌, ℕ, Bool, true, false, List, [], ◌∷◌, ◌++◌, Option, Some, None, refl, sym, ◌∙◌, subst}
-use Rattle.std.{proofs.Common.{inl, inr}, specs.Option.option_and_then, proofs.lemmas.Bool.cases_Bool}
-use Rattle.std.proofs.lemmas.List.{same_from_push}
-use Rattle.headers.specs.EntityTag.{AreTags, IsTag, TagParts, WeaklyEqual, is_tag, parts_of, weak_prefix}
-use Rattle.headers.{specs.Lines.{Line, only_line}, specs.Shapes.tag_line, specs.Text.quote}
-use Rattle.headers.proofs.EntityTagLemmas.{IsTag-from_is_tag}
+use Rattle.std.{proofs.{Common.{inl, inr}, lemmas.{Bool.cases_Bool, List.same_from_push}}, specs.Option.option_and_then}
+use Rattle.headers.specs.{EntityTag.{AreTags, IsTag, TagParts, WeaklyEqual, is_tag, parts_of, weak_prefix}, Lines.Line}
+use Rattle.headers.{specs.{Lines.only_line, Shapes.tag_line, Text.quote}, proofs.EntityTagLemmas.IsTag-from_is_tag}
 use Rattle.c_library.specs.Tags.{Tells, quoted_part, reads_tag}
 
 quoted_part-text : (is_weak : Bool) (opaque bytes : List ℕ)

@@ -1,23 +1,17 @@
 -- What a cache may do with a response, by what a caller hands in.
-use Rattle.std.specs.Prelude.{◌≡◌, ◌⊎◌, ℕ, Bool, true, false, List, Option, Some, None, Result, Ok, Err}
-use Rattle.std.specs.Global.{Vec}
-use Rattle.http.specs.StatusCode.{IsStatusCode}
-use Rattle.http_header.{specs.FieldValue.FieldValue, specs.HeaderMap.Entries, specs.Token.IsToken}
-use Rattle.headers.specs.LineMap.{lines_at}
-use Rattle.headers_section.specs.Section.{Holds}
+use Rattle.std.specs.{Prelude.{◌≡◌, ◌⊎◌, ℕ, Bool, true, false, List, Option, Some, None, Result, Ok, Err}, Global.Vec}
+use Rattle.{http.specs.StatusCode.IsStatusCode, http_header.specs.{FieldValue.FieldValue, HeaderMap.Entries}}
+use Rattle.{http_header.specs.Token.IsToken, headers.specs.LineMap.lines_at, headers_section.specs.Section.Holds}
 use Rattle.cache_policy.specs.Age.{age_at}
 use Rattle.cache_policy.specs.Decisions as Decided_by
-use Rattle.cache_policy.{specs.Fields.capped, specs.Freshness.{HasHeuristic, HasLifetime}, specs.Requests.Request}
-use Rattle.cache_policy.{specs.Storing.MayStore, specs.Validating.validation_fields, specs.declared.Times.Times}
-use Rattle.cache_policy.specs.declared.decision.Decision.{Decision}
+use Rattle.cache_policy.specs.{Fields.capped, Freshness.{HasHeuristic, HasLifetime}, Requests.Request, Storing.MayStore}
+use Rattle.cache_policy.specs.{Validating.validation_fields, declared.{Times.Times, decision.Decision.Decision}}
 use Rattle.cache_policy.specs.declared.decision.Decision.TheVariants as Decided
-use Rattle.cache_policy.{specs.declared.Kind.Kind, specs.declared.Kind.TheVariants.{Shared, Private}}
-use Rattle.c_decisions.{specs.FieldLines.fields_text, specs.Methods.IsMethodOf, specs.StatusCodes.IsStatusOf}
-use Rattle.c_decisions.specs.declared.request.RequestTexts.{RequestTexts}
-use Rattle.c_parts.{specs.SectionMap.IsMapOf, specs.declared.status.Failure.Failure}
-use Rattle.c_parts.specs.declared.status.Failure.TheVariants.{Absent}
-use Rattle.c_library.{specs.Tags.Tells, specs.declared.cache.Moments.Moments}
-use Rattle.c_library.{specs.declared.cache.StoredTexts.StoredTexts}
+use Rattle.cache_policy.specs.declared.Kind.{Kind, TheVariants.{Shared, Private}}
+use Rattle.c_decisions.specs.{FieldLines.fields_text, Methods.IsMethodOf, StatusCodes.IsStatusOf}
+use Rattle.{c_decisions.specs.declared.request.RequestTexts.RequestTexts, c_parts.specs.SectionMap.IsMapOf}
+use Rattle.{c_parts.specs.declared.status.Failure.{Failure, TheVariants.Absent}, c_library.specs.Tags.Tells}
+use Rattle.c_library.specs.declared.cache.{Moments.Moments, StoredTexts.StoredTexts}
 
 abbrev pub times_of : Moments → Times
 times_of moments = record { request = moments.request; response = moments.response; now = moments.now }

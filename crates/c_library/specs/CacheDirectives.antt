@@ -1,9 +1,7 @@
 -- The directives of `cache-control`, as C sees them.
 use Rattle.std.specs.Prelude.{◌≡◌, ℕ, List, Option, Some, None}
-use Rattle.headers.{specs.CacheControl.{Directives, directives_of}, specs.Lines.Line}
-use Rattle.c_decisions.specs.Flags.{flag_of}
-use Rattle.c_library.specs.declared.cache_control.CacheDirectives.{CacheDirectives}
-use Rattle.c_library.specs.declared.cache_control.DirectiveSeconds.{DirectiveSeconds}
+use Rattle.{headers.specs.{CacheControl.{Directives, directives_of}, Lines.Line}, c_decisions.specs.Flags.flag_of}
+use Rattle.c_library.specs.declared.cache_control.{CacheDirectives.CacheDirectives, DirectiveSeconds.DirectiveSeconds}
 
 abbrev pub seconds_of : Option ℕ → DirectiveSeconds
 seconds_of None = record { seconds = 0; is_set = 0 }

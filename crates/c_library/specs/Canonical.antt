@@ -1,11 +1,10 @@
 -- The canonical text of a header section, as it is written into the caller's room.
 use Rattle.std.specs.Prelude.{◌⊎◌, ℕ, ◌<◌, ◌≤◌, List, length, Result, Ok, Err, if◌then◌else◌}
-use Rattle.headers.specs.Typed.{HasLine}
-use Rattle.headers_section.{specs.CanonicalText.IsCanonicalText, specs.Section.{input_limit, section, HasNoField}}
-use Rattle.headers_section.specs.Section.{HasTooManyFields}
-use Rattle.c_library.specs.declared.canonical.Canonical.{Canonical}
-use Rattle.c_parts.{specs.declared.status.Failure.Failure, specs.declared.status.Failure.TheVariants.{Refused, Memory}}
-use Rattle.c_parts.{specs.declared.status.Failure.TheVariants.{Absent, TooLarge}, specs.Endings.{done, marked, Writes}}
+use Rattle.{headers.specs.Typed.HasLine, headers_section.specs.{CanonicalText.IsCanonicalText, Section.input_limit}}
+use Rattle.headers_section.specs.Section.{section, HasNoField, HasTooManyFields}
+use Rattle.{c_library.specs.declared.canonical.Canonical.Canonical, c_parts.specs.declared.status.Failure.Failure}
+use Rattle.c_parts.specs.{declared.status.Failure.TheVariants.{Refused, Memory, Absent, TooLarge}, Endings.done}
+use Rattle.c_parts.specs.Endings.{marked, Writes}
 
 -- What an answer says of an input: its canonical text, and whether some name's lines were rejected; `Refused` only if a
 -- line before the first empty one is no field; `TooLarge` only if the input is too long, or has more fields than a map

@@ -1,8 +1,7 @@
 -- What is at the caller's places after a gateway's step.
-use Rattle.std.specs.Prelude.{ℕ, List, Result}
-use Rattle.c_parts.{specs.Endings.TellsAndWrites, specs.declared.status.Failure.Failure}
-use Rattle.c_gateway.{specs.declared.request.RequestFacts.RequestFacts, specs.declared.request.RequestStep.RequestStep}
-use Rattle.c_gateway.specs.declared.response.ForwardedFacts.{ForwardedFacts}
+use Rattle.{std.specs.Prelude.{ℕ, List, Result}, c_parts.specs.Endings.TellsAndWrites}
+use Rattle.{c_parts.specs.declared.status.Failure.Failure, c_gateway.specs.declared.request.RequestFacts.RequestFacts}
+use Rattle.c_gateway.specs.declared.{request.RequestStep.RequestStep, response.ForwardedFacts.ForwardedFacts}
 use Rattle.c_gateway.specs.declared.response.ResponseStep.{ResponseStep}
 
 -- a call that tells what a gateway does with a request has an answer of which P holds

@@ -1,10 +1,8 @@
 -- The opening handshake of a WebSocket (RFC 6455, section 4.2.2).
 use Rattle.std.specs.Prelude.{◌≡◌, ℕ, List, Some, Result}
-use Rattle.websocket.specs.Handshake.{IsValidKey, accept_key_of}
-use Rattle.headers.specs.Lines.{Line, only_line}
-use Rattle.c_parts.{specs.Endings.TellsAndWrites, specs.declared.status.Failure.Failure}
-use Rattle.c_decisions.specs.declared.handshake.AnsweredHandshake.{AnsweredHandshake}
-use Rattle.c_decisions.specs.declared.handshake.HandshakeFacts.{HandshakeFacts}
+use Rattle.{websocket.specs.Handshake.{IsValidKey, accept_key_of}, headers.specs.Lines.{Line, only_line}}
+use Rattle.c_parts.specs.{Endings.TellsAndWrites, declared.status.Failure.Failure}
+use Rattle.c_decisions.specs.declared.handshake.{AnsweredHandshake.AnsweredHandshake, HandshakeFacts.HandshakeFacts}
 
 -- the only line is the base64 of sixteen bytes, and this is what is answered to it
 abbrev pub reads_accept : List Line → List ℕ → Type 0

@@ -1,8 +1,7 @@
 -- The ranges of `range`, as C sees them.
-use Rattle.std.{specs.Prelude.{◌≡◌, ℕ, List, Option, Some, None}, specs.List.filter_map}
-use Rattle.std.specs.declared.ops.Bound.TheVariants.{Included}
-use Rattle.headers.{specs.ByteRanges.{ByteRange, gives, specs, range_line}, specs.HeaderLaws.ReadsBy, specs.Lines.Line}
-use Rattle.headers.{specs.Lines.first_line, specs.Shapes.one_line}
+use Rattle.std.specs.{Prelude.{◌≡◌, ℕ, List, Option, Some, None}, List.filter_map}
+use Rattle.{std.specs.declared.ops.Bound.TheVariants.Included, headers.specs.ByteRanges.{ByteRange, gives, specs}}
+use Rattle.headers.specs.{ByteRanges.range_line, HeaderLaws.ReadsBy, Lines.{Line, first_line}, Shapes.one_line}
 use Rattle.c_decisions.specs.declared.selection.BytesRange.{BytesRange}
 
 -- the range between two bounds, if both are included, as those of a satisfiable range are

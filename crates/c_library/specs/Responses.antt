@@ -1,10 +1,9 @@
 -- What is at the caller's places after a response.
 use Rattle.std.specs.Prelude.{◌≡◌, ℕ, ◌==◌, List, Result, Ok, Err, if◌then◌else◌}
-use Rattle.c_parts.{specs.Endings.{IsWritten, done, status_of}, specs.declared.status.Failure.Failure}
-use Rattle.c_decisions.specs.declared.response.Responded.{Responded}
-use Rattle.c_decisions.specs.declared.response.ResponseFacts.{ResponseFacts}
+use Rattle.c_parts.specs.{Endings.{IsWritten, done, status_of}, declared.status.Failure.Failure}
+use Rattle.c_decisions.specs.declared.response.{Responded.Responded, ResponseFacts.ResponseFacts}
 use Rattle.c_decisions.specs.declared.selection.BytesRange.{BytesRange}
-use Rattle.c_resource.{specs.declared.answer.Answered.Answered, specs.declared.shown.AnswerFacts.AnswerFacts}
+use Rattle.c_resource.specs.declared.{answer.Answered.Answered, shown.AnswerFacts.AnswerFacts}
 
 -- the status of two rooms: that of one in which something doesn't fit, if there is one
 abbrev pub worse : ℕ → ℕ → ℕ

@@ -1,8 +1,7 @@
 -- Two entity tags, compared.
 use Rattle.std.specs.Prelude.{◌≡◌, ◌⊎◌, ℕ, ◌&&◌, ◌==◌, List, drop, slice_index, Result, Ok, Err, if◌then◌else◌}
-use Rattle.headers.{specs.EntityTag.{TagParts, AreTags}, specs.HeaderLaws.ReadsBy, specs.Lines.Line}
-use Rattle.headers.specs.Shapes.{only_tag}
-use Rattle.c_parts.{specs.declared.status.Failure.Failure, specs.FieldText.{FieldDecodes, FieldReads}}
+use Rattle.headers.specs.{EntityTag.{TagParts, AreTags}, HeaderLaws.ReadsBy, Lines.Line, Shapes.only_tag}
+use Rattle.c_parts.specs.{declared.status.Failure.Failure, FieldText.{FieldDecodes, FieldReads}}
 
 -- the only line is this entity tag
 abbrev pub reads_tag : List Line → Line → Type 0

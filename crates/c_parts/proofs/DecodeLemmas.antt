@@ -1,9 +1,8 @@
 -- What a failure to read one kind of value says of another.
 use Rattle.std.proofs.Common.{◌≡◌, ℕ, ◌≤◌, List, [], ◌∷◌, length, Some, Err, arith}
-use Rattle.http_header.specs.FieldValue.{FieldValue}
-use Rattle.headers.{specs.Lines.{Line, lines_of, only_line}, specs.Typed.HasLine}
-use Rattle.c_parts.{specs.FieldText.{FieldDecodes, field_lines}, specs.declared.status.Failure.Failure}
-use Rattle.c_parts.specs.declared.status.Failure.TheVariants.{Refused, Memory, Absent, TooLarge}
+use Rattle.{http_header.specs.FieldValue.FieldValue, headers.specs.{Lines.{Line, lines_of, only_line}, Typed.HasLine}}
+use Rattle.c_parts.specs.{FieldText.{FieldDecodes, field_lines}, declared.status.Failure.{Failure, TheVariants.Refused}}
+use Rattle.c_parts.specs.declared.status.Failure.TheVariants.{Memory, Absent, TooLarge}
 
 -- a failure says the same of values that are read only if some value of the first kind is
 pub FieldDecodes-fails : {V W : Type 0} (reads : List Line → V → Type 0) (others : List Line → W → Type 0)

@@ -1,10 +1,8 @@
 -- Flags among the entries of several lines.
-use Rattle.std.{proofs.Common.{◌≡◌, ◌∙◌, ◌||◌, ℕ, Bool, List, [], ◌∷◌, ap, refl, sym}, specs.List.list_any}
-use Rattle.std.proofs.lemmas.List.Folds.{list_any-append}
-use Rattle.http_header.specs.FieldValue.{FieldValue}
-use Rattle.headers.{specs.CacheControl.is_set, specs.Lines.lines_of}
-use Rattle.headers_items.specs.Entries.{entries, line_entries}
-use Rattle.headers_syntax.specs.AsciiCase.{same_name}
+use Rattle.std.proofs.Common.{◌≡◌, ◌∙◌, ◌||◌, ℕ, Bool, List, [], ◌∷◌, ap, refl, sym}
+use Rattle.std.{proofs.lemmas.List.Folds.list_any-append, specs.List.list_any}
+use Rattle.{http_header.specs.FieldValue.FieldValue, headers.specs.{CacheControl.is_set, Lines.lines_of}}
+use Rattle.{headers_items.specs.Entries.{entries, line_entries}, headers_syntax.specs.AsciiCase.same_name}
 
 module _ (flag : List ℕ) where
   -- a line has the flag, as a test

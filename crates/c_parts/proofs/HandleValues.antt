@@ -7,21 +7,13 @@ use seplogic.Ra.Ura.{Ura}
 use mir.Syntax.{impl, tnil, tcons, dnil, ty_ptr, ty_bool, ty_struct}
 use mir.Raw.{raw as bare}
 use mir.Val.{Val, vptr, vbool, vstruct, vcons, vnil, of_list, has_ty, WT}
-use base.Logic.{ent, emp, never, fst∗}
-use base.Fml.{Fml}
-use types.Logic.{Logic, sem}
-use types.Kit.{Item, Goal, Seq, Step, step, ‵, ◌$◌, move, drop, fsplit, fjoin, fpick, fpack, feq_i, feq_l}
-use denote.RattleType.{RattleType, Valss}
-use denote.Builtin.{RawPtr, bool}
-use denote.Shadow.{shadow, makes_shadow}
-use denote.Memory.{lone}
-use denote.RawPtr.{Ptr, block_ptr, null_ptr, ptr_val, in_a_block}
-use denote.Steps.{nothing}
-use denote.Param.{layout}
-use denote.Param.Laws.{Laws}
-use denote.Struct.Struct.{Struct, within}
-use denote.Struct.Owning.{shape}
-use Rattle.core.{specs.declared.alloc.Allocator.Ghosts, proofs.alloc.Calls.{Al, handle_tells}, proofs.cell.Inside.Good}
+use base.{Logic.{ent, emp, never, fst∗}, Fml.Fml}
+use types.{Logic.{Logic, sem}, Kit.{Item, Goal, Seq, Step, step, ‵, ◌$◌, move, drop, fsplit, fjoin, fpick, fpack}}
+use types.Kit.{feq_i, feq_l}
+use denote.{RattleType.{RattleType, Valss}, Builtin.{RawPtr, bool}, Shadow.{shadow, makes_shadow}, Memory.lone}
+use denote.{RawPtr.{Ptr, block_ptr, null_ptr, ptr_val, in_a_block}, Steps.nothing, Param.{layout, Laws.Laws}}
+use denote.Struct.{Struct.{Struct, within}, Owning.shape}
+use Rattle.core.{specs.declared.alloc.Allocator.Ghosts, proofs.{alloc.Calls.{Al, handle_tells}, cell.Inside.Good}}
 use Rattle.std_alloc.{specs.Box.Ownership.box_owns, proofs.ResultValues.and_tt}
 use Rattle.c_parts.specs.contracts.raw_box.RawBox as loose
 

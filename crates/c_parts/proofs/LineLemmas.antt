@@ -1,11 +1,10 @@
 -- The lines of a text, one after the other.
 use Rattle.std.proofs.Common.{◌≡◌, ℕ, List, [], ◌∷◌, ◌++◌, All, Contains, Option, Some, None, IfSome, IfNone, refl, sym}
-use Rattle.std.{proofs.Common.{◌∙◌, ap, subst, arith, append_assoc}, proofs.lemmas.List.map-append}
-use Rattle.std.proofs.lemmas.List.Elements.{All-push, All-contains, Contains-append_right}
-use denote.Ref.{Bor}
-use Rattle.http_header.specs.FieldValue.{FieldValue, IsFieldValue, plain_value}
-use Rattle.headers.specs.Lines.{Line, lines_of}
+use Rattle.std.proofs.{Common.{◌∙◌, ap, subst, arith, append_assoc}, lemmas.List.{map-append, Elements.All-push}}
+use Rattle.std.proofs.lemmas.List.Elements.{All-contains, Contains-append_right}
+use Rattle.{http_header.specs.FieldValue.{FieldValue, IsFieldValue, plain_value}, headers.specs.Lines.{Line, lines_of}}
 use Rattle.headers_section.specs.Section.{input_lines}
+use denote.Ref.{Bor}
 
 -- a text has a first line
 pub first_line : (text : List ℕ) (line : Line) (after : Option (Bor (List ℕ)))

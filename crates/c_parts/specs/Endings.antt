@@ -1,7 +1,6 @@
 -- How calls end: their status, and what is at the caller's pointers.
 use Rattle.std.specs.Prelude.{◌≡◌, ℕ, ◌<◌, ◌≤◌, List, length, take, drop, Result, Ok, Err}
-use Rattle.c_parts.specs.declared.status.Failure.{Failure}
-use Rattle.c_parts.specs.declared.status.Failure.TheVariants.{Refused, Memory, Absent, TooLarge}
+use Rattle.c_parts.specs.declared.status.Failure.{Failure, TheVariants.{Refused, Memory, Absent, TooLarge}}
 
 -- the status of a call that gave what it was asked for
 abbrev pub done : ℕ

@@ -1,12 +1,9 @@
 -- The lines of a field as one text.
 use Rattle.std.specs.Prelude.{◌≡◌, ℕ, ◌-◌, List, [], ◌∷◌, length, take, slice_index, All, if◌then◌else◌, ◌==◌, Result}
-use Rattle.std.specs.Prelude.{Ok, Err}
-use Rattle.http_header.{specs.FieldName.IsFieldName, specs.FieldValue.IsFieldValue, specs.StandardHeader.IsStandardName}
-use Rattle.http_header.specs.Token.{lowercase}
-use Rattle.headers.{specs.Lines.Line, specs.Typed.HasLine}
-use Rattle.headers_section.specs.Section.{input_lines}
-use Rattle.c_parts.{specs.declared.status.Failure.Failure, specs.declared.status.Failure.TheVariants.{Refused, Memory}}
-use Rattle.c_parts.specs.declared.status.Failure.TheVariants.{Absent, TooLarge}
+use Rattle.{std.specs.Prelude.{Ok, Err}, http_header.specs.{FieldName.IsFieldName, FieldValue.IsFieldValue}}
+use Rattle.{http_header.specs.{StandardHeader.IsStandardName, Token.lowercase}, headers.specs.Lines.Line}
+use Rattle.{headers.specs.Typed.HasLine, headers_section.specs.Section.input_lines}
+use Rattle.c_parts.specs.declared.status.Failure.{Failure, TheVariants.{Refused, Memory, Absent, TooLarge}}
 
 -- the bytes without their last one, if it is this one
 abbrev pub without_last : ℕ → List ℕ → List ℕ

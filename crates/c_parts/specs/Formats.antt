@@ -1,11 +1,9 @@
 -- Dates, content ranges and entity tags, as they are written.
 use Rattle.std.specs.Prelude.{◌≡◌, ℕ, ◌<◌, ◌≤◌, ⊤, Bool, List, Option, Some, None, Result, Ok, Err, ◌==◌, if◌then◌else◌}
-use Rattle.std.specs.Global.{Vec}
-use Rattle.http_header.{specs.FieldValue.FieldValue, specs.Token.AllPass}
-use Rattle.headers.{specs.ContentBytes.{ContentBytes, content_text}, specs.Date.{IsDated, fixdate}}
-use Rattle.headers.specs.EntityTag.{is_tag_byte, tag_text}
-use Rattle.c_parts.{specs.declared.status.Failure.Failure, specs.declared.status.Failure.TheVariants.{Refused, Memory}}
-use Rattle.c_parts.specs.declared.status.Failure.TheVariants.{Absent, TooLarge}
+use Rattle.{std.specs.Global.Vec, http_header.specs.{FieldValue.FieldValue, Token.AllPass}}
+use Rattle.headers.specs.{ContentBytes.{ContentBytes, content_text}, Date.{IsDated, fixdate}, EntityTag.is_tag_byte}
+use Rattle.{headers.specs.EntityTag.tag_text, c_parts.specs.declared.status.Failure.{Failure, TheVariants.Refused}}
+use Rattle.c_parts.specs.declared.status.Failure.TheVariants.{Memory, Absent, TooLarge}
 use Rattle.c_parts.specs.declared.formats.ContentRangeParts.{ContentRangeParts}
 
 -- the value if P holds, `Refused` only if it doesn't hold, and `Memory` only if it does

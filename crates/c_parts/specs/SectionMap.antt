@@ -1,12 +1,8 @@
 -- The map of the fields of a header section.
-use Rattle.std.specs.Prelude.{ℕ, List, Result, Ok, Err}
-use Rattle.http_header.{specs.FieldValue.FieldValue, specs.HeaderMap.Entries}
-use Rattle.http_header.specs.declared.map.HeaderMapError.{HeaderMapError}
-use Rattle.http_header.specs.declared.map.HeaderMapError.TheVariants.{MaxSizeReached, OutOfMemory}
-use Rattle.headers.specs.Typed.{HasLine}
-use Rattle.headers_section.specs.Section.{section, HasNoField, HasTooManyFields, Holds}
-use Rattle.c_parts.{specs.declared.status.Failure.Failure, specs.declared.status.Failure.TheVariants.{Refused, Memory}}
-use Rattle.c_parts.specs.declared.status.Failure.TheVariants.{Absent, TooLarge}
+use Rattle.{std.specs.Prelude.{ℕ, List, Result, Ok, Err}, http_header.specs.{FieldValue.FieldValue, HeaderMap.Entries}}
+use Rattle.http_header.specs.declared.map.HeaderMapError.{HeaderMapError, TheVariants.{MaxSizeReached, OutOfMemory}}
+use Rattle.{headers.specs.Typed.HasLine, headers_section.specs.Section.{section, HasNoField, HasTooManyFields, Holds}}
+use Rattle.c_parts.specs.declared.status.Failure.{Failure, TheVariants.{Refused, Memory, Absent, TooLarge}}
 
 -- What an answer says of an input: the map of its fields; `Refused` only if a line before the first empty one is no
 -- field; `TooLarge` only if all are fields and a map has no room for them; `Memory` only if there is such a line.

@@ -1,13 +1,11 @@
 -- The lines that a header writes of the value that its lines decode to.
 use Rattle.std.specs.Prelude.{◌≡◌, ◌⊎◌, ℕ, ◌||◌, Bool, List, [], ◌∷◌, ◌++◌, flat_map, All, Some, None, Result, Ok, Err}
-use Rattle.std.{specs.Prelude.{MatchBool, bytes_eq, codes}, specs.Global.Vec}
-use Rattle.http_header.{specs.FieldName.IsFieldName, specs.FieldValue.{FieldValue, IsFieldValue}, specs.Token.lowercase}
-use Rattle.headers.{specs.Basic.{ReadsBasic, UserPass, basic_scheme, basic_writes}, specs.Bearer.ReadsBearer}
-use Rattle.headers.{specs.Bearer.{bearer_scheme, bearer_writes}, specs.Lines.{Line, lines_of}, specs.Scheme.FirstReads}
-use Rattle.headers.specs.Typed.{HasLine}
-use Rattle.headers_section.specs.CanonicalText.{Block, IsBlock}
-use Rattle.c_parts.{specs.FieldText.{IsNameOf, field_lines}, specs.declared.status.Failure.Failure}
-use Rattle.c_parts.specs.declared.status.Failure.TheVariants.{Refused, Memory, Absent, TooLarge}
+use Rattle.{std.specs.{Prelude.{MatchBool, bytes_eq, codes}, Global.Vec}, http_header.specs.FieldName.IsFieldName}
+use Rattle.{http_header.specs.{FieldValue.{FieldValue, IsFieldValue}, Token.lowercase}, headers.specs.Basic.ReadsBasic}
+use Rattle.headers.specs.{Basic.{UserPass, basic_scheme, basic_writes}, Bearer.{ReadsBearer, bearer_scheme}}
+use Rattle.headers.specs.{Bearer.bearer_writes, Lines.{Line, lines_of}, Scheme.FirstReads, Typed.HasLine}
+use Rattle.{headers_section.specs.CanonicalText.{Block, IsBlock}, c_parts.specs.FieldText.{IsNameOf, field_lines}}
+use Rattle.c_parts.specs.declared.status.Failure.{Failure, TheVariants.{Refused, Memory, Absent, TooLarge}}
 
 -- each line, and a byte 10 after it
 abbrev pub lines_text : List Line → List ℕ

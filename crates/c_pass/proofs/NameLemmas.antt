@@ -1,12 +1,11 @@
 -- The names of fields that lines are, one each.
 use Rattle.std.proofs.Common.{◌≡◌, ◌∙◌, ℕ, zero, suc, ◌+◌, ◌<◌, List, [], ◌∷◌, ◌++◌, All, length, take, get_or, refl}
-use Rattle.std.{proofs.Common.{sym, ap, subst, arith, Err}, specs.Prelude.map, proofs.lemmas.List.map-append}
-use Rattle.std.{proofs.lemmas.List.take_more, proofs.lemmas.List.Elements.{All-get_or, All-push, All-weaker}}
-use Rattle.http_header.{specs.FieldName.IsFieldName, specs.FieldValue.{FieldValue, IsFieldValue}, specs.Token.lowercase}
+use Rattle.std.proofs.{Common.{sym, ap, subst, arith, Err}, lemmas.List.{map-append, take_more, Elements.All-get_or}}
+use Rattle.std.{proofs.lemmas.List.Elements.{All-push, All-weaker}, specs.Prelude.map}
+use Rattle.http_header.specs.{FieldName.IsFieldName, FieldValue.{FieldValue, IsFieldValue}, Token.lowercase}
 use Rattle.http_header.proofs.TokenLemmas.{IsFieldValue-from_visible, IsVisibleAscii-from_token}
-use Rattle.headers.{specs.Lines.{Line, lines_of}, specs.Typed.HasLine}
-use Rattle.c_parts.{specs.FieldText.{IsNameOf, field_lines}, specs.declared.status.Failure.Failure}
-use Rattle.c_parts.specs.declared.status.Failure.TheVariants.{Refused, Memory, Absent, TooLarge}
+use Rattle.{headers.specs.{Lines.{Line, lines_of}, Typed.HasLine}, c_parts.specs.FieldText.{IsNameOf, field_lines}}
+use Rattle.c_parts.specs.declared.status.Failure.{Failure, TheVariants.{Refused, Memory, Absent, TooLarge}}
 use Rattle.c_pass.specs.Names.{AreNames, IsNamesOf}
 
 -- these are the names that the lines are

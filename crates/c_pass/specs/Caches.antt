@@ -2,14 +2,12 @@
 use Rattle.std.{specs.Prelude.{◌≡◌, ⊤, ℕ, Bool, true, false, List, [], Result, Ok, Err}, specs.Str.IsUtf8}
 use Rattle.cache_policy.{specs.Policies.{Policy, plain}, specs.declared.Kind.Kind}
 use Rattle.cache_policy.specs.declared.Kind.TheVariants.{Shared as SharedKind, Private}
-use Rattle.cache_store.{specs.History.Call.Removed, specs.Kept.{contents_of, policy_of_store}}
-use Rattle.cache_store.specs.declared.limits.Limits.{Limits}
+use Rattle.cache_store.specs.{History.Call.Removed, Kept.{contents_of, policy_of_store}, declared.limits.Limits.Limits}
 use Rattle.cache_pass.specs.{Effects.{Does, kept_of, settings_of}, Removals.HasNone}
-use Rattle.c_parts.{specs.declared.keys.HashKeys.HashKeys, specs.declared.status.Failure.Failure}
-use Rattle.c_parts.specs.declared.status.Failure.TheVariants.{Refused, Memory, Absent, TooLarge}
-use Rattle.c_pass.{specs.Names.{AreNames, names_in}, specs.Reading.FailsText, specs.declared.held.Shared.Shared}
-use Rattle.c_pass.{specs.declared.opening.CacheExtensions.CacheExtensions}
-use Rattle.c_pass.specs.declared.opening.CacheOptions.{CacheOptions}
+use Rattle.c_parts.specs.declared.{keys.HashKeys.HashKeys, status.Failure.{Failure, TheVariants.{Refused, Memory}}}
+use Rattle.{c_parts.specs.declared.status.Failure.TheVariants.{Absent, TooLarge}, c_pass.specs.Names.AreNames}
+use Rattle.c_pass.specs.{Names.names_in, Reading.FailsText, declared.held.Shared.Shared}
+use Rattle.c_pass.specs.declared.opening.{CacheExtensions.CacheExtensions, CacheOptions.CacheOptions}
 
 abbrev pub kind_of : Bool → Kind
 kind_of true = SharedKind

@@ -4,8 +4,7 @@ use Rattle.cache_pass.{specs.declared.replying.First.First, specs.declared.reply
 use Rattle.cache_pass.specs.declared.replying.First.TheVariants as first
 use Rattle.cache_pass.specs.declared.revalidating.Next.{Next}
 use Rattle.cache_pass.specs.declared.revalidating.Next.TheVariants as next
-use Rattle.c_pass.{specs.declared.outcome.By.By, specs.declared.outcome.By.TheVariants.{Nothing, Fields, Stored, Once}}
-use Rattle.c_pass.specs.declared.outcome.PassOutcome.{PassOutcome}
+use Rattle.c_pass.specs.declared.outcome.{By.{By, TheVariants.{Nothing, Fields, Stored, Once}}, PassOutcome.PassOutcome}
 
 -- a stored response is sent, as the reply says
 abbrev pub by_reply : Reply → By

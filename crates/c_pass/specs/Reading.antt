@@ -1,11 +1,8 @@
 -- Requests and responses, as a caller hands them in.
-use Rattle.std.{specs.Prelude.{◌≡◌, ◌⊎◌, ℕ, List, Err}, specs.Str.IsUtf8}
-use Rattle.http_header.{specs.FieldValue.FieldValue, specs.HeaderMap.Entries, specs.Token.IsToken}
-use Rattle.headers.specs.LineMap.{lines_at}
-use Rattle.headers_section.specs.Section.{Holds}
-use Rattle.cache_policy.specs.Requests.{Request}
-use Rattle.c_decisions.specs.Methods.{IsMethodOf}
-use Rattle.c_parts.{specs.SectionMap.IsMapOf, specs.declared.status.Failure.Failure}
+use Rattle.std.specs.{Prelude.{◌≡◌, ◌⊎◌, ℕ, List, Err}, Str.IsUtf8}
+use Rattle.{http_header.specs.{FieldValue.FieldValue, HeaderMap.Entries, Token.IsToken}, headers.specs.LineMap.lines_at}
+use Rattle.{headers_section.specs.Section.Holds, cache_policy.specs.Requests.Request}
+use Rattle.{c_decisions.specs.Methods.IsMethodOf, c_parts.specs.{SectionMap.IsMapOf, declared.status.Failure.Failure}}
 use Rattle.c_parts.specs.declared.status.Failure.TheVariants.{Refused}
 use Rattle.c_pass.specs.declared.reading.CacheRequest.{CacheRequest}
 

@@ -2,15 +2,13 @@
 -- 4.3.2).
 use Rattle.std.specs.Prelude.{ℕ, ◌+◌, ◌-◌, ◌++◌, Bool, true, false, not, List, [], ◌∷◌, length, filter, flat_map}
 use Rattle.std.specs.Prelude.{bytes_eq, codes, decimal, min, ◌||◌, ◌&&◌}
-use Rattle.http_header.{specs.FieldValue.FieldValue, specs.HeaderMap.{Entries, pairs}}
-use Rattle.headers.specs.LineMap.{Field}
+use Rattle.{http_header.specs.{FieldValue.FieldValue, HeaderMap.{Entries, pairs}}, headers.specs.LineMap.Field}
 use Rattle.headers_ranges.specs.ContentBytes.{ContentBytes, content_text}
-use Rattle.headers_section.specs.CanonicalText.{line_text}
-use Rattle.decide_preconditions.{specs.Fields.{no_range, range_of}, specs.declared.part.Part.Part}
-use Rattle.cache_rules.{specs.declared.conditions.StoredAnswer.StoredAnswer}
+use Rattle.{headers_section.specs.CanonicalText.line_text, decide_preconditions.specs.Fields.{no_range, range_of}}
+use Rattle.decide_preconditions.specs.declared.part.Part.{Part}
+use Rattle.cache_rules.specs.declared.conditions.StoredAnswer.{StoredAnswer}
 use Rattle.cache_rules.specs.declared.conditions.StoredAnswer.TheVariants as answers
-use Rattle.cache_rules.specs.declared.stored.StoredResponse.{StoredResponse}
-use Rattle.cache_store.specs.Lookups.{age_of_stored}
+use Rattle.{cache_rules.specs.declared.stored.StoredResponse.StoredResponse, cache_store.specs.Lookups.age_of_stored}
 use Rattle.c_decisions.specs.FieldLines.{fields_text}
 
 -- a 304 says nothing of the content (RFC 9110, section 15.4.5)

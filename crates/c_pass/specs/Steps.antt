@@ -2,30 +2,22 @@
 use Rattle.std.specs.Prelude.{◌≡◌, ◌≢◌, ◌⊎◌, ◌+◌, ◌++◌, ◌&&◌, ◌<◌, ℕ, Bool, true, false, List, [], length, take, drop}
 use Rattle.std.specs.Prelude.{Option, Some, None, IsSome, IsSomeAnd, Result, Ok, Err, IfOk, MatchResult, is_some}
 use Rattle.std.specs.Prelude.{alloc_error, if◌then◌else◌, nat_le, option_map, unwrap_or}
-use Rattle.std.specs.declared.alloc.AllocError.{AllocError}
-use Rattle.http.specs.StatusCode.{IsStatusCode}
-use Rattle.http_header.{specs.FieldValue.FieldValue, specs.HeaderMap.Entries}
-use Rattle.headers_section.specs.Section.{Holds}
-use Rattle.cache_rules.specs.declared.storing.Reception.{Reception}
-use Rattle.cache_rules.specs.declared.storing.Reception.TheVariants.{Complete, Incomplete}
-use Rattle.cache_store.specs.History.Call.{Looked}
-use Rattle.cache_pass.{specs.Effects.{Does, kept_of, settings_of, stored_at}, specs.declared.pass.Pass.Pass}
-use Rattle.cache_pass.specs.Passes.{IsNotPassing, IsSameRequest, asked_of, key_of, request_of_pass}
-use Rattle.cache_pass.{specs.Queue.{Enters, is_open}, specs.declared.queue.Queue.Queue}
-use Rattle.cache_pass.specs.declared.pass.Phase.TheVariants.{Began}
-use Rattle.cache_pass.{specs.Steps.{HasBegun, HasCome, HasEnded, HasFailed}, specs.declared.replying.First.First}
-use Rattle.cache_pass.{specs.declared.replying.Reply.Reply, specs.declared.revalidating.Next.Next}
-use Rattle.c_decisions.specs.StatusCodes.{IsStatusOf}
-use Rattle.c_parts.{specs.Endings.{IsWritten, done}, specs.SectionMap.IsMapOf, specs.declared.status.Failure.Failure}
-use Rattle.c_parts.specs.declared.status.Failure.TheVariants.{Memory, Absent}
-use Rattle.c_pass.specs.Outcomes.{failed_outcome, first_outcome, next_outcome}
-use Rattle.c_pass.{specs.Caches.IsSameBeside, specs.Waiting.{IsAhead, IsPlaced, IsSettled, IsUnplaced}}
-use Rattle.c_pass.specs.declared.held.Place.TheVariants.{Apart, Waiting}
-use Rattle.c_pass.{specs.Reading.{FailsRequest, IsRequest, asked_by}, specs.Telling.{TakesMemory, is_head}}
-use Rattle.c_pass.specs.Telling.{outcome_told, waiting}
-use Rattle.c_pass.{specs.declared.held.Shared.Shared, specs.declared.held.Stepped.Stepped}
-use Rattle.c_pass.specs.declared.outcome.PassOutcome.{PassOutcome}
-use Rattle.c_pass.{specs.declared.reading.CacheRequest.CacheRequest, specs.declared.telling.PassFacts.PassFacts}
+use Rattle.{std.specs.declared.alloc.AllocError.AllocError, http.specs.StatusCode.IsStatusCode}
+use Rattle.{http_header.specs.{FieldValue.FieldValue, HeaderMap.Entries}, headers_section.specs.Section.Holds}
+use Rattle.cache_rules.specs.declared.storing.Reception.{Reception, TheVariants.{Complete, Incomplete}}
+use Rattle.{cache_store.specs.History.Call.Looked, cache_pass.specs.Effects.{Does, kept_of, settings_of, stored_at}}
+use Rattle.cache_pass.specs.declared.{pass.{Pass.Pass, Phase.TheVariants.Began}, queue.Queue.Queue}
+use Rattle.cache_pass.specs.declared.{replying.{First.First, Reply.Reply}, revalidating.Next.Next}
+use Rattle.cache_pass.specs.{Passes.{IsNotPassing, IsSameRequest, asked_of, key_of, request_of_pass}, Queue.Enters}
+use Rattle.cache_pass.specs.{Queue.is_open, Steps.{HasBegun, HasCome, HasEnded, HasFailed}}
+use Rattle.{c_decisions.specs.StatusCodes.IsStatusOf, c_parts.specs.{Endings.{IsWritten, done}, SectionMap.IsMapOf}}
+use Rattle.c_parts.specs.declared.status.Failure.{Failure, TheVariants.{Memory, Absent}}
+use Rattle.c_pass.specs.{Outcomes.{failed_outcome, first_outcome, next_outcome}, Caches.IsSameBeside, Waiting.IsAhead}
+use Rattle.c_pass.specs.{Waiting.{IsPlaced, IsSettled, IsUnplaced}, declared.held.Place.TheVariants.{Apart, Waiting}}
+use Rattle.c_pass.specs.declared.{held.{Shared.Shared, Stepped.Stepped}, outcome.PassOutcome.PassOutcome}
+use Rattle.c_pass.specs.declared.{reading.CacheRequest.CacheRequest, telling.PassFacts.PassFacts}
+use Rattle.c_pass.specs.{Reading.{FailsRequest, IsRequest, asked_by}, Telling.{TakesMemory, is_head, outcome_told}}
+use Rattle.c_pass.specs.Telling.{waiting}
 
 -- the outcome is told, and the pass shows the content of the stored response that it names in the cache
 abbrev pub Tells : (now : ℕ) → Shared → Stepped → PassOutcome → PassFacts → Type 0

@@ -1,16 +1,11 @@
 -- What is told of a step.
-use Rattle.std.{specs.Prelude.{◌≡◌, ⊤, ℕ, Bool, List, [], Option, Some, None, bytes_eq, codes}}
-use Rattle.std.specs.Option.{option_map_or}
-use Rattle.headers.specs.LineMap.{fields_of}
-use Rattle.cache_rules.specs.declared.conditions.StoredAnswer.{StoredAnswer}
-use Rattle.cache_rules.specs.declared.stored.StoredResponse.{StoredResponse}
-use Rattle.cache_store.specs.Numbers.{numbered}
-use Rattle.cache_pass.specs.declared.pass.Pass.{Pass}
-use Rattle.c_decisions.specs.FieldLines.{fields_text}
-use Rattle.c_pass.{specs.Sending.{part_sent, status_sent, text_sent}, specs.declared.outcome.By.By}
-use Rattle.c_pass.specs.declared.outcome.By.TheVariants.{Nothing, Fields, Stored, Once}
-use Rattle.c_pass.{specs.declared.outcome.PassOutcome.PassOutcome, specs.declared.telling.PassFacts.PassFacts}
-use Rattle.c_pass.specs.declared.telling.Told.{Told}
+use Rattle.std.specs.{Prelude.{◌≡◌, ⊤, ℕ, Bool, List, [], Option, Some, None, bytes_eq, codes}, Option.option_map_or}
+use Rattle.{headers.specs.LineMap.fields_of, cache_rules.specs.declared.conditions.StoredAnswer.StoredAnswer}
+use Rattle.{cache_rules.specs.declared.stored.StoredResponse.StoredResponse, cache_store.specs.Numbers.numbered}
+use Rattle.{cache_pass.specs.declared.pass.Pass.Pass, c_decisions.specs.FieldLines.fields_text}
+use Rattle.c_pass.specs.{Sending.{part_sent, status_sent, text_sent}, declared.outcome.By.{By, TheVariants.Nothing}}
+use Rattle.c_pass.specs.declared.outcome.{By.TheVariants.{Fields, Stored, Once}, PassOutcome.PassOutcome}
+use Rattle.c_pass.specs.declared.telling.{PassFacts.PassFacts, Told.Told}
 
 -- the client asks by HEAD, so no content is sent
 abbrev pub is_head : Pass → Bool

@@ -1,12 +1,9 @@
 -- The request by which what a pass has sent stale is validated, as text.
-use Rattle.std.specs.Prelude.{◌≡◌, ◌⊎◌, ℕ, List, flat_map, Result, Ok, Err}
-use Rattle.std.specs.Global.{Vec}
-use Rattle.http_header.{specs.FieldValue.FieldValue, specs.HeaderMap.{Entries, pairs}}
-use Rattle.headers.specs.LineMap.{lines_at}
-use Rattle.headers_section.specs.CanonicalText.{line_text}
-use Rattle.cache_rules.specs.Fields.{IsTooSmallFor}
-use Rattle.cache_pass.{specs.Validation.{IsValidationOf, fields_alone}, specs.declared.pass.Pass.Pass}
-use Rattle.c_parts.{specs.declared.status.Failure.Failure, specs.declared.status.Failure.TheVariants.{Memory, TooLarge}}
+use Rattle.std.specs.{Prelude.{◌≡◌, ◌⊎◌, ℕ, List, flat_map, Result, Ok, Err}, Global.Vec}
+use Rattle.{http_header.specs.{FieldValue.FieldValue, HeaderMap.{Entries, pairs}}, headers.specs.LineMap.lines_at}
+use Rattle.{headers_section.specs.CanonicalText.line_text, cache_rules.specs.Fields.IsTooSmallFor}
+use Rattle.cache_pass.specs.{Validation.{IsValidationOf, fields_alone}, declared.pass.Pass.Pass}
+use Rattle.c_parts.specs.declared.status.Failure.{Failure, TheVariants.{Memory, TooLarge}}
 use Rattle.c_pass.specs.Sending.{FieldLine}
 
 -- each field line of a map, after its name

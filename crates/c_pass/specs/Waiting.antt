@@ -1,9 +1,8 @@
 -- Where passes are in the queue of their cache.
 use Rattle.std.specs.Prelude.{◌≡◌, ◌⊎◌, ℕ, Option, Some, None, Ok, Err, alloc_error}
-use Rattle.cache_pass.{specs.Passes.key_of, specs.Queue.{Collapses, Enters, HasLeft, number_ahead}}
-use Rattle.cache_pass.{specs.declared.pass.Pass.Pass, specs.declared.pass.Phase.Phase}
-use Rattle.cache_pass.{specs.declared.pass.Phase.TheVariants.Ended, specs.declared.queue.Queue.Queue}
-use Rattle.c_pass.{specs.declared.held.Place.Place, specs.declared.held.Place.TheVariants.{Apart, Ahead, Waiting}}
+use Rattle.cache_pass.specs.{Passes.key_of, Queue.{Collapses, Enters, HasLeft, number_ahead}, declared.pass.Pass.Pass}
+use Rattle.cache_pass.specs.declared.{pass.Phase.{Phase, TheVariants.Ended}, queue.Queue.Queue}
+use Rattle.c_pass.specs.declared.held.Place.{Place, TheVariants.{Apart, Ahead, Waiting}}
 
 -- the number of the request for which a pass waits before it asks
 abbrev pub IsAhead : Queue → Pass → ℕ → Option ℕ → Type 0

@@ -1,13 +1,9 @@
 -- Lists by their places.
 use Rattle.std.proofs.Common.{◌≡◌, ℕ, zero, suc, ◌+◌, ◌<◌, List, [], ◌∷◌, ◌++◌, Some, arith, ◌∙◌, Bool, ap, get_or}
-use Rattle.std.proofs.Common.{length, length-append, map, option_map, refl, slice_get, subst, sym, zero-add, ◌||◌}
-use Rattle.std.proofs.Common.{All, inl, inr, take}
-use Rattle.std.{specs.List.list_any, proofs.lemmas.List.{map-append, take_more}}
-use Rattle.std.{proofs.lemmas.List.Elements.All-get_or, proofs.lemmas.Option.{slice_get-map, slice_get_cases}}
-use Rattle.std.proofs.lemmas.Option.{slice_get_read}
-use Rattle.http_header.specs.FieldValue.{FieldValue}
-use Rattle.headers.specs.Lines.{lines_of}
-use Rattle.c_resource.specs.Lists.{IsEachAt}
+use Rattle.std.proofs.Common.{length, length-append, map, option_map, refl, slice_get, subst, sym, zero-add, ◌||◌, All}
+use Rattle.std.proofs.{Common.{inl, inr, take}, lemmas.List.{map-append, take_more, Elements.All-get_or}}
+use Rattle.std.{proofs.lemmas.Option.{slice_get-map, slice_get_cases, slice_get_read}, specs.List.list_any}
+use Rattle.{http_header.specs.FieldValue.FieldValue, headers.specs.Lines.lines_of, c_resource.specs.Lists.IsEachAt}
 
 -- the value at a place of a list with one more: an old one at its place, or the new one at the end
 at_push : {X : Type 0} (P : ℕ → X → Type 0) (values : List X) (value : X) (start : ℕ)

@@ -1,9 +1,8 @@
 -- What is left once fields are set in their order.
 use Rattle.std.proofs.Common.{◌≡◌, ◌≢◌, ◌⊎◌, ◌∙◌, ℕ, Bool, true, false, List, [], ◌∷◌, inl, inr, refl, ap, sym, subst}
-use Rattle.std.{proofs.Common.{All, arith}, specs.Prelude.{bytes_eq, if◌then◌else◌}, specs.List.AllPairs}
-use Rattle.std.{proofs.lemmas.Bool.cases_Bool, proofs.lemmas.List.Elements.{All-cons, All-nil}}
-use Rattle.std.{proofs.lemmas.List.Kept.AllPairs-cons, proofs.lemmas.Slice.Eq.bytes_eq-Decides}
-use Rattle.headers.specs.LineMap.{Field, LineMap, set, set_all}
+use Rattle.std.proofs.{Common.{All, arith}, lemmas.{Bool.cases_Bool, List.Elements.{All-cons, All-nil}}}
+use Rattle.std.{proofs.lemmas.{List.Kept.AllPairs-cons, Slice.Eq.bytes_eq-Decides}, specs.Prelude.bytes_eq}
+use Rattle.{std.specs.{Prelude.if◌then◌else◌, List.AllPairs}, headers.specs.LineMap.{Field, LineMap, set, set_all}}
 use Rattle.c_resource.specs.Settled.{is_set_by, settled}
 
 -- a name that has the same lines in two maps has so after fields are set in both

@@ -1,19 +1,15 @@
 -- The whole answer of a resource, by what a caller hands in.
 use Rattle.std.specs.Prelude.{◌≡◌, ◌⊎◌, ℕ, List, map, option_map, Option, Result, Ok, Err}
-use Rattle.http_header.{specs.FieldValue.FieldValue, specs.HeaderMap.Entries, specs.Token.IsToken}
-use Rattle.headers.specs.LineMap.{fields_of, lines_at}
-use Rattle.headers_section.specs.Section.{Holds}
-use Rattle.decide_resource.{specs.Answers.IsAnswer, specs.Requests.Request, specs.declared.answer.Answer.Answer}
-use Rattle.decide_resource.specs.declared.resource.Resource.{Resource}
-use Rattle.c_decisions.{specs.FieldLines.fields_text, specs.Methods.IsMethodOf, specs.Selection.range_of}
-use Rattle.c_decisions.specs.declared.rules.Rules.{Rules}
-use Rattle.c_parts.{specs.SectionMap.IsMapOf, specs.declared.status.Failure.Failure}
-use Rattle.c_parts.specs.declared.status.Failure.TheVariants.{Memory}
+use Rattle.http_header.specs.{FieldValue.FieldValue, HeaderMap.Entries, Token.IsToken}
+use Rattle.{headers.specs.LineMap.{fields_of, lines_at}, headers_section.specs.Section.Holds}
+use Rattle.decide_resource.specs.{Answers.IsAnswer, Requests.Request, declared.answer.Answer.Answer}
+use Rattle.{decide_resource.specs.declared.resource.Resource.Resource, c_decisions.specs.FieldLines.fields_text}
+use Rattle.c_decisions.specs.{Methods.IsMethodOf, Selection.range_of, declared.rules.Rules.Rules}
+use Rattle.c_parts.specs.{SectionMap.IsMapOf, declared.status.Failure.{Failure, TheVariants.Memory}}
 use Rattle.c_resource.specs.Requests.{IsAuthorityAnswer, IsDenialAnswer, IsProtocolAnswer, authority_of, content_of}
-use Rattle.c_resource.{specs.Resources.{FailsAtResource, IsResource}, specs.Settled.settled, specs.Shown.IsTold}
-use Rattle.c_resource.{specs.Shown.parts_of, specs.declared.answer.Answered.Answered}
-use Rattle.c_resource.specs.declared.representation.RepresentationParts.{RepresentationParts}
-use Rattle.c_resource.{specs.declared.request.DenialParts.DenialParts, specs.declared.request.RequestParts.RequestParts}
+use Rattle.c_resource.specs.{Resources.{FailsAtResource, IsResource}, Settled.settled, Shown.{IsTold, parts_of}}
+use Rattle.c_resource.specs.declared.{answer.Answered.Answered, representation.RepresentationParts.RepresentationParts}
+use Rattle.c_resource.specs.declared.request.{DenialParts.DenialParts, RequestParts.RequestParts}
 use Rattle.c_resource.specs.declared.resource.ResourceParts.{ResourceParts}
 
 -- what is told of an answer, the parts that it sends, and the field lines of the fields that it sets

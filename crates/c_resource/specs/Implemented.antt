@@ -1,11 +1,8 @@
 -- The methods that a server implements, by what a caller hands in (RFC 9110, section 9.1).
-use Rattle.std.specs.Prelude.{◌≡◌, ◌⊎◌, ℕ, Bool, true, false, List, [], ◌∷◌, All, Result, Ok, Err, codes}
-use Rattle.std.specs.Global.{Vec}
-use Rattle.http_header.specs.Token.{IsToken}
-use Rattle.headers.{specs.Lines.Line, specs.Typed.HasLine}
-use Rattle.c_parts.{specs.FieldText.field_lines, specs.declared.status.Failure.Failure}
-use Rattle.c_parts.specs.declared.status.Failure.TheVariants.{Refused, Memory, Absent, TooLarge}
-use Rattle.c_decisions.specs.Texts.{IsValuesOf}
+use Rattle.std.specs.{Prelude.{◌≡◌, ◌⊎◌, ℕ, Bool, true, false, List, [], ◌∷◌, All, Result, Ok, Err, codes}, Global.Vec}
+use Rattle.{http_header.specs.Token.IsToken, headers.specs.{Lines.Line, Typed.HasLine}}
+use Rattle.c_parts.specs.{FieldText.field_lines, declared.status.Failure.{Failure, TheVariants.{Refused, Memory}}}
+use Rattle.{c_parts.specs.declared.status.Failure.TheVariants.{Absent, TooLarge}, c_decisions.specs.Texts.IsValuesOf}
 
 -- the methods are the lines; `Refused` only if a line is no token, and `Memory` only if there is a line
 abbrev pub AreMethods : List Line → Result (Vec Line) Failure → Type 0

@@ -1,11 +1,9 @@
 -- Lists as texts, with one value a line.
 use Rattle.std.specs.Prelude.{◌≡◌, ◌⊎◌, ℕ, ◌<◌, ◌≤◌, Bool, List, [], ◌∷◌, Option, Some, None, Result, Ok, Err, bytes_eq}
-use Rattle.std.{specs.Prelude.{length, slice_get}, specs.Global.Vec, specs.List.list_any}
-use Rattle.http_header.specs.FieldValue.{FieldValue}
-use Rattle.headers.specs.Lines.{Line}
-use Rattle.c_parts.{specs.FieldText.field_lines, specs.declared.status.Failure.Failure}
-use Rattle.c_parts.specs.declared.status.Failure.TheVariants.{Refused}
-use Rattle.c_decisions.specs.Texts.{AreValuesOf, IsValuesOf}
+use Rattle.{std.specs.{Prelude.{length, slice_get}, Global.Vec, List.list_any}, http_header.specs.FieldValue.FieldValue}
+use Rattle.{headers.specs.Lines.Line, c_parts.specs.{FieldText.field_lines, declared.status.Failure.Failure}}
+use Rattle.{c_parts.specs.declared.status.Failure.TheVariants.Refused, c_decisions.specs.Texts.AreValuesOf}
+use Rattle.c_decisions.specs.Texts.{IsValuesOf}
 
 -- the values are the lines of the text, at most so many; `Refused` only if a line can't be a value, or there are more
 abbrev pub IsListOf : ℕ → List ℕ → Result (Vec FieldValue) Failure → Type 0

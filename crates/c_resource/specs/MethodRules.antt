@@ -1,14 +1,11 @@
 -- The methods of a resource, by what a caller hands in.
 use Rattle.std.specs.Prelude.{◌≡◌, ◌⊎◌, ℕ, ◌≤◌, List, [], ◌∷◌, All, codes, length, slice_get, Option, Some, None}
-use Rattle.std.{specs.Prelude.{Result, Ok, Err, false}, specs.Global.Vec}
-use Rattle.http_header.{specs.FieldValue.IsFieldValue, specs.Token.IsToken}
-use Rattle.headers.{specs.LineMap.lines_at, specs.Lines.{Line, lines_of}}
-use Rattle.decide_resource.specs.declared.resource.MethodRule.{MethodRule}
-use Rattle.c_decisions.{specs.Methods.IsMethodOf, specs.Texts.IsValuesOf}
-use Rattle.c_parts.{specs.FieldText.field_lines, specs.declared.status.Failure.Failure}
-use Rattle.c_parts.specs.declared.status.Failure.TheVariants.{Memory}
-use Rattle.c_resource.specs.Lists.{IsEachAt, IsListOf, filled_at, is_named}
-use Rattle.c_resource.specs.declared.method_rule.RuleLists.{RuleLists}
+use Rattle.{std.specs.{Prelude.{Result, Ok, Err, false}, Global.Vec}, http_header.specs.FieldValue.IsFieldValue}
+use Rattle.{http_header.specs.Token.IsToken, headers.specs.{LineMap.lines_at, Lines.{Line, lines_of}}}
+use Rattle.{decide_resource.specs.declared.resource.MethodRule.MethodRule, c_decisions.specs.Methods.IsMethodOf}
+use Rattle.{c_decisions.specs.Texts.IsValuesOf, c_parts.specs.{FieldText.field_lines, declared.status.Failure.Failure}}
+use Rattle.{c_parts.specs.declared.status.Failure.TheVariants.Memory, c_resource.specs.Lists.{IsEachAt, IsListOf}}
+use Rattle.c_resource.specs.{Lists.{filled_at, is_named}, declared.method_rule.RuleLists.RuleLists}
 use Rattle.c_resource.specs.declared.resource.ResourceParts.{ResourceParts}
 
 -- what is said of methods: which create and which need a precondition, by their names, and what content each takes, at

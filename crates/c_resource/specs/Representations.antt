@@ -1,14 +1,11 @@
 -- The representations of a resource, by what a caller hands in.
 use Rattle.std.specs.Prelude.{◌≡◌, ◌⊎◌, ℕ, ◌≤◌, List, ◌∷◌, [], All, length, option_map, slice_get, Option, Some, None}
-use Rattle.std.{specs.Prelude.{Result, Ok, Err}, specs.Global.Vec}
-use Rattle.http_header.specs.FieldValue.{FieldValue, IsFieldValue}
-use Rattle.headers.specs.Lines.{Line, lines_of}
-use Rattle.decide_preconditions.{specs.declared.content.Content.Content, specs.declared.resource.Validators.Validators}
+use Rattle.{std.specs.{Prelude.{Result, Ok, Err}, Global.Vec}, http_header.specs.FieldValue.{FieldValue, IsFieldValue}}
+use Rattle.{headers.specs.Lines.{Line, lines_of}, decide_preconditions.specs.declared.content.Content.Content}
+use Rattle.decide_preconditions.specs.declared.resource.Validators.{Validators}
 use Rattle.decide_resource.specs.declared.representation.Representation.{Representation}
-use Rattle.c_decisions.{specs.Contents.limits_of, specs.Numbers.known, specs.Rules.FindsOfLine, specs.Targets.IsDateOf}
-use Rattle.c_decisions.specs.Targets.{reads_etag}
-use Rattle.c_parts.{specs.FieldText.field_lines, specs.declared.status.Failure.Failure}
-use Rattle.c_parts.specs.declared.status.Failure.TheVariants.{Memory}
+use Rattle.c_decisions.specs.{Contents.limits_of, Numbers.known, Rules.FindsOfLine, Targets.{IsDateOf, reads_etag}}
+use Rattle.c_parts.specs.{FieldText.field_lines, declared.status.Failure.{Failure, TheVariants.Memory}}
 use Rattle.c_resource.specs.Lists.{IsEachAt, IsListOf, filled_at}
 use Rattle.c_resource.specs.declared.representation.RepresentationLists.{RepresentationLists}
 use Rattle.c_resource.specs.declared.representation.RepresentationParts.{RepresentationParts}

@@ -1,18 +1,13 @@
 -- A request, by what a caller hands in.
 use Rattle.std.specs.Prelude.{◌≡◌, ◌⊎◌, ℕ, ◌==◌, Bool, false, ◌||◌, List, Option, Some, None, Result, Ok, Err, drop}
-use Rattle.std.specs.Prelude.{take}
-use Rattle.std.specs.Prelude.{if◌then◌else◌}
-use Rattle.http_header.specs.FieldValue.{FieldValue}
-use Rattle.gateway_messages.{specs.Targets.{authority_len, scheme_len}, specs.declared.protocol.Protocol.Protocol}
-use Rattle.gateway_messages.specs.declared.protocol.Protocol.TheVariants.{Http10, Http11}
-use Rattle.decide_resource.specs.declared.denied.Denied.{Denied}
-use Rattle.decide_resource.specs.declared.denied.Denied.TheVariants.{Unauthenticated, Forbidden, TooManyRequests}
-use Rattle.decide_resource.specs.declared.denied.Denied.TheVariants.{Unavailable}
-use Rattle.decide_resource.specs.declared.request.RequestContent.{RequestContent}
-use Rattle.decide_resource.specs.declared.request.RequestContent.TheVariants.{Absent, Sized, Unsized}
-use Rattle.c_decisions.specs.Numbers.{known}
-use Rattle.c_parts.{specs.declared.status.Failure.Failure, specs.declared.status.Failure.TheVariants.Refused}
-use Rattle.c_resource.{specs.Values.IsFilledValue, specs.declared.request.DenialParts.DenialParts}
+use Rattle.std.specs.Prelude.{take, if◌then◌else◌}
+use Rattle.{http_header.specs.FieldValue.FieldValue, gateway_messages.specs.Targets.{authority_len, scheme_len}}
+use Rattle.gateway_messages.specs.declared.protocol.Protocol.{Protocol, TheVariants.{Http10, Http11}}
+use Rattle.decide_resource.specs.declared.denied.Denied.{Denied, TheVariants.{Unauthenticated, Forbidden}}
+use Rattle.decide_resource.specs.declared.denied.Denied.TheVariants.{TooManyRequests, Unavailable}
+use Rattle.decide_resource.specs.declared.request.RequestContent.{RequestContent, TheVariants.{Absent, Sized, Unsized}}
+use Rattle.{c_decisions.specs.Numbers.known, c_parts.specs.declared.status.Failure.{Failure, TheVariants.Refused}}
+use Rattle.c_resource.specs.{Values.IsFilledValue, declared.request.DenialParts.DenialParts}
 use Rattle.c_resource.specs.declared.request.RequestParts.{RequestParts}
 
 -- ---- the version

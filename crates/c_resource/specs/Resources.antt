@@ -1,19 +1,16 @@
 -- A resource, by what a caller hands in.
 use Rattle.std.specs.Prelude.{◌≡◌, ◌≢◌, ◌⊎◌, ℕ, ◌<◌, ◌==◌, Bool, true, false, List, [], ◌∷◌, codes, if◌then◌else◌}
-use Rattle.std.{specs.Prelude.{Option, Some, None, Result, Ok, Err}, specs.Global.Vec}
-use Rattle.http_header.specs.FieldValue.{FieldValue}
-use Rattle.decide_cors.specs.Policy.{Policy}
-use Rattle.decide_resource.specs.declared.representation.Negotiation.{Negotiation}
-use Rattle.decide_resource.specs.declared.resource.Redirect.{Redirect}
+use Rattle.std.specs.{Prelude.{Option, Some, None, Result, Ok, Err}, Global.Vec}
+use Rattle.{http_header.specs.FieldValue.FieldValue, decide_cors.specs.Policy.Policy}
+use Rattle.decide_resource.specs.declared.{representation.Negotiation.Negotiation, resource.Redirect.Redirect}
 use Rattle.decide_resource.specs.declared.resource.Redirect.TheVariants.{MovedPermanently, Temporary, Permanent}
-use Rattle.decide_resource.{specs.declared.resource.Resource.Resource, specs.declared.resource.State.State}
-use Rattle.decide_resource.specs.declared.resource.State.TheVariants.{Current, Absent, Gone, Moved, Server}
-use Rattle.c_decisions.{specs.Contents.IsBoundaryOf, specs.Numbers.known, specs.Rules.IsPolicyAnswer}
-use Rattle.c_decisions.{specs.Texts.IsValuesOf, specs.declared.rules.Rules.Rules}
-use Rattle.c_parts.{specs.declared.status.Failure.Failure, specs.declared.status.Failure.TheVariants.Refused}
-use Rattle.c_resource.{specs.Implemented.{AreImplemented, FailsAtMethods}, specs.MethodRules.IsRulesAnswer}
-use Rattle.c_resource.specs.Representations.{IsRepresentationsAnswer}
-use Rattle.c_resource.specs.Values.{IsFilledValue}
+use Rattle.decide_resource.specs.declared.resource.{Resource.Resource, State.{State, TheVariants.{Current, Absent}}}
+use Rattle.decide_resource.specs.declared.resource.State.TheVariants.{Gone, Moved, Server}
+use Rattle.c_decisions.specs.{Contents.IsBoundaryOf, Numbers.known, Rules.IsPolicyAnswer, Texts.IsValuesOf}
+use Rattle.{c_decisions.specs.declared.rules.Rules.Rules, c_parts.specs.declared.status.Failure.Failure}
+use Rattle.{c_parts.specs.declared.status.Failure.TheVariants.Refused, c_resource.specs.Implemented.AreImplemented}
+use Rattle.c_resource.specs.{Implemented.FailsAtMethods, MethodRules.IsRulesAnswer}
+use Rattle.c_resource.specs.{Representations.IsRepresentationsAnswer, Values.IsFilledValue}
 use Rattle.c_resource.specs.declared.representation.RepresentationParts.{RepresentationParts}
 use Rattle.c_resource.specs.declared.resource.ResourceParts.{ResourceParts}
 

@@ -6,8 +6,7 @@ use Rattle.decide_resource.{specs.declared.answer.Answer.Answer, specs.declared.
 use Rattle.decide_resource.specs.declared.answer.Sends.TheVariants as sends
 use Rattle.decide_resource.specs.declared.reason.Reason.{Reason}
 use Rattle.decide_resource.specs.declared.reason.Reason.TheVariants as reason
-use Rattle.c_decisions.specs.Flags.{flag_of}
-use Rattle.c_resource.specs.declared.shown.AnswerFacts.{AnswerFacts}
+use Rattle.{c_decisions.specs.Flags.flag_of, c_resource.specs.declared.shown.AnswerFacts.AnswerFacts}
 
 -- the number of each reason in typed_headers.h
 abbrev pub reason_number : Reason → ℕ

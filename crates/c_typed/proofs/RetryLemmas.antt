@@ -1,13 +1,10 @@
 -- When to try again, by the first of the header values.
 use Rattle.std.proofs.Common.{◌≡◌, ◌∙◌, ℕ, List, [], ◌∷◌, All, Option, Some, None, Ok, ap, arith, option_map, refl}
-use Rattle.std.{specs.Option.option_and_then, specs.List.slice_get}
-use Rattle.http_header.specs.FieldValue.{FieldValue, IsFieldValue}
-use Rattle.headers.{specs.HeaderLaws.ReadsBy, specs.Lines.{Line, first_line, lines_of}}
-use Rattle.headers.specs.RetryAfter.{retry_after_grammar}
+use Rattle.{std.specs.{Option.option_and_then, List.slice_get}, http_header.specs.FieldValue.{FieldValue, IsFieldValue}}
+use Rattle.headers.specs.{HeaderLaws.ReadsBy, Lines.{Line, first_line, lines_of}, RetryAfter.retry_after_grammar}
 use Rattle.headers.specs.RetryTime.{RetryTime as Time, retry_time}
-use Rattle.c_parts.specs.FieldText.{field_lines}
-use Rattle.c_typed.{specs.Policies.{ShowsRetryTime, retry_shown}, specs.Shown.FieldShows}
-use Rattle.c_typed.specs.declared.policies.RetryTime.{RetryTime}
+use Rattle.{c_parts.specs.FieldText.field_lines, c_typed.specs.Policies.{ShowsRetryTime, retry_shown}}
+use Rattle.c_typed.specs.{Shown.FieldShows, declared.policies.RetryTime.RetryTime}
 
 first_is : (values : List FieldValue) (line : FieldValue) → slice_get values 0 ≡ Some line
     → (rest : List FieldValue) × (values ≡ line ∷ rest)

@@ -1,10 +1,8 @@
 -- Content ranges and dispositions, as C sees them.
-use Rattle.std.{specs.Prelude.{◌≡◌, ◌↔◌, ◌≤◌, ℕ, List, Some, codes, is_some}, specs.Option.unwrap_or}
-use Rattle.http_header.specs.FieldValue.{FieldValue}
-use Rattle.headers.{specs.ContentBytes.ContentBytes, specs.Disposition.disposition_of, specs.HeaderLaws.ReadsBy}
-use Rattle.headers.{specs.Lines.Line, specs.Shapes.first_kept}
-use Rattle.c_decisions.specs.Flags.{flag_of}
-use Rattle.c_parts.specs.declared.formats.ContentRangeParts.{ContentRangeParts}
+use Rattle.std.specs.{Prelude.{◌≡◌, ◌↔◌, ◌≤◌, ℕ, List, Some, codes, is_some}, Option.unwrap_or}
+use Rattle.{http_header.specs.FieldValue.FieldValue, headers.specs.ContentBytes.ContentBytes}
+use Rattle.headers.specs.{Disposition.disposition_of, HeaderLaws.ReadsBy, Lines.Line, Shapes.first_kept}
+use Rattle.{c_decisions.specs.Flags.flag_of, c_parts.specs.declared.formats.ContentRangeParts.ContentRangeParts}
 
 -- the numbers of the range and the length; those that aren't there are 0
 abbrev pub parts_of : ContentBytes → ContentRangeParts

@@ -1,11 +1,8 @@
 -- Cookies, as C sees them.
-use Rattle.std.specs.Prelude.{◌≡◌, ◌⊎◌, ℕ, List, [], ◌∷◌, ◌++◌, flat_map, Some, None, Result, Ok, Err}
-use Rattle.std.specs.Global.{Vec}
-use Rattle.headers.{specs.HeaderLaws.ReadsBy, specs.Lines.Line, specs.Merge.merged, specs.Places.{items, semicolon}}
-use Rattle.headers.specs.Typed.{HasLine}
-use Rattle.headers_items.specs.Pairs.{Pair, first_value, pairs}
-use Rattle.c_parts.{specs.FieldText.{FieldDecodes, FieldReads, field_lines}, specs.declared.status.Failure.Failure}
-use Rattle.c_parts.specs.declared.status.Failure.TheVariants.{Absent}
+use Rattle.std.specs.{Prelude.{◌≡◌, ◌⊎◌, ℕ, List, [], ◌∷◌, ◌++◌, flat_map, Some, None, Result, Ok, Err}, Global.Vec}
+use Rattle.headers.specs.{HeaderLaws.ReadsBy, Lines.Line, Merge.merged, Places.{items, semicolon}, Typed.HasLine}
+use Rattle.{headers_items.specs.Pairs.{Pair, first_value, pairs}, c_parts.specs.FieldText.{FieldDecodes, FieldReads}}
+use Rattle.c_parts.specs.{FieldText.field_lines, declared.status.Failure.{Failure, TheVariants.Absent}}
 
 -- all lines, joined by a semicolon and a space
 abbrev pub reads_cookies : List Line → List ℕ → Type 0

@@ -1,8 +1,7 @@
 -- Credentials, as C sees them.
-use Rattle.std.{specs.Prelude.{◌≡◌, ℕ, List, ◌++◌, length}, specs.Global.Vec}
-use Rattle.http_header.specs.FieldValue.{FieldValue}
-use Rattle.headers.{specs.Basic.{UserPass, password_of, user_of}, specs.Bearer.bearer_token, specs.Lines.Line}
-use Rattle.headers.specs.declared.authorization.Authorization.{Authorization}
+use Rattle.std.specs.{Prelude.{◌≡◌, ℕ, List, ◌++◌, length}, Global.Vec}
+use Rattle.{http_header.specs.FieldValue.FieldValue, headers.specs.Basic.{UserPass, password_of, user_of}}
+use Rattle.headers.specs.{Bearer.bearer_token, Lines.Line, declared.authorization.Authorization.Authorization}
 use Rattle.c_parts.specs.Written.{reads_basic, reads_bearer}
 use Rattle.c_typed.specs.declared.credentials.UserPassword.{UserPassword}
 

@@ -1,12 +1,10 @@
 -- Directives of `cache-control` with arguments, as C sees them.
 use Rattle.std.specs.Prelude.{◌≡◌, ℕ, true, List, [], ◌∷◌, ◌++◌, flat_map, is_some, Option, None, unwrap_or}
-use Rattle.std.specs.Prelude.{if◌then◌else◌}
-use Rattle.std.specs.{Global.Vec, Option.option_and_then, Option.option_map_or}
-use Rattle.headers.specs.Lines.{Line}
-use Rattle.rfc_fields.specs.{Directives.{DirectiveParts, directive_in, is_named}, Members.field_members, Scan.Member}
-use Rattle.rfc_fields.specs.{Scan.Member.{Whole, Malformed}, Values.{ValueParts, octets_of}}
-use Rattle.cache_fields.specs.{Directives.directed, declared.directives.Directives.Directives}
-use Rattle.c_decisions.specs.Flags.{flag_of}
+use Rattle.std.specs.{Prelude.if◌then◌else◌, Global.Vec, Option.{option_and_then, option_map_or}}
+use Rattle.{headers.specs.Lines.Line, rfc_fields.specs.Directives.{DirectiveParts, directive_in, is_named}}
+use Rattle.rfc_fields.specs.{Members.field_members, Scan.{Member, Member.{Whole, Malformed}}, Values.ValueParts}
+use Rattle.{rfc_fields.specs.Values.octets_of, cache_fields.specs.Directives.directed}
+use Rattle.{cache_fields.specs.declared.directives.Directives.Directives, c_decisions.specs.Flags.flag_of}
 use Rattle.c_typed.specs.declared.directives.StaleDirectives.{StaleDirectives}
 
 abbrev pub stale_shown : Directives → StaleDirectives

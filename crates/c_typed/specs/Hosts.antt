@@ -1,14 +1,11 @@
 -- Hosts and origins, as C sees them.
-use Rattle.std.specs.Prelude.{◌≡◌, ℕ, ◌^◌, ◌-◌, ◌==◌, Bool, true, ◌&&◌, ◌||◌, List, [], ◌∷◌, ◌++◌}
-use Rattle.std.{specs.Prelude.{length, drop, Option, Some, None, bytes_eq}, specs.List.starts_with}
-use Rattle.http_uri.{specs.Grammar.authority_host, specs.Port.{IsPortNumberOf, IsPortNumberOfSome}}
-use Rattle.headers.{specs.Host.host_bytes, specs.Origin.{origin_authority, origin_host, origin_is_null, origin_scheme}}
-use Rattle.headers.{specs.Origin.{origin_text, tuple_text}, specs.declared.Host.Host, specs.declared.Origin.Origin}
-use Rattle.rfc_fields.specs.Numbers.{number_within}
-use Rattle.decide_cors.specs.SentOrigins.{is_port_number}
-use Rattle.c_decisions.specs.Flags.{flag_of}
-use Rattle.c_typed.{specs.declared.hosts.HostText.HostText, specs.declared.hosts.OriginText.OriginText}
-use Rattle.c_typed.specs.declared.hosts.PortNumber.{PortNumber}
+use Rattle.std.specs.Prelude.{◌≡◌, ℕ, ◌^◌, ◌-◌, ◌==◌, Bool, true, ◌&&◌, ◌||◌, List, [], ◌∷◌, ◌++◌, length, drop, Option}
+use Rattle.{std.specs.{Prelude.{Some, None, bytes_eq}, List.starts_with}, http_uri.specs.Grammar.authority_host}
+use Rattle.{http_uri.specs.Port.{IsPortNumberOf, IsPortNumberOfSome}, headers.specs.Host.host_bytes}
+use Rattle.headers.specs.Origin.{origin_authority, origin_host, origin_is_null, origin_scheme, origin_text, tuple_text}
+use Rattle.{headers.specs.declared.{Host.Host, Origin.Origin}, rfc_fields.specs.Numbers.number_within}
+use Rattle.{decide_cors.specs.SentOrigins.is_port_number, c_decisions.specs.Flags.flag_of}
+use Rattle.c_typed.specs.declared.hosts.{HostText.HostText, OriginText.OriginText, PortNumber.PortNumber}
 
 abbrev pub port_shown : Option ℕ → PortNumber
 port_shown None = record { number = 0; is_set = 0 }

@@ -1,11 +1,7 @@
 -- Members of lists between commas, as C sees them.
-use Rattle.std.{specs.Prelude.{◌≡◌, ℕ, Bool, List, filter, bytes_eq, if◌then◌else◌}, specs.Global.Vec}
-use Rattle.std.specs.List.{list_any}
-use Rattle.headers.{specs.HeaderLaws.ReadsBy, specs.ItemsState.is_entry, specs.Lines.Line, specs.Merge.merged}
-use Rattle.headers.specs.Places.{comma, items}
-use Rattle.headers_syntax.specs.AsciiCase.{same_name}
-use Rattle.c_decisions.specs.Flags.{flag_of}
-use Rattle.c_parts.specs.Written.{lines_text}
+use Rattle.std.specs.{Prelude.{◌≡◌, ℕ, Bool, List, filter, bytes_eq, if◌then◌else◌}, Global.Vec, List.list_any}
+use Rattle.headers.specs.{HeaderLaws.ReadsBy, ItemsState.is_entry, Lines.Line, Merge.merged, Places.{comma, items}}
+use Rattle.{headers_syntax.specs.AsciiCase.same_name, c_decisions.specs.Flags.flag_of, c_parts.specs.Written.lines_text}
 
 -- all lines, joined by a comma and a space
 abbrev pub reads_list : List Line → List ℕ → Type 0

@@ -1,10 +1,9 @@
 -- Parameters, as C sees them.
 use Rattle.std.specs.Prelude.{◌≡◌, ◌==◌, ℕ, ⊤, true, List, Option, Some, None, Result, Ok, Err, if◌then◌else◌}
-use Rattle.std.specs.{Global.Vec, List.list_all, Str.IsUtf8}
-use Rattle.http_header.specs.Token.{is_value_byte}
+use Rattle.{std.specs.{Global.Vec, List.list_all, Str.IsUtf8}, http_header.specs.Token.is_value_byte}
 use Rattle.{rfc_fields.specs.Values.is_token, rfc_lists.specs.{Extended.extended_text, Parameters.parameter_text}}
-use Rattle.rfc_lists.specs.declared.parameters.ParameterKind.{ParameterKind, TheVariants.{Extended, Plain}}
-use Rattle.rfc_lists.specs.declared.parameters.ParameterKind.TheVariants.{Quoted, Challenge}
+use Rattle.rfc_lists.specs.declared.parameters.ParameterKind.{ParameterKind, TheVariants.{Extended, Plain, Quoted}}
+use Rattle.rfc_lists.specs.declared.parameters.ParameterKind.TheVariants.{Challenge}
 use Rattle.c_parts.specs.declared.status.Failure.{Failure, TheVariants.{Refused, Memory, Absent, TooLarge}}
 
 -- the text that a value means, or `Refused` if it means none

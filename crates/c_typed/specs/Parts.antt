@@ -1,12 +1,9 @@
 -- Parts of fields, as C sees them.
-use Rattle.std.specs.Prelude.{◌≡◌, ℕ, ◌==◌, ◌<◌, ◌≤◌, List, Result, Err, if◌then◌else◌}
-use Rattle.std.specs.Global.{Vec}
-use Rattle.headers.specs.Lines.{Line}
-use Rattle.rfc_lists.specs.{Challenges.challenges_text, Elements.{elements_text, values_text}, Links.links_text}
-use Rattle.rfc_lists.specs.SetCookies.{set_cookies_text}
+use Rattle.std.specs.{Prelude.{◌≡◌, ℕ, ◌==◌, ◌<◌, ◌≤◌, List, Result, Err, if◌then◌else◌}, Global.Vec}
+use Rattle.{headers.specs.Lines.Line, rfc_lists.specs.{Challenges.challenges_text, Elements.elements_text}}
+use Rattle.rfc_lists.specs.{Elements.values_text, Links.links_text, SetCookies.set_cookies_text}
 use Rattle.rfc_lists.specs.declared.elements.Form.TheVariants.{Element, Disposition, Hop, Cache}
-use Rattle.c_parts.specs.declared.status.Failure.{Failure, TheVariants.Refused}
-use Rattle.c_typed.specs.Shown.{LinesShow}
+use Rattle.{c_parts.specs.declared.status.Failure.{Failure, TheVariants.Refused}, c_typed.specs.Shown.LinesShow}
 
 -- the parts of a list of elements, of challenges, of links, of cookies to be set, of dispositions, of hops, or of what
 -- caches did

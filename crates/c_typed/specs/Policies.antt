@@ -2,8 +2,7 @@
 use Rattle.std.specs.Prelude.{◌≡◌}
 use Rattle.headers.specs.RetryTime.{Delay, RetryTime as Time, Until}
 use Rattle.headers.specs.StrictTransportSecurity.{TransportSecurity as Security}
-use Rattle.c_decisions.specs.Flags.{flag_of}
-use Rattle.c_typed.specs.declared.policies.RetryTime.{RetryTime}
+use Rattle.{c_decisions.specs.Flags.flag_of, c_typed.specs.declared.policies.RetryTime.RetryTime}
 use Rattle.c_typed.specs.declared.policies.TransportSecurity.{TransportSecurity}
 
 abbrev pub ShowsSecurity : Security → TransportSecurity → Type 0

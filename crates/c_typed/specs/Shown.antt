@@ -1,8 +1,7 @@
 -- What a call shows of the value that field lines decode to.
 use Rattle.std.specs.Prelude.{◌≡◌, ◌⊎◌, ℕ, Bool, true, false, List, [], Result, Ok, Err, ⊤}
-use Rattle.headers.{specs.Lines.Line, specs.Typed.HasLine}
-use Rattle.c_parts.{specs.FieldText.{FieldDecodes, FieldReads, field_lines}, specs.declared.status.Failure.Failure}
-use Rattle.c_parts.specs.declared.status.Failure.TheVariants.{Refused, Memory, Absent, TooLarge}
+use Rattle.{headers.specs.{Lines.Line, Typed.HasLine}, c_parts.specs.FieldText.{FieldDecodes, FieldReads, field_lines}}
+use Rattle.c_parts.specs.declared.status.Failure.{Failure, TheVariants.{Refused, Memory, Absent, TooLarge}}
 use Rattle.c_decisions.specs.Texts.{FailsAt}
 
 -- The lines of the text decode to a value, and this is what a call shows of it. The failures are those of decoding:

@@ -1,13 +1,11 @@
 -- What the directives of a field direct, one after the other.
 use Rattle.std.proofs.Common.{◌≡◌, ◌∙◌, ℕ, zero, suc, ◌<◌, Bool, true, false, List, [], ◌∷◌, Any, Option, Some, None}
-use Rattle.std.{proofs.Common.{length, get_or, refl, sym, ap, subst, inl, inr, arith}, specs.Prelude.{⊤, ◌||◌, IsTrue}}
-use Rattle.std.{specs.Prelude.{IsSomeAnd, option_map, codes}, specs.Option.{option_map_or, option_or}}
-use Rattle.std.{specs.List.list_any, proofs.lemmas.Bool.{cases_Bool, or_left, or_right}}
-use Rattle.headers_map.specs.LineMap.{LineMap}
-use Rattle.rfc_fields.{specs.Directives.{DirectiveParts, is_named}, specs.Scan.Member}
-use Rattle.cache_fields.specs.Directives.{IsMalformed, Says, all_said, directed, directed_by, asks_always}
-use Rattle.cache_fields.specs.Directives.{directs, is_argued, members, nothing, said_in}
-use Rattle.cache_fields.specs.Directives.{stores_nothing, strictest, with_later}
+use Rattle.std.proofs.{Common.{length, get_or, refl, sym, ap, subst, inl, inr, arith}, lemmas.Bool.cases_Bool}
+use Rattle.std.{proofs.lemmas.Bool.{or_left, or_right}, specs.Prelude.{⊤, ◌||◌, IsTrue, IsSomeAnd, option_map, codes}}
+use Rattle.{std.specs.{Option.{option_map_or, option_or}, List.list_any}, headers_map.specs.LineMap.LineMap}
+use Rattle.rfc_fields.specs.{Directives.{DirectiveParts, is_named}, Scan.Member}
+use Rattle.cache_fields.specs.Directives.{IsMalformed, Says, all_said, directed, directed_by, asks_always, directs}
+use Rattle.cache_fields.specs.Directives.{is_argued, members, nothing, said_in, stores_nothing, strictest, with_later}
 use Rattle.cache_fields.specs.declared.directives.Directives.{Directives}
 
 or_assoc : (a b c : Bool) → (a || (b || c)) ≡ ((a || b) || c)

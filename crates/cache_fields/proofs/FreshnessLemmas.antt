@@ -1,9 +1,8 @@
 -- What follows from the rows of `HasLifetime` and `HasHeuristic`.
 use Rattle.std.proofs.Common.{◌≡◌, ℕ, ◌-◌, ◌/◌, Option, Some, None, MatchOption, refl, ap, inl, inr, codes}
-use Rattle.headers_map.specs.LineMap.{LineMap}
-use Rattle.cache_fields.{specs.Directives.directed, specs.Fields.{capped, date_in, dated}, specs.Freshness.HasHeuristic}
-use Rattle.cache_fields.specs.Freshness.{HasLifetime, StatesAge, StatesNoAge}
-use Rattle.cache_fields.{specs.declared.directives.Directives.Directives, specs.declared.kind.Kind.Kind}
+use Rattle.{headers_map.specs.LineMap.LineMap, cache_fields.specs.{Directives.directed, Fields.{capped, date_in}}}
+use Rattle.cache_fields.specs.{Fields.dated, Freshness.{HasHeuristic, HasLifetime, StatesAge, StatesNoAge}}
+use Rattle.cache_fields.specs.declared.{directives.Directives.Directives, kind.Kind.Kind}
 
 stated_once : (kind : Kind) (d : Directives) (n m : ℕ) → StatesAge kind d n → StatesAge kind d m → n ≡ m
 stated_once kind d n m (inl h) (inl k) = cc (h, k)

@@ -1,7 +1,6 @@
 -- What the members of a targeted field say, one after the other.
 use Rattle.std.proofs.Common.{◌≡◌, ℕ, List, [], ◌∷◌, ◌++◌, refl, ◌∙◌, ap, Option, Some, None, option_and_then}
-use Rattle.std.proofs.Common.{option_map}
-use Rattle.headers_syntax.{specs.Lines.Line, specs.Text.trim}
+use Rattle.{std.proofs.Common.option_map, headers_syntax.specs.{Lines.Line, Text.trim}}
 use Rattle.rfc_values.specs.Dictionaries.{Entry, MemberParts, dictionary, entry, members_in}
 use Rattle.rfc_values.proofs.DictionaryLemmas.{members-end, members-malformed, members-next}
 use Rattle.cache_fields.specs.Targets.{all_members, told_after, with_member}

@@ -1,8 +1,7 @@
 -- How old a response is (RFC 9111, section 4.2.3).
 use Rattle.std.specs.Prelude.{ℕ, ◌+◌, ◌-◌, max}
-use Rattle.headers_map.specs.LineMap.{LineMap}
-use Rattle.rfc_values.specs.Calendar.{unix_epoch}
-use Rattle.cache_fields.{specs.Fields.{age_value, dated}, specs.declared.age.Times.Times}
+use Rattle.{headers_map.specs.LineMap.LineMap, rfc_values.specs.Calendar.unix_epoch}
+use Rattle.cache_fields.specs.{Fields.{age_value, dated}, declared.age.Times.Times}
 
 -- The terms of the section, in its words. Numbers here have no bound, and a difference below zero is 0.
 module _ (times : Times) (response : LineMap) where

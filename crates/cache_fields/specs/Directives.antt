@@ -1,12 +1,10 @@
 -- What Cache-Control directs (RFC 9111, section 5.2, and RFC 5861).
 use Rattle.std.specs.Prelude.{◌≡◌, ℕ, Bool, true, false, ◌&&◌, ◌||◌, List, [], ◌∷◌, Any, Option, Some, None, IsSomeAnd}
 use Rattle.std.specs.Prelude.{IsTrue, option_and_then, option_map, unwrap_or, codes, if◌then◌else◌, is_none, is_some}
-use Rattle.std.specs.Option.{option_map_or, option_or}
-use Rattle.headers_map.specs.LineMap.{LineMap}
-use Rattle.rfc_fields.{specs.Directives.{DirectiveParts, directive_in, is_named}, specs.Members.field_members}
-use Rattle.rfc_fields.{specs.Numbers.number_within, specs.Scan.Member, specs.Scan.Member.{Whole, Malformed}}
-use Rattle.rfc_fields.specs.Values.{octets_of}
-use Rattle.cache_fields.{specs.Fields.greatest, specs.declared.directives.Directives.Directives}
+use Rattle.{std.specs.Option.{option_map_or, option_or}, headers_map.specs.LineMap.LineMap}
+use Rattle.rfc_fields.specs.{Directives.{DirectiveParts, directive_in, is_named}, Members.field_members}
+use Rattle.rfc_fields.specs.{Numbers.number_within, Scan.{Member, Member.{Whole, Malformed}}, Values.octets_of}
+use Rattle.cache_fields.specs.{Fields.greatest, declared.directives.Directives.Directives}
 
 -- the members of the field in all its lines, each line by itself
 abbrev pub members : LineMap → List Member

@@ -1,10 +1,8 @@
 -- What a cache reads of the fields of a message.
 use Rattle.std.specs.Prelude.{ℕ, ◌+◌, ◌-◌, ◌^◌, min, Bool, ◌==◌, List, [], ◌∷◌, Option, option_and_then, unwrap_or}
-use Rattle.std.{specs.Prelude.codes, specs.List.before_first}
-use Rattle.headers_map.{specs.LineMap.LineMap, specs.Typed.HasLine}
-use Rattle.headers_syntax.{specs.Lines.{Line, only_line}, specs.Text.trim}
-use Rattle.rfc_values.{specs.Calendar.unix_epoch, specs.Date.timestamp}
-use Rattle.rfc_fields.specs.Numbers.{number_within}
+use Rattle.{std.specs.{Prelude.codes, List.before_first}, headers_map.specs.{LineMap.LineMap, Typed.HasLine}}
+use Rattle.{headers_syntax.specs.{Lines.{Line, only_line}, Text.trim}, rfc_values.specs.Calendar.unix_epoch}
+use Rattle.{rfc_values.specs.Date.timestamp, rfc_fields.specs.Numbers.number_within}
 
 -- the message has a field of this name
 abbrev pub IsPresent : List ℕ → LineMap → Type 0

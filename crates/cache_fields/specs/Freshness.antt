@@ -1,10 +1,9 @@
 -- How long a response is fresh (RFC 9111, section 4.2).
 use Rattle.std.specs.Prelude.{◌≡◌, ◌⊎◌, ℕ, ◌-◌, ◌/◌, Bool, true, false, IsTrue, nat_eq, List, [], ◌∷◌, Option, Some}
-use Rattle.std.{specs.Prelude.{None, MatchOption, codes}, specs.List.list_any}
-use Rattle.headers_map.specs.LineMap.{LineMap}
-use Rattle.cache_fields.{specs.Directives.directed, specs.Fields.{IsPresent, capped, date_in, dated}}
-use Rattle.cache_fields.{specs.declared.directives.Directives.Directives, specs.declared.governing.Governing.Governing}
-use Rattle.cache_fields.{specs.declared.kind.Kind.Kind, specs.declared.kind.Kind.TheVariants.{Shared, Private}}
+use Rattle.{std.specs.{Prelude.{None, MatchOption, codes}, List.list_any}, headers_map.specs.LineMap.LineMap}
+use Rattle.cache_fields.specs.{Directives.directed, Fields.{IsPresent, capped, date_in, dated}}
+use Rattle.cache_fields.specs.declared.{directives.Directives.Directives, governing.Governing.Governing, kind.Kind.Kind}
+use Rattle.cache_fields.specs.declared.kind.Kind.TheVariants.{Shared, Private}
 
 -- `s-maxage` counts in a shared cache alone (section 5.2.2.10)
 abbrev pub shared_age : Kind → Directives → Option ℕ

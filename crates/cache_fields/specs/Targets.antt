@@ -1,14 +1,11 @@
 -- What governs a response in a cache that has a list of targeted fields (RFC 9213).
 use Rattle.std.specs.Prelude.{ℕ, Bool, true, false, List, [], ◌∷◌, ◌++◌, Option, Some, None, option_and_then}
-use Rattle.std.{specs.Prelude.{option_map, bytes_eq, codes, if◌then◌else◌, unwrap_or}, specs.Option.option_map_or}
-use Rattle.std.specs.Option.{option_or}
-use Rattle.headers_map.specs.LineMap.{LineMap}
-use Rattle.headers_syntax.{specs.Lines.Line, specs.Text.trim}
-use Rattle.rfc_fields.specs.Numbers.{number_within}
-use Rattle.rfc_values.{specs.Dictionaries.{MemberParts, dictionary}, specs.Items.ValueParts}
-use Rattle.rfc_values.specs.Items.ValueParts.{Integer, Boolean, Text, Other}
-use Rattle.cache_fields.{specs.Directives.nothing, specs.Fields.greatest, specs.Freshness.by_itself}
-use Rattle.cache_fields.{specs.declared.directives.Directives.Directives, specs.declared.governing.Governing.Governing}
+use Rattle.std.specs.{Prelude.{option_map, bytes_eq, codes, if◌then◌else◌, unwrap_or}, Option.option_map_or}
+use Rattle.{std.specs.Option.option_or, headers_map.specs.LineMap.LineMap, headers_syntax.specs.{Lines.Line, Text.trim}}
+use Rattle.{rfc_fields.specs.Numbers.number_within, rfc_values.specs.Dictionaries.{MemberParts, dictionary}}
+use Rattle.rfc_values.specs.Items.{ValueParts, ValueParts.{Integer, Boolean, Text, Other}}
+use Rattle.cache_fields.specs.{Directives.nothing, Fields.greatest, Freshness.by_itself}
+use Rattle.cache_fields.specs.declared.{directives.Directives.Directives, governing.Governing.Governing}
 
 -- ---- one member (section 2.1)
 

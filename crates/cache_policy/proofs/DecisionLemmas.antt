@@ -1,17 +1,15 @@
 -- What follows from the rows of `Answers`, and from the sums of an age.
 use Rattle.std.proofs.Common.{◌≡◌, ℕ, ◌+◌, ◌-◌, ◌<◌, ◌≤◌, min, Option, Some, None, refl, arith, inl, inr}
-use Rattle.std.specs.Prelude.{◌⊎◌, IfSome, IsSomeAnd, unwrap_or}
-use Rattle.headers.specs.LineMap.{LineMap}
-use Rattle.cache_fields.{specs.Age.{age_at, corrected_initial_age}, specs.Directives.directed, specs.Fields.capped}
-use Rattle.cache_fields.{specs.Fields.greatest, specs.declared.age.Times.Times}
-use Rattle.cache_fields.{specs.declared.directives.Directives.Directives, specs.declared.kind.Kind.Kind}
-use Rattle.cache_fields.proofs.FreshnessLemmas.{one_lifetime}
-use Rattle.cache_policy.specs.Decisions.{Answers, AnswersUnstored, Decides, DecidesBy, DecidesMatched, IsFromStore}
-use Rattle.cache_policy.specs.Decisions.{IsGoodEnough, IsServable, IsServedMeanwhile, IsTakenStale, MayServeMeanwhile}
-use Rattle.cache_policy.{specs.Decisions.{MustBeFresh, freshness_at}, specs.Requests.Request}
-use Rattle.cache_policy.{specs.declared.decision.Decision.Decision, specs.declared.decision.Freshness.Freshness}
-use Rattle.cache_policy.specs.declared.decision.Decision.TheVariants.{Serve, ServeAndRevalidate, ServeStale, Revalidate}
+use Rattle.{std.specs.Prelude.{◌⊎◌, IfSome, IsSomeAnd, unwrap_or}, headers.specs.LineMap.LineMap}
+use Rattle.cache_fields.specs.{Age.{age_at, corrected_initial_age}, Directives.directed, Fields.{capped, greatest}}
+use Rattle.cache_fields.specs.declared.{age.Times.Times, directives.Directives.Directives, kind.Kind.Kind}
+use Rattle.{cache_fields.proofs.FreshnessLemmas.one_lifetime, cache_policy.specs.Decisions.{Answers, AnswersUnstored}}
+use Rattle.cache_policy.specs.Decisions.{Decides, DecidesBy, DecidesMatched, IsFromStore, IsGoodEnough, IsServable}
+use Rattle.cache_policy.specs.Decisions.{IsServedMeanwhile, IsTakenStale, MayServeMeanwhile, MustBeFresh, freshness_at}
+use Rattle.cache_policy.specs.{Requests.Request, declared.decision.Decision.{Decision, TheVariants.Serve}}
+use Rattle.cache_policy.specs.declared.decision.Decision.TheVariants.{ServeAndRevalidate, ServeStale, Revalidate}
 use Rattle.cache_policy.specs.declared.decision.Decision.TheVariants.{RevalidateOrServe, Unavailable, Fetch}
+use Rattle.cache_policy.specs.declared.decision.Freshness.{Freshness}
 
 module _ (kind : Kind) (asks tells : Directives) (freshness : Freshness) where
   -- an answer from the store is good enough

@@ -1,26 +1,23 @@
 -- Each response has a lifetime, and each request a decision.
 use Rattle.std.proofs.Common.{◌≡◌, ℕ, ◌+◌, ◌-◌, ◌/◌, ◌≤◌, Bool, true, false, List, Option, Some, None, codes, refl, ap}
 use Rattle.std.{proofs.Common.{inl, inr}, specs.Prelude.{IfSome, IsSomeAnd, IsTrue, length}}
-use Rattle.http.specs.Method.{is_among, safe_methods}
-use Rattle.http_header.specs.Token.{IsToken, is_token_byte}
-use Rattle.headers.{specs.LineMap.LineMap, specs.Lines.Line}
-use Rattle.rfc_fields.{specs.Members.field_members, specs.Scan.Member, specs.Scan.Member.{Whole, Malformed}}
-use Rattle.decide_preconditions.specs.Preconditions.{IsGetOrHead}
+use Rattle.{http.specs.Method.{is_among, safe_methods}, http_header.specs.Token.{IsToken, is_token_byte}}
+use Rattle.{headers.specs.{LineMap.LineMap, Lines.Line}, rfc_fields.specs.{Members.field_members, Scan.Member}}
+use Rattle.{rfc_fields.specs.Scan.Member.{Whole, Malformed}, decide_preconditions.specs.Preconditions.IsGetOrHead}
 use Rattle.cache_policy.specs.Decisions.{Answers, AnswersUnstored, Decides, DecidesBy, IsFresh, IsGoodEnough}
 use Rattle.cache_policy.specs.Decisions.{IsServable, MayServeMeanwhile, MayServeOnError, MayServeStale, MustBeFresh}
-use Rattle.cache_policy.{specs.Decisions.{freshness_at, staleness}, specs.Requests.{AllowsMethod, IsSafe}}
-use Rattle.cache_policy.{specs.Requests.Request, specs.Varying.{Agree, AreSame, HaveSameMembers, SayTheSame, Suits}}
-use Rattle.cache_policy.{specs.declared.decision.Decision.Decision, specs.declared.decision.Freshness.Freshness}
-use Rattle.cache_policy.specs.declared.decision.Decision.TheVariants.{Serve, ServeAndRevalidate, ServeStale, Revalidate}
-use Rattle.cache_policy.specs.declared.decision.Decision.TheVariants.{RevalidateOrServe, Unavailable, Fetch}
-use Rattle.cache_policy.proofs.DecidableLemmas.{IsDecidable, decide_All, decide_Bool, decide_IfSome, decide_IsSome}
-use Rattle.cache_policy.proofs.DecidableLemmas.{decide_IsSomeAnd, decide_both, decide_bytes, decide_either, decide_five}
-use Rattle.cache_policy.proofs.DecidableLemmas.{decide_if, decide_le, decide_list, decide_lt, decide_not, decide_three}
-use Rattle.cache_fields.{specs.Directives.directed, specs.declared.age.Times.Times}
-use Rattle.cache_fields.{specs.declared.directives.Directives.Directives, specs.declared.kind.Kind.Kind}
-use Rattle.cache_fields.{specs.Fields.{IsPresent, capped, date_in, dated}, specs.Freshness.{HasHeuristic, HasLifetime}}
-use Rattle.cache_fields.specs.Freshness.{MayGuess, by_itself, StatesNoAge, is_heuristic, shared_age}
-use Rattle.cache_fields.specs.declared.kind.Kind.TheVariants.{Shared, Private}
+use Rattle.cache_policy.specs.{Decisions.{freshness_at, staleness}, Requests.{AllowsMethod, IsSafe, Request}}
+use Rattle.cache_policy.specs.Varying.{Agree, AreSame, HaveSameMembers, SayTheSame, Suits}
+use Rattle.cache_policy.specs.declared.decision.Decision.{Decision, TheVariants.{Serve, ServeAndRevalidate, ServeStale}}
+use Rattle.cache_policy.specs.declared.decision.Decision.TheVariants.{Revalidate, RevalidateOrServe, Unavailable, Fetch}
+use Rattle.cache_policy.{specs.declared.decision.Freshness.Freshness, proofs.DecidableLemmas.{IsDecidable, decide_All}}
+use Rattle.cache_policy.proofs.DecidableLemmas.{decide_Bool, decide_IfSome, decide_IsSome, decide_IsSomeAnd}
+use Rattle.cache_policy.proofs.DecidableLemmas.{decide_both, decide_bytes, decide_either, decide_five, decide_if}
+use Rattle.cache_policy.proofs.DecidableLemmas.{decide_le, decide_list, decide_lt, decide_not, decide_three}
+use Rattle.cache_fields.specs.{Directives.directed, declared.{age.Times.Times, directives.Directives.Directives}}
+use Rattle.cache_fields.specs.{declared.kind.Kind.{Kind, TheVariants.{Shared, Private}}, Fields.{IsPresent, capped}}
+use Rattle.cache_fields.specs.{Fields.{date_in, dated}, Freshness.{HasHeuristic, HasLifetime, MayGuess, by_itself}}
+use Rattle.cache_fields.specs.Freshness.{StatesNoAge, is_heuristic, shared_age}
 
 -- ---- lifetimes
 

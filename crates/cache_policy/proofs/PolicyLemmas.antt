@@ -1,16 +1,14 @@
 -- What follows from the options of a policy.
-use Rattle.std.proofs.Common.{◌≡◌, ◌∙◌, Bool, true, false, ◌≤◌, inl, inr, sym, refl, ap, cond}
-use Rattle.std.{proofs.lemmas.Bool.le-ltb, specs.Prelude.{◌⊎◌, ◌&&◌, nat_lt, None}}
-use Rattle.headers.specs.LineMap.{LineMap}
+use Rattle.std.proofs.{Common.{◌≡◌, ◌∙◌, Bool, true, false, ◌≤◌, inl, inr, sym, refl, ap, cond}, lemmas.Bool.le-ltb}
+use Rattle.{std.specs.Prelude.{◌⊎◌, ◌&&◌, nat_lt, None}, headers.specs.LineMap.LineMap}
 use Rattle.cache_policy.specs.Decisions.{Answers, Decides, IsFromStore, IsServedMeanwhile, IsTakenStale}
-use Rattle.cache_policy.{specs.Decisions.{MayComeFromStore, MustBeFresh, counted}, specs.Policies.DecidesByUnder}
-use Rattle.cache_policy.{specs.Policies.{DecidesUnder, Policy, asks, plain, tells}, specs.Requests.Request}
-use Rattle.cache_policy.{specs.declared.decision.Decision.Decision, specs.declared.decision.Freshness.Freshness}
-use Rattle.cache_policy.specs.declared.decision.Decision.TheVariants.{Serve, ServeAndRevalidate, ServeStale, Revalidate}
-use Rattle.cache_policy.specs.declared.decision.Decision.TheVariants.{RevalidateOrServe, Unavailable, Fetch}
-use Rattle.cache_policy.proofs.DecisionLemmas.{stale_where_let, unstored_not_from_store}
-use Rattle.cache_fields.{specs.Directives.directed, specs.declared.age.Times.Times}
-use Rattle.cache_fields.{specs.declared.directives.Directives.Directives, specs.declared.kind.Kind.Kind}
+use Rattle.cache_policy.specs.{Decisions.{MayComeFromStore, MustBeFresh, counted}, Policies.DecidesByUnder}
+use Rattle.cache_policy.specs.{Policies.{DecidesUnder, Policy, asks, plain, tells}, Requests.Request}
+use Rattle.cache_policy.specs.declared.decision.Decision.{Decision, TheVariants.{Serve, ServeAndRevalidate, ServeStale}}
+use Rattle.cache_policy.specs.declared.decision.Decision.TheVariants.{Revalidate, RevalidateOrServe, Unavailable, Fetch}
+use Rattle.cache_policy.{specs.declared.decision.Freshness.Freshness, proofs.DecisionLemmas.stale_where_let}
+use Rattle.{cache_policy.proofs.DecisionLemmas.unstored_not_from_store, cache_fields.specs.Directives.directed}
+use Rattle.cache_fields.specs.declared.{age.Times.Times, directives.Directives.Directives, kind.Kind.Kind}
 
 -- ---- no options
 

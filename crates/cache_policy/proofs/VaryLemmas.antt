@@ -1,11 +1,9 @@
 -- What the comparison of values says of their lines, and what is left of lists that are compared.
 use Rattle.std.proofs.Common.{◌≡◌, ◌≢◌, List, [], ◌∷◌, All, Option, Some, None, refl, sym, inl, inr}
-use Rattle.std.{proofs.lemmas.Bool.cases_Bool, proofs.lemmas.Slice.Eq.bytes_eq-Decides}
-use Rattle.std.{proofs.lemmas.List.Elements.{All-cons, All-tail}, specs.Prelude.{Bool, true, false, ◌↔◌, bytes_eq}}
-use Rattle.std.{specs.Bool.{Decides, MatchBool}, specs.Cmp.Lexicographic.pointwise}
-use Rattle.http_header.specs.FieldValue.{FieldValue}
-use Rattle.headers.specs.Lines.{lines_of}
-use Rattle.rfc_fields.{specs.Scan.Member, specs.Scan.Member.{Whole, Malformed}}
+use Rattle.std.proofs.lemmas.{Bool.cases_Bool, Slice.Eq.bytes_eq-Decides, List.Elements.{All-cons, All-tail}}
+use Rattle.std.specs.{Prelude.{Bool, true, false, ◌↔◌, bytes_eq}, Bool.{Decides, MatchBool}}
+use Rattle.{std.specs.Cmp.Lexicographic.pointwise, http_header.specs.FieldValue.FieldValue}
+use Rattle.{headers.specs.Lines.lines_of, rfc_fields.specs.Scan.{Member, Member.{Whole, Malformed}}}
 use Rattle.cache_policy.specs.Varying.{AreSame, IsSame}
 
 -- the first of a list, if it has one, and what comes after it

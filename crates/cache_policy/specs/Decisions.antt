@@ -1,14 +1,13 @@
 -- What a cache does with a request that a stored response could answer (RFC 9111, section 4, and RFC 5861).
 use Rattle.std.specs.Prelude.{◌≡◌, ◌⊎◌, ⊤, ℕ, ◌+◌, ◌-◌, ◌<◌, ◌≤◌, Bool, true, false, ◌&&◌, nat_lt, Option, None, IfSome}
 use Rattle.std.specs.Prelude.{IsSome, if◌then◌else◌, IsSomeAnd, unwrap_or}
-use Rattle.headers.specs.LineMap.{LineMap}
-use Rattle.cache_fields.{specs.Age.age_at, specs.Directives.directed, specs.Fields.capped, specs.Freshness.HasLifetime}
-use Rattle.cache_fields.{specs.declared.age.Times.Times, specs.declared.directives.Directives.Directives}
-use Rattle.cache_fields.{specs.declared.kind.Kind.Kind, specs.declared.kind.Kind.TheVariants.{Shared, Private}}
-use Rattle.cache_policy.{specs.Requests.{IsSafe, Request}, specs.Varying.Suits}
-use Rattle.cache_policy.{specs.declared.decision.Decision.Decision, specs.declared.decision.Freshness.Freshness}
+use Rattle.{headers.specs.LineMap.LineMap, cache_fields.specs.{Age.age_at, Directives.directed, Fields.capped}}
+use Rattle.cache_fields.specs.{Freshness.HasLifetime, declared.{age.Times.Times, directives.Directives.Directives}}
+use Rattle.cache_fields.specs.declared.kind.Kind.{Kind, TheVariants.{Shared, Private}}
+use Rattle.cache_policy.specs.{Requests.{IsSafe, Request}, Varying.Suits, declared.decision.Decision.Decision}
 use Rattle.cache_policy.specs.declared.decision.Decision.TheVariants.{Serve, ServeAndRevalidate, ServeStale, Revalidate}
 use Rattle.cache_policy.specs.declared.decision.Decision.TheVariants.{RevalidateOrServe, Unavailable, Fetch}
+use Rattle.cache_policy.specs.declared.decision.Freshness.{Freshness}
 
 -- the response is fresh (section 4.2)
 abbrev pub IsFresh : Freshness → Type 0

@@ -1,10 +1,9 @@
 -- What a 304 changes of a stored response (RFC 9111, sections 3.2 and 4.3.4).
 use Rattle.std.specs.Prelude.{◌≡◌, ℕ, Bool, true, ◌&&◌, ◌||◌, not, nat_lt, List, [], ◌∷◌, length, filter, map, Option}
-use Rattle.std.{specs.Prelude.{MatchOption, bytes_eq, codes, if◌then◌else◌}, specs.List.list_any}
-use Rattle.http_header.{specs.FieldValue.FieldValue, specs.HeaderMap.{Entries, keys}}
-use Rattle.headers.{specs.LineMap.{Field, LineMap, fields_of, lines_at}, specs.declared.Encoded.Encoded}
-use Rattle.rfc_fields.{specs.Directives.is_same_token, specs.Members.field_members}
-use Rattle.cache_policy.specs.Updating.{IsUpdated}
+use Rattle.std.specs.{Prelude.{MatchOption, bytes_eq, codes, if◌then◌else◌}, List.list_any}
+use Rattle.{http_header.specs.{FieldValue.FieldValue, HeaderMap.{Entries, keys}}, headers.specs.LineMap.Field}
+use Rattle.headers.specs.{LineMap.{LineMap, fields_of, lines_at}, declared.Encoded.Encoded}
+use Rattle.{rfc_fields.specs.{Directives.is_same_token, Members.field_members}, cache_policy.specs.Updating.IsUpdated}
 
 -- The fields that no update changes: those of a connection (RFC 9110, section 7.6.1), those of a proxy (section 3.1),
 -- and those that speak of the stored content: its length, what was undone of it, and which part it is (section 3.2).

@@ -1,7 +1,6 @@
 -- A request as a cache sees it, and which methods a stored response answers.
 use Rattle.std.specs.Prelude.{◌≡◌, ◌⊎◌, ℕ, List, IsTrue, codes}
-use Rattle.http.specs.Method.{is_among, safe_methods}
-use Rattle.headers.specs.LineMap.{LineMap, lines_at}
+use Rattle.{http.specs.Method.{is_among, safe_methods}, headers.specs.LineMap.{LineMap, lines_at}}
 use Rattle.rfc_fields.specs.declared.request.RequestHead.{RequestHead}
 use Rattle.decide_preconditions.specs.Preconditions.{IsGetOrHead}
 

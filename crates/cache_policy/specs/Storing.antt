@@ -1,11 +1,9 @@
 -- What a cache may store (RFC 9111, section 3).
 use Rattle.std.specs.Prelude.{◌≡◌, ◌≢◌, ◌⊎◌, ⊤, ℕ, ◌≤◌, true, false, IsSome, codes}
-use Rattle.headers.specs.LineMap.{LineMap}
-use Rattle.cache_fields.specs.{Directives.directed, Fields.IsPresent, declared.directives.Directives.Directives}
-use Rattle.cache_fields.specs.{declared.governing.Governing.Governing, declared.kind.Kind.Kind}
-use Rattle.cache_fields.specs.Freshness.{HasExpires, IsHeuristic, by_itself}
-use Rattle.cache_fields.specs.declared.kind.Kind.TheVariants.{Shared, Private}
-use Rattle.decide_preconditions.specs.Preconditions.{IsGetOrHead}
+use Rattle.{headers.specs.LineMap.LineMap, cache_fields.specs.{Directives.directed, Fields.IsPresent}}
+use Rattle.cache_fields.specs.declared.{directives.Directives.Directives, governing.Governing.Governing, kind.Kind.Kind}
+use Rattle.cache_fields.specs.{declared.kind.Kind.TheVariants.{Shared, Private}, Freshness.{HasExpires, IsHeuristic}}
+use Rattle.{cache_fields.specs.Freshness.by_itself, decide_preconditions.specs.Preconditions.IsGetOrHead}
 use Rattle.cache_policy.specs.Requests.{Request}
 
 -- The status is final, the response is no part of another one, and the cache understands the status if

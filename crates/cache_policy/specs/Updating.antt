@@ -1,9 +1,8 @@
 -- Which stored response a 304 updates (RFC 9111, section 4.3.4).
 use Rattle.std.specs.Prelude.{◌≡◌, ◌⊎◌, Bool, true, take, drop, Option, IsTrue, IsSomeAnd, bytes_eq, codes}
-use Rattle.std.{specs.Prelude.if◌then◌else◌, specs.List.list_all}
-use Rattle.headers.{specs.LineMap.LineMap, specs.Lines.{Line, only_line}}
-use Rattle.rfc_fields.{specs.Directives.is_token_member, specs.Members.field_members}
-use Rattle.cache_fields.specs.Fields.{IsPresent}
+use Rattle.std.specs.{Prelude.if◌then◌else◌, List.list_all}
+use Rattle.{headers.specs.{LineMap.LineMap, Lines.{Line, only_line}}, rfc_fields.specs.Directives.is_token_member}
+use Rattle.{rfc_fields.specs.Members.field_members, cache_fields.specs.Fields.IsPresent}
 
 -- an entity tag is weak if it begins with `W/` (RFC 9110, section 8.8.3)
 abbrev pub is_weak : Line → Bool

@@ -1,9 +1,8 @@
 -- How the origin is asked whether a stored response is still good (RFC 9111, section 4.3.1).
-use Rattle.std.specs.Prelude.{◌≡◌, ◌≢◌, ◌⊎◌, ℕ, List, [], ◌∷◌, ◌-◌, ◌&&◌, Option, codes, option_and_then}
-use Rattle.std.specs.Prelude.{option_map, nat_le, nat_lt, if◌then◌else◌}
-use Rattle.headers.specs.{Date.fixdate, LineMap.Field, LineMap.LineMap, Lines.Line, Lines.only_line, Shapes.only_tag}
-use Rattle.headers.specs.{Text.trim, Typed.ReadsNothing}
-use Rattle.rfc_values.specs.{Calendar.unix_epoch, Date.timestamp}
+use Rattle.std.specs.Prelude.{◌≡◌, ◌≢◌, ◌⊎◌, ℕ, List, [], ◌∷◌, ◌-◌, ◌&&◌, Option, codes, option_and_then, option_map}
+use Rattle.std.specs.Prelude.{nat_le, nat_lt, if◌then◌else◌}
+use Rattle.headers.specs.{Date.fixdate, LineMap.{Field, LineMap}, Lines.{Line, only_line}, Shapes.only_tag, Text.trim}
+use Rattle.{headers.specs.Typed.ReadsNothing, rfc_values.specs.{Calendar.unix_epoch, Date.timestamp}}
 use Rattle.decide_preconditions.specs.Fields.{lines_sent}
 
 -- the entity tag of a response, if ETag is one

@@ -1,9 +1,8 @@
 -- Whether a stored response may answer another request, by its method and by Vary (RFC 9111, sections 4 and 4.1).
 use Rattle.std.specs.Prelude.{◌≡◌, ◌≢◌, ◌⊎◌, ℕ, Bool, true, not, List, [], ◌∷◌, All, IsTrue, Option, Some, None}
-use Rattle.std.{specs.Prelude.{bytes_eq, codes}, specs.List.{list_all, list_any}}
-use Rattle.http_header.specs.Token.{IsToken, lowercase}
-use Rattle.headers.{specs.LineMap.LineMap, specs.Lines.Line, specs.Typed.HasLine}
-use Rattle.rfc_fields.{specs.Members.{field_members, is_whole}, specs.Scan.Member, specs.Scan.Member.{Whole, Malformed}}
+use Rattle.{std.specs.{Prelude.{bytes_eq, codes}, List.{list_all, list_any}}, http_header.specs.Token.IsToken}
+use Rattle.{http_header.specs.Token.lowercase, headers.specs.{LineMap.LineMap, Lines.Line, Typed.HasLine}}
+use Rattle.rfc_fields.specs.{Members.{field_members, is_whole}, Scan.{Member, Member.{Whole, Malformed}}}
 use Rattle.cache_policy.specs.Requests.{AllowsMethod, Request}
 
 -- The fields of a request that are lists by comma, and have no comments: RFC 9110, sections 7.6.1, 7.8, 10.1.1, 10.1.4,

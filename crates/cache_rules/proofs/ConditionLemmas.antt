@@ -1,14 +1,13 @@
 -- The plans that a stored response can have for a request that a cache evaluates.
 use Rattle.std.proofs.Common.{◌≡◌, ℕ, ◌<◌, Bool, true, false, List, [], ◌∷◌, length, Option, Some, None, inl, inr, refl}
-use Rattle.std.{proofs.Common.{sym, arith}, proofs.lemmas.Bool.lt-ltb, specs.Prelude.codes}
-use Rattle.http_header.specs.FieldValue.{FieldValue, plain_value}
-use Rattle.headers.{specs.Lines.Line, specs.Shapes.only_tag, specs.Typed.HasLine}
-use Rattle.cache_policy.specs.Requests.{Request}
+use Rattle.std.{proofs.{Common.{sym, arith}, lemmas.Bool.lt-ltb}, specs.Prelude.codes}
+use Rattle.{http_header.specs.FieldValue.{FieldValue, plain_value}, headers.specs.{Lines.Line, Shapes.only_tag}}
+use Rattle.{headers.specs.Typed.HasLine, cache_policy.specs.Requests.Request}
 use Rattle.decide_preconditions.{proofs.HeadLemmas.never_unconditional, specs.Conditions.UnmodifiedSinceIsFalse}
-use Rattle.decide_preconditions.{specs.Limits.are_too_many, specs.Plans.IsPlanned, specs.declared.part.Part.Part}
-use Rattle.decide_preconditions.{specs.declared.plan.Plan.Plan, specs.declared.resource.Validators.Validators}
-use Rattle.decide_preconditions.specs.Preconditions.{Answers, AreIgnored, IsGetOrHead}
-use Rattle.decide_preconditions.specs.declared.resource.TargetState.TheVariants.{Missing, Current}
+use Rattle.decide_preconditions.specs.{Limits.are_too_many, Plans.IsPlanned, declared.{part.Part.Part, plan.Plan.Plan}}
+use Rattle.decide_preconditions.specs.declared.resource.{Validators.Validators, TargetState.TheVariants.Missing}
+use Rattle.decide_preconditions.specs.{declared.resource.TargetState.TheVariants.Current, Preconditions.Answers}
+use Rattle.decide_preconditions.specs.Preconditions.{AreIgnored, IsGetOrHead}
 use Rattle.cache_rules.specs.Conditions.{AreValidators, IsForCache, IsStoredAnswer, answer_of, divisible, one_part}
 use Rattle.cache_rules.specs.declared.stored.StoredResponse.{StoredResponse}
 use Rattle.decide_preconditions.specs.declared.plan.Plan.TheVariants as plan

@@ -1,13 +1,11 @@
 -- What fields leave of a stored response that another one validates.
-use Rattle.std.{proofs.Common.{◌≡◌, ◌≢◌, ◌∙◌, ℕ, Bool, true, false, List, ◌++◌, ap}, proofs.lemmas.List.map-append}
-use Rattle.std.specs.Bool.{MatchBool}
-use Rattle.http_header.{specs.FieldValue.FieldValue, specs.HeaderMap.{Entries, IsHeaderMap}}
-use Rattle.headers.specs.LineMap.{Field, LineMap, field_of, fields_of, lines_at, set_all}
-use Rattle.headers.{specs.declared.Encoded.Encoded, specs.Lines.Line, specs.Typed.HasLine}
-use Rattle.cache_policy.{proofs.FresheningLemmas.freshens, specs.Freshening.freshening_fields}
-use Rattle.cache_rules.specs.Freshening.{IsFreshened, IsRenewed, SaysAsBefore, aged_anew, aging_fields}
-use Rattle.cache_rules.{specs.Stored.fields_of_stored, specs.declared.freshening.Exchange.Exchange}
-use Rattle.cache_rules.specs.declared.stored.StoredResponse.{StoredResponse}
+use Rattle.std.proofs.{Common.{◌≡◌, ◌≢◌, ◌∙◌, ℕ, Bool, true, false, List, ◌++◌, ap}, lemmas.List.map-append}
+use Rattle.{std.specs.Bool.MatchBool, http_header.specs.{FieldValue.FieldValue, HeaderMap.{Entries, IsHeaderMap}}}
+use Rattle.headers.specs.{LineMap.{Field, LineMap, field_of, fields_of, lines_at, set_all}, declared.Encoded.Encoded}
+use Rattle.{headers.specs.{Lines.Line, Typed.HasLine}, cache_policy.proofs.FresheningLemmas.freshens}
+use Rattle.{cache_policy.specs.Freshening.freshening_fields, cache_rules.specs.Freshening.{IsFreshened, IsRenewed}}
+use Rattle.cache_rules.specs.{Freshening.{SaysAsBefore, aged_anew, aging_fields}, Stored.fields_of_stored}
+use Rattle.cache_rules.specs.declared.{freshening.Exchange.Exchange, stored.StoredResponse.StoredResponse}
 
 -- the fields that say how old a response is, and others after them
 pub aging_first : (received : ℕ) (aging later all : List Encoded) → fields_of aging ≡ aging_fields received

@@ -1,8 +1,6 @@
 -- Calls that return `Full`.
-use Rattle.std.proofs.Common.{◌≡◌, ◌∙◌, Result, IsErrOf, sym}
-use Rattle.std.proofs.lemmas.Result.{err_from_is_err_and}
-use Rattle.std.specs.Result.{IsErrAnd}
-use Rattle.headers_map.specs.{declared.insert.InsertError.InsertError, declared.insert.InsertError.TheVariants.Full}
+use Rattle.std.proofs.{Common.{◌≡◌, ◌∙◌, Result, IsErrOf, sym}, lemmas.Result.err_from_is_err_and}
+use Rattle.{std.specs.Result.IsErrAnd, headers_map.specs.declared.insert.InsertError.{InsertError, TheVariants.Full}}
 
 -- if `?` returns `Full`, the call before it did
 pub passed_full : {A : Type 0} (r : Result A InsertError) (error : InsertError)

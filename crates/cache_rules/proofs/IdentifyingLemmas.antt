@@ -1,18 +1,16 @@
 -- Which stored responses a 304 updates: all, one, or none.
 use Rattle.std.proofs.Common.{◌≡◌, ◌≢◌, ◌⊎◌, ◌↔◌, ℕ, ◌+◌, ◌<◌, ◌≤◌, List, [], ◌∷◌, ◌++◌, length, get_or, Option, Some}
-use Rattle.std.proofs.Common.{None, inl, inr, refl, sym, ◌∙◌, ap, subst, arith, rules}
-use Rattle.std.proofs.{lemmas.Bool.cases_order, lemmas.List.Quantifiers.all_pairs_push}
-use Rattle.std.proofs.lemmas.List.Elements.{Contains-append_left, Contains-push, Contains-push_cases, Contains-get_or}
-use Rattle.std.proofs.lemmas.Option.{same_Some, slice_get_read, slice_get_within}
-use Rattle.std.specs.{Prelude.IsSomeAnd, Prelude.IsTrue, Prelude.codes, List.AllPairs, List.Contains, List.slice_get}
-use Rattle.headers.specs.{LineMap.LineMap, Lines.Line, Lines.only_line, Typed.HasLine}
-use Rattle.cache_policy.specs.{Requests.Request, Updating.HasStrongTag, Updating.HasValidator, Updating.is_weak}
-use Rattle.cache_rules.specs.Identifying.{IsIdentified, IsOnlyOne, IsUpdatedAnswer, one_more}
-use Rattle.cache_rules.specs.Selection.{ArePlaces, IsAt, IsCandidate, IsOneAt, IsOnly, IsSelected, IsSought}
-use Rattle.cache_rules.specs.{Stored.made_at, declared.identifying.Found.Found}
-use Rattle.cache_rules.specs.{declared.stored.StoredResponse.StoredResponse}
-use Rattle.cache_rules.specs.declared.identifying.Found.TheVariants.{Nothing, One, Several}
-use Rattle.cache_rules.proofs.SelectionLemmas.{selects_one}
+use Rattle.std.proofs.{Common.{None, inl, inr, refl, sym, ◌∙◌, ap, subst, arith, rules}, lemmas.Bool.cases_order}
+use Rattle.std.proofs.lemmas.List.{Quantifiers.all_pairs_push, Elements.{Contains-append_left, Contains-push}}
+use Rattle.std.proofs.lemmas.{List.Elements.{Contains-push_cases, Contains-get_or}, Option.{same_Some, slice_get_read}}
+use Rattle.std.{proofs.lemmas.Option.slice_get_within, specs.{Prelude.{IsSomeAnd, IsTrue, codes}, List.AllPairs}}
+use Rattle.{std.specs.List.{Contains, slice_get}, headers.specs.{LineMap.LineMap, Lines.{Line, only_line}}}
+use Rattle.{headers.specs.Typed.HasLine, cache_policy.specs.{Requests.Request, Updating.{HasStrongTag, HasValidator}}}
+use Rattle.{cache_policy.specs.Updating.is_weak, cache_rules.specs.Identifying.{IsIdentified, IsOnlyOne}}
+use Rattle.cache_rules.specs.{Identifying.{IsUpdatedAnswer, one_more}, Selection.{ArePlaces, IsAt, IsCandidate}}
+use Rattle.cache_rules.specs.{Selection.{IsOneAt, IsOnly, IsSelected, IsSought}, Stored.made_at}
+use Rattle.cache_rules.specs.declared.identifying.Found.{Found, TheVariants.{Nothing, One, Several}}
+use Rattle.cache_rules.{specs.declared.stored.StoredResponse.StoredResponse, proofs.SelectionLemmas.selects_one}
 
 only_member : (place other : ℕ) → Contains (place ∷ []) other → place ≡ other
 only_member place other among =

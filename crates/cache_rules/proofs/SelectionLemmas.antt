@@ -1,13 +1,11 @@
 -- The most recent of the first stored responses, and of all.
 use Rattle.std.proofs.Common.{◌≡◌, ◌⊎◌, ℕ, ◌+◌, ◌<◌, ◌≤◌, Bool, true, false, List, length, get_or, Bor, Option, Some}
-use Rattle.std.proofs.Common.{None, inl, inr, refl, sym, ◌∙◌, ap, subst, arith}
-use Rattle.std.proofs.lemmas.Bool.{cases_order, ltb-false, ltb-true}
-use Rattle.std.proofs.lemmas.Option.{same_Some, slice_get_read, slice_get_within}
-use Rattle.std.specs.{Prelude.option_map, Prelude.nat_lt, Prelude.if◌then◌else◌, List.slice_get}
-use Rattle.cache_policy.specs.Requests.{Request}
-use Rattle.cache_rules.specs.{Selection.IsMostRecent, Selection.IsSelected, Selection.renewed, Stored.made_at}
-use Rattle.cache_rules.specs.Selection.{IsCandidate, IsChoice, IsPreferred, IsVarying}
-use Rattle.cache_rules.specs.{declared.selection.Newest.Newest, declared.stored.StoredResponse.StoredResponse}
+use Rattle.std.proofs.{Common.{None, inl, inr, refl, sym, ◌∙◌, ap, subst, arith}, lemmas.Bool.{cases_order, ltb-false}}
+use Rattle.std.proofs.lemmas.{Bool.ltb-true, Option.{same_Some, slice_get_read, slice_get_within}}
+use Rattle.std.specs.{Prelude.{option_map, nat_lt, if◌then◌else◌}, List.slice_get}
+use Rattle.{cache_policy.specs.Requests.Request, cache_rules.specs.Selection.{IsMostRecent, IsSelected, renewed}}
+use Rattle.cache_rules.specs.{Selection.{IsCandidate, IsChoice, IsPreferred, IsVarying}, Stored.made_at}
+use Rattle.cache_rules.specs.declared.{selection.Newest.Newest, stored.StoredResponse.StoredResponse}
 
 module _ (Is : StoredResponse → Type 0) (all : List StoredResponse) where
   -- of the first n this is the most recent one that has the property

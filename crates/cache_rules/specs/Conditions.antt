@@ -1,14 +1,12 @@
 -- What the conditions of a client come to on a stored response (RFC 9111, section 4.3.2).
 use Rattle.std.specs.Prelude.{◌≡◌, ◌≢◌, ◌⊎◌, ℕ, ◌-◌, Bool, true, false, ◌&&◌, length, nat_le, nat_lt, Option, Some}
 use Rattle.std.specs.Prelude.{None, option_and_then, option_map, codes, if◌then◌else◌}
-use Rattle.headers.specs.{Lines.Line, Shapes.only_tag, Typed.HasLine}
-use Rattle.rfc_values.specs.Calendar.{unix_epoch}
-use Rattle.cache_policy.specs.{Fields.date_in, Requests.Request}
-use Rattle.decide_preconditions.specs.{Plans.IsPlan, declared.limits.RangeLimits.RangeLimits, declared.plan.Plan.Plan}
-use Rattle.decide_preconditions.specs.{Preconditions.IsGetOrHead, declared.resource.TargetState.TheVariants.Current}
-use Rattle.decide_preconditions.specs.{declared.resource.Validators.Validators}
-use Rattle.cache_rules.specs.{Stored.fields_of_stored, Stored.made_at, declared.conditions.StoredAnswer.StoredAnswer}
-use Rattle.cache_rules.specs.{declared.stored.StoredResponse.StoredResponse}
+use Rattle.{headers.specs.{Lines.Line, Shapes.only_tag, Typed.HasLine}, rfc_values.specs.Calendar.unix_epoch}
+use Rattle.{cache_policy.specs.{Fields.date_in, Requests.Request}, decide_preconditions.specs.Plans.IsPlan}
+use Rattle.decide_preconditions.specs.declared.{limits.RangeLimits.RangeLimits, plan.Plan.Plan}
+use Rattle.decide_preconditions.specs.declared.resource.{TargetState.TheVariants.Current, Validators.Validators}
+use Rattle.{decide_preconditions.specs.Preconditions.IsGetOrHead, cache_rules.specs.Stored.{fields_of_stored, made_at}}
+use Rattle.cache_rules.specs.declared.{conditions.StoredAnswer.StoredAnswer, stored.StoredResponse.StoredResponse}
 use Rattle.decide_preconditions.specs.declared.plan.Plan.TheVariants as plan
 use Rattle.cache_rules.specs.declared.conditions.StoredAnswer.TheVariants as stored_answer
 

@@ -1,7 +1,6 @@
 -- When a stored response answers because the origin fails (RFC 5861, section 4).
 use Rattle.std.specs.Prelude.{◌≡◌, ◌⊎◌, ⊤, ℕ, Option, Some, None}
-use Rattle.cache_policy.specs.declared.decision.Decision.{Decision}
-use Rattle.cache_policy.specs.declared.decision.Decision.TheVariants.{RevalidateOrServe}
+use Rattle.cache_policy.specs.declared.decision.Decision.{Decision, TheVariants.RevalidateOrServe}
 
 -- the status says that the origin failed
 abbrev pub IsFailure : ℕ → Type 0

@@ -1,9 +1,8 @@
 -- What is left of fields that can't all be set.
 use Rattle.std.specs.Prelude.{◌≡◌, ℕ, List}
-use Rattle.http_header.specs.{FieldValue.FieldValue, HeaderMap.Entries, HeaderMap.IsHeaderMap}
-use Rattle.headers.specs.{LineMap.Field, LineMap.fields_of, LineMap.settings, declared.Encoded.Encoded}
-use Rattle.headers_map.specs.{InsertErrors.AppliesPart, declared.insert.InsertError.InsertError}
-use Rattle.headers_map.specs.{declared.insert.InsertError.TheVariants.Full}
+use Rattle.{http_header.specs.{FieldValue.FieldValue, HeaderMap.{Entries, IsHeaderMap}}, headers.specs.LineMap.Field}
+use Rattle.headers.specs.{LineMap.{fields_of, settings}, declared.Encoded.Encoded}
+use Rattle.headers_map.specs.{InsertErrors.AppliesPart, declared.insert.InsertError.{InsertError, TheVariants.Full}}
 
 -- some of the fields are set, the next one can't be for this cause, and none after it was begun
 abbrev pub SetsPart : Entries FieldValue → Entries FieldValue → List Encoded → InsertError → Type 0

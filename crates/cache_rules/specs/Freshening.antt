@@ -1,14 +1,13 @@
 -- What a response that validates a stored one makes of it (RFC 9111, sections 3.2, 4.3.4 and 4.3.5).
 use Rattle.std.specs.Prelude.{◌≡◌, ◌⊎◌, ℕ, List, [], ◌∷◌, ◌++◌, bytes_eq, codes, if◌then◌else◌}
-use Rattle.http_header.specs.{FieldValue.FieldValue, HeaderMap.Entries}
-use Rattle.headers.specs.{LineMap.Field, LineMap.LineMap, Lines.Line, Typed.HasLine}
-use Rattle.cache_policy.specs.{Dating.date_lines, Freshening.freshened, Freshening.freshening_fields}
-use Rattle.cache_policy.specs.{Policies.MayStoreUnder, Policies.Policy, Requests.Request, Updating.IsUpdated}
-use Rattle.cache_policy.specs.{Updating.HasStrongTag, declared.Kind.TheVariants.Shared}
+use Rattle.{http_header.specs.{FieldValue.FieldValue, HeaderMap.Entries}, headers.specs.LineMap.{Field, LineMap}}
+use Rattle.{headers.specs.{Lines.Line, Typed.HasLine}, cache_policy.specs.{Dating.date_lines, Freshening.freshened}}
+use Rattle.cache_policy.specs.{Freshening.freshening_fields, Policies.{MayStoreUnder, Policy}, Requests.Request}
+use Rattle.cache_policy.specs.{Updating.{IsUpdated, HasStrongTag}, declared.Kind.TheVariants.Shared}
 use Rattle.cache_rules.specs.{Selection.IsCandidate, Storing.HasFairOptions, declared.freshening.Exchange.Exchange}
-use Rattle.cache_rules.specs.{declared.freshening.Freshened.Freshened, declared.stored.StoredResponse.StoredResponse}
-use Rattle.cache_rules.specs.Stored.{fields_of_stored, request_of_stored}
-use Rattle.cache_rules.specs.declared.freshening.Freshened.TheVariants.{Unchanged, Stored, Once}
+use Rattle.cache_rules.specs.declared.freshening.Freshened.{Freshened, TheVariants.{Unchanged, Stored, Once}}
+use Rattle.cache_rules.specs.{declared.stored.StoredResponse.StoredResponse, Stored.fields_of_stored}
+use Rattle.cache_rules.specs.Stored.{request_of_stored}
 
 -- ---- how a stored response is updated
 

@@ -1,10 +1,9 @@
 -- Which stored responses a 304 updates (RFC 9111, section 4.3.4).
-use Rattle.std.specs.Prelude.{ℕ, List, Option, Some, None}
-use Rattle.headers.specs.LineMap.{LineMap}
-use Rattle.cache_policy.specs.{Requests.Request, Updating.HasStrongTag, Updating.HasValidator}
+use Rattle.{std.specs.Prelude.{ℕ, List, Option, Some, None}, headers.specs.LineMap.LineMap}
+use Rattle.cache_policy.specs.{Requests.Request, Updating.{HasStrongTag, HasValidator}}
 use Rattle.cache_rules.specs.Selection.{IsAt, IsCandidate, IsMostRecent, IsOnly, IsSought}
-use Rattle.cache_rules.specs.{declared.identifying.Found.Found, declared.stored.StoredResponse.StoredResponse}
-use Rattle.cache_rules.specs.declared.identifying.Found.TheVariants.{Nothing, One, Several}
+use Rattle.cache_rules.specs.declared.identifying.Found.{Found, TheVariants.{Nothing, One, Several}}
+use Rattle.cache_rules.specs.declared.stored.StoredResponse.{StoredResponse}
 
 -- The stored response at the place is one that a 304 to the request updates (section 4.3.4): it may answer the request,
 -- and the 304 is about it. If the 304 has validators, but no strong one, it is the most recent of these; if it has

@@ -1,13 +1,11 @@
 -- Which of several stored responses is chosen (RFC 9111, sections 4 and 4.1).
 use Rattle.std.specs.Prelude.{◌≡◌, ◌↔◌, ◌⊎◌, ℕ, ◌<◌, ◌≤◌, List, Option, Some, None, codes, nat_lt, if◌then◌else◌}
-use Rattle.std.specs.List.{AllPairs, Contains, slice_get}
-use denote.Ref.{Bor}
-use Rattle.headers.specs.LineMap.{LineMap, lines_at}
-use Rattle.headers.specs.Typed.{HasLine}
+use Rattle.{std.specs.List.{AllPairs, Contains, slice_get}, headers.specs.{LineMap.{LineMap, lines_at}, Typed.HasLine}}
 use Rattle.cache_policy.specs.{Requests.Request, Updating.IsUpdated, Varying.Suits}
-use Rattle.cache_rules.specs.Stored.{fields_of_stored, made_at, request_of_stored}
-use Rattle.cache_rules.specs.{declared.selection.Newest.Newest, declared.stored.StoredResponse.StoredResponse}
-use Rattle.cache_rules.specs.declared.selection.{Search.Search, Search.TheVariants.{All, Varying, Updated}}
+use Rattle.cache_rules.specs.{Stored.{fields_of_stored, made_at, request_of_stored}, declared.selection.Newest.Newest}
+use Rattle.cache_rules.specs.declared.selection.Search.{Search, TheVariants.{All, Varying, Updated}}
+use Rattle.cache_rules.specs.declared.stored.StoredResponse.{StoredResponse}
+use denote.Ref.{Bor}
 
 -- the stored response may answer the request, as far as method and Vary go
 abbrev pub IsCandidate : Request → StoredResponse → Type 0

@@ -1,8 +1,7 @@
 -- What rules see of a stored response.
 use Rattle.std.specs.Prelude.{ℕ, ◌+◌, codes, unwrap_or}
-use Rattle.headers.specs.LineMap.{LineMap, lines_at}
-use Rattle.rfc_values.specs.Calendar.{unix_epoch}
-use Rattle.cache_policy.specs.{Fields.capped, Fields.date_in, Requests.Request, declared.Times.Times}
+use Rattle.{headers.specs.LineMap.{LineMap, lines_at}, rfc_values.specs.Calendar.unix_epoch}
+use Rattle.cache_policy.specs.{Fields.{capped, date_in}, Requests.Request, declared.Times.Times}
 use Rattle.cache_rules.specs.declared.stored.StoredResponse.{StoredResponse}
 
 -- the request that it answered

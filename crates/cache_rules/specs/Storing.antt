@@ -1,13 +1,11 @@
 -- Which responses are stored, and which of their field lines (RFC 9111, sections 3, 3.1 and 3.3).
 use Rattle.std.specs.Prelude.{◌≡◌, ◌≢◌, ◌⊎◌, ℕ, Bool, true, false, ◌||◌, List, [], ◌∷◌, ◌++◌, map, filter, bytes_eq}
-use Rattle.std.specs.Prelude.{codes, if◌then◌else◌}
-use Rattle.std.specs.List.{list_any}
-use Rattle.http_header.specs.{FieldValue.FieldValue, HeaderMap.Entries, HeaderMap.keys}
-use Rattle.headers.specs.{LineMap.Field, LineMap.LineMap, LineMap.lines_at, Lines.Line}
-use Rattle.rfc_fields.specs.Scan.{Member}
+use Rattle.std.specs.{Prelude.{codes, if◌then◌else◌}, List.list_any}
+use Rattle.{http_header.specs.{FieldValue.FieldValue, HeaderMap.{Entries, keys}}, headers.specs.LineMap.Field}
+use Rattle.{headers.specs.{LineMap.{LineMap, lines_at}, Lines.Line}, rfc_fields.specs.Scan.Member}
 use Rattle.gateway_messages.specs.HopByHop.{are_options, connection_options, is_hop_by_hop, is_named}
-use Rattle.cache_policy.specs.{Dating.date_lines, Policies.MayStoreUnder, Policies.Policy, Requests.Request}
-use Rattle.cache_rules.specs.{declared.storing.Reception.Reception, declared.storing.Reception.TheVariants.Complete}
+use Rattle.cache_policy.specs.{Dating.date_lines, Policies.{MayStoreUnder, Policy}, Requests.Request}
+use Rattle.cache_rules.specs.declared.storing.Reception.{Reception, TheVariants.Complete}
 
 -- ---- connection options
 

@@ -1,8 +1,7 @@
 -- What the calls of a store make of what it has (RFC 9111, sections 3, 4.3.4 and 4.4).
 use Rattle.std.specs.Prelude.{[], ◌++◌, ◌+◌, ◌-◌, ◌<◌, ◌∷◌, ◌≡◌, ◌≢◌, ◌≤◌, ◌⊎◌, drop, length, List, None, Some, take, ℕ}
-use Rattle.std.specs.Prelude.{remove}
-use Rattle.{cache_policy.specs.Requests.Request, headers.specs.LineMap.LineMap}
-use Rattle.{cache_policy.specs.Policies.Policy, cache_rules.specs.{Fields.IsTooSmallFor, Identifying.IsIdentified}}
+use Rattle.{std.specs.Prelude.remove, cache_policy.specs.{Requests.Request, Policies.Policy}}
+use Rattle.{headers.specs.LineMap.LineMap, cache_rules.specs.{Fields.IsTooSmallFor, Identifying.IsIdentified}}
 use Rattle.cache_rules.specs.declared.{freshening.Exchange.Exchange, storing.Reception.Reception}
 use Rattle.cache_rules.specs.{declared.stored.StoredResponse.StoredResponse, Freshening.{IsFreshened, IsReusable}}
 use Rattle.cache_rules.specs.Selection.{IsCandidate, IsChosen, IsMostRecent, IsSelected, IsSought}

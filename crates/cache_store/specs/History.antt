@@ -1,10 +1,9 @@
 -- What a list of calls lets a store have (RFC 9111).
 use Rattle.std.specs.Prelude.{[], ◌∷◌, ◌≡◌, ◌≢◌, ◌≤◌, ◌⊎◌, List, ℕ}
-use Rattle.headers.specs.LineMap.{LineMap}
-use Rattle.cache_policy.specs.{Policies.Policy, Requests.Request, Updating.IsUpdated}
+use Rattle.{headers.specs.LineMap.LineMap, cache_policy.specs.{Policies.Policy, Requests.Request, Updating.IsUpdated}}
 use Rattle.cache_rules.specs.{Freshening.{IsFreshened, IsHeadOf, IsReusable}, Invalidation.Invalidates}
-use Rattle.cache_rules.specs.{declared.freshening.Exchange.Exchange, Selection.IsCandidate, Stored.fields_of_stored}
-use Rattle.cache_rules.specs.declared.{stored.StoredResponse.StoredResponse, storing.Reception.Reception}
+use Rattle.cache_rules.specs.declared.{freshening.Exchange.Exchange, stored.StoredResponse.StoredResponse}
+use Rattle.cache_rules.specs.{declared.storing.Reception.Reception, Selection.IsCandidate, Stored.fields_of_stored}
 use Rattle.cache_store.specs.Changes.{IsFront, IsInserted, IsRefreshed, IsRefreshedByHead, IsStoredAs, IsToStore}
 use Rattle.cache_store.specs.{Contents.{Contents, used, without}, Numbers.AreNumbered, Updates.IsGetFor}
 use Rattle.cache_store.specs.declared.{freshening.Refreshed.Refreshed, limits.Limits.Limits}

@@ -1,7 +1,6 @@
 -- The targets in the fields of a response (RFC 9111, section 4.4).
 use Rattle.std.specs.Prelude.{[], ◌++◌, ◌∷◌, ◌≡◌, codes, IsSome, List, MatchResult, None, Ok, Option, Some, ℕ}
-use Rattle.std.specs.Prelude.{option_to_list}
-use Rattle.url.specs.{Origin.origin_of, Parser.parse_url, Parts.Parts}
+use Rattle.{std.specs.Prelude.option_to_list, url.specs.{Origin.origin_of, Parser.parse_url, Parts.Parts}}
 use Rattle.{url.specs.Setters.set_fragment, headers.specs.{LineMap.LineMap, Lines.Line, Shapes.text_line}}
 
 -- both URLs have the same origin, and it is one of scheme, host and port (RFC 9110, section 4.3.1)

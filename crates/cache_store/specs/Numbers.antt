@@ -1,7 +1,6 @@
 -- The numbers of stored responses: which response each of them names.
 use Rattle.std.specs.Prelude.{◌+◌, ◌<◌, ◌==◌, ◌≡◌, ◌≤◌, ◌⊎◌, Bool, count_by, find, List, None, Option, Some, sum_by, ℕ}
-use Rattle.std.specs.Prelude.{⊤}
-use Rattle.cache_rules.specs.declared.stored.StoredResponse.{StoredResponse}
+use Rattle.{std.specs.Prelude.⊤, cache_rules.specs.declared.stored.StoredResponse.StoredResponse}
 use Rattle.cache_store.specs.Contents.{Contents}
 
 -- the response has the number

@@ -1,13 +1,11 @@
 -- The number of Age that a cache writes is parsed to itself.
 use Rattle.std.proofs.Common.{◌≡◌, ℕ, ◌<◌, ◌^◌, true, false, List, [], ◌∷◌, length, take, Some, refl, ◌∙◌, ap, arith}
-use Rattle.std.proofs.{lemmas.Bool.and_parts, lemmas.Bool.ne_eqb, lemmas.List.take_all}
-use Rattle.std.proofs.lemmas.Fmt.{decimal_nonempty, digits_decimal, digits_value-decimal}
-use Rattle.std.specs.{Prelude.decimal, Prelude.min, List.before_first, List.list_all, List.position_or_len}
-use Rattle.cache_policy.specs.Fields.{age_of, capped, greatest, is_comma}
-use Rattle.rfc_fields.specs.Numbers.{number_within}
-use Rattle.gateway_messages.proofs.NumberLemmas.{is_number-digits, numerals}
-use Rattle.headers_syntax.specs.{Number.decimal_value, Text.trim}
-use Rattle.headers_syntax.proofs.PlainLemmas.{decimal_plain, is_plain, plain_bounds, trim_piece}
+use Rattle.std.proofs.lemmas.{Bool.{and_parts, ne_eqb}, List.take_all, Fmt.{decimal_nonempty, digits_decimal}}
+use Rattle.std.{proofs.lemmas.Fmt.digits_value-decimal, specs.{Prelude.{decimal, min}, List.{before_first, list_all}}}
+use Rattle.{std.specs.List.position_or_len, cache_policy.specs.Fields.{age_of, capped, greatest, is_comma}}
+use Rattle.{rfc_fields.specs.Numbers.number_within, gateway_messages.proofs.NumberLemmas.{is_number-digits, numerals}}
+use Rattle.headers_syntax.{specs.{Number.decimal_value, Text.trim}, proofs.PlainLemmas.{decimal_plain, is_plain}}
+use Rattle.headers_syntax.proofs.PlainLemmas.{plain_bounds, trim_piece}
 
 no_comma : (p : List ℕ) → list_all is_plain p ≡ true → position_or_len is_comma p ≡ length p
 no_comma [] h = refl

@@ -1,31 +1,27 @@
 -- What a client receives through gateways and caches is what the resource says.
 use Rattle.std.proofs.Common.{◌≡◌, ◌≢◌, ◌⊎◌, ◌↔◌, ℕ, ◌+◌, ◌≤◌, Bool, true, false, List, [], ◌∷◌, ◌++◌, Some, None, refl}
 use Rattle.std.proofs.Common.{◌∙◌, ap, append_assoc, subst, sym, inl, inr, arith, option_map, Option}
-use Rattle.std.{proofs.lemmas.Bool.{cases_Bool, cond_both}, proofs.lemmas.Slice.Eq.bytes_eq-Decides}
-use Rattle.std.{specs.Prelude.{All, bytes_eq, codes}, specs.List.list_any}
-use Rattle.http_header.specs.Token.{lowercase}
-use Rattle.headers.specs.{Date.fixdate, LineMap.{fields_of, set_all}, Lines.Line, Typed.HasLine}
-use Rattle.decide_preconditions.specs.Preconditions.{IsGetOrHead}
-use Rattle.cache_policy.{specs.Fields.{age_of, age_value}, specs.Requests.AllowsMethod}
-use Rattle.chain.specs.Caches.{Caching, HasComeFrom, IsFromStore, IsPlain, Origin, Reply, second_of, unless_head}
-use Rattle.chain.specs.Chains.{Counts, Hop, IsBlank, IsForwardedBack, IsOwn, IsSentBack, IsTold, behind, caches, meant}
-use Rattle.chain.{specs.Chains.Hop.{Forwards, Stores}, specs.Ways.{named_host, sent_directly}, specs.Servers.IsCarried}
-use Rattle.chain.{specs.Servers.{IsSaid, SaysCloseAtMost, Site, sent_of}, proofs.ConnectionLemmas.crosses_if}
-use Rattle.chain.{proofs.ServerLemmas.{same_sent, says_close_at_most}, proofs.StoreLemmas.{StoreLaws, age_is}}
-use Rattle.chain.proofs.StoreLemmas.{alike_first, allowed_method, asked_first, come, counts, from, good_at, once_more}
-use Rattle.chain.proofs.StoreLemmas.{with_method, lacks, plain_first, quiet, stored_as, suits}
-use Rattle.chain.{proofs.SuitLemmas.{MembersSelect, VaryIsSound, suited}, proofs.WayLemmas.{IsRead, ReadsNoMore}}
-use Rattle.chain.proofs.WayLemmas.{alike, alike_by, apart, choose_alike, choose_by, choose_direct, crosses, differs}
-use Rattle.chain.proofs.WayLemmas.{direct, no_options, same_lines}
-use Rattle.rfc_fields.specs.Members.{field_members}
-use Rattle.gateway_messages.{specs.Forwarding.{IsHopByHop, own_names, replaced}, specs.Spellings.has_mark}
-use Rattle.gateway_messages.specs.{declared.gateway.Gateway.Gateway, Responses.date_unless}
-use Rattle.gateway_messages.{specs.declared.protocol.Protocol.TheVariants.Http11, specs.HopByHop.connection_options}
-use Rattle.gateway_messages.{specs.HopByHop.{is_hop_by_hop, is_known}, proofs.SpellingLemmas.well_spelt}
-use Rattle.decide_resource.{specs.Answers.IsAnswer, specs.Requests.{Request, get_of, head_of}, specs.Vary.AreAlike}
-use Rattle.decide_resource.{specs.Vary.ChooseAlike, specs.declared.answer.Answer.Answer}
+use Rattle.std.{proofs.lemmas.{Bool.{cases_Bool, cond_both}, Slice.Eq.bytes_eq-Decides}, specs.Prelude.{All, bytes_eq}}
+use Rattle.{std.specs.{Prelude.codes, List.list_any}, http_header.specs.Token.lowercase, headers.specs.Date.fixdate}
+use Rattle.headers.specs.{LineMap.{fields_of, set_all}, Lines.Line, Typed.HasLine}
+use Rattle.{decide_preconditions.specs.Preconditions.IsGetOrHead, cache_policy.specs.Fields.{age_of, age_value}}
+use Rattle.{cache_policy.specs.Requests.AllowsMethod, chain.specs.Caches.{Caching, HasComeFrom, IsFromStore, IsPlain}}
+use Rattle.chain.specs.{Caches.{Origin, Reply, second_of, unless_head}, Chains.{Counts, Hop, Hop.{Forwards, Stores}}}
+use Rattle.chain.specs.Chains.{IsBlank, IsForwardedBack, IsOwn, IsSentBack, IsTold, behind, caches, meant}
+use Rattle.chain.specs.{Ways.{named_host, sent_directly}, Servers.{IsCarried, IsSaid, SaysCloseAtMost, Site, sent_of}}
+use Rattle.chain.proofs.{ConnectionLemmas.crosses_if, ServerLemmas.{same_sent, says_close_at_most}}
+use Rattle.chain.proofs.StoreLemmas.{StoreLaws, age_is, alike_first, allowed_method, asked_first, come, counts, from}
+use Rattle.chain.proofs.StoreLemmas.{good_at, once_more, with_method, lacks, plain_first, quiet, stored_as, suits}
+use Rattle.chain.proofs.{SuitLemmas.{MembersSelect, VaryIsSound, suited}, WayLemmas.{IsRead, ReadsNoMore, alike}}
+use Rattle.chain.proofs.WayLemmas.{alike_by, apart, choose_alike, choose_by, choose_direct, crosses, differs, direct}
+use Rattle.{chain.proofs.WayLemmas.{no_options, same_lines}, rfc_fields.specs.Members.field_members}
+use Rattle.gateway_messages.specs.{Forwarding.{IsHopByHop, own_names, replaced}, Spellings.has_mark}
+use Rattle.gateway_messages.specs.declared.{gateway.Gateway.Gateway, protocol.Protocol.TheVariants.Http11}
+use Rattle.gateway_messages.specs.{Responses.date_unless, HopByHop.{connection_options, is_hop_by_hop, is_known}}
+use Rattle.{gateway_messages.proofs.SpellingLemmas.well_spelt, decide_resource.specs.Answers.IsAnswer}
+use Rattle.decide_resource.specs.{Requests.{Request, get_of, head_of}, Vary.{AreAlike, ChooseAlike}}
+use Rattle.decide_resource.specs.declared.{answer.Answer.Answer, resource.Resource.Resource}
 use Rattle.decide_resource.proofs.ExistenceLemmas.{some_answer}
-use Rattle.decide_resource.specs.declared.resource.Resource.{Resource}
 
 -- ---- carried fields
 

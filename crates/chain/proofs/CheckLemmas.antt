@@ -1,7 +1,6 @@
 -- A browser's CORS check reads fields that gateways pass on.
 use Rattle.std.{proofs.Common.{◌≡◌, ◌↔◌, List, refl, sym, ◌∙◌, ap, subst, get_or}, specs.Prelude.codes}
-use Rattle.headers.specs.Lines.{Line}
-use Rattle.chain.specs.Responses.{HasNoOptions, Returns}
+use Rattle.{headers.specs.Lines.Line, chain.specs.Responses.{HasNoOptions, Returns}}
 use Rattle.decide_cors.specs.Browser.{Checks, CorsCheck, Request as Sent, combined}
 use Rattle.gateway_messages.specs.{Forwarding.own_names, Responses.Response, declared.gateway.Gateway.Gateway}
 use Rattle.chain.proofs.{ResponseLemmas.unchanged, WayLemmas.differs, WayLemmas.not_known}

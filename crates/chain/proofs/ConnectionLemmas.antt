@@ -1,13 +1,10 @@
 -- A response that says of its connection at most that it is closed loses no other field on its way.
 use Rattle.std.proofs.Common.{◌≡◌, ◌≢◌, ℕ, Bool, true, false, List, refl, sym, ◌∙◌, ap, inl, inr}
-use Rattle.std.proofs.{lemmas.Bool.cases_Bool, lemmas.Slice.Eq.bytes_eq-Decides}
-use Rattle.std.specs.{Prelude.◌||◌, Prelude.bytes_eq, Prelude.codes, List.list_any}
-use Rattle.http_header.specs.Token.{lowercase}
-use Rattle.headers.specs.{LineMap.LineMap, Lines.Line}
-use Rattle.chain.specs.Servers.{SaysCloseAtMost, connection_lines}
-use Rattle.rfc_fields.specs.{Members.field_members, Scan.pieces, Scan.push}
-use Rattle.gateway_messages.specs.HopByHop.{connection_options, hop_by_hop_fields, is_hop_by_hop, is_known, is_named}
-use Rattle.gateway_messages.specs.HopByHop.{proxy_fields}
+use Rattle.std.{proofs.lemmas.{Bool.cases_Bool, Slice.Eq.bytes_eq-Decides}, specs.Prelude.{◌||◌, bytes_eq, codes}}
+use Rattle.{std.specs.List.list_any, http_header.specs.Token.lowercase, headers.specs.{LineMap.LineMap, Lines.Line}}
+use Rattle.{chain.specs.Servers.{SaysCloseAtMost, connection_lines}, rfc_fields.specs.Members.field_members}
+use Rattle.{rfc_fields.specs.Scan.{pieces, push}, gateway_messages.specs.HopByHop.connection_options}
+use Rattle.gateway_messages.specs.HopByHop.{hop_by_hop_fields, is_hop_by_hop, is_known, is_named, proxy_fields}
 
 -- `close` names no field of another name
 not_close : (name : List ℕ) → lowercase name ≢ codes "close" → bytes_eq (codes "close") (lowercase name) ≡ false

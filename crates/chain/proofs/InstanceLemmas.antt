@@ -1,14 +1,10 @@
 -- A client, a gateway, a cache that answers from its store, and the server of a resource that is gone.
-use Rattle.std.proofs.Common.{◌≡◌, ◌≢◌, ◌⊎◌, ℕ, zero, suc, ◌<◌, ◌≤◌, true, false, List, [], ◌∷◌, ◌++◌}
-use Rattle.std.proofs.Common.{map, Some, None, refl, sym, ◌∙◌, subst, inl, inr, arith}
-use Rattle.std.proofs.lemmas.Bool.{cases_Bool}
-use Rattle.std.proofs.lemmas.Slice.Eq.{bytes_eq-Decides}
-use Rattle.std.proofs.lemmas.{List.Elements.{All-cons, All-nil}, Option.same_Some}
-use Rattle.std.specs.Prelude.{All, bytes_eq, codes, decimal, slice_get, ⊤}
-use Rattle.http_header.specs.{FieldValue.{FieldValue, plain_value}, HeaderMap.Entries, Token.is_token_byte}
-use Rattle.headers.specs.LineMap.{LineMap, lines_at}
-use Rattle.headers.specs.Lines.{Line}
-use Rattle.headers.specs.declared.Encoded.{Encoded}
+use Rattle.std.proofs.Common.{◌≡◌, ◌≢◌, ◌⊎◌, ℕ, zero, suc, ◌<◌, ◌≤◌, true, false, List, [], ◌∷◌, ◌++◌, map, Some, None}
+use Rattle.std.proofs.{Common.{refl, sym, ◌∙◌, subst, inl, inr, arith}, lemmas.Bool.cases_Bool}
+use Rattle.std.proofs.lemmas.{Slice.Eq.bytes_eq-Decides, List.Elements.{All-cons, All-nil}, Option.same_Some}
+use Rattle.{std.specs.Prelude.{All, bytes_eq, codes, decimal, slice_get, ⊤}, http_header.specs.FieldValue.FieldValue}
+use Rattle.http_header.specs.{FieldValue.plain_value, HeaderMap.Entries, Token.is_token_byte}
+use Rattle.headers.specs.{LineMap.{LineMap, lines_at}, Lines.Line, declared.Encoded.Encoded}
 use Rattle.rfc_fields.specs.{Directives.directive_in, Scan.{pieces, push}, Values.{is_quoted_text, octets_from}}
 use Rattle.cache_store.specs.{Changes.{IsInserted, IsStoredAs, IsToStore}, Contents.{Contents, size_at}}
 use Rattle.cache_store.specs.{Lookups.IsAnswer as IsLookup, declared.lookup.Lookup.{TheVariants.Serve}}
@@ -16,20 +12,16 @@ use Rattle.cache_policy.specs.{Age.age_at, Fields.capped, Policies.plain, declar
 use Rattle.cache_rules.specs.{Selection.{IsCandidate, IsVarying}, Stored.{fields_of_stored, made_at, times_of}}
 use Rattle.cache_rules.specs.declared.{storing.Reception.TheVariants.Complete, stored.StoredResponse.StoredResponse}
 use Rattle.gateway_messages.specs.{FieldLines.{fields_of as sent_fields, lines_under}, Forwarding.IsEndToEnd}
-use Rattle.gateway_messages.specs.{Forwarding.{IsHopByHop, own_names}}
-use Rattle.gateway_messages.specs.{HostTests.is_reg_name}
-use Rattle.gateway_messages.specs.{Responses.{content_of}, Spellings.is_misspelt}
-use Rattle.gateway_messages.specs.declared.{field_line.FieldLine.FieldLine, gateway.Gateway.Gateway}
-use Rattle.gateway_messages.specs.declared.{framing.Framing.TheVariants.Unstated, protocol.Protocol.TheVariants.Http11}
-use Rattle.decide_cors.proofs.MadeLemmas.{vec}
+use Rattle.gateway_messages.specs.{Forwarding.{IsHopByHop, own_names}, HostTests.is_reg_name, Responses.content_of}
+use Rattle.gateway_messages.specs.{Spellings.is_misspelt, declared.field_line.FieldLine.FieldLine}
+use Rattle.gateway_messages.specs.declared.{gateway.Gateway.Gateway, framing.Framing.TheVariants.Unstated}
+use Rattle.{gateway_messages.specs.declared.protocol.Protocol.TheVariants.Http11, decide_cors.proofs.MadeLemmas.vec}
 use Rattle.decide_resource.specs.{Answers.{HasFewParts, TakesFew}, Applies.{applies, rule_for}, Reasons.Before}
 use Rattle.decide_resource.specs.{Requests.Request, declared.reason.Reason.Reason}
 use Rattle.decide_resource.specs.declared.{request.RequestContent.TheVariants.Absent, resource.Resource.Resource}
 use Rattle.chain.specs.Caches.{Caching, HasComeFrom, IsFromStore, IsPlain, Origin, Reply, Act.Takes, asked, key_of}
-use Rattle.chain.specs.Caches.{per_second}
-use Rattle.chain.specs.Chains.{IsSentBack, behind}
-use Rattle.chain.specs.Instances.{IsInstance}
-use Rattle.chain.{specs.{Servers.{IsSaid, IsSent, Server}, Ways.{IsSentOn}}, proofs.AgeLemmas.age_of-decimal}
+use Rattle.chain.specs.{Caches.per_second, Chains.{IsSentBack, behind}, Instances.IsInstance, Servers.{IsSaid, IsSent}}
+use Rattle.chain.{specs.{Servers.Server, Ways.IsSentOn}, proofs.AgeLemmas.age_of-decimal}
 use Rattle.chain.proofs.ServingLemmas.{without_special}
 use Rattle.decide_resource.specs.declared.answer.Sends.TheVariants as sends
 use Rattle.decide_resource.specs.declared.reason.Reason.TheVariants as reasons

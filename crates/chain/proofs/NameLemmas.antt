@@ -1,21 +1,17 @@
 -- Which version a request names, and which one is there.
-use Rattle.std.proofs.Common.{◌≡◌, ◌⊎◌, ℕ, ◌<◌, Bool, true, false, List, [], ◌∷◌, length, Option, Some, None, refl}
-use Rattle.std.proofs.Common.{sym, ap, subst, ◌∙◌, arith, inl, inr, bytes_eq}
-use Rattle.std.{specs.Prelude.{◌&&◌, ◌||◌, codes}, specs.List.list_any}
-use Rattle.std.proofs.lemmas.{Bool.{and_parts, both_ways, or_cases}, Slice.Eq.bytes_eq-Decides}
-use Rattle.http_header.specs.FieldValue.{FieldValue}
-use Rattle.headers.specs.{EntityTag.{AreTags, StronglyEqual, tag_text}}
-use Rattle.headers.specs.{LineMap.LineMap, Lines.Line}
-use Rattle.rfc_fields.specs.{Members.field_members, Scan.{Member, Member.Whole}}
-use Rattle.decide_preconditions.specs.{Conditions.IfMatchIsTrue, Fields.{etag_of, lines_sent}}
-use Rattle.decide_preconditions.specs.{Preconditions.IsUnconditional, Tags.{are_tags, is_star}}
+use Rattle.std.proofs.Common.{◌≡◌, ◌⊎◌, ℕ, ◌<◌, Bool, true, false, List, [], ◌∷◌, length, Option, Some, None, refl, sym}
+use Rattle.std.proofs.{Common.{ap, subst, ◌∙◌, arith, inl, inr, bytes_eq}, lemmas.Bool.{and_parts, both_ways, or_cases}}
+use Rattle.std.{proofs.lemmas.Slice.Eq.bytes_eq-Decides, specs.{Prelude.{◌&&◌, ◌||◌, codes}, List.list_any}}
+use Rattle.{http_header.specs.FieldValue.FieldValue, headers.specs.EntityTag.{AreTags, StronglyEqual, tag_text}}
+use Rattle.{headers.specs.{LineMap.LineMap, Lines.Line}, rfc_fields.specs.{Members.field_members, Scan.Member}}
+use Rattle.{rfc_fields.specs.Scan.Member.Whole, decide_preconditions.specs.{Conditions.IfMatchIsTrue, Fields.etag_of}}
+use Rattle.decide_preconditions.specs.{Fields.lines_sent, Preconditions.IsUnconditional, Tags.{are_tags, is_star}}
 use Rattle.decide_preconditions.specs.declared.{resource.TargetState.TargetState as Target}
-use Rattle.decide_preconditions.{proofs.TagLemmas.strongly_equal}
-use Rattle.decide_resource.specs.{Answers.{IsAnswer, at_place, target_of}, Applies.{is_read, needs_condition, rule}}
-use Rattle.decide_resource.specs.{Guards.{IsNamed, ReplacesNamed}, Requests.Request, declared.answer.Answer.Answer}
-use Rattle.decide_resource.specs.{declared.representation.Representation.Representation}
-use Rattle.decide_resource.specs.declared.resource.{Resource.Resource, State.State}
-use Rattle.updates.specs.Worlds.{Version}
+use Rattle.{decide_preconditions.proofs.TagLemmas.strongly_equal, decide_resource.specs.Answers.{IsAnswer, at_place}}
+use Rattle.decide_resource.specs.{Answers.target_of, Applies.{is_read, needs_condition, rule}, Guards.IsNamed}
+use Rattle.decide_resource.specs.{Guards.ReplacesNamed, Requests.Request, declared.answer.Answer.Answer}
+use Rattle.decide_resource.specs.declared.{representation.Representation.Representation, resource.Resource.Resource}
+use Rattle.{decide_resource.specs.declared.resource.State.State, updates.specs.Worlds.Version}
 use Rattle.chain.specs.Naming.{HasTag, NamesVersion, Shows}
 use Rattle.decide_preconditions.specs.declared.resource.TargetState.TheVariants as target
 use Rattle.decide_resource.specs.declared.answer.Sends.TheVariants as sends

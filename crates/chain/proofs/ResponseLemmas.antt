@@ -1,14 +1,12 @@
 -- What a client behind gateways gets of a response is what the server sent.
 use Rattle.std.proofs.Common.{◌≡◌, ◌≢◌, ℕ, Bool, true, false, List, [], ◌∷◌, refl, sym, ◌∙◌, ap, arith}
-use Rattle.std.{proofs.lemmas.List.Elements.All-rest, specs.Prelude.{All, ◌||◌, codes}}
-use Rattle.headers.specs.Lines.{Line}
+use Rattle.{std.{proofs.lemmas.List.Elements.All-rest, specs.Prelude.{All, ◌||◌, codes}}, headers.specs.Lines.Line}
 use Rattle.chain.{specs.Responses.{HasNoOptions, IsPassedBack, Returns}, proofs.WayLemmas.apart}
-use Rattle.rfc_fields.{specs.Members.field_members, specs.Scan.Member}
-use Rattle.gateway_messages.{specs.Forwarding.own_names, specs.Spellings.has_mark}
-use Rattle.gateway_messages.specs.declared.gateway.Gateway.{Gateway}
-use Rattle.gateway_messages.specs.declared.response.ForwardedResponse.{ForwardedResponse}
-use Rattle.gateway_messages.specs.HopByHop.{connection_options, is_hop_by_hop, is_known}
-use Rattle.gateway_messages.{specs.Responses.{IsForwardedResponse, Response}, proofs.SpellingLemmas.well_spelt}
+use Rattle.{rfc_fields.specs.{Members.field_members, Scan.Member}, gateway_messages.specs.Forwarding.own_names}
+use Rattle.gateway_messages.specs.{Spellings.has_mark, declared.gateway.Gateway.Gateway}
+use Rattle.gateway_messages.specs.{declared.response.ForwardedResponse.ForwardedResponse, HopByHop.connection_options}
+use Rattle.gateway_messages.specs.{HopByHop.{is_hop_by_hop, is_known}, Responses.{IsForwardedResponse, Response}}
+use Rattle.gateway_messages.proofs.SpellingLemmas.{well_spelt}
 
 -- a response without connection options keeps the lines of each field that isn't for one connection
 module _ (gateway : Gateway) (date : ℕ) (response next : Response) (sent : ForwardedResponse)

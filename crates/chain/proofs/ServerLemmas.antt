@@ -1,31 +1,25 @@
 -- A resource sets no connection option, and what a server sends for the same is the same.
 use Rattle.std.proofs.Common.{◌≡◌, ℕ, Bool, true, false, List, [], ◌∷◌, ◌++◌, Option, Some, None, refl, ◌∙◌, ap}
 use Rattle.std.{proofs.lemmas.Bool.{and_from, and_parts}, specs.Prelude.{bytes_eq, codes, if◌then◌else◌, is_some, not}}
-use Rattle.std.specs.List.{list_all}
-use Rattle.http_header.specs.FieldValue.{FieldValue}
-use Rattle.headers.{specs.LineMap.{Field, LineMap, fields_of, set, set_all}, specs.Lines.Line}
-use Rattle.chain.specs.{Caches.{Reply, second_of}, Servers.{IsSent, SaysCloseAtMost, Server, connection_lines, sent_of}}
-use Rattle.decide_cors.{specs.Fields.{covers_origin, grant_fields, granted, vary_sent}, specs.Kinds.is_preflight}
-use Rattle.decide_cors.specs.Policy.{Policy}
-use Rattle.decide_preconditions.specs.Fields.{fields_removed, fields_sent, is_known_by, is_whole, keeps_encoding}
-use Rattle.decide_preconditions.{specs.Responses.IsAnswered, specs.declared.content.Content.Content}
-use Rattle.decide_preconditions.specs.declared.plan.Plan.{Plan}
+use Rattle.{std.specs.List.list_all, http_header.specs.FieldValue.FieldValue, headers.specs.LineMap.{Field, LineMap}}
+use Rattle.{headers.specs.{LineMap.{fields_of, set, set_all}, Lines.Line}, chain.specs.Caches.{Reply, second_of}}
+use Rattle.chain.specs.Servers.{IsSent, SaysCloseAtMost, Server, connection_lines, sent_of}
+use Rattle.decide_cors.specs.{Fields.{covers_origin, grant_fields, granted, vary_sent}, Kinds.is_preflight}
+use Rattle.{decide_cors.specs.Policy.Policy, decide_preconditions.specs.Fields.{fields_removed, fields_sent}}
+use Rattle.decide_preconditions.specs.{Fields.{is_known_by, is_whole, keeps_encoding}, Responses.IsAnswered}
+use Rattle.decide_preconditions.specs.declared.{content.Content.Content, plan.Plan.Plan}
 use Rattle.decide_preconditions.specs.{declared.resource.TargetState.TargetState as Target}
-use Rattle.decide_preconditions.specs.{declared.response.Response.Response}
-use Rattle.decide_resource.specs.Answers.{AreSent, GivesIf, IsAnswer, IsShared, at_place, content_of, is_admitted}
-use Rattle.decide_resource.specs.Answers.{response_fields, target_of}
-use Rattle.decide_resource.specs.Fields.{accept_encoding_fields, denied_fields, describes, location_fields}
-use Rattle.decide_resource.specs.Fields.{metadata_fields, reason_fields, types_fields, vary_fields, vary_lines}
-use Rattle.decide_resource.specs.{Requests.Request, declared.answer.Answer.Answer, declared.answer.Sends.Sends}
-use Rattle.decide_resource.specs.{declared.reason.Reason.Reason, declared.representation.Representation.Representation}
-use Rattle.decide_resource.specs.{declared.resource.MethodRule.MethodRule, declared.resource.Resource.Resource}
-use Rattle.decide_resource.specs.{declared.resource.State.State}
-use Rattle.decide_resource.specs.declared.reason.Reason.TheVariants.{Denied}
-use Rattle.decide_resource.specs.declared.reason.Reason.TheVariants.{Options}
+use Rattle.{decide_preconditions.specs.declared.response.Response.Response, decide_resource.specs.Answers.AreSent}
+use Rattle.decide_resource.specs.Answers.{GivesIf, IsAnswer, IsShared, at_place, content_of, is_admitted}
+use Rattle.decide_resource.specs.{Answers.{response_fields, target_of}, Fields.{accept_encoding_fields, denied_fields}}
+use Rattle.decide_resource.specs.Fields.{describes, location_fields, metadata_fields, reason_fields, types_fields}
+use Rattle.decide_resource.specs.{Fields.{vary_fields, vary_lines}, Requests.Request, declared.answer.Answer.Answer}
+use Rattle.decide_resource.specs.declared.{answer.Sends.Sends, reason.Reason.{Reason, TheVariants.{Denied, Options}}}
+use Rattle.decide_resource.specs.declared.{representation.Representation.Representation, resource.MethodRule.MethodRule}
+use Rattle.decide_resource.specs.declared.resource.{Resource.Resource, State.State}
 use Rattle.decide_resource.specs.declared.denied.Denied.{Denied as Denial}
 use Rattle.decide_resource.specs.declared.denied.Denied.TheVariants as denied
-use Rattle.decide_resource.specs.declared.reason.Reason.TheVariants.{Moved}
-use Rattle.decide_resource.specs.declared.reason.Reason.TheVariants.{UnsupportedMediaType, UnsupportedCoding}
+use Rattle.decide_resource.specs.declared.reason.Reason.TheVariants.{Moved, UnsupportedMediaType, UnsupportedCoding}
 use Rattle.decide_resource.specs.declared.answer.Sends.TheVariants as sends
 use Rattle.decide_resource.specs.declared.resource.State.TheVariants as state
 

@@ -1,9 +1,8 @@
 -- Which requests are plain, as the tests find it.
 use Rattle.std.proofs.Common.{◌≡◌, ℕ, Bool, true, false, List, [], ◌∷◌, refl, sym, ◌∙◌, ap, inl, inr}
-use Rattle.std.{proofs.lemmas.Bool.cases_Bool, proofs.lemmas.List.Elements.{All-cons, All-head, All-nil, All-tail}}
-use Rattle.std.{specs.Prelude.{All, ◌||◌}, specs.List.list_any}
-use Rattle.headers.{specs.LineMap.LineMap, specs.Lines.Line}
-use Rattle.chain.{specs.Caches.special_names, specs.Serving.{has_special, is_there}}
+use Rattle.std.proofs.lemmas.{Bool.cases_Bool, List.Elements.{All-cons, All-head, All-nil, All-tail}}
+use Rattle.{std.specs.{Prelude.{All, ◌||◌}, List.list_any}, headers.specs.{LineMap.LineMap, Lines.Line}}
+use Rattle.chain.specs.{Caches.special_names, Serving.{has_special, is_there}}
 
 absent : (lines : List Line) → is_there lines ≡ false → lines ≡ []
 absent [] e = refl

@@ -1,36 +1,30 @@
 -- What a cache serves from its store came from those behind it.
-use Rattle.std.proofs.Common.{◌≡◌, ◌≢◌, ◌⊎◌, ℕ, ◌+◌, ◌-◌, ◌*◌, ◌≤◌, Bool, true, false, List, [], ◌∷◌, ◌++◌, refl}
-use Rattle.std.{proofs.Common.{◌∙◌, ap, arith, inl, inr, subst, sym}, proofs.lemmas.Bool.{and_parts}}
-use Rattle.std.{proofs.lemmas.Bool.Decides.nat_tests, proofs.lemmas.List.Elements.All-weaker}
-use Rattle.std.{specs.List.{list_all}}
-use Rattle.std.specs.Prelude.{◌||◌, ◌==◌, not, codes, max, unwrap_or}
-use Rattle.http_header.specs.Token.{lowercase}
-use Rattle.headers.{specs.LineMap.{Field, LineMap, lines_at}, specs.Lines.{Line, only_line}, specs.Text.is_text}
-use Rattle.headers.specs.Typed.{HasLine}
-use Rattle.cache_store.{specs.Changes.{IsStoredAs, IsToStore}, specs.Contents.{Contents, responses_at}}
-use Rattle.cache_store.{specs.Served.{IsRightlyServed, Serves}, specs.declared.limits.Limits.Limits}
-use Rattle.cache_store.{specs.declared.lookup.Lookup.Lookup, specs.Numbers.numbered, specs.History.{HasUnder, History}}
-use Rattle.cache_store.{specs.History.{IsJustified, Run}, specs.Lookups.{IsAnswer, IsFreshFor, age_of_stored}}
-use Rattle.cache_store.{specs.Lookups.freshness_of}
-use Rattle.cache_store.specs.declared.lookup.Lookup.TheVariants.{ValidateOrServe}
-use Rattle.cache_store.{proofs.HistoryLemmas.HasUnder-responses_at, proofs.NumberLemmas.Has-numbered}
-use Rattle.cache_policy.specs.Age.{age_at, apparent_age}
-use Rattle.cache_policy.{specs.Fields.{age_of, age_value, capped}, specs.Requests.AllowsMethod}
+use Rattle.std.proofs.Common.{◌≡◌, ◌≢◌, ◌⊎◌, ℕ, ◌+◌, ◌-◌, ◌*◌, ◌≤◌, Bool, true, false, List, [], ◌∷◌, ◌++◌, refl, ◌∙◌}
+use Rattle.std.proofs.{Common.{ap, arith, inl, inr, subst, sym}, lemmas.Bool.{and_parts, Decides.nat_tests}}
+use Rattle.std.{proofs.lemmas.List.Elements.All-weaker, specs.{List.list_all, Prelude.{◌||◌, ◌==◌, not, codes, max}}}
+use Rattle.{std.specs.Prelude.unwrap_or, http_header.specs.Token.lowercase, headers.specs.LineMap.{Field, LineMap}}
+use Rattle.headers.specs.{LineMap.lines_at, Lines.{Line, only_line}, Text.is_text, Typed.HasLine}
+use Rattle.cache_store.specs.{Changes.{IsStoredAs, IsToStore}, Contents.{Contents, responses_at}}
+use Rattle.cache_store.specs.{Served.{IsRightlyServed, Serves}, declared.{limits.Limits.Limits, lookup.Lookup.Lookup}}
+use Rattle.cache_store.specs.{declared.lookup.Lookup.TheVariants.ValidateOrServe, Numbers.numbered, History.HasUnder}
+use Rattle.cache_store.specs.{History.{History, IsJustified, Run}, Lookups.{IsAnswer, IsFreshFor, age_of_stored}}
+use Rattle.cache_store.{specs.Lookups.freshness_of, proofs.HistoryLemmas.HasUnder-responses_at}
+use Rattle.{cache_store.proofs.NumberLemmas.Has-numbered, cache_policy.specs.Age.{age_at, apparent_age}}
+use Rattle.cache_policy.specs.{Fields.{age_of, age_value, capped}, Requests.AllowsMethod}
 use Rattle.decide_preconditions.specs.Preconditions.{IsGetOrHead}
 use Rattle.cache_policy.specs.{Requests.Request as Asked, Storing.IsShareable, Targets.governing}
-use Rattle.cache_policy.specs.{declared.Governing.Governing, declared.Kind.Kind, declared.Kind.TheVariants.Private}
-use Rattle.cache_policy.specs.{declared.Kind.TheVariants.Shared, Varying.Agree, Varying.Suits}
-use Rattle.cache_policy.specs.Policies.{AnswersUnder, Policy, tells}
-use Rattle.cache_rules.{proofs.StoringLemmas.governed_alike, specs.Selection.IsCandidate, specs.Stored.fields_of_stored}
-use Rattle.cache_rules.{specs.Stored.times_of, specs.declared.storing.Reception.Reception}
-use Rattle.cache_rules.specs.declared.stored.StoredResponse.{StoredResponse}
-use Rattle.chain.specs.Caches.{Act, Caching, Fails, HasAfter, HasComeFrom, IsFromStore, IsPlain, Origin, Reply}
-use Rattle.chain.specs.Caches.{ServesOnError, asked, calls_of, key_of, per_second, second_of, shown, unless_head}
-use Rattle.chain.{specs.Caches.Act.{Looks, Takes, Drops}, specs.Chains.{Counts, FindsGood, IsGood, IsGoodOnError}}
-use Rattle.chain.{specs.Servers.SaysCloseAtMost, proofs.AgeLemmas.age_of-decimal, proofs.ConnectionLemmas.crosses_if}
-use Rattle.rfc_fields.{specs.Members.field_members, specs.Scan.Member, specs.Scan.Member.{Whole, Malformed}}
+use Rattle.cache_policy.specs.declared.{Governing.Governing, Kind.{Kind, TheVariants.{Private, Shared}}}
+use Rattle.cache_policy.specs.{Varying.{Agree, Suits}, Policies.{AnswersUnder, Policy, tells}}
+use Rattle.cache_rules.{proofs.StoringLemmas.governed_alike, specs.{Selection.IsCandidate, Stored.fields_of_stored}}
+use Rattle.cache_rules.specs.{Stored.times_of, declared.storing.Reception.Reception}
+use Rattle.{cache_rules.specs.declared.stored.StoredResponse.StoredResponse, chain.specs.Caches.{Act, Act.Looks}}
+use Rattle.chain.specs.Caches.{Act.{Takes, Drops}, Caching, Fails, HasAfter, HasComeFrom, IsFromStore, IsPlain, Origin}
+use Rattle.chain.specs.Caches.{Reply, ServesOnError, asked, calls_of, key_of, per_second, second_of, shown, unless_head}
+use Rattle.chain.specs.{Chains.{Counts, FindsGood, IsGood, IsGoodOnError}, Servers.SaysCloseAtMost}
+use Rattle.chain.proofs.{AgeLemmas.age_of-decimal, ConnectionLemmas.crosses_if}
+use Rattle.rfc_fields.specs.{Members.field_members, Scan.{Member, Member.{Whole, Malformed}}}
 use Rattle.gateway_messages.specs.HopByHop.{connection_options, is_hop_by_hop, is_known, is_named}
-use Rattle.decide_resource.{specs.Requests.Request, specs.Vary.AreAlike}
+use Rattle.decide_resource.specs.{Requests.Request, Vary.AreAlike}
 use Rattle.cache_policy.specs.declared.decision.Decision.TheVariants as decisions
 
 -- what a law of a store says

@@ -1,18 +1,14 @@
 -- Requests that a cache takes for one by Vary get the same answers.
 use Rattle.std.proofs.Common.{◌≡◌, ◌≢◌, ◌↔◌, ℕ, Bool, true, false, List, [], ◌∷◌, refl, sym, ◌∙◌, ap, subst, inl, inr}
-use Rattle.std.{proofs.Common.{arith, bytes_eq}, proofs.lemmas.Bool.cases_Bool, proofs.lemmas.Bool.Decides.nat_tests}
-use Rattle.std.{proofs.lemmas.Slice.Eq.bytes_eq-Decides, proofs.lemmas.List.Elements.{All-head, All-tail}}
-use Rattle.std.{specs.Prelude.{All, ◌||◌, codes, if◌then◌else◌}, specs.List.list_any, specs.Char.to_ascii_lowercase}
-use Rattle.http_header.specs.Token.{lowercase}
-use Rattle.headers.{specs.LineMap.{LineMap, fields_of, set_all}, specs.Lines.Line}
-use Rattle.cache_policy.{specs.Varying.{Agree, SayTheSame, has_pairs, is_list_name, Suits}, specs.Requests.AllowsMethod}
-use Rattle.rfc_fields.{specs.Directives.is_same_token, specs.Members.field_members, specs.Scan.Member}
-use Rattle.rfc_fields.specs.Scan.Member.{Whole, Malformed}
-use Rattle.chain.specs.Caches.{asked}
-use Rattle.decide_cors.specs.Cache.{Serves, nominates}
-use Rattle.decide_resource.{specs.Answers.{AreSame, IsAnswer}, specs.Requests.Request}
-use Rattle.decide_resource.{specs.declared.answer.Answer.Answer, specs.declared.resource.Resource.Resource}
-use Rattle.decide_resource.specs.Vary.{AreAlike, ListAlike, SelectTheSame}
+use Rattle.std.proofs.{Common.{arith, bytes_eq}, lemmas.Bool.{cases_Bool, Decides.nat_tests}}
+use Rattle.std.{proofs.lemmas.{Slice.Eq.bytes_eq-Decides, List.Elements.{All-head, All-tail}}, specs.Prelude.All}
+use Rattle.std.specs.{Prelude.{◌||◌, codes, if◌then◌else◌}, List.list_any, Char.to_ascii_lowercase}
+use Rattle.{http_header.specs.Token.lowercase, headers.specs.{LineMap.{LineMap, fields_of, set_all}, Lines.Line}}
+use Rattle.cache_policy.specs.{Varying.{Agree, SayTheSame, has_pairs, is_list_name, Suits}, Requests.AllowsMethod}
+use Rattle.rfc_fields.specs.{Directives.is_same_token, Members.field_members, Scan.{Member, Member.{Whole, Malformed}}}
+use Rattle.{chain.specs.Caches.asked, decide_cors.specs.Cache.{Serves, nominates}}
+use Rattle.decide_resource.specs.{Answers.{AreSame, IsAnswer}, Requests.Request, declared.answer.Answer.Answer}
+use Rattle.decide_resource.specs.{declared.resource.Resource.Resource, Vary.{AreAlike, ListAlike, SelectTheSame}}
 
 -- ---- what members of Vary nominate
 

@@ -1,19 +1,15 @@
 -- What a resource behind gateways reads of a request is what the client sent.
 use Rattle.std.proofs.Common.{◌≡◌, ◌≢◌, ◌↔◌, ℕ, Bool, true, false, List, [], ◌∷◌, Option, None, refl, sym, ◌∙◌, ap, inl}
-use Rattle.std.proofs.Common.{inr, codes}
-use Rattle.std.proofs.{lemmas.Bool.cases_Bool, lemmas.Slice.Eq.bytes_eq-Decides}
-use Rattle.std.proofs.lemmas.List.Elements.{All-cons, All-nil}
-use Rattle.std.specs.{Prelude.All, Prelude.◌||◌, Prelude.bytes_eq, List.list_any}
-use Rattle.headers.specs.Lines.{Line}
-use Rattle.chain.specs.Ways.{IsSentOn, Reaches, end_to_end_lines, sent_directly}
-use Rattle.rfc_fields.specs.{Members.field_members, Scan.Member}
-use Rattle.gateway_messages.specs.{Forwarding.own_names, Forwarding.replaced, Spellings.has_mark}
-use Rattle.gateway_messages.specs.{declared.gateway.Gateway.Gateway, declared.protocol.Protocol.TheVariants.Http11}
-use Rattle.gateway_messages.specs.HopByHop.{connection_options, hop_by_hop_fields, is_hop_by_hop, is_known}
-use Rattle.gateway_messages.specs.HopByHop.{proxy_fields}
-use Rattle.decide_resource.specs.{Answers.IsAnswer, Requests.Request, Vary.AreAlike, Vary.ChooseAlike}
-use Rattle.decide_resource.specs.{declared.answer.Answer.Answer, declared.resource.Resource.Resource}
-use Rattle.gateway_messages.proofs.SpellingLemmas.{well_spelt}
+use Rattle.std.proofs.{Common.{inr, codes}, lemmas.{Bool.cases_Bool, Slice.Eq.bytes_eq-Decides, List.Elements.All-cons}}
+use Rattle.std.{proofs.lemmas.List.Elements.All-nil, specs.{Prelude.{All, ◌||◌, bytes_eq}, List.list_any}}
+use Rattle.{headers.specs.Lines.Line, chain.specs.Ways.{IsSentOn, Reaches, end_to_end_lines, sent_directly}}
+use Rattle.{rfc_fields.specs.{Members.field_members, Scan.Member}, gateway_messages.specs.Forwarding.own_names}
+use Rattle.gateway_messages.specs.{Forwarding.replaced, Spellings.has_mark, declared.gateway.Gateway.Gateway}
+use Rattle.gateway_messages.specs.{declared.protocol.Protocol.TheVariants.Http11, HopByHop.connection_options}
+use Rattle.gateway_messages.specs.HopByHop.{hop_by_hop_fields, is_hop_by_hop, is_known, proxy_fields}
+use Rattle.{gateway_messages.proofs.SpellingLemmas.well_spelt, decide_resource.specs.Answers.IsAnswer}
+use Rattle.decide_resource.specs.{Requests.Request, Vary.{AreAlike, ChooseAlike}, declared.answer.Answer.Answer}
+use Rattle.decide_resource.specs.declared.resource.Resource.{Resource}
 
 -- ---- names
 

@@ -1,14 +1,12 @@
 -- A cache before other servers (RFC 9111): which requests it answers from its store, what it stores, and when.
 use Rattle.std.specs.Prelude.{◌≡◌, ◌≢◌, ◌⊎◌, ℕ, ◌+◌, ◌-◌, ◌/◌, ◌≤◌, Bool, true, ◌&&◌, not, ◌==◌, List, [], ◌∷◌, ◌++◌}
-use Rattle.std.specs.Prelude.{All, Contains}
-use Rattle.std.{specs.Prelude.{None, Some, bytes_eq, codes, if◌then◌else◌, unwrap_or}, specs.List.list_all}
-use Rattle.headers.{specs.LineMap.{Field, LineMap, lines_at}, specs.Lines.{Line, only_line}, specs.Text.is_text}
-use Rattle.cache_store.{specs.Contents.{Contents, responses_at}, specs.History.{Call, History, Step}}
-use Rattle.cache_store.{specs.History.Call.{Looked, Arrived, Removed}, specs.Lookups.{IsAnswer, age_of_stored}}
-use Rattle.cache_store.{specs.Served.Serves, specs.declared.limits.Limits.Limits, specs.Numbers.numbered}
-use Rattle.cache_store.{specs.declared.lookup.Lookup.Lookup, specs.declared.lookup.Lookup.TheVariants.Serve}
+use Rattle.std.specs.{Prelude.{All, Contains, None, Some, bytes_eq, codes, if◌then◌else◌, unwrap_or}, List.list_all}
+use Rattle.headers.specs.{LineMap.{Field, LineMap, lines_at}, Lines.{Line, only_line}, Text.is_text}
+use Rattle.cache_store.specs.{Contents.{Contents, responses_at}, History.{Call, Call.{Looked, Arrived, Removed}}}
+use Rattle.cache_store.specs.{History.{History, Step}, Lookups.{IsAnswer, age_of_stored}, Served.Serves}
+use Rattle.cache_store.specs.declared.{limits.Limits.Limits, lookup.Lookup.{Lookup, TheVariants.Serve}}
 use Rattle.cache_store.specs.declared.lookup.Lookup.TheVariants.{ServeAndRevalidate, Validate, ValidateOrServe}
-use Rattle.cache_store.specs.declared.lookup.Lookup.TheVariants.{Unavailable, Forward}
+use Rattle.cache_store.specs.{declared.lookup.Lookup.TheVariants.{Unavailable, Forward}, Numbers.numbered}
 use Rattle.decide_preconditions.specs.Preconditions.{IsGetOrHead}
 use Rattle.cache_policy.specs.{Policies.Policy, Requests.Request as Asked}
 use Rattle.cache_rules.specs.{Stored.fields_of_stored, declared.storing.Reception.Reception}

@@ -1,15 +1,13 @@
 -- Gateways and caches in a row before a resource, and what a client receives from them.
 use Rattle.std.specs.Prelude.{◌≡◌, ◌⊎◌, ℕ, ◌+◌, ◌-◌, ◌*◌, ◌≤◌, Bool, List, [], ◌∷◌, ◌++◌, codes}
-use Rattle.headers.specs.{LineMap.LineMap, Typed.HasLine}
-use Rattle.cache_store.specs.Lookups.{IsFreshFor}
-use Rattle.cache_policy.specs.{Decisions.IsGoodEnough, Decisions.MayServeOnError, Fields.age_value, Fields.greatest}
-use Rattle.cache_policy.specs.{declared.decision.Freshness.Freshness}
+use Rattle.{headers.specs.{LineMap.LineMap, Typed.HasLine}, cache_store.specs.Lookups.IsFreshFor}
+use Rattle.cache_policy.specs.{Decisions.{IsGoodEnough, MayServeOnError}, Fields.{age_value, greatest}}
+use Rattle.cache_policy.specs.declared.decision.Freshness.{Freshness}
 use Rattle.cache_policy.specs.Policies.{Policy, asks as counted_of, tells}
-use Rattle.cache_rules.{specs.Stored.fields_of_stored, specs.declared.stored.StoredResponse.StoredResponse}
+use Rattle.cache_rules.specs.{Stored.fields_of_stored, declared.stored.StoredResponse.StoredResponse}
 use Rattle.chain.specs.Caches.{CacheAnswers, Caching, Fails, IsFromStore, IsPlain, IsUnanswered, Origin, Reply}
-use Rattle.chain.specs.Caches.{per_second, shown}
-use Rattle.chain.{specs.Servers.{IsCarried, IsSaid, IsSent, SaysCloseAtMost, Site}, specs.Ways.{IsSentOn, received}}
-use Rattle.chain.specs.Ways.{named_host, sent_directly}
+use Rattle.chain.specs.{Caches.{per_second, shown}, Servers.{IsCarried, IsSaid, IsSent, SaysCloseAtMost, Site}}
+use Rattle.chain.specs.Ways.{IsSentOn, received, named_host, sent_directly}
 use Rattle.gateway_messages.specs.{FieldLines.fields_of as sent_fields, FieldLines.lines_under, Rejections.status_of}
 use Rattle.gateway_messages.specs.{Requests.Rejects, Responses.{IsForwardedResponse, RejectsResponse, Response}}
 use Rattle.gateway_messages.specs.{declared.gateway.Gateway.Gateway, declared.rejection.Rejection.Rejection}

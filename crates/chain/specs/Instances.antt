@@ -1,9 +1,8 @@
 -- A chain that there is.
 use Rattle.std.specs.Prelude.{◌≡◌, ℕ, ◌≤◌, false, [], ◌∷◌, codes}
-use Rattle.cache_policy.specs.Fields.{age_value}
-use Rattle.chain.specs.{Caches.{Caching, Reply, per_second}, Chains.{Hop.{Forwards, Stores}, behind}, Servers.Server}
-use Rattle.gateway_messages.specs.declared.gateway.Gateway.{Gateway}
-use Rattle.decide_resource.specs.Requests.{Request}
+use Rattle.{cache_policy.specs.Fields.age_value, chain.specs.{Caches.{Caching, Reply, per_second}, Chains.Hop.Forwards}}
+use Rattle.chain.specs.{Chains.{Hop.Stores, behind}, Servers.Server}
+use Rattle.{gateway_messages.specs.declared.gateway.Gateway.Gateway, decide_resource.specs.Requests.Request}
 
 -- A gateway, a cache and a server give a client this reply to its request for a path, a second after 1970 began. It has
 -- Age, of a second or more, which the server doesn't write: so the cache served it. Nothing is silent, and a reply

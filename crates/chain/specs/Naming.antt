@@ -1,10 +1,8 @@
 -- A PUT that names a version, and a resource that has it (RFC 9110, section 13.1.1).
 use Rattle.std.specs.Prelude.{◌≡◌, ℕ, false, [], ◌∷◌, Some, codes, slice_get}
-use Rattle.http_header.specs.FieldValue.{FieldValue}
-use Rattle.headers.specs.Lines.{Line}
-use Rattle.rfc_fields.specs.{Members.field_members, Scan.Member.Whole}
-use Rattle.decide_resource.specs.{Requests.Request, declared.representation.Representation.Representation}
-use Rattle.decide_resource.specs.declared.resource.Resource.{Resource}
+use Rattle.{http_header.specs.FieldValue.FieldValue, headers.specs.Lines.Line, rfc_fields.specs.Members.field_members}
+use Rattle.{rfc_fields.specs.Scan.Member.Whole, decide_resource.specs.Requests.Request}
+use Rattle.decide_resource.specs.declared.{representation.Representation.Representation, resource.Resource.Resource}
 use Rattle.decide_resource.specs.declared.resource.State.TheVariants as state
 use Rattle.updates.specs.Worlds.{Version}
 

@@ -1,9 +1,8 @@
 -- The way of a response back through gateways (RFC 9110, section 7.6).
 use Rattle.std.specs.Prelude.{◌≡◌, ℕ, List, [], ◌∷◌, codes}
-use Rattle.headers.specs.LineMap.{LineMap}
-use Rattle.gateway_messages.specs.{FieldLines.fields_of, FieldLines.lines_under, Responses.IsForwardedResponse}
-use Rattle.gateway_messages.specs.{Responses.Response, declared.gateway.Gateway.Gateway}
-use Rattle.gateway_messages.specs.{declared.response.ForwardedResponse.ForwardedResponse}
+use Rattle.{headers.specs.LineMap.LineMap, gateway_messages.specs.FieldLines.{fields_of, lines_under}}
+use Rattle.gateway_messages.specs.{Responses.{IsForwardedResponse, Response}, declared.gateway.Gateway.Gateway}
+use Rattle.gateway_messages.specs.declared.response.ForwardedResponse.{ForwardedResponse}
 
 -- the client of a gateway gets the response that it forwarded: with the same status, and the field lines that it sent
 pub record IsPassedBack (response : Response) (sent : ForwardedResponse) (next : Response) : Type 0 where

@@ -1,12 +1,10 @@
 -- The server of a resource, and what it says about a request (RFC 9110).
 use Rattle.std.specs.Prelude.{◌≡◌, ◌≢◌, ℕ, Bool, true, false, List, [], ◌∷◌, All, Option, Some, codes}
-use Rattle.http_header.specs.Token.{lowercase}
-use Rattle.headers.{specs.LineMap.{LineMap, fields_of, set, set_all}, specs.Lines.Line}
-use Rattle.chain.specs.Caches.{Reply, second_of, unless_head}
-use Rattle.gateway_messages.{specs.Forwarding.own_names, specs.HopByHop.is_known, specs.Spellings.has_mark}
-use Rattle.gateway_messages.specs.{Framing.States, declared.framing.Framing.Framing}
-use Rattle.gateway_messages.specs.declared.protocol.Protocol.TheVariants.{Http11}
-use Rattle.decide_preconditions.{specs.Plans.parts_sent, specs.declared.part.Part.Part}
+use Rattle.{http_header.specs.Token.lowercase, headers.specs.{LineMap.{LineMap, fields_of, set, set_all}, Lines.Line}}
+use Rattle.{chain.specs.Caches.{Reply, second_of, unless_head}, gateway_messages.specs.Forwarding.own_names}
+use Rattle.gateway_messages.specs.{HopByHop.is_known, Spellings.has_mark, Framing.States}
+use Rattle.gateway_messages.specs.declared.{framing.Framing.Framing, protocol.Protocol.TheVariants.Http11}
+use Rattle.decide_preconditions.specs.{Plans.parts_sent, declared.part.Part.Part}
 use Rattle.decide_resource.specs.{Answers.{FitsMemory, IsAnswer}, Requests.Request, declared.answer.Answer.Answer}
 use Rattle.decide_resource.specs.declared.answer.Sends.{Sends}
 use Rattle.decide_resource.specs.declared.answer.Sends.TheVariants as sends

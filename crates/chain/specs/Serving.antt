@@ -1,16 +1,14 @@
 -- What the calls of a cache do: answering a request from its store, and taking the response to one that it sent on.
 use Rattle.std.specs.Prelude.{◌≡◌, ◌⊎◌, ⊤, ℕ, Bool, true, false, List, [], ◌∷◌, OnErr, Option, Some, None, Result, Ok}
-use Rattle.std.{specs.Prelude.{codes, string_bytes}, specs.List.list_any}
-use Rattle.headers.{specs.LineMap.{LineMap, field_of, lines_at}, specs.Lines.Line}
-use Rattle.cache_store.{specs.Changes.{FitsAlone, IsInserted, IsStoredAs, IsToStore, IsTooLarge}}
-use Rattle.cache_store.{specs.Contents.{Contents, size_at}, specs.History.{Step, Call.Arrived}}
-use Rattle.cache_store.{specs.declared.limits.Limits.Limits, specs.declared.lookup.Lookup.Lookup}
-use Rattle.cache_policy.specs.Policies.{Policy}
-use Rattle.cache_rules.{specs.declared.storing.Reception.Reception, specs.declared.stored.StoredResponse.StoredResponse}
-use Rattle.chain.specs.Caches.{IsNoted, IsPlain, IsSought, Reply, is_bare, key_of, special_names}
-use Rattle.chain.{specs.declared.cache.Action.Action, specs.declared.cache.Pending.Pending}
-use Rattle.chain.{specs.declared.cache.ArrivedResponse.ArrivedResponse, specs.declared.cache.Action.TheVariants.Serve}
-use Rattle.chain.specs.declared.cache.Action.TheVariants.{ServeAndFetch, Fetch, FetchOrServe, Forward, Unavailable}
+use Rattle.{std.specs.{Prelude.{codes, string_bytes}, List.list_any}, headers.specs.LineMap.{LineMap, field_of}}
+use Rattle.{headers.specs.{LineMap.lines_at, Lines.Line}, cache_store.specs.Changes.{FitsAlone, IsInserted, IsStoredAs}}
+use Rattle.cache_store.specs.{Changes.{IsToStore, IsTooLarge}, Contents.{Contents, size_at}, History.Step}
+use Rattle.cache_store.specs.{History.Call.Arrived, declared.{limits.Limits.Limits, lookup.Lookup.Lookup}}
+use Rattle.{cache_policy.specs.Policies.Policy, cache_rules.specs.declared.storing.Reception.Reception}
+use Rattle.{cache_rules.specs.declared.stored.StoredResponse.StoredResponse, chain.specs.Caches.{IsNoted, IsPlain}}
+use Rattle.chain.specs.{Caches.{IsSought, Reply, is_bare, key_of, special_names}, declared.cache.Action.Action}
+use Rattle.chain.specs.declared.cache.Action.TheVariants.{Serve, ServeAndFetch, Fetch, FetchOrServe, Forward}
+use Rattle.chain.specs.declared.cache.{Action.TheVariants.Unavailable, Pending.Pending, ArrivedResponse.ArrivedResponse}
 use Rattle.decide_resource.specs.Requests.{Request}
 use Rattle.cache_store.specs.declared.lookup.Lookup.TheVariants as lookup
 

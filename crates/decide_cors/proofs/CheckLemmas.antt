@@ -1,26 +1,23 @@
 -- What browsers make of the fields of a policy.
 use Rattle.std.proofs.Common.{◌≡◌, ◌≢◌, ◌↔◌, ◌⊎◌, ℕ, zero, suc, Bool, true, false, List, [], ◌∷◌, ◌++◌, Option, Some}
-use Rattle.std.{proofs.Common.{None, refl, ap, sym, ◌∙◌, subst, inl, inr, arith}, proofs.lemmas.Bool.cases_Bool}
-use Rattle.std.{proofs.lemmas.Bool.Decides.nat_tests, proofs.lemmas.Cmp.nat_list_eq_equiv}
-use Rattle.std.{proofs.lemmas.Slice.Eq.bytes_eq-Decides, proofs.lemmas.Map.Views.Contains-from_any}
-use Rattle.std.{proofs.lemmas.Map.Views.list_any-from_Contains, specs.Prelude.{◌&&◌, if◌then◌else◌, bytes_eq, codes}}
-use Rattle.std.{specs.Prelude.{is_some, Contains, IfSome, IsTrue, IsSomeAnd}, specs.List.list_any}
-use Rattle.std.specs.Cmp.{IsEquivalence}
-use Rattle.http_header.specs.Token.{lowercase}
-use Rattle.headers.{specs.LineMap.{Field, LineMap, fields_of, set_all}, specs.Lines.Line, specs.ListItem.method_of}
-use Rattle.headers.{specs.ListItem.name_of, specs.Typed.HasLine, specs.declared.Origin.Origin}
-use Rattle.decide_cors.{specs.Allowed.{Admits, IsAny, IsAnyName, Lists, ListsName}, specs.Answer.{IsAnswer, allows}}
-use Rattle.decide_cors.{specs.Elements.{elements, is_filled}, specs.Kinds.{IsKindOf, is_preflight}, specs.Policy.Policy}
-use Rattle.decide_cors.{specs.declared.kind.CorsKind.CorsKind, specs.declared.policy.CorsAnswer.CorsAnswer}
-use Rattle.decide_cors.{specs.declared.rules.Allowed.Allowed, specs.declared.rules.Allowed.TheVariants.{Any, Listed}}
-use Rattle.decide_cors.{specs.declared.rules.AllowedNames.AllowedNames, specs.declared.rules.CorsRules.CorsRules}
-use Rattle.decide_cors.specs.Browser.{Request, IsPreflightFor, IsSentFor, Checks, CorsCheck, Excludes, GrantsMethod}
-use Rattle.decide_cors.specs.Browser.{GrantsName, IsExposed, IsForbidden, IsOkStatus, IsSafeMethod, PreflightPasses}
-use Rattle.decide_cors.{specs.Browser.{ShowsName, combined, extracted, methods_in, star}, specs.Rules.AdmitsName}
-use Rattle.decide_cors.specs.Rules.{AllowsCredentials, AllowsMethod, AllowsName, AllowsOrigin, AllowsRequest, Exposes}
-use Rattle.decide_cors.specs.Rules.{IsLawful, IsListLine, IsNamesLine, IsPolicyOf, ShowsListed, texts}
-use Rattle.decide_cors.specs.Fields.{fields_sent, filled_line, grant, grant_fields, granted, lines_if}
+use Rattle.std.proofs.{Common.{None, refl, ap, sym, ◌∙◌, subst, inl, inr, arith}, lemmas.Bool.cases_Bool}
+use Rattle.std.proofs.lemmas.{Bool.Decides.nat_tests, Cmp.nat_list_eq_equiv, Slice.Eq.bytes_eq-Decides}
+use Rattle.std.{proofs.lemmas.Map.Views.{Contains-from_any, list_any-from_Contains}, specs.Prelude.◌&&◌}
+use Rattle.std.specs.Prelude.{if◌then◌else◌, bytes_eq, codes, is_some, Contains, IfSome, IsTrue, IsSomeAnd}
+use Rattle.{std.specs.{List.list_any, Cmp.IsEquivalence}, http_header.specs.Token.lowercase}
+use Rattle.headers.specs.{LineMap.{Field, LineMap, fields_of, set_all}, Lines.Line, ListItem.{method_of, name_of}}
+use Rattle.{headers.specs.{Typed.HasLine, declared.Origin.Origin}, decide_cors.specs.Allowed.{Admits, IsAny, IsAnyName}}
+use Rattle.decide_cors.specs.{Allowed.{Lists, ListsName}, Answer.{IsAnswer, allows}, Elements.{elements, is_filled}}
+use Rattle.decide_cors.specs.{Kinds.{IsKindOf, is_preflight}, Policy.Policy, declared.kind.CorsKind.CorsKind}
 use Rattle.decide_cors.specs.declared.kind.CorsKind.TheVariants.{Preflight, Plain, NoOrigin}
+use Rattle.decide_cors.specs.declared.{policy.CorsAnswer.CorsAnswer, rules.Allowed.{Allowed, TheVariants.{Any, Listed}}}
+use Rattle.decide_cors.specs.{declared.rules.{AllowedNames.AllowedNames, CorsRules.CorsRules}, Browser.Request}
+use Rattle.decide_cors.specs.Browser.{IsPreflightFor, IsSentFor, Checks, CorsCheck, Excludes, GrantsMethod, GrantsName}
+use Rattle.decide_cors.specs.Browser.{IsExposed, IsForbidden, IsOkStatus, IsSafeMethod, PreflightPasses, ShowsName}
+use Rattle.decide_cors.specs.{Browser.{combined, extracted, methods_in, star}, Rules.{AdmitsName, AllowsCredentials}}
+use Rattle.decide_cors.specs.Rules.{AllowsMethod, AllowsName, AllowsOrigin, AllowsRequest, Exposes, IsLawful}
+use Rattle.decide_cors.specs.{Rules.{IsListLine, IsNamesLine, IsPolicyOf, ShowsListed, texts}, Fields.fields_sent}
+use Rattle.decide_cors.specs.Fields.{filled_line, grant, grant_fields, granted, lines_if}
 use Rattle.decide_cors.proofs.ElementLemmas.{all_extracted, methods_extracted, names_extracted, star_extracted}
 use Rattle.decide_cors.specs.declared.rules.AllowedNames.TheVariants as Names
 

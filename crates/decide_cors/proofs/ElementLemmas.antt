@@ -1,15 +1,14 @@
 -- A list of methods or names encodes to a value whose elements are exactly these.
 use Rattle.std.proofs.Common.{◌≡◌, ℕ, ◌-◌, true, false, List, [], ◌∷◌, length, map, Some, IsTrue, refl, ap, subst, ◌∙◌}
-use Rattle.std.{proofs.Common.{inl, inr, arith, leb}, proofs.Math.Seq.take-length}
-use Rattle.std.{proofs.lemmas.List.Elements.All-weaker, proofs.lemmas.Bool.{and_from, and_parts, cases_Bool, leb-true}}
-use Rattle.std.{proofs.lemmas.Bool.{ne_eqb}, proofs.lemmas.List.Splits.{slice_split_at, slice_split_none}}
-use Rattle.std.{specs.Prelude.{codes, filter, nat_lt, ◌==◌}, specs.List.{list_all, slice_split}}
-use Rattle.http_header.{specs.Token.{IsToken, is_token_byte, lowercase}, proofs.TokenLemmas.IsHeaderName-lowercase}
-use Rattle.headers.{specs.Lines.Line, specs.Merge.merge, specs.Places.comma, specs.Text.{trim}}
-use Rattle.headers.{specs.ListItem.{IsListOf, is_token, method_of, name_of, values}}
-use Rattle.headers.proofs.ReadingLemmas.{is_token-from, is_token-of}
-use Rattle.headers.proofs.RoundTripLemmas.{token_back, token_front, token_trim}
-use Rattle.decide_cors.{specs.Browser.{extracted, star}, specs.Elements.{elements, is_filled}}
+use Rattle.std.proofs.{Common.{inl, inr, arith, leb}, Math.Seq.take-length, lemmas.List.Elements.All-weaker}
+use Rattle.std.proofs.lemmas.{List.Splits.{slice_split_at, slice_split_none}, Bool.{and_from, and_parts, cases_Bool}}
+use Rattle.std.{proofs.lemmas.Bool.{leb-true, ne_eqb}, specs.{Prelude.{codes, filter, nat_lt, ◌==◌}, List.list_all}}
+use Rattle.{std.specs.List.slice_split, http_header.specs.Token.{IsToken, is_token_byte, lowercase}}
+use Rattle.{http_header.proofs.TokenLemmas.IsHeaderName-lowercase, headers.specs.{Lines.Line, Merge.merge}}
+use Rattle.headers.specs.{Places.comma, Text.trim, ListItem.{IsListOf, is_token, method_of, name_of, values}}
+use Rattle.headers.proofs.{ReadingLemmas.{is_token-from, is_token-of}, RoundTripLemmas.{token_back, token_front}}
+use Rattle.{headers.proofs.RoundTripLemmas.token_trim, decide_cors.specs.{Browser.{extracted, star}, Elements.elements}}
+use Rattle.decide_cors.specs.Elements.{is_filled}
 
 -- no byte of a token is a comma
 no_comma : (b : ℕ) → IsTrue (is_token_byte b) → (b == comma) ≡ false

@@ -1,9 +1,7 @@
 -- What is granted of listed origins.
 use Rattle.std.proofs.Common.{◌≡◌, Bool, Option, Some, None, List, [], ◌∷◌, refl, ap, arith}
-use Rattle.std.specs.{Prelude.if◌then◌else◌, Prelude.bytes_eq, List.list_any}
-use Rattle.http_header.specs.FieldValue.{FieldValue}
-use Rattle.headers.specs.Lines.{Line, lines_of}
-use Rattle.decide_cors.specs.Fields.{grant}
+use Rattle.{std.specs.{Prelude.{if◌then◌else◌, bytes_eq}, List.list_any}, http_header.specs.FieldValue.FieldValue}
+use Rattle.{headers.specs.Lines.{Line, lines_of}, decide_cors.specs.Fields.grant}
 
 -- a test of the bytes of some values
 pub any_lines : (p : Line → Bool) (values : List FieldValue)

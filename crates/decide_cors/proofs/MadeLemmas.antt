@@ -1,14 +1,13 @@
 -- An answer is made of each list of fields that fits a `Vec`.
 use Rattle.std.proofs.Common.{◌≡◌, ℕ, suc, ◌+◌, ◌<◌, ◌≤◌, ◌^◌, Bool, true, false, List, [], ◌∷◌, ◌++◌, length, map}
-use Rattle.std.proofs.Common.{Option, Some, None, refl, ap, arith, length-append}
-use Rattle.std.{proofs.lemmas.List.length-map, specs.Global.Vec}
-use Rattle.std.specs.Prelude.{◌&&◌, codes, if◌then◌else◌, is_some, not, ⊤}
+use Rattle.std.proofs.{Common.{Option, Some, None, refl, ap, arith, length-append}, lemmas.List.length-map}
+use Rattle.std.specs.{Global.Vec, Prelude.{◌&&◌, codes, if◌then◌else◌, is_some, not, ⊤}}
+use Rattle.{http_header.specs.FieldValue.plain_value, headers.specs.{LineMap.{Field, LineMap, fields_of}, Lines.Line}}
+use Rattle.{headers.specs.{Lines.lines_of, declared.Encoded.Encoded}, decide_cors.specs.Answer.{IsAnswer, allows}}
+use Rattle.decide_cors.specs.Fields.{covers_origin, fields_sent, filled_line, grant_fields, granted, lines_if}
+use Rattle.decide_cors.specs.{Kinds.is_preflight, Policy.Policy, declared.policy.CorsAnswer.CorsAnswer}
+use Rattle.decide_cors.proofs.SameLemmas.{some_kind}
 use denote.RawPtr.{null_ptr}
-use Rattle.http_header.specs.FieldValue.{plain_value}
-use Rattle.headers.specs.{LineMap.{Field, LineMap, fields_of}, Lines.{Line, lines_of}, declared.Encoded.Encoded}
-use Rattle.decide_cors.specs.{Answer.{IsAnswer, allows}, Fields.{covers_origin, fields_sent, filled_line}}
-use Rattle.decide_cors.specs.{Fields.{grant_fields, granted, lines_if}, Kinds.is_preflight, Policy.Policy}
-use Rattle.decide_cors.{specs.declared.policy.CorsAnswer.CorsAnswer, proofs.SameLemmas.some_kind}
 
 abbrev pub vec : {X : Type 0} (items : List X) → length items < 2 ^ 63 → Vec X
 vec items fits =

@@ -1,12 +1,11 @@
 -- Which requests get the same fields.
 use Rattle.std.proofs.Common.{◌≡◌, ◌≢◌, ◌⊎◌, ℕ, Bool, true, false, List, [], ◌∷◌, ◌++◌, Option, None, refl, ap, sym}
-use Rattle.std.{proofs.Common.{◌∙◌, subst, inl, inr, arith}, proofs.lemmas.Slice.Eq.bytes_eq-Decides}
-use Rattle.std.specs.Prelude.{bytes_eq, codes}
-use Rattle.headers.{specs.LineMap.{LineMap, fields_of}, specs.Lines.Line, specs.Typed.HasLine}
-use Rattle.decide_cors.{specs.Answer.{AreSame, IsAnswer, allows}, specs.Kinds.{IsKindOf, is_preflight}}
-use Rattle.decide_cors.{specs.Policy.Policy, specs.declared.kind.CorsKind.CorsKind}
-use Rattle.decide_cors.{specs.declared.policy.CorsAnswer.CorsAnswer, specs.Fields.{fields_sent, granted, grant_fields}}
-use Rattle.decide_cors.{specs.Fields.vary_sent, specs.declared.kind.CorsKind.TheVariants.{Preflight, Plain, NoOrigin}}
+use Rattle.std.{proofs.{Common.{◌∙◌, subst, inl, inr, arith}, lemmas.Slice.Eq.bytes_eq-Decides}, specs.Prelude.bytes_eq}
+use Rattle.{std.specs.Prelude.codes, headers.specs.{LineMap.{LineMap, fields_of}, Lines.Line, Typed.HasLine}}
+use Rattle.decide_cors.specs.{Answer.{AreSame, IsAnswer, allows}, Kinds.{IsKindOf, is_preflight}, Policy.Policy}
+use Rattle.decide_cors.specs.declared.kind.CorsKind.{CorsKind, TheVariants.{Preflight, Plain, NoOrigin}}
+use Rattle.decide_cors.specs.{declared.policy.CorsAnswer.CorsAnswer, Fields.{fields_sent, granted, grant_fields}}
+use Rattle.decide_cors.specs.Fields.{vary_sent}
 
 -- requests whose fields Origin and Access-Control-Request-Method are equal are of one kind
 pre_once : (method : List ℕ) (r s : LineMap) (k l : CorsKind) → r (codes "origin") ≡ s (codes "origin")

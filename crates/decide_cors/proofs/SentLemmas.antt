@@ -1,10 +1,8 @@
 -- Hosts of origins, and how many origins browsers send.
 use Rattle.std.proofs.Common.{◌≡◌, ◌<◌, ◌∙◌, ℕ, true, List, [], ◌∷◌, None, Some, arith, length, refl, rules, sym, tests}
-use Rattle.std.specs.{List.{list_all, prefix_len}, Str.IsUtf8}
-use Rattle.std.proofs.lemmas.{List.Elements.All-weaker, List.Sums.AllPass-from_list_all, Str.IsUtf8-from_ascii}
-use Rattle.std.proofs.lemmas.{Str.Ascii.IsAscii-from_all, List.length-map}
-use Rattle.http_header.specs.FieldValue.{FieldValue}
-use Rattle.headers.specs.Lines.{lines_of}
+use Rattle.std.proofs.lemmas.{List.{Elements.All-weaker, Sums.AllPass-from_list_all, length-map}, Str.IsUtf8-from_ascii}
+use Rattle.std.{proofs.lemmas.Str.Ascii.IsAscii-from_all, specs.{List.{list_all, prefix_len}, Str.IsUtf8}}
+use Rattle.{http_header.specs.FieldValue.FieldValue, headers.specs.Lines.lines_of}
 use Rattle.decide_cors.specs.SentOrigins.{is_host_byte, is_sent, sent_count, unsent_place}
 
 host_byte_ascii : (b : ℕ) → is_host_byte b ≡ true → b < 128

@@ -1,14 +1,12 @@
 -- What Vary says after an answer, and which requests it tells apart.
 use Rattle.std.proofs.Common.{◌≡◌, ◌≢◌, ◌⊎◌, ℕ, Bool, true, false, List, [], ◌∷◌, ◌++◌, Option, Some, None, refl, ap}
-use Rattle.std.{proofs.Common.{sym, ◌∙◌, inl, inr, IsTrue}, proofs.Math.Bool.or-true, proofs.lemmas.Bool.cases_Bool}
-use Rattle.std.{proofs.lemmas.Grind.flat_map-append, proofs.lemmas.List.Folds.list_any-append, specs.Prelude.codes}
-use Rattle.std.specs.Prelude.{if◌then◌else◌, is_some, ◌||◌}
-use Rattle.headers.{specs.LineMap.{Field, LineMap, fields_of, set_all}, specs.Lines.Line}
-use Rattle.rfc_fields.{specs.Directives.is_same_token, specs.Members.{field_members, members}, specs.Scan.pieces}
-use Rattle.rfc_fields.specs.Scan.{push}
-use Rattle.decide_cors.{specs.Answer.IsAnswer, specs.Kinds.is_preflight, specs.Policy.Policy}
-use Rattle.decide_cors.{specs.declared.policy.CorsAnswer.CorsAnswer, specs.Cache.{Serves, nominates}}
-use Rattle.decide_cors.{specs.Fields.{covers_origin, granted, grant_fields}, proofs.SameLemmas.{never_pre, same_by}}
+use Rattle.std.proofs.{Common.{sym, ◌∙◌, inl, inr, IsTrue}, Math.Bool.or-true, lemmas.Bool.cases_Bool}
+use Rattle.std.{proofs.lemmas.{Grind.flat_map-append, List.Folds.list_any-append}, specs.Prelude.{codes, if◌then◌else◌}}
+use Rattle.{std.specs.Prelude.{is_some, ◌||◌}, headers.specs.{LineMap.{Field, LineMap, fields_of, set_all}, Lines.Line}}
+use Rattle.rfc_fields.specs.{Directives.is_same_token, Members.{field_members, members}, Scan.{pieces, push}}
+use Rattle.decide_cors.specs.{Answer.IsAnswer, Kinds.is_preflight, Policy.Policy, declared.policy.CorsAnswer.CorsAnswer}
+use Rattle.decide_cors.specs.{Cache.{Serves, nominates}, Fields.{covers_origin, granted, grant_fields}}
+use Rattle.decide_cors.proofs.SameLemmas.{never_pre, same_by}
 
 -- Vary has a star or `origin`
 abbrev TellsOrigins : List Line → Type 0

@@ -1,9 +1,7 @@
 -- The field lines that vectors of methods and of names encode to.
-use Rattle.std.{proofs.Common.{◌≡◌, ℕ, List, [], ◌∷◌, length, ◌∙◌}}
-use Rattle.std.{proofs.lemmas.List.map-id}
-use Rattle.std.{specs.declared.vec.IntoIter.IntoIter, specs.Vec.Iter.{into_iter_items, into_iter_len, into_iter_steps}}
-use Rattle.headers.proofs.RoundTripLemmas.{drained}
-use Rattle.headers.specs.ListItem.{Reading, IsListOf, Lists, ListsValues}
+use Rattle.std.proofs.{Common.{◌≡◌, ℕ, List, [], ◌∷◌, length, ◌∙◌}, lemmas.List.map-id}
+use Rattle.std.specs.{declared.vec.IntoIter.IntoIter, Vec.Iter.{into_iter_items, into_iter_len, into_iter_steps}}
+use Rattle.headers.{proofs.RoundTripLemmas.drained, specs.ListItem.{Reading, IsListOf, Lists, ListsValues}}
 
 -- a list that was made of a vector encodes to the vector's elements, joined
 moved : (reading : Reading) (given xs : List (List ℕ)) (value line : List ℕ) → IsListOf reading given value

@@ -1,8 +1,7 @@
 -- Which values are allowed.
 use Rattle.std.specs.Prelude.{◌≡◌, Contains, [], ⊤}
-use Rattle.headers.specs.Lines.{Line}
-use Rattle.decide_cors.specs.{declared.rules.Allowed.Allowed, declared.rules.AllowedNames.AllowedNames}
-use Rattle.decide_cors.specs.declared.rules.Allowed.TheVariants.{Any, Listed}
+use Rattle.{headers.specs.Lines.Line, decide_cors.specs.declared.rules.Allowed.{Allowed, TheVariants.{Any, Listed}}}
+use Rattle.decide_cors.specs.declared.rules.AllowedNames.{AllowedNames}
 use Rattle.decide_cors.specs.declared.rules.AllowedNames.TheVariants as Names
 
 abbrev pub IsAny : {X : Type 0} → Allowed X → Type 0

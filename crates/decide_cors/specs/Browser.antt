@@ -1,10 +1,8 @@
 -- The browser (Fetch standard): which responses it gives to scripts, by their field lines.
 use Rattle.std.specs.Prelude.{◌≡◌, ◌≢◌, ◌⊎◌, ◌≤◌, ℕ, Bool, List, [], ◌∷◌, Option, Some, None, Contains, IsTrue, codes}
-use Rattle.std.specs.Prelude.{IsSomeAnd, if◌then◌else◌, map}
-use Rattle.std.specs.List.{list_all}
-use Rattle.http_header.specs.Token.{lowercase}
-use Rattle.headers.specs.{LineMap.LineMap, Lines.Line, ListItem.is_token, Merge.merge, Places.comma}
-use Rattle.decide_cors.specs.Elements.{elements}
+use Rattle.std.specs.{Prelude.{IsSomeAnd, if◌then◌else◌, map}, List.list_all}
+use Rattle.{http_header.specs.Token.lowercase, headers.specs.{LineMap.LineMap, Lines.Line, ListItem.is_token}}
+use Rattle.{headers.specs.{Merge.merge, Places.comma}, decide_cors.specs.Elements.elements}
 
 abbrev pub star : Line
 star = codes "*"

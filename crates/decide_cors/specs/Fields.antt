@@ -1,8 +1,7 @@
 -- Which fields a policy gives a response (Fetch standard, "HTTP responses"). A field without field lines is removed.
 use Rattle.std.specs.Prelude.{Bool, not, ◌&&◌, ◌||◌, List, [], ◌∷◌, ◌++◌, Option, Some, None, if◌then◌else◌, bytes_eq}
-use Rattle.std.{specs.Prelude.{is_some, codes}, specs.List.list_any}
-use Rattle.headers.{specs.LineMap.Field, specs.Lines.{Line, only_line}}
-use Rattle.decide_cors.{specs.Cache.nominates, specs.Elements.is_filled, specs.Policy.Policy}
+use Rattle.{std.specs.{Prelude.{is_some, codes}, List.list_any}, headers.specs.{LineMap.Field, Lines.{Line, only_line}}}
+use Rattle.decide_cors.specs.{Cache.nominates, Elements.is_filled, Policy.Policy}
 
 -- one field line if the condition holds and there is a line, else none
 abbrev pub lines_if : Bool → Option Line → List Line

@@ -1,7 +1,6 @@
 -- The policy that the fields of the type make.
-use Rattle.std.specs.Prelude.{option_map}
-use Rattle.headers.specs.Lines.{lines_of}
-use Rattle.decide_cors.specs.{Policy.Policy, declared.policy.CorsPolicy.TheInside.Inside}
+use Rattle.{std.specs.Prelude.option_map, headers.specs.Lines.lines_of, decide_cors.specs.Policy.Policy}
+use Rattle.decide_cors.specs.declared.policy.CorsPolicy.TheInside.{Inside}
 
 abbrev pub policy_of : Inside → Policy
 policy_of a =

@@ -1,7 +1,6 @@
 -- The kinds of requests.
 use Rattle.std.specs.Prelude.{◌≡◌, ℕ, Bool, true, false, List, codes}
-use Rattle.headers.specs.{LineMap.LineMap, Typed.HasLine}
-use Rattle.decide_cors.specs.declared.kind.CorsKind.{CorsKind}
+use Rattle.{headers.specs.{LineMap.LineMap, Typed.HasLine}, decide_cors.specs.declared.kind.CorsKind.CorsKind}
 use Rattle.decide_cors.specs.declared.kind.CorsKind.TheVariants.{Preflight, Plain, NoOrigin}
 
 -- OPTIONS with the field Access-Control-Request-Method

@@ -1,6 +1,5 @@
 -- A server's policy, as contracts see it.
-use Rattle.std.specs.Prelude.{Bool, List, Option}
-use Rattle.headers.specs.Lines.{Line}
+use Rattle.{std.specs.Prelude.{Bool, List, Option}, headers.specs.Lines.Line}
 
 -- The texts of the listed origins, or `None` for any; whether credentials are allowed; and the values of
 -- Access-Control-Allow-Methods, -Allow-Headers, -Expose-Headers and -Max-Age.

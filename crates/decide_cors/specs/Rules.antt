@@ -1,15 +1,12 @@
 -- What rules allow, which rules make a policy, and which policy they make.
-use Rattle.std.specs.Prelude.{◌≡◌, ◌≢◌, ◌⊎◌, ℕ, Bool, false, List, map, Option, Some, None, Contains, IsTrue, ⊤}
-use Rattle.std.specs.Prelude.{codes, decimal, min, option_map, IfSome, IsSome}
-use Rattle.http_header.specs.Token.{lowercase}
-use Rattle.headers.specs.{Lines.Line, Origin.origin_text, declared.Origin.Origin}
-use Rattle.headers.specs.ListItem.{Reading, IsListOf, method_of, name_of}
-use Rattle.decide_cors.specs.Allowed.{Admits, IsAny, IsAnyName, Lists, ListsName, ListsNone, ListsNoName}
-use Rattle.decide_cors.specs.Browser.{Request, IsForbidden, IsSafeMethod, safe_fields, star}
-use Rattle.decide_cors.specs.{Policy.Policy, SentOrigins.unsent_of, declared.error.RulesError.RulesError}
-use Rattle.decide_cors.specs.{declared.rules.Allowed.Allowed, declared.rules.AllowedNames.AllowedNames}
-use Rattle.decide_cors.specs.{declared.rules.CorsRules.CorsRules}
-use Rattle.decide_cors.specs.declared.rules.Allowed.TheVariants.{Any, Listed}
+use Rattle.std.specs.Prelude.{◌≡◌, ◌≢◌, ◌⊎◌, ℕ, Bool, false, List, map, Option, Some, None, Contains, IsTrue, ⊤, codes}
+use Rattle.{std.specs.Prelude.{decimal, min, option_map, IfSome, IsSome}, http_header.specs.Token.lowercase}
+use Rattle.headers.specs.{Lines.Line, Origin.origin_text, declared.Origin.Origin, ListItem.{Reading, IsListOf}}
+use Rattle.{headers.specs.ListItem.{method_of, name_of}, decide_cors.specs.Allowed.{Admits, IsAny, IsAnyName, Lists}}
+use Rattle.decide_cors.specs.{Allowed.{ListsName, ListsNone, ListsNoName}, Browser.{Request, IsForbidden, IsSafeMethod}}
+use Rattle.decide_cors.specs.{Browser.{safe_fields, star}, Policy.Policy, SentOrigins.unsent_of}
+use Rattle.decide_cors.specs.declared.{error.RulesError.RulesError, rules.Allowed.{Allowed, TheVariants.{Any, Listed}}}
+use Rattle.decide_cors.specs.declared.rules.{AllowedNames.AllowedNames, CorsRules.CorsRules}
 use Rattle.decide_cors.specs.declared.error.RulesError.TheVariants as Error
 use Rattle.decide_cors.specs.declared.rules.AllowedNames.TheVariants as Names
 

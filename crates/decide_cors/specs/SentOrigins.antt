@@ -1,15 +1,12 @@
 -- Which texts browsers send as origins (HTML standard, "ASCII serialization of an origin"; URL standard, "host parsing"
 -- and "host serializing").
-use Rattle.std.specs.Prelude.{◌≡◌, ℕ, Bool, false, not, ◌&&◌, ◌||◌, ◌==◌, nat_lt, List, Option, Some, None}
-use Rattle.std.specs.Prelude.{Result, Ok, Err, if◌then◌else◌, bytes_eq, codes, drop, length, slice_index}
-use Rattle.std.specs.{Char.is_ascii_digit, Char.is_ascii_graphic, Char.is_ascii_lowercase, List.after_last}
-use Rattle.std.specs.List.{before_last, ends_with, list_all, list_any, prefix_len, starts_with}
-use Rattle.url.specs.{Host.host_text, Host.parse_special_host, declared.error.ParseError.ParseError}
-use Rattle.url.specs.declared.host.Host.{Host}
-use Rattle.headers.specs.{Lines.Line, Typed.HasLine, declared.Refused.Refused}
-use Rattle.headers.specs.declared.Refused.TheVariants.{Invalid, Memory}
-use Rattle.rfc_fields.specs.{Cuts.cut, Numbers.number_within}
-use Rattle.decide_cors.specs.declared.sent.UnsentOrigin.{UnsentOrigin}
+use Rattle.std.specs.Prelude.{◌≡◌, ℕ, Bool, false, not, ◌&&◌, ◌||◌, ◌==◌, nat_lt, List, Option, Some, None, Result, Ok}
+use Rattle.std.specs.{Prelude.{Err, if◌then◌else◌, bytes_eq, codes, drop, length, slice_index}, Char.is_ascii_digit}
+use Rattle.std.specs.{Char.{is_ascii_graphic, is_ascii_lowercase}, List.{after_last, before_last, ends_with, list_all}}
+use Rattle.{std.specs.List.{list_any, prefix_len, starts_with}, url.specs.Host.{host_text, parse_special_host}}
+use Rattle.{url.specs.declared.{error.ParseError.ParseError, host.Host.Host}, headers.specs.{Lines.Line, Typed.HasLine}}
+use Rattle.{headers.specs.declared.Refused.{Refused, TheVariants.{Invalid, Memory}}, rfc_fields.specs.Cuts.cut}
+use Rattle.{rfc_fields.specs.Numbers.number_within, decide_cors.specs.declared.sent.UnsentOrigin.UnsentOrigin}
 
 -- ---- the scheme
 

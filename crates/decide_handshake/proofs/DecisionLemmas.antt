@@ -1,11 +1,10 @@
 -- Facts with a test, which is true exactly if the fact holds. Each rule of a handshake is one.
-use Rattle.std.proofs.Common.{◌≡◌, ◌⊎◌, ℕ, zero, suc, ◌-◌, ◌<◌, Bool, true, false, ◌||◌, ◌&&◌, List, [], ◌∷◌, ◌++◌}
-use Rattle.std.proofs.Common.{All, Decides, IsTrue, Option, Some, None, inl, inr, refl, sym, ap, ◌∙◌, subst, arith, eqb}
-use Rattle.std.proofs.Common.{length, take, drop, ltb}
-use Rattle.std.proofs.lemmas.Bool.Decides.{Decides-and, Decides-below_or, Decides-by_and, Decides-eqb, Decides-like}
-use Rattle.std.proofs.lemmas.{Bool.Decides.{Decides-ltb, Decides-or}, Slice.Eq.bytes_eq-Decides}
-use Rattle.std.{specs.{Prelude.{IsSomeAnd, bytes_eq, slice_index}, List.list_all}}
-use Rattle.websocket.specs.Handshake.{IsValidKey, base64}
+use Rattle.std.proofs.Common.{◌≡◌, ◌⊎◌, ℕ, zero, suc, ◌-◌, ◌<◌, Bool, true, false, ◌||◌, ◌&&◌, List, [], ◌∷◌, ◌++◌, All}
+use Rattle.std.proofs.Common.{Decides, IsTrue, Option, Some, None, inl, inr, refl, sym, ap, ◌∙◌, subst, arith, eqb}
+use Rattle.std.proofs.{Common.{length, take, drop, ltb}, lemmas.Bool.Decides.{Decides-and, Decides-below_or}}
+use Rattle.std.proofs.lemmas.Bool.Decides.{Decides-by_and, Decides-eqb, Decides-like, Decides-ltb, Decides-or}
+use Rattle.std.{proofs.lemmas.Slice.Eq.bytes_eq-Decides, specs.Prelude.{IsSomeAnd, bytes_eq, slice_index}}
+use Rattle.{std.specs.List.list_all, websocket.specs.Handshake.{IsValidKey, base64}}
 
 -- the fact has a test
 abbrev pub Decided : Type 0 → Type 0

@@ -1,12 +1,11 @@
 -- Values that mean tokens, and lists whose elements were all tested.
 use Rattle.std.proofs.Common.{◌≡◌, ◌↔◌, ℕ, Bool, true, false, ◌==◌, List, [], ◌∷◌, ◌++◌, length, All, IsTrue, refl, sym}
-use Rattle.std.{proofs.Common.{◌∙◌, ap, arith, ◌<◌}, proofs.lemmas.Bool.{eqb-true, false_from_ne_true}}
-use Rattle.std.{proofs.lemmas.List.append_cancel_right, specs.Bool.MatchBool, specs.List.{AllWithin, HoldsAt, list_all}}
-use Rattle.http_header.specs.Token.{is_token_byte}
-use Rattle.rfc_fields.{specs.Grammar.quote, specs.Values.{IsValue, ValueParts, is_token, octets_of}}
-use Rattle.rfc_fields.{specs.Values.ValueParts.{TokenText, QuotedText}, specs.Members.field_members}
-use Rattle.headers.specs.Lines.{Line}
-use Rattle.decide_handshake.specs.Extensions.{IsExtensionList, MeansToken, UsesListed, is_among}
+use Rattle.std.proofs.{Common.{◌∙◌, ap, arith, ◌<◌}, lemmas.Bool.{eqb-true, false_from_ne_true}}
+use Rattle.std.{proofs.lemmas.List.append_cancel_right, specs.{Bool.MatchBool, List.{AllWithin, HoldsAt, list_all}}}
+use Rattle.{http_header.specs.Token.is_token_byte, rfc_fields.specs.{Grammar.quote, Values.{IsValue, ValueParts}}}
+use Rattle.rfc_fields.specs.{Values.{ValueParts.{TokenText, QuotedText}, is_token, octets_of}, Members.field_members}
+use Rattle.{headers.specs.Lines.Line, decide_handshake.specs.Extensions.{IsExtensionList, MeansToken, UsesListed}}
+use Rattle.decide_handshake.specs.Extensions.{is_among}
 
 some_length : (b : ℕ) (s : List ℕ) → (length (b ∷ s) == 0) ≡ false
 some_length b s = false_from_ne_true _ (λ e. let zero = eqb-true _ _ e in omega (arith, zero))

@@ -1,22 +1,19 @@
 -- Which facts of a handshake's fields have a test.
 use Rattle.std.proofs.Common.{◌≡◌, ℕ, ◌-◌, Bool, List, [], ◌∷◌, ◌++◌, Option, Some, None, sym, ap, ◌∙◌, arith, inl, inr}
-use Rattle.std.proofs.Common.{◌⊎◌, IsTrue, true, drop, length, length-append, subst, take}
-use Rattle.std.{proofs.Math.Seq.take-append_seam, specs.{Prelude.codes, List.{list_all, list_any, slice_split}}}
-use Rattle.std.specs.Prelude.{◌==◌, bytes_eq}
-use Rattle.headers.{specs.LineMap.LineMap, specs.Lines.{Line, only_line}, specs.Text.trim}
-use Rattle.rfc_fields.{specs.Cuts.cut, specs.Directives.{equals, is_same_token, is_token_member}, specs.Grammar.quote}
-use Rattle.rfc_fields.{specs.Grammar.semicolon, specs.Members.field_members, specs.Scan.Member}
-use Rattle.rfc_fields.specs.{Scan.Member.{Whole, Malformed}, Values.{IsValue, ValueParts, is_token, is_value}}
-use Rattle.rfc_fields.specs.Values.{octets_of}
-use Rattle.rfc_fields.specs.Values.{value_text, ValueParts.{TokenText, QuotedText}}
-use Rattle.decide_handshake.specs.Extensions.{AreParameters, HasExtensions, IsExtension, IsExtensionList, IsExtensionOf}
-use Rattle.decide_handshake.specs.Extensions.{IsParameter, IsParameterOf, MeansToken, UsesAskedExtensions, UsesListed}
-use Rattle.decide_handshake.specs.Extensions.{extension_lines, is_among}
+use Rattle.std.proofs.{Common.{◌⊎◌, IsTrue, true, drop, length, length-append, subst, take}, Math.Seq.take-append_seam}
+use Rattle.std.specs.{Prelude.{codes, ◌==◌, bytes_eq}, List.{list_all, list_any, slice_split}}
+use Rattle.{headers.specs.{LineMap.LineMap, Lines.{Line, only_line}, Text.trim}, rfc_fields.specs.Cuts.cut}
+use Rattle.rfc_fields.specs.{Directives.{equals, is_same_token, is_token_member}, Grammar.{quote, semicolon}}
+use Rattle.rfc_fields.specs.{Members.field_members, Scan.{Member, Member.{Whole, Malformed}}, Values.IsValue}
+use Rattle.rfc_fields.specs.Values.{ValueParts, ValueParts.{TokenText, QuotedText}, is_token, is_value, octets_of}
+use Rattle.{rfc_fields.specs.Values.value_text, decide_handshake.specs.Extensions.{AreParameters, HasExtensions}}
+use Rattle.decide_handshake.specs.Extensions.{IsExtension, IsExtensionList, IsExtensionOf, IsParameter, IsParameterOf}
+use Rattle.decide_handshake.specs.Extensions.{MeansToken, UsesAskedExtensions, UsesListed, extension_lines, is_among}
 use Rattle.decide_handshake.specs.Fields.{AbsentOr, HasMember, ListsUpgrade, ListsWebsocket, is_protocol}
 use Rattle.decide_handshake.specs.Protocols.{AsksFor, IsTokenList, OffersProtocols, UsesAskedProtocol, lists_protocol}
-use Rattle.decide_handshake.specs.Protocols.{protocol_lines}
-use Rattle.decide_handshake.proofs.DecisionLemmas.{Decided, alike, below, both, by_test, cases_Decided, each, either}
-use Rattle.decide_handshake.proofs.DecisionLemmas.{is_empty, never, same_bytes, some_with}
+use Rattle.decide_handshake.{specs.Protocols.protocol_lines, proofs.DecisionLemmas.{Decided, alike, below, both}}
+use Rattle.decide_handshake.proofs.DecisionLemmas.{by_test, cases_Decided, each, either, is_empty, never, same_bytes}
+use Rattle.decide_handshake.proofs.DecisionLemmas.{some_with}
 
 -- ---- lists of tokens
 

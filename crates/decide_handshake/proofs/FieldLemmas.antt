@@ -1,9 +1,7 @@
 -- What the fields that both ends set have for members.
 use Rattle.std.{proofs.Common.{◌≡◌, [], ◌∷◌, true, refl, codes}, specs.List.list_all}
-use Rattle.http_header.specs.Token.{is_token_byte}
-use Rattle.headers.specs.LineMap.{LineMap}
-use Rattle.rfc_fields.{specs.Directives.is_token_member, specs.Members.field_members, specs.Scan.Member.Whole}
-use Rattle.rfc_fields.specs.Scan.{pieces, push}
+use Rattle.{http_header.specs.Token.is_token_byte, headers.specs.LineMap.LineMap}
+use Rattle.rfc_fields.specs.{Directives.is_token_member, Members.field_members, Scan.{Member.Whole, pieces, push}}
 use Rattle.decide_handshake.specs.Fields.{ListsUpgrade, ListsWebsocket, is_protocol}
 
 websocket_member : field_members true (codes "websocket" ∷ []) ≡ Whole (codes "websocket") ∷ []

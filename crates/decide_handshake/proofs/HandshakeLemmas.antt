@@ -1,21 +1,17 @@
 -- Both ends together: what a server makes of a request, and what a client finds in the fields of an answer.
 use Rattle.std.proofs.Common.{◌≡◌, ◌↔◌, ℕ, List, [], ◌∷◌, Option, Some, None, inl, refl, sym, ◌∙◌, ap, arith, codes}
-use Rattle.std.specs.Prelude.{⊤}
-use Rattle.http.{specs.declared.version.Version.Version, specs.declared.version.TheConstants.Version.HTTP_11}
-use Rattle.http_header.specs.FieldValue.{FieldValue}
-use Rattle.websocket.specs.Handshake.{IsValidKey, accept_key_of}
-use Rattle.headers.{specs.LineMap.LineMap, specs.Lines.{Line, only_line}}
-use Rattle.decide_handshake.{specs.Client.{AcceptsKey, IsOpened, SendsKey}, specs.Extensions.HasExtensions}
-use Rattle.decide_handshake.{specs.Origins.OriginList, specs.declared.server.HandshakeAnswer.HandshakeAnswer}
-use Rattle.decide_handshake.specs.Messages.{Carries, CarriesButOffers, FitsProtocol, answer_fields, request_fields}
-use Rattle.decide_handshake.{specs.Messages.status_of, specs.Protocols.{AsksFor, OffersProtocols, UsesAskedProtocol}}
-use Rattle.decide_handshake.specs.Server.{Answers, HasHost, HasKey, IsHandshake, IsSwitch, Switches}
+use Rattle.{std.specs.Prelude.⊤, http.specs.declared.version.{Version.Version, TheConstants.Version.HTTP_11}}
+use Rattle.{http_header.specs.FieldValue.FieldValue, websocket.specs.Handshake.{IsValidKey, accept_key_of}}
+use Rattle.{headers.specs.{LineMap.LineMap, Lines.{Line, only_line}}, decide_handshake.specs.Client.AcceptsKey}
+use Rattle.decide_handshake.specs.{Client.{IsOpened, SendsKey}, Extensions.HasExtensions, Origins.OriginList}
+use Rattle.decide_handshake.specs.declared.server.HandshakeAnswer.{HandshakeAnswer, TheVariants.{Switch, BadRequest}}
+use Rattle.decide_handshake.specs.declared.server.HandshakeAnswer.TheVariants.{UpgradeRequired, Forbidden}
 use Rattle.decide_handshake.specs.declared.client.Flaw.TheVariants.{NotSwitched, UnaskedProtocol, WrongAccept}
-use Rattle.decide_handshake.specs.declared.server.HandshakeAnswer.TheVariants.{Switch, BadRequest, UpgradeRequired}
-use Rattle.decide_handshake.specs.declared.server.HandshakeAnswer.TheVariants.{Forbidden}
-use Rattle.decide_handshake.{proofs.ClientLemmas.opened, proofs.ServerLemmas.one_key, proofs.FieldLemmas.lists_upgrade}
-use Rattle.decide_handshake.{proofs.FieldLemmas.lists_websocket, proofs.ProtocolLemmas.{taken_asked, uses_asked}}
-use Rattle.decide_handshake.proofs.ProtocolLemmas.{uses_this}
+use Rattle.decide_handshake.specs.Messages.{Carries, CarriesButOffers, FitsProtocol, answer_fields, request_fields}
+use Rattle.decide_handshake.specs.{Messages.status_of, Protocols.{AsksFor, OffersProtocols, UsesAskedProtocol}}
+use Rattle.decide_handshake.specs.Server.{Answers, HasHost, HasKey, IsHandshake, IsSwitch, Switches}
+use Rattle.decide_handshake.proofs.{ClientLemmas.opened, ServerLemmas.one_key, FieldLemmas.lists_upgrade}
+use Rattle.decide_handshake.proofs.{FieldLemmas.lists_websocket, ProtocolLemmas.{taken_asked, uses_asked, uses_this}}
 
 -- a request with the fields of a handshake, and with offers by their grammar, is one
 pub offering_is_handshake : (key : Line) (map request : LineMap) → IsValidKey key → HasHost map

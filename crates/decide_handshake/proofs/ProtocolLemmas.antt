@@ -1,10 +1,8 @@
 -- Subprotocols: what a server takes was asked for, and what its response uses.
 use Rattle.std.proofs.Common.{◌≡◌, ℕ, Bool, List, [], ◌∷◌, Some, IsTrue, inl, inr, sym, ◌∙◌, ap, length, arith, find}
-use Rattle.std.proofs.lemmas.Bool.{cases_Bool}
-use Rattle.http_header.specs.FieldValue.{FieldValue}
-use Rattle.headers.specs.{LineMap.LineMap, Lines.Line}
-use Rattle.decide_handshake.specs.Protocols.{AsksFor, OffersProtocols, UsesAskedProtocol, lists_protocol}
-use Rattle.decide_handshake.specs.Protocols.{protocol_lines, taken}
+use Rattle.{std.proofs.lemmas.Bool.cases_Bool, http_header.specs.FieldValue.FieldValue, headers.specs.LineMap.LineMap}
+use Rattle.{headers.specs.Lines.Line, decide_handshake.specs.Protocols.{AsksFor, OffersProtocols, UsesAskedProtocol}}
+use Rattle.decide_handshake.specs.Protocols.{lists_protocol, protocol_lines, taken}
 
 -- what is found passes the test
 found_passes : {X : Type 0} (test : X → Bool) (xs : List X) (x : X) → find test xs ≡ Some x → IsTrue (test x)

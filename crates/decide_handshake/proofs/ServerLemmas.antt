@@ -1,30 +1,24 @@
 -- What follows from the rules of the server, and which of them each return of `judge` has seen.
 use Rattle.std.proofs.Common.{◌≡◌, ◌⊎◌, ℕ, zero, suc, ◌+◌, ◌<◌, ◌≤◌, List, Option, refl, sym, ◌∙◌, ap, arith, inl, inr}
+use Rattle.std.{proofs.Common.{IsTrue, Some, None, subst, codes}, specs.Prelude.is_some}
 use Rattle.http.specs.declared.version.{Http.{Http, TheVariants.{Http11, H2, H3}}, Version.Version}
-use Rattle.http_header.specs.FieldValue.{FieldValue, plain_value}
-use Rattle.websocket.specs.Handshake.{accept_key_of}
-use Rattle.headers.specs.{LineMap.LineMap, Lines.Line}
-use Rattle.decide_handshake.specs.{Extensions.HasExtensions, Fields.ListsUpgrade, Fields.ListsWebsocket}
-use Rattle.decide_handshake.specs.{Origins.{AllowsOrigin, OriginList}, Protocols.OffersProtocols, Protocols.taken}
+use Rattle.{http_header.specs.FieldValue.{FieldValue, plain_value}, websocket.specs.Handshake.accept_key_of}
+use Rattle.{websocket.specs.Handshake.IsValidKey, headers.specs.{LineMap.LineMap, Lines.{Line, only_line}}}
+use Rattle.decide_handshake.specs.{Extensions.HasExtensions, Fields.{ListsUpgrade, ListsWebsocket}}
+use Rattle.decide_handshake.specs.{Origins.{AllowsOrigin, OriginList, lists_origin}, Protocols.{OffersProtocols, taken}}
 use Rattle.decide_handshake.specs.{Rules.KeepsBelow, declared.server.HandshakeAnswer.HandshakeAnswer}
-use Rattle.decide_handshake.specs.{declared.server.Refusal.Refusal}
-use Rattle.decide_handshake.specs.Server.{Answers, HasHost, HasKey, HasVersion13, IsAccepted, IsFirst, IsGet, IsHttp11}
-use Rattle.decide_handshake.specs.Server.{IsRecent, IsSwitch, Rule, refusal_number}
 use Rattle.decide_handshake.specs.declared.server.HandshakeAnswer.TheVariants.{Switch, BadRequest, UpgradeRequired}
-use Rattle.decide_handshake.specs.declared.server.HandshakeAnswer.TheVariants.{Forbidden}
+use Rattle.decide_handshake.specs.declared.server.{HandshakeAnswer.TheVariants.Forbidden, Refusal.Refusal}
+use Rattle.decide_handshake.specs.declared.server.Refusal.TheVariants.{Faulty, OtherVersion, OtherOrigin}
 use Rattle.decide_handshake.specs.declared.server.Fault.TheVariants.{NotGet, OldHttp, NotHttp11, NoHost, NoUpgrade}
 use Rattle.decide_handshake.specs.declared.server.Fault.TheVariants.{NoConnection, NoKey, MalformedProtocols}
-use Rattle.decide_handshake.specs.declared.server.Fault.TheVariants.{MalformedExtensions}
-use Rattle.decide_handshake.specs.declared.server.Refusal.TheVariants.{Faulty, OtherVersion, OtherOrigin}
-use Rattle.decide_handshake.proofs.{DecisionLemmas.{Decided, alike, always, by_test, either, is_empty, is_some_of}}
-use Rattle.decide_handshake.proofs.DecisionLemmas.{never, same_bytes, some_with, valid_key}
-use Rattle.decide_handshake.proofs.FactLemmas.{extensions_decided, lists_upgrade_decided, lists_websocket_decided}
-use Rattle.decide_handshake.proofs.FactLemmas.{offers_decided}
+use Rattle.decide_handshake.specs.{declared.server.Fault.TheVariants.MalformedExtensions, Server.{Answers, HasHost}}
+use Rattle.decide_handshake.specs.Server.{HasKey, HasVersion13, IsAccepted, IsFirst, IsGet, IsHttp11, IsRecent}
+use Rattle.decide_handshake.{specs.Server.{IsSwitch, Rule, refusal_number}, proofs.DecisionLemmas.{Decided, alike}}
+use Rattle.decide_handshake.proofs.DecisionLemmas.{always, by_test, either, is_empty, is_some_of, never, same_bytes}
+use Rattle.decide_handshake.proofs.{DecisionLemmas.{some_with, valid_key}, FactLemmas.extensions_decided}
+use Rattle.decide_handshake.proofs.FactLemmas.{lists_upgrade_decided, lists_websocket_decided, offers_decided}
 use Rattle.decide_handshake.proofs.RuleLemmas.{KeptTo, first_broken, one_first, some_first}
-use Rattle.std.{proofs.Common.{IsTrue, Some, None, subst, codes}, specs.Prelude.is_some}
-use Rattle.headers.specs.Lines.{only_line}
-use Rattle.websocket.specs.Handshake.{IsValidKey}
-use Rattle.decide_handshake.specs.Origins.{lists_origin}
 
 -- the refusal of a number
 abbrev refusal_at : ℕ → Refusal

@@ -1,13 +1,11 @@
 -- A client's result for the response to its opening handshake (RFC 6455, section 4.1, the last list).
 use Rattle.std.specs.Prelude.{◌≡◌, ℕ, Some, IsSomeAnd, codes}
-use Rattle.http_header.specs.Token.{lowercase}
-use Rattle.websocket.specs.Handshake.{accept_key_of}
-use Rattle.headers.specs.{LineMap.LineMap, Lines.Line, Lines.only_line}
-use Rattle.decide_handshake.specs.{Extensions.HasExtensions, Extensions.UsesAskedExtensions, Fields.ListsUpgrade}
-use Rattle.decide_handshake.specs.{Protocols.UsesAskedProtocol, Rules.IsFirstBroken, Rules.KeepsAll}
-use Rattle.decide_handshake.specs.{declared.client.Checked.Checked, declared.client.Checked.TheVariants.Open}
-use Rattle.decide_handshake.specs.{declared.client.Checked.TheVariants.Fail, declared.client.Flaw.Flaw}
-use Rattle.decide_handshake.specs.declared.client.Flaw.TheVariants.{NotSwitched, NoUpgrade, NoConnection, WrongAccept}
+use Rattle.{http_header.specs.Token.lowercase, websocket.specs.Handshake.accept_key_of, headers.specs.LineMap.LineMap}
+use Rattle.{headers.specs.Lines.{Line, only_line}, decide_handshake.specs.Extensions.HasExtensions}
+use Rattle.decide_handshake.specs.{Extensions.UsesAskedExtensions, Fields.ListsUpgrade, Protocols.UsesAskedProtocol}
+use Rattle.decide_handshake.specs.{Rules.{IsFirstBroken, KeepsAll}, declared.client.Checked.{Checked, TheVariants.Open}}
+use Rattle.decide_handshake.specs.declared.client.{Checked.TheVariants.Fail, Flaw.{Flaw, TheVariants.NotSwitched}}
+use Rattle.decide_handshake.specs.declared.client.Flaw.TheVariants.{NoUpgrade, NoConnection, WrongAccept}
 use Rattle.decide_handshake.specs.declared.client.Flaw.TheVariants.{MalformedExtensions, UnaskedExtension}
 use Rattle.decide_handshake.specs.declared.client.Flaw.TheVariants.{UnaskedProtocol}
 

@@ -1,11 +1,10 @@
 -- Extensions (RFC 6455, section 9.1). Blanks may be between any two words of its grammar (RFC 2616, section 2.1).
 use Rattle.std.specs.Prelude.{◌≡◌, ◌⊎◌, ℕ, ◌==◌, Bool, true, false, List, [], bytes_eq, Option, Some, None, All, IsTrue}
-use Rattle.std.{specs.Prelude.codes, specs.List.{list_all, list_any, slice_split}}
-use Rattle.headers.{specs.LineMap.LineMap, specs.Lines.Line, specs.Text.trim}
-use Rattle.rfc_fields.{specs.Cuts.cut, specs.Directives.equals, specs.Grammar.semicolon, specs.Members.field_members}
-use Rattle.rfc_fields.{specs.Scan.Member, specs.Scan.Member.{Whole, Malformed}, specs.Values.{IsValue, ValueParts}}
-use Rattle.rfc_fields.specs.Values.{is_token, octets_of}
-use Rattle.decide_handshake.specs.Fields.{AbsentOr, HasMember}
+use Rattle.{std.specs.{Prelude.codes, List.{list_all, list_any, slice_split}}, headers.specs.LineMap.LineMap}
+use Rattle.{headers.specs.{Lines.Line, Text.trim}, rfc_fields.specs.{Cuts.cut, Directives.equals, Grammar.semicolon}}
+use Rattle.rfc_fields.specs.{Members.field_members, Scan.{Member, Member.{Whole, Malformed}}, Values.IsValue}
+use Rattle.{rfc_fields.specs.Values.{ValueParts, is_token, octets_of}, decide_handshake.specs.Fields.AbsentOr}
+use Rattle.decide_handshake.specs.Fields.{HasMember}
 
 -- ( token / quoted-string ), which means a token
 pub record MeansToken (text : List ℕ) : Type 0 where

@@ -1,10 +1,9 @@
 -- What both sides require of the fields of a handshake (RFC 6455, sections 4.1 and 4.2). All field lines of a list
 -- field are one list (RFC 9110, section 5.3).
 use Rattle.std.specs.Prelude.{◌≡◌, ◌⊎◌, ◌<◌, ℕ, Bool, true, false, ◌&&◌, List, [], codes, length, IsTrue, Option, Some}
-use Rattle.std.{specs.Prelude.None, specs.List.{list_all, list_any}}
-use Rattle.headers.{specs.LineMap.LineMap, specs.Lines.Line}
-use Rattle.rfc_fields.{specs.Cuts.cut, specs.Directives.{is_same_token, is_token_member}, specs.Members.field_members}
-use Rattle.rfc_fields.{specs.Scan.Member, specs.Scan.Member.{Whole, Malformed}, specs.Values.is_token}
+use Rattle.{std.specs.{Prelude.None, List.{list_all, list_any}}, headers.specs.{LineMap.LineMap, Lines.Line}}
+use Rattle.rfc_fields.specs.{Cuts.cut, Directives.{is_same_token, is_token_member}, Members.field_members, Scan.Member}
+use Rattle.rfc_fields.specs.{Scan.Member.{Whole, Malformed}, Values.is_token}
 
 -- b'/'
 abbrev pub slash : ℕ

@@ -1,7 +1,6 @@
 -- The fields of a handshake, and of a server's answer (RFC 6455, sections 4.1, 4.2.2 and 4.4).
 use Rattle.std.specs.Prelude.{◌≡◌, ⊤, ℕ, Bool, false, ◌||◌, bytes_eq, List, [], ◌∷◌, Option, Some, None, codes}
-use Rattle.http_header.specs.FieldValue.{FieldValue}
-use Rattle.headers.specs.{LineMap.Field, LineMap.LineMap, LineMap.set_all, Lines.Line}
+use Rattle.{http_header.specs.FieldValue.FieldValue, headers.specs.{LineMap.{Field, LineMap, set_all}, Lines.Line}}
 use Rattle.decide_handshake.specs.{Protocols.AsksFor, declared.server.HandshakeAnswer.HandshakeAnswer}
 use Rattle.decide_handshake.specs.declared.server.HandshakeAnswer.TheVariants.{Switch, BadRequest, UpgradeRequired}
 use Rattle.decide_handshake.specs.declared.server.HandshakeAnswer.TheVariants.{Forbidden}

@@ -1,8 +1,7 @@
 -- Which origins a server allows (RFC 6455, sections 4.2.2 and 10.2).
 use Rattle.std.specs.Prelude.{◌≡◌, ◌⊎◌, ⊤, Bool, List, [], Option, Some, None, IsSomeAnd, IsTrue, bytes_eq, codes}
-use Rattle.std.specs.List.{list_any}
-use Rattle.http_header.specs.Token.{lowercase}
-use Rattle.headers.{specs.LineMap.LineMap, specs.Lines.{Line, only_line}}
+use Rattle.{std.specs.List.list_any, http_header.specs.Token.lowercase, headers.specs.{LineMap.LineMap, Lines.Line}}
+use Rattle.headers.specs.Lines.{only_line}
 
 -- the listed origins, or `None` for any
 abbrev pub OriginList : Type 0

@@ -1,11 +1,9 @@
 -- Subprotocols: what a handshake offers, what a server selects, and what a response uses (RFC 6455, sections 4.1, 4.2.2
 -- and 4.3).
 use Rattle.std.specs.Prelude.{◌≡◌, ◌⊎◌, ℕ, Bool, true, false, List, [], Option, IsSomeAnd, IsTrue, bytes_eq, codes}
-use Rattle.std.{specs.Prelude.find, specs.List.{list_all, list_any}}
-use Rattle.http_header.specs.FieldValue.{FieldValue}
-use Rattle.headers.{specs.LineMap.LineMap, specs.Lines.{Line, only_line}}
-use Rattle.rfc_fields.{specs.Directives.is_token_member, specs.Members.field_members, specs.Scan.Member}
-use Rattle.rfc_fields.specs.Scan.Member.{Whole, Malformed}
+use Rattle.{std.specs.{Prelude.find, List.{list_all, list_any}}, http_header.specs.FieldValue.FieldValue}
+use Rattle.{headers.specs.{LineMap.LineMap, Lines.{Line, only_line}}, rfc_fields.specs.Directives.is_token_member}
+use Rattle.rfc_fields.specs.{Members.field_members, Scan.{Member, Member.{Whole, Malformed}}}
 use Rattle.decide_handshake.specs.Fields.{AbsentOr, HasMember}
 
 -- 1#token: at least one member, and each is a token

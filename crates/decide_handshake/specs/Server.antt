@@ -1,20 +1,17 @@
 -- A server's answer to an opening handshake (RFC 6455, sections 4.2.1 and 4.2.2).
 use Rattle.std.specs.Prelude.{◌≡◌, ◌⊎◌, ⊤, ℕ, List, Option, Some, IsSome, codes}
-use Rattle.http.specs.declared.version.Version.{Version}
-use Rattle.http.specs.declared.version.TheConstants.Version.{HTTP_11, HTTP_2, HTTP_3}
-use Rattle.http_header.specs.FieldValue.{FieldValue, plain_value}
-use Rattle.websocket.specs.Handshake.{IsValidKey, accept_key_of}
-use Rattle.headers.specs.{LineMap.LineMap, Lines.Line, Lines.only_line}
-use Rattle.decide_handshake.specs.{Extensions.HasExtensions, Fields.ListsUpgrade, Fields.ListsWebsocket}
-use Rattle.decide_handshake.specs.{Origins.{AllowsOrigin, OriginList}, Protocols.OffersProtocols, Protocols.taken}
+use Rattle.http.specs.declared.version.{Version.Version, TheConstants.Version.{HTTP_11, HTTP_2, HTTP_3}}
+use Rattle.{http_header.specs.FieldValue.{FieldValue, plain_value}, websocket.specs.Handshake.IsValidKey}
+use Rattle.{websocket.specs.Handshake.accept_key_of, headers.specs.{LineMap.LineMap, Lines.{Line, only_line}}}
+use Rattle.decide_handshake.specs.{Extensions.HasExtensions, Fields.{ListsUpgrade, ListsWebsocket}}
+use Rattle.decide_handshake.specs.{Origins.{AllowsOrigin, OriginList}, Protocols.{OffersProtocols, taken}}
 use Rattle.decide_handshake.specs.{Rules.IsFirstBroken, declared.server.HandshakeAnswer.HandshakeAnswer}
-use Rattle.decide_handshake.specs.{declared.server.Refusal.Refusal}
 use Rattle.decide_handshake.specs.declared.server.HandshakeAnswer.TheVariants.{Switch, BadRequest, UpgradeRequired}
-use Rattle.decide_handshake.specs.declared.server.HandshakeAnswer.TheVariants.{Forbidden}
+use Rattle.decide_handshake.specs.declared.server.{HandshakeAnswer.TheVariants.Forbidden, Refusal.Refusal}
+use Rattle.decide_handshake.specs.declared.server.Refusal.TheVariants.{Faulty, OtherVersion, OtherOrigin}
 use Rattle.decide_handshake.specs.declared.server.Fault.TheVariants.{NotGet, OldHttp, NotHttp11, NoHost, NoUpgrade}
 use Rattle.decide_handshake.specs.declared.server.Fault.TheVariants.{NoConnection, NoKey, MalformedProtocols}
 use Rattle.decide_handshake.specs.declared.server.Fault.TheVariants.{MalformedExtensions}
-use Rattle.decide_handshake.specs.declared.server.Refusal.TheVariants.{Faulty, OtherVersion, OtherOrigin}
 
 -- ---- the rules of section 4.2.1, by their items
 

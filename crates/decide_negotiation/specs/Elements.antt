@@ -1,10 +1,9 @@
 -- An element of a field: a range, its parameters and its weight (RFC 9110, sections 5.6.6 and 12.4.2).
 use Rattle.std.specs.Prelude.{ℕ, Bool, true, false, ◌==◌, not, List, [], ◌∷◌, length, filter, filter_map, find, Option}
 use Rattle.std.specs.{Prelude.{Some, None, is_some, option_and_then, if◌then◌else◌}, Option.option_map_or}
-use Rattle.std.specs.List.{list_all}
-use Rattle.{headers_syntax.specs.Text.trim, rfc_fields.specs.Grammar.semicolon}
+use Rattle.{std.specs.List.list_all, headers_syntax.specs.Text.trim, rfc_fields.specs.Grammar.semicolon}
 use Rattle.rfc_fields.specs.{Members.{members_of, pieces_left}, Scan.{Member, Member.{Whole, Malformed}}}
-use Rattle.rfc_fields.specs.{Values.{ValueParts, is_token, ValueParts.{TokenText, QuotedText}}, Weights.weight}
+use Rattle.rfc_fields.specs.{Values.{ValueParts, ValueParts.{TokenText, QuotedText}, is_token}, Weights.weight}
 use Rattle.decide_negotiation.specs.Parameters.{ParameterParts, is_weight, parameter_of}
 use Rattle.decide_negotiation.specs.declared.element.Element.{Element}
 

@@ -1,7 +1,6 @@
 -- Theorems about the definitions, in the words of the RFCs.
 use Rattle.std.specs.Prelude.{⊤, ◌≡◌, ◌⊎◌, ◌↔◌, ℕ, ◌≤◌, ◌<◌, true, List, [], ◌∷◌, ◌++◌, Any, Contains, filter_map}
-use Rattle.std.specs.Prelude.{codes, Option, Some, get_or, length}
-use Rattle.http_header.specs.FieldValue.{FieldValue}
+use Rattle.{std.specs.Prelude.{codes, Option, Some, get_or, length}, http_header.specs.FieldValue.FieldValue}
 use Rattle.{http_header.specs.Token.lowercase, headers_syntax.specs.{AsciiCase.SameButForCase, Lines.Line}}
 use Rattle.{rfc_fields.specs.{Members.members, Scan.Member, Values.octets_of}, decide_negotiation.specs.Choice.Chooses}
 use Rattle.decide_negotiation.specs.{Choice.first_place, Elements.{ElementParts, bare_element_of}, Lookup.LooksUp}

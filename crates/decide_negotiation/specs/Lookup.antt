@@ -1,8 +1,7 @@
 -- Lookup of a language (RFC 4647, section 3.4).
 use Rattle.std.specs.Prelude.{◌≡◌, ◌⊎◌, ℕ, ◌-◌, ◌<◌, Bool, true, false, ◌&&◌, ◌||◌, ◌==◌, not, List, [], ◌∷◌, length}
 use Rattle.std.specs.Prelude.{get_or, nat_le, nat_lt, Option, Some, None, IsSomeAnd, slice_index, if◌then◌else◌}
-use Rattle.std.specs.{Bool.MatchBool, Option.option_map_or, List.list_any}
-use Rattle.http_header.specs.FieldValue.{FieldValue}
+use Rattle.{std.specs.{Bool.MatchBool, Option.option_map_or, List.list_any}, http_header.specs.FieldValue.FieldValue}
 use Rattle.{headers_syntax.specs.{AsciiCase.same_name, Lines.Line}, rfc_fields.specs.Members.field_members}
 use Rattle.{rfc_fields.specs.Scan.Member, decide_negotiation.specs.Choice.{IsFirstOfGreatest, Picks, first_place}}
 use Rattle.decide_negotiation.specs.{Elements.ElementParts, Languages.{covers, hyphen, language_element_of}}

@@ -1,8 +1,7 @@
 -- Media ranges and media types (RFC 9110, sections 8.3.1 and 12.5.1).
 use Rattle.std.specs.Prelude.{ℕ, ◌+◌, Bool, ◌&&◌, ◌||◌, ◌==◌, not, List, length, bytes_eq, codes, Option, Some, None}
 use Rattle.std.specs.{Prelude.{option_and_then, option_map, if◌then◌else◌}, List.{after_first, before_first, list_all}}
-use Rattle.std.specs.List.{list_any}
-use Rattle.{headers_syntax.specs.AsciiCase.same_name, rfc_fields.specs.Scan.Member}
+use Rattle.{std.specs.List.list_any, headers_syntax.specs.AsciiCase.same_name, rfc_fields.specs.Scan.Member}
 use Rattle.rfc_fields.specs.{Scan.Member.{Whole, Malformed}, Values.is_token}
 use Rattle.decide_negotiation.specs.Elements.{ElementParts, element_in, has_only_parameters, own_parameters}
 use Rattle.decide_negotiation.specs.{Elements.{parameters_of, value_of}, Parameters.{ParameterParts, is_same_parameter}}

@@ -1,14 +1,12 @@
 -- The fields of an answer in place of those that a server has set.
 use Rattle.std.proofs.Common.{◌≡◌, ◌≢◌, ℕ, Bool, true, false, All, List, [], ◌∷◌, refl, sym, ap, ◌∙◌, subst, arith}
-use Rattle.std.proofs.lemmas.{Bool.cases_Bool, Slice.Eq.bytes_eq-Decides}
-use Rattle.std.specs.Prelude.{Option, ◌++◌, bytes_eq, codes, decimal, if◌then◌else◌}
-use Rattle.{http_header.specs.FieldValue.FieldValue, headers.specs.ContentBytes.content_text}
-use Rattle.headers.specs.{Date.fixdate, LineMap.{Field, LineMap, set, set_all}}
-use Rattle.{headers.specs.Lines.Line, decide_preconditions.specs.Conditions.modified_of}
-use Rattle.decide_preconditions.specs.Contents.{is_divisible}
-use Rattle.decide_preconditions.specs.Fields.{IsModifiedBy, SendsFields, etag_of, etag_sent, fields_removed}
-use Rattle.decide_preconditions.specs.Fields.{fields_sent, is_whole, keeps_encoding, length_sent, lines_sent}
-use Rattle.decide_preconditions.specs.Fields.{modified_sent, not_after, range_sent, sent_names, type_sent, units_sent}
+use Rattle.std.{proofs.lemmas.{Bool.cases_Bool, Slice.Eq.bytes_eq-Decides}, specs.Prelude.{Option, ◌++◌, bytes_eq}}
+use Rattle.{std.specs.Prelude.{codes, decimal, if◌then◌else◌}, http_header.specs.FieldValue.FieldValue}
+use Rattle.headers.specs.{ContentBytes.content_text, Date.fixdate, LineMap.{Field, LineMap, set, set_all}, Lines.Line}
+use Rattle.decide_preconditions.specs.{Conditions.modified_of, Contents.is_divisible, Fields.IsModifiedBy}
+use Rattle.decide_preconditions.specs.Fields.{SendsFields, etag_of, etag_sent, fields_removed, fields_sent, is_whole}
+use Rattle.decide_preconditions.specs.Fields.{keeps_encoding, length_sent, lines_sent, modified_sent, not_after}
+use Rattle.decide_preconditions.specs.Fields.{range_sent, sent_names, type_sent, units_sent}
 use Rattle.decide_preconditions.specs.declared.{content.Content.Content, plan.Plan.Plan}
 use Rattle.decide_preconditions.specs.declared.resource.TargetState.{TargetState}
 

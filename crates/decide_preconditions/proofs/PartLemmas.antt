@@ -1,14 +1,12 @@
 -- Parts that are in order, joined where they overlap or are close.
 use Rattle.std.proofs.Common.{◌≡◌, ℕ, suc, ◌+◌, ◌≤◌, ◌↔◌, nat_le, List, [], ◌∷◌, length, refl, sym, subst, arith, inl}
-use Rattle.std.proofs.Common.{inr, ◌⊎◌, ⊎_elim, All, Any, sum_by}
-use Rattle.std.proofs.lemmas.Bool.{cases_Bool, cases_lt, leb-true, leb-false}
-use Rattle.std.proofs.lemmas.List.{Elements.{All-cons, All-head, All-tail}, Sums.sum_by-cons}
+use Rattle.std.proofs.{Common.{inr, ◌⊎◌, ⊎_elim, All, Any, sum_by}, lemmas.Bool.{cases_Bool, cases_lt, leb-true}}
+use Rattle.std.proofs.lemmas.{Bool.leb-false, List.{Elements.{All-cons, All-head, All-tail}, Sums.sum_by-cons}}
 use Rattle.std.proofs.lemmas.List.Sorted.{All-permutation, Contains-permutation, IsPermutation-sym, IsPermutation-refl}
 use Rattle.std.proofs.lemmas.List.Sorted.{IsPermutation-cons, IsPermutation-trans, IsPermutation-insert}
-use Rattle.std.specs.{Prelude.{Bool, ⊤, if◌then◌else◌}, Bool.MatchBool}
-use Rattle.std.specs.List.{Retain.{DedupsFrom, IsDeduped}, Sorted.{IsPermutation, IsNonDecreasingBy}}
-use Rattle.headers.proofs.RangeLemmas.{any_cases, any_here, any_later}
-use Rattle.decide_preconditions.specs.Merged.{joined, merged, merged_from}
+use Rattle.std.specs.{Prelude.{Bool, ⊤, if◌then◌else◌}, Bool.MatchBool, List.Retain.{DedupsFrom, IsDeduped}}
+use Rattle.{std.specs.List.Sorted.{IsPermutation, IsNonDecreasingBy}, headers.proofs.RangeLemmas.{any_cases, any_here}}
+use Rattle.{headers.proofs.RangeLemmas.any_later, decide_preconditions.specs.Merged.{joined, merged, merged_from}}
 use Rattle.decide_preconditions.specs.Parts.{AreCoalesced, Holds, IsJoined, IsPartOf, part_size}
 use Rattle.decide_preconditions.specs.declared.part.Part.{Part}
 

@@ -4,12 +4,11 @@ use Rattle.std.proofs.Common.{length, Option, Some, None, MatchOption, refl, ari
 use Rattle.std.proofs.lemmas.{Bool.{cases_Bool, leb-true, leb-false, ltb-true, ltb-false}, List.Elements.All-nil}
 use Rattle.std.proofs.lemmas.List.{Splits.{slice_split_first, slice_split_none}, Sums.fails_before_first}
 use Rattle.std.specs.{Bool.MatchBool, List.{after_first, before_first, cons_option, list_any, position_or_len}}
-use Rattle.{std.specs.Option.option_and_then, headers.specs.ByteRanges.pieces}
-use Rattle.{headers.proofs.RangeLemmas.any_here, rfc_fields.specs.Cuts.cut}
-use Rattle.decide_preconditions.specs.Parts.{Holds, IsPartOf}
-use Rattle.decide_preconditions.specs.RangeSets.{RangeSpec, part_in, part_of, spec_of, Covers, selects_some}
-use Rattle.decide_preconditions.specs.{RangeSets.RangeSpec.{Between, From, Suffix}, declared.part.Part.Part}
-use Rattle.decide_preconditions.proofs.PartLemmas.{Among, among, any_among}
+use Rattle.{std.specs.Option.option_and_then, headers.{specs.ByteRanges.pieces, proofs.RangeLemmas.any_here}}
+use Rattle.{rfc_fields.specs.Cuts.cut, decide_preconditions.specs.{Parts.{Holds, IsPartOf}, RangeSets.RangeSpec}}
+use Rattle.decide_preconditions.specs.RangeSets.{RangeSpec.{Between, From, Suffix}, part_in, part_of, spec_of, Covers}
+use Rattle.decide_preconditions.{specs.{RangeSets.selects_some, declared.part.Part.Part}, proofs.PartLemmas.Among}
+use Rattle.decide_preconditions.proofs.PartLemmas.{among, any_among}
 
 -- ---- cuts
 

@@ -1,7 +1,6 @@
 -- The boundary of a `multipart/byteranges` (RFC 2046, section 5.1.1, and RFC 9110, section 14.6).
 use Rattle.std.specs.Prelude.{ℕ, Bool, ◌&&◌, ◌||◌, ◌==◌, List, ◌++◌, length, nat_lt, nat_le, codes}
-use Rattle.std.specs.{Char.is_ascii_alphanumeric, List.list_all}
-use Rattle.headers.specs.Lines.{Line}
+use Rattle.{std.specs.{Char.is_ascii_alphanumeric, List.list_all}, headers.specs.Lines.Line}
 
 -- a letter, a digit, or one of '+-._ : the bytes of a boundary that need no quotes
 abbrev pub is_boundary_byte : ℕ → Bool

@@ -1,9 +1,8 @@
 -- The conditions of a request on a resource (RFC 9110, section 13.1).
 use Rattle.std.specs.Prelude.{ℕ, ◌+◌, ◌<◌, ◌≤◌, List, Option, None, IsSomeAnd, IfSome, IsTrue, option_map, codes}
-use Rattle.std.specs.Option.{option_and_then, option_zip}
-use Rattle.rfc_values.{specs.Calendar.unix_epoch, specs.Date.timestamp}
-use Rattle.headers.{specs.LineMap.LineMap, specs.Lines.{Line, only_line}, specs.Text.trim, specs.Typed.HasLine}
-use Rattle.decide_preconditions.{specs.Tags.{may_name, names}, specs.declared.resource.TargetState.TargetState}
+use Rattle.{std.specs.Option.{option_and_then, option_zip}, rfc_values.specs.{Calendar.unix_epoch, Date.timestamp}}
+use Rattle.headers.specs.{LineMap.LineMap, Lines.{Line, only_line}, Text.trim, Typed.HasLine}
+use Rattle.decide_preconditions.specs.{Tags.{may_name, names}, declared.resource.TargetState.TargetState}
 use Rattle.decide_preconditions.specs.declared.resource.TargetState.TheVariants.{Missing, Current}
 use Rattle.decide_preconditions.specs.declared.tags.Comparison.TheVariants.{Strong, Weak}
 

@@ -1,7 +1,6 @@
 -- Entity tags in a request (RFC 9110, sections 8.8.3, 13.1.1 and 13.1.2).
 use Rattle.std.specs.{Prelude.{Bool, false, ◌&&◌, ◌||◌, not, List, Option, Some, None, bytes_eq}, List.list_all}
-use Rattle.std.specs.{List.list_any, Option.option_map_or}
-use Rattle.http_header.specs.FieldValue.{FieldValue}
+use Rattle.{std.specs.{List.list_any, Option.option_map_or}, http_header.specs.FieldValue.FieldValue}
 use Rattle.rfc_fields.specs.{Members.field_members, Scan.{Member, Member.{Whole, Malformed}}}
 use Rattle.headers.specs.{EntityTag.{is_tag, parts_of}, EntityTagRange.star, Lines.{Line, only_line}}
 use Rattle.decide_preconditions.specs.declared.resource.TargetState.{TargetState, TheVariants.{Missing, Current}}

@@ -8,12 +8,11 @@ use Rattle.decide_preconditions.specs.{Plans.IsSamePlan, Responses.IsAnswered, d
 use Rattle.decide_preconditions.specs.declared.{plan.Plan.Plan, resource.TargetState.TargetState as Target}
 use Rattle.decide_preconditions.{specs.declared.response.Response.Response, proofs.OnePlanLemmas.one_plan}
 use Rattle.decide_resource.specs.Answers.{AreSame, AreSent, Gives, GivesIf, Goes, GoesOn, IsAnswer, IsSelected}
-use Rattle.decide_resource.specs.Answers.{IsShared, Stops, at_place, is_admitted, is_sent, response_fields}
-use Rattle.decide_resource.specs.{Answers.{status_sent, with_metadata}, Fields.{vary_fields, vary_lines}}
-use Rattle.decide_resource.specs.{Requests.Request, declared.answer.{Answer.Answer, Sends.Sends}}
-use Rattle.decide_resource.specs.declared.{reason.Reason.Reason, representation.Representation.Representation}
-use Rattle.decide_resource.{specs.declared.resource.Resource.Resource, proofs.OneReasonLemmas.one_reason}
-use Rattle.decide_resource.proofs.PlanLemmas.{same_by_plan}
+use Rattle.decide_resource.specs.Answers.{IsShared, Stops, at_place, is_admitted, is_sent, response_fields, status_sent}
+use Rattle.decide_resource.specs.{Answers.with_metadata, Fields.{vary_fields, vary_lines}, Requests.Request}
+use Rattle.decide_resource.specs.declared.{answer.{Answer.Answer, Sends.Sends}, reason.Reason.Reason}
+use Rattle.decide_resource.specs.declared.{representation.Representation.Representation, resource.Resource.Resource}
+use Rattle.decide_resource.proofs.{OneReasonLemmas.one_reason, PlanLemmas.same_by_plan}
 use Rattle.decide_resource.specs.declared.answer.Sends.TheVariants as sends
 
 pub one_place : (resource : Resource) (fields : LineMap) (a b : Option ℕ) → IsSelected resource fields a

@@ -6,30 +6,22 @@ use Rattle.std.specs.Prelude.{◌&&◌, ◌||◌, All, IfSome, bytes_eq, codes, 
 use Rattle.{http_header.specs.FieldValue.FieldValue, headers.specs.{LineMap.{Field, fields_of, lines_at}, Lines.Line}}
 use Rattle.decide_cors.{specs.Policy.Policy, proofs.MadeLemmas.{Fit, fit-append, fit-more, fit-none, made}}
 use Rattle.decide_cors.proofs.MadeLemmas.{fit-weaker, policy_fits, some_answer as some_policy_answer, vec}
-use Rattle.decide_cors.specs.Kinds.{is_preflight}
-use Rattle.decide_preconditions.specs.Contents.{divisible_len, limits_of}
+use Rattle.{decide_cors.specs.Kinds.is_preflight, decide_preconditions.specs.Contents.{divisible_len, limits_of}}
 use Rattle.decide_preconditions.specs.Fields.{fields_sent, is_known_by, is_whole, keeps_encoding, lines_sent}
 use Rattle.decide_preconditions.specs.Fields.{status_of as status_of_plan}
-use Rattle.decide_preconditions.specs.Plans.{IsPlan}
-use Rattle.decide_preconditions.specs.{Plans.{Reads, SendsParts}, Responses.IsAnswered}
-use Rattle.decide_preconditions.specs.declared.content.Content.{Content}
-use Rattle.decide_preconditions.specs.declared.part.Part.{Part}
-use Rattle.decide_preconditions.specs.declared.plan.Plan.{Plan}
-use Rattle.decide_preconditions.specs.declared.{response.Response.Response}
+use Rattle.decide_preconditions.specs.{Plans.{IsPlan, Reads, SendsParts}, Responses.IsAnswered}
+use Rattle.decide_preconditions.specs.declared.{content.Content.Content, part.Part.Part, plan.Plan.Plan}
+use Rattle.decide_preconditions.specs.declared.response.Response.{Response}
 use Rattle.decide_preconditions.specs.declared.resource.{TargetState.TargetState as Target, Validators.Validators}
-use Rattle.decide_preconditions.proofs.OnePlanLemmas.{some_plan}
-use Rattle.decide_resource.specs.Answers.{FitsMemory, GivesIf, Gives, HasFewParts, IsAnswer, IsShared, TakesFew}
-use Rattle.decide_resource.specs.Answers.{at_place}
-use Rattle.decide_resource.specs.Answers.{content_of, is_admitted, is_sent, response_fields, sent_for, status_sent}
-use Rattle.decide_resource.specs.Answers.{target_of, varying, with_metadata}
-use Rattle.decide_resource.specs.Applies.{rule, rule_for}
-use Rattle.decide_resource.specs.Fields.{accept_encoding_fields, codings_told}
-use Rattle.decide_resource.specs.Fields.{denied_fields, depends_on_selection, describes, line_if, lines_of_value}
-use Rattle.decide_resource.specs.Fields.{location_fields, metadata_fields, reason_fields, retry_fields}
-use Rattle.decide_resource.specs.Fields.{selecting, status_of, types_fields, vary_fields, vary_lines}
-use Rattle.decide_resource.specs.Requests.{Request}
-use Rattle.decide_resource.specs.declared.{answer.{Answer.Answer, Sends.Sends}, reason.Reason.Reason}
-use Rattle.decide_resource.specs.declared.representation.Representation.{Representation}
+use Rattle.{decide_preconditions.proofs.OnePlanLemmas.some_plan, decide_resource.specs.Answers.{FitsMemory, GivesIf}}
+use Rattle.decide_resource.specs.Answers.{Gives, HasFewParts, IsAnswer, IsShared, TakesFew, at_place, content_of}
+use Rattle.decide_resource.specs.Answers.{is_admitted, is_sent, response_fields, sent_for, status_sent, target_of}
+use Rattle.decide_resource.specs.{Answers.{varying, with_metadata}, Applies.{rule, rule_for}}
+use Rattle.decide_resource.specs.Fields.{accept_encoding_fields, codings_told, denied_fields, depends_on_selection}
+use Rattle.decide_resource.specs.Fields.{describes, line_if, lines_of_value, location_fields, metadata_fields}
+use Rattle.decide_resource.specs.Fields.{reason_fields, retry_fields, selecting, status_of, types_fields, vary_fields}
+use Rattle.decide_resource.specs.{Fields.vary_lines, Requests.Request, declared.answer.{Answer.Answer, Sends.Sends}}
+use Rattle.decide_resource.specs.declared.{reason.Reason.Reason, representation.Representation.Representation}
 use Rattle.decide_resource.specs.declared.{denied.Denied.Denied as Denial, resource.MethodRule.MethodRule}
 use Rattle.decide_resource.specs.declared.resource.{Resource.Resource, State.State}
 use Rattle.decide_resource.proofs.{ChosenLemmas.some_place, OneReasonLemmas.some_reason}

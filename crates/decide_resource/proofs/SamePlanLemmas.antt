@@ -11,9 +11,8 @@ use Rattle.decide_preconditions.specs.declared.{limits.RangeLimits.RangeLimits, 
 use Rattle.decide_preconditions.specs.declared.plan.Plan.TheVariants.{NotModified, Failed, Full, Single, Multiple}
 use Rattle.decide_preconditions.specs.declared.plan.Plan.TheVariants.{Unsatisfiable}
 use Rattle.decide_preconditions.specs.declared.precondition.Precondition.{Precondition}
-use Rattle.decide_preconditions.specs.declared.resource.TargetState.{TargetState}
-use Rattle.decide_preconditions.specs.declared.{resource.Validators.Validators, response.Response.Response}
-use Rattle.decide_resource.specs.Vary.{AskAlike}
+use Rattle.decide_preconditions.specs.declared.resource.{TargetState.TargetState, Validators.Validators}
+use Rattle.{decide_preconditions.specs.declared.response.Response.Response, decide_resource.specs.Vary.AskAlike}
 use Rattle.decide_preconditions.specs.declared.precondition.Precondition.TheVariants as precondition
 use Rattle.decide_preconditions.specs.declared.selection.Selection.TheVariants as selection
 

@@ -8,12 +8,11 @@ use Rattle.{gateway_messages.specs.declared.protocol.Protocol.Protocol, decide_c
 use Rattle.decide_cors.specs.{Fields.{covers_origin, grant_fields, granted, vary_sent}, Policy.Policy}
 use Rattle.decide_cors.proofs.{SameLemmas.{never_pre, same_by}, VaryLemmas.{nominates-behind, origin_tells}}
 use Rattle.decide_resource.specs.Answers.{AreSame, GivesIf, IsAnswer, IsShared, at_place, content_of, is_admitted}
-use Rattle.decide_resource.specs.{Answers.{response_fields, target_of}, Applies.{applies, is_current}}
-use Rattle.decide_resource.specs.Applies.{is_guarded, is_preflight_request, is_present, is_read, is_unacceptable}
+use Rattle.decide_resource.specs.{Answers.{response_fields, target_of}, Applies.{applies, is_current, is_guarded}}
+use Rattle.decide_resource.specs.Applies.{is_preflight_request, is_present, is_read, is_unacceptable}
 use Rattle.decide_resource.specs.Applies.{is_unsupported_part, needs_condition, rule, rule_for, takes_parts, takes_type}
-use Rattle.decide_resource.specs.Fields.{depends_on_selection}
-use Rattle.decide_resource.specs.Fields.{describes, line_if, metadata_fields, reason_fields, selecting, status_of}
-use Rattle.decide_resource.specs.{Fields.{vary_fields, vary_lines}, Reasons.{IsFirst, stage}}
+use Rattle.decide_resource.specs.Fields.{depends_on_selection, describes, line_if, metadata_fields, reason_fields}
+use Rattle.decide_resource.specs.{Fields.{selecting, status_of, vary_fields, vary_lines}, Reasons.{IsFirst, stage}}
 use Rattle.decide_resource.specs.{Representations.{are_unacceptable, score}, Requests.Request, Vary.AreAlike}
 use Rattle.decide_resource.specs.declared.{answer.{Answer.Answer, Sends.Sends}, reason.Reason.Reason}
 use Rattle.decide_resource.specs.declared.reason.Reason.TheVariants.{InvalidHost, Preflight, Denied, PartialContent}

@@ -1,11 +1,10 @@
 -- Which representation a request selects (RFC 9110, section 12.1).
 use Rattle.std.specs.Prelude.{ℕ, ◌+◌, ◌*◌, ◌==◌, Bool, true, false, ◌&&◌, ◌||◌, List, slice_get, Option, Some, None}
-use Rattle.std.specs.Prelude.{codes, find, if◌then◌else◌, nat_le, nat_lt, option_map}
-use Rattle.std.specs.{List.list_all, Option.{option_map_or, option_or}}
-use Rattle.headers.specs.LineMap.{LineMap}
-use Rattle.{headers.specs.Lines.Line, rfc_fields.specs.Scan.Member, decide_negotiation.specs.Codings.encoding_quality}
-use Rattle.decide_negotiation.specs.{Languages.language_says, MediaRanges.media_type_says, Qualities.quality_by}
-use Rattle.decide_negotiation.specs.{Qualities.{quality_in, rank}, declared.acceptability.Quality.Quality}
+use Rattle.std.specs.{Prelude.{codes, find, if◌then◌else◌, nat_le, nat_lt, option_map}, List.list_all}
+use Rattle.{std.specs.Option.{option_map_or, option_or}, headers.specs.{LineMap.LineMap, Lines.Line}}
+use Rattle.{rfc_fields.specs.Scan.Member, decide_negotiation.specs.{Codings.encoding_quality, Languages.language_says}}
+use Rattle.decide_negotiation.specs.{MediaRanges.media_type_says, Qualities.{quality_by, quality_in, rank}}
+use Rattle.decide_negotiation.specs.declared.acceptability.Quality.{Quality}
 use Rattle.decide_resource.specs.declared.representation.{Negotiation.Negotiation, Representation.Representation}
 
 -- The rank of an offer by the lines of a field. Without an offer, or if the field isn't used, it is that of weight 1.

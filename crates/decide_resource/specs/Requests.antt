@@ -1,7 +1,6 @@
 -- A request, as contracts see it.
 use Rattle.std.specs.Prelude.{ℕ, List, [], ◌∷◌, Option, bytes_eq, codes, option_copied, option_map, if◌then◌else◌}
-use Rattle.std.specs.List.{list_any}
-use Rattle.headers.specs.{LineMap.{LineMap, lines_at, remove}, Lines.Line}
+use Rattle.{std.specs.List.list_any, headers.specs.{LineMap.{LineMap, lines_at, remove}, Lines.Line}}
 use Rattle.gateway_messages.specs.declared.protocol.Protocol.{Protocol}
 use Rattle.decide_resource.specs.declared.{denied.Denied.Denied, request.RequestContent.RequestContent}
 use Rattle.decide_resource.specs.declared.request.ResourceRequest.{ResourceRequest}

@@ -1,8 +1,7 @@
 -- A new route has a pattern of its own.
 use Rattle.std.proofs.Common.{◌≡◌, ◌≢◌, ℕ, List, [], ◌∷◌, Option, None, Bool, true, false, cond, refl, sym, subst}
-use Rattle.std.specs.Prelude.{Ok}
-use Rattle.matchit.specs.{Conflict.conflicts, Order.common_len, Order.placed, Rows.RowsOf, Rows.comes_before}
-use Rattle.matchit.specs.Router.{Inserted, RouteOf, nearer, nearest_from}
+use Rattle.{std.specs.Prelude.Ok, matchit.specs.{Conflict.conflicts, Order.{common_len, placed}, Rows.RowsOf}}
+use Rattle.matchit.specs.{Rows.comes_before, Router.{Inserted, RouteOf, nearer, nearest_from}}
 use Rattle.matchit.proofs.NearestLemmas.{conflicts-self, from-some, nearer-some}
 use Rattle.decide_routes.specs.Routes.{IsDistinct, LacksPattern}
 

@@ -1,13 +1,12 @@
 -- A route that is found matches.
 use Rattle.std.proofs.Common.{◌≡◌, ◌⊎◌, ℕ, zero, suc, ◌-◌, ◌<◌, List, [], ◌∷◌, length, drop, take, Option, Some, None}
 use Rattle.std.proofs.Common.{Bool, true, false, cond, Contains, refl, sym, ap, subst, ◌∙◌, arith, nat_eq, inl, inr}
-use Rattle.std.{proofs.Common.lit<, proofs.lemmas.Bool.Decides.nat_tests, proofs.lemmas.List.take-append-drop}
-use Rattle.std.{proofs.lemmas.List.Elements.Contains-append_right, proofs.Math.Seq.take-length, specs.Prelude.◌==◌}
-use Rattle.std.{specs.Prelude.{◌&&◌, ltb}, specs.List.ends_with}
-use Rattle.matchit.{specs.Rows.{RowsOf, param_token, catch_all_token}, specs.Seek.{better, cuts, own, step, or_else}}
-use Rattle.matchit.specs.Seek.{seek, first, param_step, has_slash, with_suffix, longest_from, longest_suffix, segment}
-use Rattle.matchit.specs.Seek.{same_text}
-use Rattle.decide_routes.specs.Routes.{Matches, Takes}
+use Rattle.std.proofs.{Common.lit<, lemmas.{Bool.Decides.nat_tests, List.take-append-drop}}
+use Rattle.std.{proofs.{lemmas.List.Elements.Contains-append_right, Math.Seq.take-length}, specs.Prelude.{◌==◌, ◌&&◌}}
+use Rattle.{std.specs.{Prelude.ltb, List.ends_with}, matchit.specs.Rows.{RowsOf, param_token, catch_all_token}}
+use Rattle.matchit.specs.Seek.{better, cuts, own, step, or_else, seek, first, param_step, has_slash, with_suffix}
+use Rattle.{matchit.specs.Seek.{longest_from, longest_suffix, segment, same_text}, decide_routes.specs.Routes.Matches}
+use Rattle.decide_routes.specs.Routes.{Takes}
 
 -- ---- paths
 

@@ -1,12 +1,10 @@
 -- How a request for what is no resource of its own is answered.
-use Rattle.std.proofs.Common.{◌≡◌, ◌≢◌, ◌⊎◌, ℕ, Bool, true, false, cond, List, [], ◌∷◌, Option, Some, refl}
-use Rattle.std.{proofs.Common.{sym, ◌∙◌, ap, subst, inl, inr, lit<, bytes_eq, map}, specs.Prelude.{◌||◌, not}}
-use Rattle.std.{specs.Prelude.{codes, find, if◌then◌else◌, is_some}, specs.List.list_any}
-use Rattle.std.proofs.lemmas.Slice.Eq.{bytes_eq-Decides}
-use Rattle.decide_resource.{specs.Answers.{Gives, IsAnswer}, specs.Reasons.{Before, IsFirst}, specs.Requests.Request}
-use Rattle.decide_resource.{specs.declared.answer.Answer.Answer, specs.declared.answer.Sends.Sends}
-use Rattle.decide_resource.{specs.declared.reason.Reason.Reason, specs.declared.resource.MethodRule.MethodRule}
-use Rattle.decide_resource.{specs.declared.resource.Resource.Resource, specs.declared.resource.State.State}
+use Rattle.std.proofs.Common.{◌≡◌, ◌≢◌, ◌⊎◌, ℕ, Bool, true, false, cond, List, [], ◌∷◌, Option, Some, refl, sym, ◌∙◌}
+use Rattle.std.proofs.{Common.{ap, subst, inl, inr, lit<, bytes_eq, map}, lemmas.Slice.Eq.bytes_eq-Decides}
+use Rattle.std.specs.{Prelude.{◌||◌, not, codes, find, if◌then◌else◌, is_some}, List.list_any}
+use Rattle.decide_resource.specs.{Answers.{Gives, IsAnswer}, Reasons.{Before, IsFirst}, Requests.Request}
+use Rattle.decide_resource.specs.declared.{answer.{Answer.Answer, Sends.Sends}, reason.Reason.Reason}
+use Rattle.decide_resource.specs.declared.resource.{MethodRule.MethodRule, Resource.Resource, State.State}
 use Rattle.decide_resource.specs.Applies.{applies, creates, has_method, has_moved, is_gone, is_implemented, is_missing}
 use Rattle.decide_resource.specs.Applies.{rule_for, ruled}
 use Rattle.decide_resource.specs.declared.resource.State.TheVariants as state
@@ -16,8 +14,7 @@ use Rattle.decide_resource.specs.declared.reason.Reason.TheVariants.{PartialCont
 use Rattle.decide_resource.specs.declared.reason.Reason.TheVariants.{LengthRequired, ContentTooLarge}
 use Rattle.decide_resource.specs.declared.reason.Reason.TheVariants.{UnsupportedMediaType, UnsupportedCoding}
 use Rattle.decide_resource.specs.declared.reason.Reason.TheVariants.{NotAcceptable, PreconditionRequired, Admitted}
-use Rattle.decide_routes.specs.Routes.{IsNowhere, IsServerWide, idle_rule, told_of}
-use Rattle.headers.specs.LineMap.{Field}
+use Rattle.{decide_routes.specs.Routes.{IsNowhere, IsServerWide, idle_rule, told_of}, headers.specs.LineMap.Field}
 
 -- ---- the rules
 

@@ -1,10 +1,9 @@
 -- Which route a path matches, and how a request is answered by it.
-use Rattle.std.specs.Prelude.{◌≡◌, ◌≢◌, ⊤, ◌<◌, ◌==◌, ℕ, Bool, true, false, List, [], ◌∷◌, ◌++◌, Option, Some}
-use Rattle.std.specs.Prelude.{None, bytes_eq, codes, length, map}
-use Rattle.matchit.specs.{Router.RouteOf, Seek.has_slash, declared.params.Params.Params}
-use Rattle.matchit.specs.Rows.{RowsOf, catch_all_token, param_token}
+use Rattle.std.specs.Prelude.{◌≡◌, ◌≢◌, ⊤, ◌<◌, ◌==◌, ℕ, Bool, true, false, List, [], ◌∷◌, ◌++◌, Option, Some, None}
+use Rattle.{std.specs.Prelude.{bytes_eq, codes, length, map}, matchit.specs.{Router.RouteOf, Seek.has_slash}}
+use Rattle.matchit.specs.{declared.params.Params.Params, Rows.{RowsOf, catch_all_token, param_token}}
 use Rattle.decide_resource.specs.{Answers.IsAnswer, Requests.Request, declared.answer.Answer.Answer}
-use Rattle.decide_resource.specs.{declared.resource.MethodRule.MethodRule, declared.resource.Resource.Resource}
+use Rattle.decide_resource.specs.declared.resource.{MethodRule.MethodRule, Resource.Resource}
 use Rattle.decide_resource.specs.declared.resource.State.TheVariants as state
 
 -- ---- patterns

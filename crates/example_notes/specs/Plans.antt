@@ -1,28 +1,21 @@
 -- How a request for notes is answered, and what it changes.
 use Rattle.std.specs.Prelude.{◌≡◌, ◌≢◌, ◌⊎◌, ℕ, ◌+◌, List, [], ◌∷◌, ◌++◌, Option, Some, None, codes, length, map}
-use Rattle.std.specs.Str.{IsUtf8}
-use Rattle.http.{specs.declared.request.Request.Request, specs.Request.{body_of, head_of}}
-use Rattle.http.specs.declared.version.TheConstants.Version.{HTTP_10}
-use Rattle.http_header.{specs.FieldValue.FieldValue, specs.HeaderMap.{Entries, pairs}}
-use Rattle.http_server.specs.Response.{fields}
-use Rattle.http_uri.specs.Uri.{uri_path}
+use Rattle.{std.specs.Str.IsUtf8, http.specs.declared.{request.Request.Request, version.TheConstants.Version.HTTP_10}}
+use Rattle.{http.specs.Request.{body_of, head_of}, http_header.specs.{FieldValue.FieldValue, HeaderMap.Entries}}
+use Rattle.{http_header.specs.HeaderMap.pairs, http_server.specs.Response.fields, http_uri.specs.Uri.uri_path}
 use Rattle.serde_json.specs.Data.{Data}
 use Rattle.serde_json.specs.Read.{read as read_text}
 use Rattle.headers.specs.{Date.fixdate, LineMap.{Field, fields_of, lines_at, set_all}}
-use Rattle.server_connection.{specs.declared.piece.Piece.Piece, specs.declared.piece.Piece.TheVariants.Literal}
-use Rattle.server_connection.specs.declared.plan.ResponsePlan.{ResponsePlan}
+use Rattle.server_connection.specs.declared.{piece.Piece.{Piece, TheVariants.Literal}, plan.ResponsePlan.ResponsePlan}
 use Rattle.gateway_messages.specs.declared.protocol.Protocol.TheVariants.{Http10, Http11}
-use Rattle.decide_preconditions.specs.declared.plan.Plan.TheVariants.{Full}
-use Rattle.decide_resource.specs.Answers.{IsAnswer}
+use Rattle.{decide_preconditions.specs.declared.plan.Plan.TheVariants.Full, decide_resource.specs.Answers.IsAnswer}
 use Rattle.decide_resource.specs.Requests.{Request as Asked}
 use Rattle.decide_resource.{specs.declared.answer.Answer.Answer, specs.declared.answer.Sends.Sends}
 use Rattle.decide_resource.specs.declared.answer.Sends.TheVariants as sends
-use Rattle.decide_resource.specs.declared.request.RequestContent.TheVariants.{Sized}
-use Rattle.decide_resource.specs.declared.resource.Resource.{Resource}
-use Rattle.example_notes.specs.Notes.{Removes, Writes, list_text, next_tag, note_at, path_of}
-use Rattle.example_notes.{specs.Resources.{IsResource, collection_methods, note_methods}, specs.Targets.IsTarget}
-use Rattle.example_notes.{specs.declared.notes.Note.Note, specs.declared.notes.Notes.Notes}
-use Rattle.example_notes.{specs.declared.perform.Done.Done, specs.declared.service.Service.Service}
+use Rattle.decide_resource.specs.declared.{request.RequestContent.TheVariants.Sized, resource.Resource.Resource}
+use Rattle.example_notes.specs.{Notes.{Removes, Writes, list_text, next_tag, note_at, path_of}, Resources.IsResource}
+use Rattle.example_notes.specs.{Resources.{collection_methods, note_methods}, Targets.IsTarget}
+use Rattle.example_notes.specs.declared.{notes.{Note.Note, Notes.Notes}, perform.Done.Done, service.Service.Service}
 use Rattle.example_notes.specs.declared.target.Target.{Target}
 use Rattle.example_notes.specs.declared.target.Target.TheVariants as target
 

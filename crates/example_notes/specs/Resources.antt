@@ -1,9 +1,8 @@
 -- The collection and its notes as resources.
 use Rattle.std.specs.Prelude.{◌≡◌, ℕ, Bool, true, false, List, [], ◌∷◌, Option, Some, None, codes, length, map}
-use Rattle.std.specs.Prelude.{option_map}
-use Rattle.http_header.specs.FieldValue.{plain_value}
-use Rattle.decide_resource.specs.declared.representation.Representation.{Representation}
-use Rattle.decide_resource.{specs.declared.resource.Resource.Resource, specs.declared.resource.State.State}
+use Rattle.{std.specs.Prelude.option_map, http_header.specs.FieldValue.plain_value}
+use Rattle.decide_resource.specs.declared.{representation.Representation.Representation, resource.Resource.Resource}
+use Rattle.decide_resource.specs.declared.resource.State.{State}
 use Rattle.decide_resource.specs.declared.resource.State.TheVariants as state
 use Rattle.example_notes.{specs.Notes.tag_of, specs.declared.notes.Note.Note}
 

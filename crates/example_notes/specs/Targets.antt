@@ -1,9 +1,8 @@
 -- What a path leads to.
 use Rattle.std.specs.Prelude.{◌≡◌, ℕ, ◌<◌, ◌^◌, Bool, true, false, not, ◌&&◌, List, [], ◌∷◌, Option, Some, None, codes}
-use Rattle.std.{specs.Prelude.nat_lt, specs.Str.Parse.{IsNumeral, digits_value, without_leading_plus}}
-use Rattle.matchit.{specs.Params.{AllText, named, walk}, specs.Router.RouteOf, specs.Rows.RowsOf, specs.Seek.first}
-use Rattle.decide_routes.specs.Routes.{is_asterisk}
-use Rattle.example_notes.specs.declared.target.RouteTarget.{RouteTarget}
+use Rattle.std.specs.{Prelude.nat_lt, Str.Parse.{IsNumeral, digits_value, without_leading_plus}}
+use Rattle.matchit.specs.{Params.{AllText, named, walk}, Router.RouteOf, Rows.RowsOf, Seek.first}
+use Rattle.{decide_routes.specs.Routes.is_asterisk, example_notes.specs.declared.target.RouteTarget.RouteTarget}
 use Rattle.example_notes.specs.declared.target.RouteTarget.TheVariants as place
 use Rattle.example_notes.specs.declared.target.Target.{Target}
 use Rattle.example_notes.specs.declared.target.Target.TheVariants as target

@@ -1,13 +1,10 @@
 -- Content that goes on: what is put of it, and what is read.
 use Rattle.std.proofs.Common.{◌≡◌, ℕ, List, [], ◌∷◌, ◌++◌, length, drop, Option, Some, None, refl, ap, ◌∙◌}
-use Rattle.std.proofs.Common.{append_assoc, append-nil, sym}
-use Rattle.http1.specs.{Decoder.{Continues, with_front}, Fields.Header}
-use Rattle.http1.specs.Conn.{after_data, data_refusal, data_text, finish_refusal, finish_text}
-use Rattle.http1.specs.{declared.conn.Writing.Writing, declared.decode.Decoder.Decoder}
-use Rattle.http1.specs.{Encoder.{after_piece, piece_text}, declared.encode.Encoder.Encoder}
-use Rattle.http1.proofs.DecoderLemmas.{Continues-live}
-use Rattle.gateway_connection.specs.Content.{after_pieces, pieces_text}
-use Rattle.gateway_connection.specs.Exchanges.{IsFront, last_text}
+use Rattle.{std.proofs.Common.{append_assoc, append-nil, sym}, http1.specs.Decoder.{Continues, with_front}}
+use Rattle.http1.specs.{Fields.Header, Conn.{after_data, data_refusal, data_text, finish_refusal, finish_text}}
+use Rattle.http1.specs.declared.{conn.Writing.Writing, decode.Decoder.Decoder, encode.Encoder.Encoder}
+use Rattle.http1.{specs.Encoder.{after_piece, piece_text}, proofs.DecoderLemmas.Continues-live}
+use Rattle.gateway_connection.specs.{Content.{after_pieces, pieces_text}, Exchanges.{IsFront, last_text}}
 use Rattle.http1.specs.declared.conn.Writing.TheVariants as Writes
 
 -- ---- what is put

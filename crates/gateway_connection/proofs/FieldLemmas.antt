@@ -1,9 +1,7 @@
 -- Fields that no map takes.
-use Rattle.std.proofs.Common.{◌≡◌, List, Result, Err, IfErr, subst, sym}
-use Rattle.http.specs.declared.error.Error.{Error}
-use Rattle.http1.specs.Fields.{Header}
-use Rattle.gateway_connection.specs.Content.{IsMapFailure}
-use Rattle.gateway_connection.specs.Responses.{IsFieldsFault, map_fault}
+use Rattle.{std.proofs.Common.{◌≡◌, List, Result, Err, IfErr, subst, sym}, http.specs.declared.error.Error.Error}
+use Rattle.{http1.specs.Fields.Header, gateway_connection.specs.{Content.IsMapFailure, Responses.IsFieldsFault}}
+use Rattle.gateway_connection.specs.Responses.{map_fault}
 use Rattle.http.specs.declared.error.Error.TheVariants as Mapped
 
 -- the reason is the one of the map

@@ -1,29 +1,21 @@
 -- What a read of `http1` finds.
-use Rattle.std.proofs.Common.{◌≡◌, ◌≢◌, ℕ, ◌<◌, ◌≤◌, ◌⊎◌, inl, inr, Bool, true, false, List}
-use Rattle.std.proofs.Common.{[], ◌∷◌, ◌++◌, length, ◌-◌}
+use Rattle.std.proofs.Common.{◌≡◌, ◌≢◌, ℕ, ◌<◌, ◌≤◌, ◌⊎◌, inl, inr, Bool, true, false, List, [], ◌∷◌, ◌++◌, length, ◌-◌}
 use Rattle.std.proofs.Common.{drop, sym, refl, ap, ◌∙◌, subst, append-nil, IsFalse, arith, ltb}
-use Rattle.std.proofs.lemmas.Bool.Decides.{nat_tests}
-use Rattle.bytes.specs.Filled.{Filled}
-use Rattle.httparse.{specs.Grammar.{ResponseHead, status_code}, specs.Spans.{span_bytes}}
-use Rattle.httparse.specs.{declared.spans.HeaderSpan.HeaderSpan, declared.spans.ResponseSpans.ResponseSpans}
-use Rattle.httparse.{specs.declared.spans.Span.Span, proofs.RunLemmas.length-slice_range}
-use Rattle.http1.specs.{Body.body_of, Fields.Header, Message.known_of, ServerTrace.headers_at}
-use Rattle.http1.specs.Client.{ClientReads, ReadsAt, ReadsFirst, ReadsHead, TakesHead, after_head, after_piece}
-use Rattle.http1.specs.Client.{is_interim, reading_body, switches, upgraded_client}
-use Rattle.http1.specs.Conn.{ReadsPiece, awaits_head, unread_size}
-use Rattle.http1.specs.Decoder.{Completes, Continues, Ends, decoder_for}
-use Rattle.http1.specs.{declared.client.Client.Client, declared.conn.BodySize.BodySize, declared.conn.Event.Event}
-use Rattle.http1.specs.declared.conn.Event.TheVariants.{NeedMore, Head, Informational, Data, End, Paused, Upgraded}
-use Rattle.http1.specs.{declared.conn.Limits.Limits, declared.conn.Progress.Progress, declared.conn.Reading.Reading}
-use Rattle.http1.specs.{declared.decode.Decoder.Decoder, declared.framing.Framing.Framing}
-use Rattle.http1.specs.declared.framing.MethodKind.{MethodKind}
-use Rattle.gateway_connection.specs.Content.{HasNoMap, map_of}
-use Rattle.gateway_connection.specs.Responses.{IsFieldsFault, IsUnder}
-use Rattle.gateway_connection.specs.declared.event.OriginFault.{OriginFault}
+use Rattle.{std.proofs.lemmas.Bool.Decides.nat_tests, bytes.specs.Filled.Filled, httparse.specs.Grammar.ResponseHead}
+use Rattle.httparse.specs.{Grammar.status_code, Spans.span_bytes, declared.spans.HeaderSpan.HeaderSpan}
+use Rattle.httparse.{specs.declared.spans.{ResponseSpans.ResponseSpans, Span.Span}, proofs.RunLemmas.length-slice_range}
+use Rattle.http1.specs.{Body.body_of, Fields.Header, Message.known_of, ServerTrace.headers_at, Client.ClientReads}
+use Rattle.http1.specs.Client.{ReadsAt, ReadsFirst, ReadsHead, TakesHead, after_head, after_piece, is_interim}
+use Rattle.http1.specs.{Client.{reading_body, switches, upgraded_client}, Conn.{ReadsPiece, awaits_head, unread_size}}
+use Rattle.http1.specs.{Decoder.{Completes, Continues, Ends, decoder_for}, declared.client.Client.Client}
+use Rattle.http1.specs.declared.conn.{BodySize.BodySize, Event.{Event, TheVariants.{NeedMore, Head, Informational}}}
+use Rattle.http1.specs.declared.conn.{Event.TheVariants.{Data, End, Paused, Upgraded}, Limits.Limits, Progress.Progress}
+use Rattle.http1.specs.declared.{conn.Reading.Reading, decode.Decoder.Decoder, framing.Framing.Framing}
+use Rattle.{http1.specs.declared.framing.MethodKind.MethodKind, gateway_connection.specs.Content.{HasNoMap, map_of}}
+use Rattle.gateway_connection.specs.{Responses.{IsFieldsFault, IsUnder}, declared.event.OriginFault.OriginFault}
 use Rattle.gateway_connection.specs.declared.event.OriginResponse.{OriginResponse}
-use Rattle.gateway_connection.specs.Steps.{Fails, Finds, HasInvalidFields, IsDue, IsFault, TakesPiece}
-use Rattle.gateway_connection.specs.Steps.{TakesResponse, Waits, WaitsAt}
-use Rattle.gateway_connection.specs.declared.origin.OriginConnection.{OriginConnection}
+use Rattle.gateway_connection.specs.{declared.origin.OriginConnection.OriginConnection, Steps.{Fails, Finds}}
+use Rattle.gateway_connection.specs.Steps.{HasInvalidFields, IsDue, IsFault, TakesPiece, TakesResponse, Waits, WaitsAt}
 use Rattle.http1.specs.declared.conn.BodySize.TheVariants as Size
 use Rattle.http1.specs.declared.conn.Event.TheVariants as Found
 use Rattle.http1.specs.declared.conn.Reading.TheVariants as Reads

@@ -1,46 +1,34 @@
 -- What is true after every history of calls.
-use Rattle.std.proofs.Common.{◌≡◌, ◌≢◌, ℕ, ◌≤◌, inl, inr, Bool, true, false, cond, ◌&&◌, not, List, [], ◌∷◌}
-use Rattle.std.proofs.Common.{◌++◌, take, drop, map, Option, Some, None, Result, Ok, Err, sym, refl, ap, ◌∙◌}
-use Rattle.std.proofs.Common.{append_assoc, append-nil, arith, IsTrue, ltb, subst}
-use Rattle.std.{proofs.Math.Seq.drop-length, proofs.lemmas.Bool.{and_parts, cond-true}}
-use Rattle.std.proofs.lemmas.Bool.Decides.{nat_tests}
-use Rattle.std.proofs.lemmas.List.{take-append-drop}
-use Rattle.httparse.{specs.Grammar.{Field, ResponseHead, status_code}, specs.Spans.name_and_value}
-use Rattle.httparse.proofs.GrammarLemmas.{ReadsResponse-append}
-use Rattle.http_header.{specs.FieldValue.FieldValue, specs.HeaderMap.Entries}
-use Rattle.http1.specs.{Body.{body_of}, Decoder.{Completes, Continues}}
-use Rattle.http1.specs.{Decoder.{decoder_for, with_front}, Fields.Header}
-use Rattle.http1.specs.Client.{after_head, closed_client, is_interim, is_written, new_client}
-use Rattle.http1.specs.Client.{request_plan, requesting, switches}
-use Rattle.http1.specs.Conn.{Plan, awaits_head}
-use Rattle.http1.specs.Conn.{is_until_close, keeps_alive, plan_refusal}
-use Rattle.http1.specs.{Framing.{has_no_body, method_kind}}
-use Rattle.http1.specs.{Head.{is_request_line}, Message.{AcceptsResponse, ReadsResponseMessage, known_of}}
-use Rattle.http1.specs.{declared.client.Client.Client, declared.conn.BodySize.BodySize, declared.conn.Limits.Limits}
-use Rattle.http1.specs.{declared.conn.Reading.Reading, declared.conn.Writing.Writing, declared.decode.Decoder.Decoder}
-use Rattle.http1.specs.declared.decode.Decoder.TheVariants.{UntilClose}
-use Rattle.http1.specs.{declared.encode.Encoder.Encoder, declared.error.WriteError.WriteError}
-use Rattle.http1.specs.{declared.framing.Framing.Framing, declared.framing.Framing.TheVariants.NoBody}
-use Rattle.http1.specs.declared.framing.MethodKind.{MethodKind}
-use Rattle.http1.proofs.{DecoderLemmas.{decoder_for-live}, OneParse.body_from_completes}
-use Rattle.gateway_connection.proofs.ContentLemmas.{end_at, front_goes, front_grows, put_at, takes_data, takes_end}
-use Rattle.gateway_connection.proofs.ContentLemmas.{writing_at}
-use Rattle.gateway_connection.specs.Exchanges.{Exchange, IsKept, ReadsExchange, ReadsInterim, ReadsKept}
-use Rattle.gateway_connection.specs.Exchanges.{Request, encoder_in, head_text, keeps_in}
-use Rattle.gateway_connection.specs.Exchanges.{plan_of, request_bytes, told_of}
-use Rattle.gateway_connection.specs.History.{Exchanged, IsReached, IsTold, MayFollow, Now, Past, asks, change}
-use Rattle.gateway_connection.specs.History.{is_over, no_past, now_text, tell, texts, with_piece, with_trailers}
-use Rattle.gateway_connection.specs.History.{Fresh, Asked, Hears, Over, Opened, Received, Finished, Begun, Put, Closed}
-use Rattle.gateway_connection.specs.History.{Refused, Written, Said}
-use Rattle.gateway_connection.specs.Content.{after_pieces, map_of}
-use Rattle.gateway_connection.specs.{Responses.response_of, declared.event.OriginEvent.OriginEvent}
-use Rattle.gateway_connection.specs.declared.event.OriginFault.{OriginFault}
+use Rattle.std.proofs.Common.{◌≡◌, ◌≢◌, ℕ, ◌≤◌, inl, inr, Bool, true, false, cond, ◌&&◌, not, List, [], ◌∷◌, ◌++◌, take}
+use Rattle.std.proofs.Common.{drop, map, Option, Some, None, Result, Ok, Err, sym, refl, ap, ◌∙◌, append_assoc}
+use Rattle.std.proofs.{Common.{append-nil, arith, IsTrue, ltb, subst}, Math.Seq.drop-length, lemmas.Bool.and_parts}
+use Rattle.std.proofs.lemmas.{Bool.{cond-true, Decides.nat_tests}, List.take-append-drop}
+use Rattle.httparse.specs.{Grammar.{Field, ResponseHead, status_code}, Spans.name_and_value}
+use Rattle.{httparse.proofs.GrammarLemmas.ReadsResponse-append, http_header.specs.FieldValue.FieldValue}
+use Rattle.{http_header.specs.HeaderMap.Entries, http1.specs.{Body.body_of, Decoder.{Completes, Continues}}}
+use Rattle.http1.specs.{Decoder.{decoder_for, with_front}, Fields.Header, Client.{after_head, closed_client}}
+use Rattle.http1.specs.{Client.{is_interim, is_written, new_client, request_plan, requesting, switches}, Conn.Plan}
+use Rattle.http1.specs.{Conn.{awaits_head, is_until_close, keeps_alive, plan_refusal}, Framing.has_no_body}
+use Rattle.http1.specs.{Framing.method_kind, Head.is_request_line, Message.{AcceptsResponse, ReadsResponseMessage}}
+use Rattle.http1.specs.{Message.known_of, declared.{client.Client.Client, conn.{BodySize.BodySize, Limits.Limits}}}
+use Rattle.http1.specs.declared.{conn.{Reading.Reading, Writing.Writing}, decode.Decoder.Decoder}
+use Rattle.http1.specs.declared.{decode.Decoder.TheVariants.UntilClose, encode.Encoder.Encoder}
+use Rattle.http1.specs.declared.{error.WriteError.WriteError, framing.Framing.{Framing, TheVariants.NoBody}}
+use Rattle.http1.{specs.declared.framing.MethodKind.MethodKind, proofs.DecoderLemmas.decoder_for-live}
+use Rattle.{http1.proofs.OneParse.body_from_completes, gateway_connection.proofs.ContentLemmas.{end_at, front_goes}}
+use Rattle.gateway_connection.proofs.ContentLemmas.{front_grows, put_at, takes_data, takes_end, writing_at}
+use Rattle.gateway_connection.{proofs.FindLemmas.final_stays, specs.Exchanges.{Exchange, IsKept, ReadsExchange}}
+use Rattle.gateway_connection.specs.Exchanges.{ReadsInterim, ReadsKept, Request, encoder_in, head_text, keeps_in}
+use Rattle.gateway_connection.specs.{Exchanges.{plan_of, request_bytes, told_of}, History.{Exchanged, IsReached}}
+use Rattle.gateway_connection.specs.History.{IsTold, MayFollow, Now, Past, asks, change, is_over, no_past, now_text}
+use Rattle.gateway_connection.specs.History.{tell, texts, with_piece, with_trailers, Fresh, Asked, Hears, Over, Opened}
+use Rattle.gateway_connection.specs.History.{Received, Finished, Begun, Put, Closed, Refused, Written, Said}
+use Rattle.gateway_connection.specs.{Content.{after_pieces, map_of}, Responses.response_of}
+use Rattle.gateway_connection.specs.declared.event.{OriginEvent.OriginEvent, OriginFault.OriginFault}
 use Rattle.gateway_connection.specs.declared.event.OriginResponse.{OriginResponse}
-use Rattle.gateway_connection.specs.Steps.{Begins, Ends, EndsContent, Fails, Finds, Finishes, HandsOut, IsDue}
-use Rattle.gateway_connection.specs.Steps.{IsOver, Puts, PutsNothing, Receives, SaysAt}
-use Rattle.gateway_connection.specs.Steps.{TakesEnd, Waits, WaitsAt}
-use Rattle.gateway_connection.specs.declared.origin.OriginConnection.{OriginConnection}
-use Rattle.gateway_connection.proofs.FindLemmas.{final_stays}
+use Rattle.gateway_connection.specs.{declared.origin.OriginConnection.OriginConnection, Steps.{Begins, Ends}}
+use Rattle.gateway_connection.specs.Steps.{EndsContent, Fails, Finds, Finishes, HandsOut, IsDue, IsOver, Puts}
+use Rattle.gateway_connection.specs.Steps.{PutsNothing, Receives, SaysAt, TakesEnd, Waits, WaitsAt}
 use Rattle.http1.specs.Message as Message
 use Rattle.http1.specs.declared.conn.Reading.TheVariants as Reads
 use Rattle.http1.specs.declared.conn.Writing.TheVariants as Writes

@@ -1,15 +1,12 @@
 -- Fields under spans.
 use Rattle.std.proofs.Common.{◌≡◌, ◌<◌, ℕ, List, [], ◌∷◌, ◌∙◌, ap, refl, map, take, fold, All, Any, inl, inr, subst}
-use Rattle.std.{proofs.Common.sym, proofs.lemmas.List.{get_or-map, length-map, take-map}}
-use Rattle.std.proofs.lemmas.List.Elements.{All-head, All-tail, All-take}
-use Rattle.bytes.proofs.Ranges.{slice_range_front}
+use Rattle.std.proofs.{Common.sym, lemmas.List.{get_or-map, length-map, take-map, Elements.{All-head, All-tail}}}
+use Rattle.{std.proofs.lemmas.List.Elements.All-take, bytes.proofs.Ranges.slice_range_front}
 use Rattle.httparse.specs.Spans.{IsHeaderWithin, IsWithin, header_bytes, span_bytes}
-use Rattle.httparse.{specs.declared.spans.HeaderSpan.HeaderSpan, specs.declared.spans.Span.Span}
-use Rattle.http.specs.declared.error.Error.{Error}
-use Rattle.http_header.{specs.FieldName.IsFieldName, specs.Token.lowercase, specs.FieldValue.{FieldValue, IsFieldValue}}
-use Rattle.http_header.{specs.FieldValue.plain_value, specs.HeaderMap.{Entries, RefusesAppend, append}}
-use Rattle.http1.{specs.Fields.Header, specs.ServerTrace.headers_at}
-use Rattle.http1_typed.specs.Parts.{MapError, entry_at, map_at}
+use Rattle.{httparse.specs.declared.spans.{HeaderSpan.HeaderSpan, Span.Span}, http.specs.declared.error.Error.Error}
+use Rattle.http_header.specs.{FieldName.IsFieldName, Token.lowercase, FieldValue.{FieldValue, IsFieldValue}}
+use Rattle.http_header.specs.{FieldValue.plain_value, HeaderMap.{Entries, RefusesAppend, append}}
+use Rattle.{http1.specs.{Fields.Header, ServerTrace.headers_at}, http1_typed.specs.Parts.{MapError, entry_at, map_at}}
 use Rattle.gateway_connection.specs.Content.{IsMapFailure, map_of}
 use Rattle.http.specs.declared.error.Error.TheVariants as Mapped
 

@@ -1,16 +1,12 @@
 -- Exchanges: requests literally, and the responses to them by the grammar.
-use Rattle.std.specs.Prelude.{◌≡◌, ◌≢◌, ℕ, Bool, true, false, List, [], ◌∷◌, ◌++◌, map, Option}
-use Rattle.std.specs.Prelude.{Some, None, Result, Ok, Err, IsTrue}
-use Rattle.httparse.specs.{Spans.name_and_value}
-use Rattle.http_header.{specs.FieldValue.FieldValue, specs.HeaderMap.Entries}
-use Rattle.http1.specs.{Body.{Body}, Client.{is_interim, plan_fields}, Decoder.{Completes, IsLive}}
-use Rattle.http1.specs.{Conn.{Plan, keeps_alive, planned_headers}, Decoder.with_front, Fields.Header}
-use Rattle.http1.specs.Encoder.{encoder_for, end_text}
-use Rattle.http1.specs.{Framing.method_kind, Head.request_text}
-use Rattle.http1.specs.{Message.{AcceptsResponse, ReadsResponseMessage, known_of}, declared.conn.BodySize.BodySize}
-use Rattle.http1.specs.{declared.conn.Limits.Limits, declared.decode.Decoder.Decoder, declared.encode.Encoder.Encoder}
-use Rattle.http1.specs.{declared.error.WriteError.WriteError}
-use Rattle.http1.specs.declared.framing.MethodKind.{MethodKind}
+use Rattle.std.specs.Prelude.{◌≡◌, ◌≢◌, ℕ, Bool, true, false, List, [], ◌∷◌, ◌++◌, map, Option, Some, None, Result, Ok}
+use Rattle.{std.specs.Prelude.{Err, IsTrue}, httparse.specs.Spans.name_and_value}
+use Rattle.{http_header.specs.{FieldValue.FieldValue, HeaderMap.Entries}, http1.specs.{Body.Body, Client.is_interim}}
+use Rattle.http1.specs.{Client.plan_fields, Decoder.{Completes, IsLive, with_front}, Conn.{Plan, keeps_alive}}
+use Rattle.http1.specs.{Conn.planned_headers, Fields.Header, Encoder.{encoder_for, end_text}, Framing.method_kind}
+use Rattle.http1.specs.{Head.request_text, Message.{AcceptsResponse, ReadsResponseMessage, known_of}}
+use Rattle.http1.specs.declared.{conn.{BodySize.BodySize, Limits.Limits}, decode.Decoder.Decoder}
+use Rattle.http1.specs.declared.{encode.Encoder.Encoder, error.WriteError.WriteError, framing.MethodKind.MethodKind}
 use Rattle.http1.specs.Message as Message
 use Rattle.http1.specs.declared.encode.Encoder.TheVariants as Encodes
 use Rattle.gateway_connection.specs.Content.{after_pieces, map_of, pieces_text}

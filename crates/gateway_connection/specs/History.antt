@@ -1,18 +1,14 @@
 -- Every history of calls on a connection, and what is true after it.
-use Rattle.std.specs.Prelude.{◌≡◌, ℕ, ◌≤◌, Bool, true, false, List, [], ◌∷◌, ◌++◌, length, take}
-use Rattle.std.specs.Prelude.{Some, None}
-use Rattle.httparse.specs.Grammar.{ResponseHead}
-use Rattle.http1.specs.{Decoder.decoder_for, Fields.Header, Framing.method_kind, Message.AcceptsResponse}
-use Rattle.http1.specs.{declared.conn.BodySize.BodySize, declared.conn.Limits.Limits, declared.decode.Decoder.Decoder}
-use Rattle.http1.specs.{declared.framing.Framing.Framing, declared.framing.MethodKind.MethodKind}
+use Rattle.std.specs.Prelude.{◌≡◌, ℕ, ◌≤◌, Bool, true, false, List, [], ◌∷◌, ◌++◌, length, take, Some, None}
+use Rattle.{httparse.specs.Grammar.ResponseHead, http1.specs.{Decoder.decoder_for, Fields.Header, Framing.method_kind}}
+use Rattle.http1.specs.{Message.AcceptsResponse, declared.conn.{BodySize.BodySize, Limits.Limits}}
+use Rattle.http1.specs.declared.{decode.Decoder.Decoder, framing.{Framing.Framing, MethodKind.MethodKind}}
 use Rattle.http1.specs.Message as Message
 use Rattle.gateway_connection.specs.Exchanges.{Exchange, IsFront, ReadsExchange, ReadsInterim, ReadsKept, Request}
-use Rattle.gateway_connection.specs.Exchanges.{request_bytes, told_of}
-use Rattle.gateway_connection.specs.Responses.{response_of}
-use Rattle.gateway_connection.specs.declared.event.OriginEvent.{OriginEvent}
-use Rattle.gateway_connection.specs.declared.event.OriginResponse.{OriginResponse}
-use Rattle.gateway_connection.specs.Steps.{Begins, Ends, Finishes, HandsOut, IsNew, Puts, PutsNothing, Receives, Says}
-use Rattle.gateway_connection.specs.declared.origin.OriginConnection.{OriginConnection}
+use Rattle.gateway_connection.specs.{Exchanges.{request_bytes, told_of}, Responses.response_of}
+use Rattle.gateway_connection.specs.declared.event.{OriginEvent.OriginEvent, OriginResponse.OriginResponse}
+use Rattle.gateway_connection.specs.{declared.origin.OriginConnection.OriginConnection, Steps.{Begins, Ends, Finishes}}
+use Rattle.gateway_connection.specs.Steps.{HandsOut, IsNew, Puts, PutsNothing, Receives, Says}
 use Rattle.gateway_connection.specs.declared.event.OriginEvent.TheVariants as Is
 
 -- what was said of the exchange now: nothing was sent yet; or a request was, and these interim responses came; or the

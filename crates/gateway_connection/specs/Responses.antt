@@ -1,11 +1,9 @@
 -- The head and the fields of a response, as a caller gets them.
 use Rattle.std.specs.Prelude.{◌≡◌, ⊤, ℕ, List, map}
 use Rattle.httparse.specs.{Grammar.{ResponseHead, reason_phrase, status_code}, Spans.{name_and_value, span_bytes}}
-use Rattle.httparse.specs.{declared.spans.HeaderSpan.HeaderSpan, declared.spans.ResponseSpans.ResponseSpans}
-use Rattle.http.specs.declared.error.Error.{Error}
-use Rattle.http1.specs.{Fields.Header, ServerTrace.headers_at}
-use Rattle.gateway_connection.specs.Content.{HasNoMap, map_of}
-use Rattle.gateway_connection.specs.declared.event.OriginFault.{OriginFault}
+use Rattle.httparse.specs.declared.spans.{HeaderSpan.HeaderSpan, ResponseSpans.ResponseSpans}
+use Rattle.{http.specs.declared.error.Error.Error, http1.specs.{Fields.Header, ServerTrace.headers_at}}
+use Rattle.gateway_connection.specs.{Content.{HasNoMap, map_of}, declared.event.OriginFault.OriginFault}
 use Rattle.gateway_connection.specs.declared.event.OriginResponse.{OriginResponse}
 use Rattle.http.specs.declared.error.Error.TheVariants as Mapped
 use Rattle.gateway_connection.specs.declared.event.OriginFault.TheVariants as Faults

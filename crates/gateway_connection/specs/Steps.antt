@@ -1,24 +1,19 @@
 -- What each call does.
-use Rattle.std.specs.Prelude.{◌≡◌, ◌≢◌, ⊤, ℕ, ◌<◌, ◌⊎◌, true, false, ◌&&◌, List, [], ◌++◌, length, drop, map}
-use Rattle.std.specs.Prelude.{Option, Some, None, IsTrue, IsFalse, ◌==◌}
+use Rattle.std.specs.Prelude.{◌≡◌, ◌≢◌, ⊤, ℕ, ◌<◌, ◌⊎◌, true, false, ◌&&◌, List, [], ◌++◌, length, drop, map, Option}
+use Rattle.std.specs.Prelude.{Some, None, IsTrue, IsFalse, ◌==◌}
 use Rattle.httparse.specs.Grammar.{Field, HasNoResponse, MayBecomeResponse, ResponseHead, status_code}
-use Rattle.httparse.specs.Spans.{name_and_value}
-use Rattle.http.specs.Method.{idempotent_methods, is_among}
-use Rattle.http_header.{specs.FieldValue.FieldValue, specs.HeaderMap.Entries}
-use Rattle.http1.specs.{Body.{Body, body_of}, Decoder.{Completes, Continues, Starves}, Fields.Header}
-use Rattle.http1.specs.Client.{ClientRefuses, after_end, after_head, after_request, cycle, is_expected, is_interim}
-use Rattle.http1.specs.Client.{new_client, planned_request, request_refusal, switches, with_writing}
-use Rattle.http1.specs.Conn.{after_data, awaits_head, data_refusal, data_text, finish_refusal, finish_text}
-use Rattle.http1.specs.{Message.AcceptsResponse, declared.client.Client.Client, declared.conn.BodySize.BodySize}
-use Rattle.http1.specs.{declared.conn.Limits.Limits, declared.conn.Reading.Reading, declared.decode.Decoder.Decoder}
-use Rattle.http1.specs.declared.error.ReadError.{ReadError}
-use Rattle.http1.specs.{declared.error.WriteError.WriteError, declared.framing.Framing.Framing}
-use Rattle.http1.specs.declared.decode.Decoder.TheVariants.{UntilClose}
-use Rattle.gateway_connection.specs.Content.{HasNoMap, map_of}
-use Rattle.gateway_connection.specs.{Responses.response_of, declared.event.OriginEvent.OriginEvent}
-use Rattle.gateway_connection.specs.declared.event.OriginFault.{OriginFault}
-use Rattle.gateway_connection.specs.declared.event.OriginResponse.{OriginResponse}
-use Rattle.gateway_connection.specs.declared.head.TheConstants.{MAX_FIELDS}
+use Rattle.{httparse.specs.Spans.name_and_value, http.specs.Method.{idempotent_methods, is_among}}
+use Rattle.{http_header.specs.{FieldValue.FieldValue, HeaderMap.Entries}, http1.specs.Body.{Body, body_of}}
+use Rattle.http1.specs.{Decoder.{Completes, Continues, Starves}, Fields.Header, Client.{ClientRefuses, after_end}}
+use Rattle.http1.specs.Client.{after_head, after_request, cycle, is_expected, is_interim, new_client, planned_request}
+use Rattle.http1.specs.{Client.{request_refusal, switches, with_writing}, Conn.{after_data, awaits_head, data_refusal}}
+use Rattle.http1.specs.{Conn.{data_text, finish_refusal, finish_text}, Message.AcceptsResponse}
+use Rattle.http1.specs.declared.{client.Client.Client, conn.{BodySize.BodySize, Limits.Limits, Reading.Reading}}
+use Rattle.http1.specs.declared.{decode.Decoder.{Decoder, TheVariants.UntilClose}, error.ReadError.ReadError}
+use Rattle.http1.specs.declared.{error.WriteError.WriteError, framing.Framing.Framing}
+use Rattle.gateway_connection.specs.{Content.{HasNoMap, map_of}, Responses.response_of}
+use Rattle.gateway_connection.specs.declared.event.{OriginEvent.OriginEvent, OriginFault.OriginFault}
+use Rattle.gateway_connection.specs.declared.{event.OriginResponse.OriginResponse, head.TheConstants.MAX_FIELDS}
 use Rattle.gateway_connection.specs.declared.origin.OriginConnection.{OriginConnection}
 use Rattle.http1.specs.declared.conn.Reading.TheVariants as Reads
 use Rattle.http1.specs.declared.conn.Writing.TheVariants as Writes

@@ -1,7 +1,6 @@
 -- What follows of an event.
-use Rattle.std.proofs.Common.{◌≡◌, refl}
-use Rattle.gateway_exchange.specs.Steps.{EndsIdleAs}
-use Rattle.gateway_exchange.specs.declared.{connection.GatewayConnection.GatewayConnection}
+use Rattle.{std.proofs.Common.{◌≡◌, refl}, gateway_exchange.specs.Steps.EndsIdleAs}
+use Rattle.gateway_exchange.specs.declared.connection.GatewayConnection.{GatewayConnection}
 use Rattle.gateway_exchange.specs.declared.connection.Stage.TheVariants as At
 use Rattle.server_stream.specs.declared.{event.StreamEvent.StreamEvent, rejection.StreamRejection.StreamRejection}
 use Rattle.server_stream.specs.declared.event.StreamEvent.TheVariants as Is

@@ -1,36 +1,28 @@
 -- What is true after every history of calls.
 use Rattle.std.proofs.Common.{◌≡◌, ◌⊎◌, ◌∷◌, ℕ, ◌≤◌, inl, inr, Bool, true, false, List, [], ◌++◌, length, take, min}
 use Rattle.std.proofs.Common.{Option, Some, None, codes, sym, refl, ap, ◌∙◌, subst, arith, append-nil, append_assoc}
-use Rattle.std.proofs.Common.{not}
-use Rattle.std.proofs.lemmas.List.Folds.{concat-append}
-use Rattle.std.proofs.lemmas.Bool.{and_parts}
-use Rattle.std.specs.{List.concat, Prelude.{◌==◌, nat_le, nat_lt}}
-use Rattle.headers.specs.LineMap.{lines_at}
-use Rattle.http_header.{specs.FieldValue.FieldValue, specs.HeaderMap.Entries}
-use Rattle.http1.specs.{Fields.Header, declared.conn.BodySize.BodySize, declared.conn.Limits.Limits}
-use Rattle.http1.specs.{declared.error.WriteError.WriteError}
+use Rattle.std.{proofs.{Common.not, lemmas.{List.Folds.concat-append, Bool.and_parts}}, specs.List.concat}
+use Rattle.{std.specs.Prelude.{◌==◌, nat_le, nat_lt}, headers.specs.LineMap.lines_at}
+use Rattle.{http_header.specs.{FieldValue.FieldValue, HeaderMap.Entries}, http1.specs.Fields.Header}
+use Rattle.http1.specs.declared.{conn.{BodySize.BodySize, Limits.Limits}, error.WriteError.WriteError}
 use Rattle.gateway_connection.specs.History as Origin
 use Rattle.gateway_connection.specs.Steps as OriginSteps
-use Rattle.gateway_connection.specs.declared.origin.OriginConnection.{OriginConnection}
-use Rattle.gateway_connection.specs.declared.{event.OriginEvent.OriginEvent, event.OriginResponse.OriginResponse}
-use Rattle.gateway_connection.specs.declared.event.OriginFault.{OriginFault}
-use Rattle.gateway_connection.specs.Exchanges.{Request}
-use Rattle.gateway_connection.proofs.HistoryLemmas.{content_late, end_late, heads_once, interim_late, says_final}
-use Rattle.gateway_connection.proofs.HistoryLemmas.{switch_late}
+use Rattle.gateway_connection.specs.declared.{origin.OriginConnection.OriginConnection, event.OriginEvent.OriginEvent}
+use Rattle.gateway_connection.specs.declared.event.{OriginResponse.OriginResponse, OriginFault.OriginFault}
+use Rattle.gateway_connection.{specs.Exchanges.Request, proofs.HistoryLemmas.{content_late, end_late, heads_once}}
+use Rattle.gateway_connection.proofs.HistoryLemmas.{interim_late, says_final, switch_late}
 use Rattle.http1.specs.Client as Http
 use Rattle.gateway_messages.specs.Responses as Responses
 use Rattle.gateway_exchange.specs.Passing.{IsSwitched, IsTrailers, PutsResponse, answered, with_conditions}
-use Rattle.gateway_exchange.specs.Decisions.{IsDecision}
-use Rattle.gateway_exchange.specs.declared.decision.Outgoing.{Outgoing}
-use Rattle.gateway_messages.specs.Responses.{IsForwardedResponse, is_known_to}
-use Rattle.gateway_messages.specs.declared.protocol.Protocol.{Protocol}
+use Rattle.gateway_exchange.specs.{Decisions.IsDecision, declared.decision.Outgoing.Outgoing}
+use Rattle.gateway_messages.specs.{Responses.{IsForwardedResponse, is_known_to}, declared.protocol.Protocol.Protocol}
 use Rattle.gateway_messages.specs.declared.protocol.Protocol.TheVariants as Speaks
 use Rattle.gateway_parts.specs.Messages.{protocol_of}
 use Rattle.server_stream.specs.Exchanges.{Answer, Bare, Begun, Due, Exchange, Final, Response, Switched}
 use Rattle.server_stream.specs.History as Stream
 use Rattle.server_stream.specs.Steps as StreamSteps
 use Rattle.server_stream.specs.declared.connection.StreamConnection.{StreamConnection}
-use Rattle.server_stream.specs.declared.{event.StreamRequest.StreamRequest, event.StreamEvent.StreamEvent}
+use Rattle.server_stream.specs.declared.event.{StreamRequest.StreamRequest, StreamEvent.StreamEvent}
 use Rattle.gateway_exchange.specs.History.{AreServed, HasHead, IsFor, IsGiven, IsHeard, IsIn, IsPassedOn, IsServed}
 use Rattle.gateway_exchange.specs.History.{AreFieldsOf, AreInterim, AreInterimNow, IsInterim, IsSwitch, own_interim}
 use Rattle.gateway_exchange.specs.History.{EndsAs, GivenHead, IsDecided, IsFrontOf, IsServedNow, Served, Traffic, Uses}
@@ -39,31 +31,28 @@ use Rattle.gateway_exchange.specs.History.{with_given, with_rules, with_traffic,
 use Rattle.gateway_exchange.specs.History.{IsReached, OriginIn, Past, Opened, Received, Finished, Written}
 use Rattle.gateway_exchange.specs.History.{OriginReceived, OriginFinished, OriginWritten, Said, Sent, Conditioned}
 use Rattle.gateway_exchange.specs.History.{Answered, Again, Connected, Given, GivenPiece, GivenEnd, NotGiven, NotBegun}
-use Rattle.gateway_exchange.specs.History.{Passed, TimedOut, Taken, Dated, Closing}
-use Rattle.gateway_exchange.specs.Own.{PutsOwn, RefusesOwn, closing, own_fields, own_status}
-use Rattle.http1_typed.specs.Parts.{reason_of}
-use Rattle.http1.specs.declared.conn.BodySize.TheVariants.{Known}
-use Rattle.gateway_messages.specs.FieldLines.{fields_of}
-use Rattle.gateway_parts.specs.Messages.{request_size, response_size}
-use Rattle.gateway_exchange.specs.Passing.{EndsResponse, PutsInterim, PutsRequest, RefusesInterim, RefusesRequest}
-use Rattle.gateway_exchange.specs.Passing.{RefusesResponse, RefusesSwitch, RefusesRequestEnd, RefusesResponseEnd}
-use Rattle.gateway_messages.specs.declared.{gateway.Gateway.Gateway, response.ForwardedResponse.ForwardedResponse}
-use Rattle.gateway_exchange.specs.Steps.{Answers, AsksAgain, Awaits, Begins, BeginsAt, ChangesClient, ChangesOrigin}
-use Rattle.gateway_exchange.specs.Steps.{IsNext, PutsContent, PutsRequestEnd, is_origin_open, is_passing, Conditions}
-use Rattle.gateway_exchange.specs.Steps.{Connects, ConnectsAs, Considers, ContinuesIf, Drops, EndsIdle, EndsIdleAs}
-use Rattle.gateway_exchange.specs.Steps.{EndsIf, Follows, EndsGiving, Fails, Faulted, Gives, HandsOutOrigin, OfAsked}
-use Rattle.gateway_exchange.specs.Steps.{OnOrigin, Passes, PassesDown, PassesEnd, PassesHead, PassesInterim}
-use Rattle.gateway_exchange.specs.Steps.{PassesPiece, PassesSwitch, PassesUp, PutsHead, ReceivesOrigin, RefusesBegin}
-use Rattle.gateway_exchange.specs.Steps.{RefusesBeginAt, RefusesContent, RefusesEnd, RefusesGiving, RefusesInGiving}
-use Rattle.gateway_exchange.specs.Steps.{Rests, Runs, Went, Says, SaysIn, Sends, Settles, Steps, StepsAt, SwitchesTo}
-use Rattle.gateway_exchange.specs.Steps.{TakesOrigin, TellsHead, TimesOutAt, Transfers, begun, phase_of, sent_fields}
-use Rattle.gateway_exchange.specs.Steps.{taking, with_client, with_origin}
-use Rattle.gateway_exchange.specs.declared.{connection.GatewayConnection.GatewayConnection, connection.Stage.Stage}
-use Rattle.gateway_exchange.specs.declared.{decision.AskedRequest.AskedRequest}
-use Rattle.gateway_exchange.specs.declared.decision.RequestDecision.{RequestDecision}
-use Rattle.gateway_exchange.specs.declared.{event.GatewayEvent.GatewayEvent, event.ExchangePhase.ExchangePhase}
+use Rattle.gateway_exchange.specs.{History.{Passed, TimedOut, Taken, Dated, Closing}, Own.{PutsOwn, RefusesOwn}}
+use Rattle.gateway_exchange.specs.{Own.{closing, own_fields, own_status}, Passing.{EndsResponse, PutsInterim}}
+use Rattle.gateway_exchange.specs.Passing.{PutsRequest, RefusesInterim, RefusesRequest, RefusesResponse, RefusesSwitch}
+use Rattle.gateway_exchange.specs.{Passing.{RefusesRequestEnd, RefusesResponseEnd}, Steps.{Answers, AsksAgain, Awaits}}
+use Rattle.gateway_exchange.specs.Steps.{Begins, BeginsAt, ChangesClient, ChangesOrigin, IsNext, PutsContent}
+use Rattle.gateway_exchange.specs.Steps.{PutsRequestEnd, is_origin_open, is_passing, Conditions, Connects, ConnectsAs}
+use Rattle.gateway_exchange.specs.Steps.{Considers, ContinuesIf, Drops, EndsIdle, EndsIdleAs, EndsIf, Follows}
+use Rattle.gateway_exchange.specs.Steps.{EndsGiving, Fails, Faulted, Gives, HandsOutOrigin, OfAsked, OnOrigin, Passes}
+use Rattle.gateway_exchange.specs.Steps.{PassesDown, PassesEnd, PassesHead, PassesInterim, PassesPiece, PassesSwitch}
+use Rattle.gateway_exchange.specs.Steps.{PassesUp, PutsHead, ReceivesOrigin, RefusesBegin, RefusesBeginAt}
+use Rattle.gateway_exchange.specs.Steps.{RefusesContent, RefusesEnd, RefusesGiving, RefusesInGiving, Rests, Runs, Went}
+use Rattle.gateway_exchange.specs.Steps.{Says, SaysIn, Sends, Settles, Steps, StepsAt, SwitchesTo, TakesOrigin}
+use Rattle.gateway_exchange.specs.Steps.{TellsHead, TimesOutAt, Transfers, begun, phase_of, sent_fields, taking}
+use Rattle.gateway_exchange.specs.Steps.{with_client, with_origin}
+use Rattle.gateway_exchange.specs.declared.connection.{GatewayConnection.GatewayConnection, Stage.Stage}
+use Rattle.gateway_exchange.specs.declared.decision.{AskedRequest.AskedRequest, RequestDecision.RequestDecision}
+use Rattle.gateway_exchange.specs.declared.event.{GatewayEvent.GatewayEvent, ExchangePhase.ExchangePhase}
 use Rattle.gateway_exchange.specs.declared.{date.OwnDate.OwnDate, own.Own.Own, pass.Heard.Heard, rules.Peer.Peer}
-use Rattle.gateway_exchange.specs.declared.{rules.GatewayRules.GatewayRules}
+use Rattle.{gateway_exchange.specs.declared.rules.GatewayRules.GatewayRules, http1_typed.specs.Parts.reason_of}
+use Rattle.{http1.specs.declared.conn.BodySize.TheVariants.Known, gateway_messages.specs.FieldLines.fields_of}
+use Rattle.gateway_messages.specs.declared.{gateway.Gateway.Gateway, response.ForwardedResponse.ForwardedResponse}
+use Rattle.gateway_parts.specs.Messages.{request_size, response_size}
 use Rattle.gateway_connection.specs.declared.event.OriginEvent.TheVariants as Comes
 use Rattle.gateway_connection.specs.declared.event.OriginFault.TheVariants as Faults
 use Rattle.gateway_exchange.specs.declared.event.GatewayEvent.TheVariants as Tells

@@ -1,27 +1,23 @@
 -- What a gateway does with a request (RFC 9110, section 7; RFC 9112, section 3.2).
-use Rattle.std.specs.Prelude.{◌≡◌, ◌⊎◌, ⊤, ℕ, ◌==◌, Bool, true, false, List, [], Option, Some, None, bytes_eq}
-use Rattle.std.{specs.Prelude.{codes, if◌then◌else◌}, specs.Bool.MatchBool}
-use Rattle.http.specs.declared.version.Version.{Version}
-use Rattle.http.specs.declared.version.TheConstants.Version.{HTTP_10, HTTP_11}
-use Rattle.headers.{specs.LineMap.lines_at, specs.Lines.Line}
-use Rattle.decide_handshake.{specs.Server.{Answers, IsSwitch}, specs.declared.server.HandshakeAnswer.HandshakeAnswer}
-use Rattle.gateway_hops.{specs.Arrivals.ArrivalParts, specs.Connections.ConnectionParts, specs.Replaced.replaced_by}
-use Rattle.gateway_hops.specs.Sent.{Hop, IsSent, LacksLength}
-use Rattle.gateway_hops.{specs.declared.request.SentRequest.SentRequest}
-use Rattle.gateway_messages.{specs.Expectations.expect_fields, specs.FieldLines.fields_of}
+use Rattle.std.specs.Prelude.{◌≡◌, ◌⊎◌, ⊤, ℕ, ◌==◌, Bool, true, false, List, [], Option, Some, None, bytes_eq, codes}
+use Rattle.std.specs.{Prelude.if◌then◌else◌, Bool.MatchBool}
+use Rattle.http.specs.declared.version.{Version.Version, TheConstants.Version.{HTTP_10, HTTP_11}}
+use Rattle.{headers.specs.{LineMap.lines_at, Lines.Line}, decide_handshake.specs.Server.{Answers, IsSwitch}}
+use Rattle.decide_handshake.specs.declared.server.HandshakeAnswer.{HandshakeAnswer}
+use Rattle.gateway_hops.specs.{Arrivals.ArrivalParts, Connections.ConnectionParts, Replaced.replaced_by, Sent.Hop}
+use Rattle.gateway_hops.specs.{Sent.{IsSent, LacksLength}, declared.request.SentRequest.SentRequest}
+use Rattle.gateway_messages.specs.{Expectations.expect_fields, FieldLines.fields_of}
 use Rattle.gateway_messages.specs.Requests as Forwarding
-use Rattle.gateway_messages.specs.Requests.{IsForGateway, Rejects}
-use Rattle.gateway_messages.specs.declared.expectation.Expectation.{Expectation}
+use Rattle.gateway_messages.specs.{Requests.{IsForGateway, Rejects}, declared.expectation.Expectation.Expectation}
 use Rattle.gateway_messages.specs.declared.expectation.Expectation.TheVariants.{Answered, Forwarded}
 use Rattle.gateway_messages.specs.declared.{field_line.FieldLine.FieldLine, framing.Framing.Framing}
 use Rattle.gateway_messages.specs.declared.protocol.Protocol.TheVariants.{Http11}
-use Rattle.gateway_parts.specs.Authorities.{IsAuthority, given_host}
-use Rattle.gateway_parts.{specs.Messages.protocol_of, specs.Targets.{Parts, origin_form, target_of}}
+use Rattle.gateway_parts.specs.{Authorities.{IsAuthority, given_host}, Messages.protocol_of, Targets.Parts}
+use Rattle.gateway_parts.specs.Targets.{origin_form, target_of}
 use Rattle.server_stream.specs.declared.event.StreamRequest.{StreamRequest}
 use Rattle.gateway_exchange.specs.declared.decision.{Outgoing.Outgoing, RequestDecision.RequestDecision}
-use Rattle.gateway_exchange.specs.declared.decision.RequestDecision.TheVariants.{Answer, Send}
-use Rattle.gateway_exchange.specs.declared.own.Own.{Own}
-use Rattle.gateway_exchange.specs.declared.{rules.Peer.Peer, rules.GatewayRules.GatewayRules}
+use Rattle.gateway_exchange.specs.declared.{decision.RequestDecision.TheVariants.{Answer, Send}, own.Own.Own}
+use Rattle.gateway_exchange.specs.declared.rules.{Peer.Peer, GatewayRules.GatewayRules}
 use Rattle.gateway_exchange.specs.declared.own.Own.TheVariants as Because
 
 -- ---- the next connection

@@ -1,16 +1,11 @@
 -- Every history of calls on a gateway's connection, and what is true after it.
 use Rattle.std.specs.Prelude.{◌≡◌, ◌⊎◌, ⊤, ℕ, ◌≤◌, min, Bool, true, false, List, [], ◌∷◌, ◌++◌, length, take, Option}
-use Rattle.std.specs.Prelude.{Some, None, codes}
-use Rattle.std.specs.List.{concat}
-use Rattle.headers.specs.LineMap.{lines_at}
-use Rattle.http_header.{specs.FieldValue.FieldValue, specs.HeaderMap.Entries}
-use Rattle.http1.specs.{Fields.Header, declared.conn.BodySize.BodySize, declared.conn.Limits.Limits}
-use Rattle.http1.specs.declared.conn.BodySize.TheVariants.{Known}
-use Rattle.http1.specs.{declared.error.WriteError.WriteError}
-use Rattle.http1_typed.specs.Parts.{reason_of}
+use Rattle.{std.specs.{Prelude.{Some, None, codes}, List.concat}, headers.specs.LineMap.lines_at}
+use Rattle.{http_header.specs.{FieldValue.FieldValue, HeaderMap.Entries}, http1.specs.Fields.Header}
+use Rattle.http1.specs.declared.conn.{BodySize.{BodySize, TheVariants.Known}, Limits.Limits}
+use Rattle.{http1.specs.declared.error.WriteError.WriteError, http1_typed.specs.Parts.reason_of}
 use Rattle.gateway_messages.specs.{FieldLines.fields_of, Responses.IsForwardedResponse}
-use Rattle.gateway_parts.specs.Messages.{response_size}
-use Rattle.gateway_connection.specs.Exchanges.{Request}
+use Rattle.{gateway_parts.specs.Messages.response_size, gateway_connection.specs.Exchanges.Request}
 use Rattle.gateway_connection.specs.declared.event.OriginResponse.{OriginResponse}
 use Rattle.gateway_connection.specs.History as Origin
 use Rattle.gateway_connection.specs.Steps as OriginSteps
@@ -18,19 +13,17 @@ use Rattle.gateway_connection.specs.declared.origin.OriginConnection.{OriginConn
 use Rattle.server_stream.specs.History as Stream
 use Rattle.server_stream.specs.Steps as StreamSteps
 use Rattle.server_stream.specs.Exchanges.{Bare, Exchange, Final, Response, Begun, Switched}
-use Rattle.server_stream.specs.declared.event.StreamRequest.{StreamRequest}
-use Rattle.gateway_exchange.specs.Own.{closing, own_fields, own_status}
-use Rattle.gateway_exchange.specs.Decisions.{IsDecision}
-use Rattle.gateway_exchange.specs.Passing.{IsSwitched, IsTrailers, answered, with_conditions}
-use Rattle.gateway_exchange.specs.declared.decision.RequestDecision.TheVariants.{Send}
-use Rattle.gateway_exchange.specs.Steps.{Answers, AsksAgain, ChangesClient, ChangesOrigin, Conditions, Connects, Dates}
-use Rattle.gateway_exchange.specs.Steps.{EndsGiving, FinishesClient, Gives, HandsOutOrigin, IsNew, Passes}
-use Rattle.gateway_exchange.specs.Steps.{RefusesGiving, ReceivesOrigin, RefusesInGiving, Says, Sends, Settles}
-use Rattle.gateway_exchange.specs.Steps.{TakesClient, TakesOrigin, TimesOut, is_origin_open, output_of}
-use Rattle.gateway_exchange.specs.declared.{connection.GatewayConnection.GatewayConnection}
-use Rattle.gateway_exchange.specs.declared.{decision.AskedRequest.AskedRequest, pass.Heard.Heard}
+use Rattle.{server_stream.specs.declared.event.StreamRequest.StreamRequest, gateway_exchange.specs.Own.closing}
+use Rattle.gateway_exchange.specs.{Own.{own_fields, own_status}, Decisions.IsDecision, Passing.{IsSwitched, IsTrailers}}
+use Rattle.gateway_exchange.specs.Passing.{answered, with_conditions}
+use Rattle.gateway_exchange.specs.declared.decision.{RequestDecision.TheVariants.Send, AskedRequest.AskedRequest}
+use Rattle.gateway_exchange.specs.declared.{connection.GatewayConnection.GatewayConnection, pass.Heard.Heard}
 use Rattle.gateway_exchange.specs.declared.{event.GatewayEvent.GatewayEvent, date.OwnDate.OwnDate, own.Own.Own}
-use Rattle.gateway_exchange.specs.declared.{rules.Peer.Peer, rules.GatewayRules.GatewayRules}
+use Rattle.gateway_exchange.specs.{declared.rules.{Peer.Peer, GatewayRules.GatewayRules}, Steps.{Answers, AsksAgain}}
+use Rattle.gateway_exchange.specs.Steps.{ChangesClient, ChangesOrigin, Conditions, Connects, Dates, EndsGiving}
+use Rattle.gateway_exchange.specs.Steps.{FinishesClient, Gives, HandsOutOrigin, IsNew, Passes, RefusesGiving}
+use Rattle.gateway_exchange.specs.Steps.{ReceivesOrigin, RefusesInGiving, Says, Sends, Settles, TakesClient}
+use Rattle.gateway_exchange.specs.Steps.{TakesOrigin, TimesOut, is_origin_open, output_of}
 use Rattle.gateway_exchange.specs.declared.own.Own.TheVariants as Because
 use Rattle.gateway_exchange.specs.declared.connection.Stage.TheVariants as At
 

@@ -1,14 +1,10 @@
 -- The gateway's own responses (RFC 9110, sections 15.5 and 15.6).
 use Rattle.std.specs.Prelude.{◌≡◌, ◌⊎◌, ℕ, Bool, true, false, ◌||◌, List, [], ◌∷◌, ◌++◌, codes, if◌then◌else◌, Option}
-use Rattle.std.specs.Prelude.{Some, None}
-use Rattle.headers.specs.Date.{fixdate}
-use Rattle.http1.specs.{Conn.finish_refusal, Fields.Header, Server.response_refusal, declared.conn.BodySize.BodySize}
-use Rattle.http1.specs.{declared.conn.BodySize.TheVariants.Known, declared.error.WriteError.WriteError}
-use Rattle.http1_typed.specs.Parts.{reason_of}
-use Rattle.gateway_messages.specs.Rejections.{status_of}
-use Rattle.server_stream.specs.Heads.{rejection_status}
-use Rattle.server_stream.specs.Steps.{Ends, RefusesWrite, Responds}
-use Rattle.server_stream.specs.declared.connection.StreamConnection.{StreamConnection}
+use Rattle.{std.specs.Prelude.{Some, None}, headers.specs.Date.fixdate, http1.specs.Conn.finish_refusal}
+use Rattle.http1.specs.{Fields.Header, Server.response_refusal, declared.conn.BodySize.{BodySize, TheVariants.Known}}
+use Rattle.{http1.specs.declared.error.WriteError.WriteError, http1_typed.specs.Parts.reason_of}
+use Rattle.{gateway_messages.specs.Rejections.status_of, server_stream.specs.{Heads.rejection_status, Steps.Ends}}
+use Rattle.server_stream.specs.{Steps.{RefusesWrite, Responds}, declared.connection.StreamConnection.StreamConnection}
 use Rattle.gateway_exchange.specs.declared.{date.OwnDate.OwnDate, own.Own.Own}
 use Rattle.gateway_connection.specs.declared.event.OriginFault.{OriginFault}
 use Rattle.gateway_connection.specs.declared.event.OriginFault.TheVariants as Faults

@@ -1,11 +1,9 @@
 -- Messages on their way from one connection to the other.
 use Rattle.std.specs.Prelude.{◌≡◌, ◌≢◌, ◌⊎◌, ⊤, ℕ, Bool, true, false, List, [], ◌∷◌, ◌++◌, Option, Some, None, codes}
-use Rattle.std.specs.Prelude.{map, option_map, option_to_list}
-use Rattle.http_header.{specs.FieldValue.FieldValue, specs.HeaderMap.Entries}
-use Rattle.headers.{specs.LineMap.{Field, LineMap, lines_at}, specs.Lines.Line}
-use Rattle.http1.specs.Client.{request_refusal}
-use Rattle.http1.specs.Conn.{finish_refusal}
-use Rattle.http1.specs.{Fields.Header, declared.error.WriteError.WriteError}
+use Rattle.{std.specs.Prelude.{map, option_map, option_to_list}, http_header.specs.FieldValue.FieldValue}
+use Rattle.{http_header.specs.HeaderMap.Entries, headers.specs.{LineMap.{Field, LineMap, lines_at}, Lines.Line}}
+use Rattle.http1.specs.{Client.request_refusal, Conn.finish_refusal, Fields.Header}
+use Rattle.http1.specs.declared.error.WriteError.{WriteError}
 use Rattle.http1.specs.declared.error.WriteError.TheVariants as Write
 use Rattle.http1.specs.Server.{informational_refusal, response_refusal, upgrade_refusal}
 use Rattle.decide_handshake.specs.{Client.IsOpened}

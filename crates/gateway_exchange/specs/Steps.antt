@@ -1,38 +1,33 @@
 -- What each call does.
 use Rattle.std.specs.Prelude.{◌≡◌, ◌≢◌, ◌⊎◌, ⊤, ℕ, ◌+◌, ◌<◌, ◌≤◌, Bool, true, false, ◌&&◌, ◌||◌, not, List, [], ◌∷◌}
 use Rattle.std.specs.Prelude.{length, Option, Some, None, codes, if◌then◌else◌, min, option_map}
-use Rattle.http_header.{specs.FieldValue.FieldValue, specs.HeaderMap.Entries}
-use Rattle.http1.specs.{Conn.{data_refusal, finish_refusal}, Fields.Header}
-use Rattle.http1.specs.Server.{informational_refusal, response_refusal, upgrade_refusal}
-use Rattle.http1.specs.{declared.conn.BodySize.BodySize, declared.conn.Limits.Limits}
-use Rattle.http1.specs.{declared.error.WriteError.WriteError}
-use Rattle.gateway_messages.specs.FieldLines.{fields_of}
+use Rattle.{http_header.specs.{FieldValue.FieldValue, HeaderMap.Entries}, http1.specs.Conn.data_refusal}
+use Rattle.http1.specs.{Conn.finish_refusal, Fields.Header, Server.{informational_refusal, response_refusal}}
+use Rattle.http1.specs.{Server.upgrade_refusal, declared.conn.{BodySize.BodySize, Limits.Limits}}
+use Rattle.{http1.specs.declared.error.WriteError.WriteError, gateway_messages.specs.FieldLines.fields_of}
 use Rattle.gateway_messages.specs.Responses.{IsDiscarded, IsForwardableResponse, IsForwardedResponse, RejectsResponse}
-use Rattle.gateway_messages.specs.declared.{expectation.Expectation.{Expectation, TheVariants.Answered}}
+use Rattle.gateway_messages.specs.declared.expectation.Expectation.{Expectation, TheVariants.Answered}
 use Rattle.gateway_messages.specs.declared.{field_line.FieldLine.FieldLine, rejection.Rejection.Rejection}
-use Rattle.gateway_messages.specs.declared.response.{ContentFraming.{ContentFraming, TheVariants.Absent}}
-use Rattle.gateway_messages.specs.declared.response.{ForwardedResponse.ForwardedResponse}
-use Rattle.gateway_connection.specs.declared.{event.OriginEvent.OriginEvent, event.OriginFault.OriginFault}
-use Rattle.gateway_connection.specs.declared.{event.OriginResponse.OriginResponse}
-use Rattle.gateway_connection.specs.declared.{origin.OriginConnection.OriginConnection}
+use Rattle.gateway_messages.specs.declared.response.ContentFraming.{ContentFraming, TheVariants.Absent}
+use Rattle.gateway_messages.specs.declared.response.ForwardedResponse.{ForwardedResponse}
+use Rattle.gateway_connection.specs.declared.event.{OriginEvent.OriginEvent, OriginFault.OriginFault}
+use Rattle.gateway_connection.specs.declared.event.OriginResponse.{OriginResponse}
+use Rattle.gateway_connection.specs.declared.origin.OriginConnection.{OriginConnection}
 use Rattle.gateway_connection.specs.Steps as Origin
 use Rattle.gateway_connection.specs.declared.event.OriginFault.TheVariants as Faults
 use Rattle.server_stream.specs.Steps as Stream
-use Rattle.server_stream.specs.declared.{connection.StreamConnection.StreamConnection}
-use Rattle.server_stream.specs.declared.{event.StreamRequest.StreamRequest}
-use Rattle.server_stream.specs.declared.event.StreamEvent.{StreamEvent}
-use Rattle.gateway_exchange.specs.{Decisions.IsDecision, Own.{PutsOwn, RefusesOwn, closing}}
-use Rattle.gateway_exchange.specs.Passing.{EndsRequest, EndsResponse, IsSwitched, IsUnswitched, PutsInterim}
-use Rattle.gateway_exchange.specs.Passing.{PutsRequest, PutsResponse, PutsSwitch, RefusesInterim, RefusesRequest}
-use Rattle.gateway_exchange.specs.Passing.{RefusesRequestEnd, RefusesResponse, RefusesResponseEnd, RefusesSwitch}
-use Rattle.gateway_exchange.specs.Passing.{answered, with_conditions}
-use Rattle.gateway_exchange.specs.declared.{connection.GatewayConnection.GatewayConnection, connection.Stage.Stage}
-use Rattle.gateway_exchange.specs.declared.{decision.AskedRequest.AskedRequest, decision.Outgoing.Outgoing}
-use Rattle.gateway_exchange.specs.declared.decision.RequestDecision.{RequestDecision}
-use Rattle.gateway_exchange.specs.declared.{event.GatewayEvent.GatewayEvent, event.ExchangePhase.ExchangePhase}
-use Rattle.gateway_exchange.specs.declared.{date.OwnDate.OwnDate, own.Own.Own, event.Wants.Wants, pass.Heard.Heard}
-use Rattle.gateway_exchange.specs.declared.{rules.Peer.Peer, rules.GatewayRules.GatewayRules}
-use Rattle.gateway_exchange.specs.declared.{tunnel.TheConstants.MOST_WAITING}
+use Rattle.server_stream.specs.declared.connection.StreamConnection.{StreamConnection}
+use Rattle.server_stream.specs.declared.event.{StreamRequest.StreamRequest, StreamEvent.StreamEvent}
+use Rattle.gateway_exchange.specs.{Decisions.IsDecision, Own.{PutsOwn, RefusesOwn, closing}, Passing.EndsRequest}
+use Rattle.gateway_exchange.specs.Passing.{EndsResponse, IsSwitched, IsUnswitched, PutsInterim, PutsRequest}
+use Rattle.gateway_exchange.specs.Passing.{PutsResponse, PutsSwitch, RefusesInterim, RefusesRequest, RefusesRequestEnd}
+use Rattle.gateway_exchange.specs.Passing.{RefusesResponse, RefusesResponseEnd, RefusesSwitch, answered}
+use Rattle.gateway_exchange.specs.{Passing.with_conditions, declared.connection.GatewayConnection.GatewayConnection}
+use Rattle.gateway_exchange.specs.declared.{connection.Stage.Stage, decision.AskedRequest.AskedRequest}
+use Rattle.gateway_exchange.specs.declared.decision.{Outgoing.Outgoing, RequestDecision.RequestDecision}
+use Rattle.gateway_exchange.specs.declared.event.{GatewayEvent.GatewayEvent, ExchangePhase.ExchangePhase, Wants.Wants}
+use Rattle.gateway_exchange.specs.declared.{date.OwnDate.OwnDate, own.Own.Own, pass.Heard.Heard, rules.Peer.Peer}
+use Rattle.gateway_exchange.specs.declared.{rules.GatewayRules.GatewayRules, tunnel.TheConstants.MOST_WAITING}
 use Rattle.gateway_connection.specs.declared.event.OriginEvent.TheVariants as Comes
 use Rattle.gateway_exchange.specs.declared.connection.Stage.TheVariants as At
 use Rattle.gateway_exchange.specs.declared.decision.RequestDecision.TheVariants as Decides

@@ -1,15 +1,14 @@
 -- Values: they are valid, and mean the octets that they were written for.
 use Rattle.std.proofs.Common.{◌≡◌, ℕ, Bool, true, false, not, List, [], ◌∷◌, ◌++◌, Option, Some, None, refl, sym, ◌∙◌}
-use Rattle.std.{proofs.Common.{ap, IsTrue, codes, inl, inr}, specs.Prelude.{◌&&◌, ◌||◌, ◌==◌, if◌then◌else◌}}
-use Rattle.std.{specs.List.flat_map, specs.Option.option_map_or, proofs.lemmas.Bool.{cases_Bool, eqb-true, or_parts}}
-use Rattle.std.proofs.lemmas.List.Elements.{All-append, All-cons, All-head, All-nil, All-tail}
-use Rattle.http_header.{specs.FieldValue.IsFieldValue, specs.Token.is_value_byte, proofs.TokenLemmas.AllPass-from_test}
-use Rattle.headers.specs.Lines.{Line}
-use Rattle.rfc_fields.{specs.Grammar.{backslash, quote}, specs.Values.{escape_after, is_quoted_text}}
-use Rattle.rfc_fields.specs.Values.{is_skipped, is_token, is_value, octets_from, octets_of, value_text}
-use Rattle.gateway_hops.{specs.Arrivals.scheme_text, specs.Elements.{escaped, optional_pair, pair_text}}
-use Rattle.gateway_hops.{specs.Elements.{quoted_text, value_of}, specs.declared.arrival.Scheme.Scheme}
-use Rattle.gateway_hops.{specs.declared.arrival.Scheme.TheVariants.{Http, Https}, proofs.NodeLemmas.join_valid}
+use Rattle.std.proofs.{Common.{ap, IsTrue, codes, inl, inr}, lemmas.Bool.{cases_Bool, eqb-true, or_parts}}
+use Rattle.std.{proofs.lemmas.List.Elements.{All-append, All-cons, All-head, All-nil, All-tail}, specs.Prelude.◌&&◌}
+use Rattle.std.specs.{Prelude.{◌||◌, ◌==◌, if◌then◌else◌}, List.flat_map, Option.option_map_or}
+use Rattle.http_header.{specs.{FieldValue.IsFieldValue, Token.is_value_byte}, proofs.TokenLemmas.AllPass-from_test}
+use Rattle.{headers.specs.Lines.Line, rfc_fields.specs.{Grammar.{backslash, quote}, Values.escape_after}}
+use Rattle.rfc_fields.specs.Values.{is_quoted_text, is_skipped, is_token, is_value, octets_from, octets_of, value_text}
+use Rattle.gateway_hops.specs.{Arrivals.scheme_text, Elements.{escaped, optional_pair, pair_text, quoted_text}}
+use Rattle.gateway_hops.specs.{Elements.value_of, declared.arrival.Scheme.{Scheme, TheVariants.{Http, Https}}}
+use Rattle.gateway_hops.proofs.NodeLemmas.{join_valid}
 
 abbrev IsValueByte : ℕ → Type 0
 IsValueByte b = IsTrue (is_value_byte b)

@@ -1,27 +1,22 @@
 -- The element of a gateway is one member, and the last one.
 use Rattle.std.proofs.Common.{◌≡◌, ℕ, ◌-◌, ◌<◌, Bool, true, false, not, List, [], ◌∷◌, ◌++◌, Option, Some, None, length}
 use Rattle.std.proofs.Common.{IsTrue, ap, append_assoc, arith, codes, drop, inl, inr, map, refl, subst, sym, take, ◌∙◌}
-use Rattle.std.{specs.Prelude.{◌&&◌, ◌||◌, ◌==◌, if◌then◌else◌, option_map, reverse}, specs.List.{flat_map, list_all}}
-use Rattle.std.{specs.List.{prefix_len, suffix_len}, proofs.lemmas.Bool.{and_from, and_parts, cases_Bool, ne_eqb}}
-use Rattle.std.{proofs.lemmas.Bool.or_parts, proofs.lemmas.List.{append-nil, reverse-append, take_all}}
-use Rattle.std.{proofs.lemmas.List.Elements.{All-head, All-tail}, proofs.lemmas.List.Folds.list_all-append}
-use Rattle.http_header.{specs.FieldValue.IsFieldValue, specs.Token.{is_token_byte, is_value_byte}}
-use Rattle.http_header.proofs.TokenLemmas.{token_byte_range}
-use Rattle.headers.specs.Lines.{Line}
+use Rattle.std.proofs.lemmas.{Bool.{and_from, and_parts, cases_Bool, ne_eqb, or_parts}, List.append-nil}
+use Rattle.std.proofs.lemmas.List.{reverse-append, take_all, Elements.{All-head, All-tail}, Folds.list_all-append}
+use Rattle.std.specs.{Prelude.{◌&&◌, ◌||◌, ◌==◌, if◌then◌else◌, option_map, reverse}, List.{flat_map, list_all}}
+use Rattle.{std.specs.List.{prefix_len, suffix_len}, http_header.specs.{FieldValue.IsFieldValue, Token.is_token_byte}}
+use Rattle.{http_header.{specs.Token.is_value_byte, proofs.TokenLemmas.token_byte_range}, headers.specs.Lines.Line}
 use Rattle.headers_syntax.{specs.Text.{is_blank, trim, trim_end}, proofs.PlainLemmas.list_all-weaker}
 use Rattle.rfc_fields.specs.Grammar as Grammar
-use Rattle.rfc_fields.specs.Grammar.{Element, IsSeparator, Octet, comma, is_bare, is_element, is_octet, octet_text}
-use Rattle.rfc_fields.{specs.Grammar.{backslash, quote}, specs.Grammar.Octet.{Pair, Plain}, specs.Grammar.Part.Byte}
-use Rattle.rfc_fields.{specs.Grammar.Part.Quoted, specs.Laws.{JoinKeepsMembers, ParsesOneWay}, specs.Members.combined}
-use Rattle.rfc_fields.{specs.Members.{field_members, is_well_formed, members, members_of}, specs.Scan.Member}
-use Rattle.rfc_fields.{specs.Scan.Member.Whole, specs.Values.{is_token, value_text}}
-use Rattle.gateway_hops.{specs.Arrivals.{ArrivalParts, scheme_text}, specs.Elements.{element_text, escaped}}
-use Rattle.gateway_hops.{specs.Elements.{optional_pair, pair_text, quoted_text, value_of}, specs.Fields.believes}
-use Rattle.gateway_hops.{specs.Fields.{forwarded_lines, kept_if}, specs.Last.{EndsWith, IsTold}}
-use Rattle.gateway_hops.{specs.Nodes.node_text, specs.declared.arrival.Scheme.Scheme}
-use Rattle.gateway_hops.specs.declared.arrival.Scheme.TheVariants.{Http, Https}
-use Rattle.gateway_hops.{specs.declared.fields.Forwarding.Forwarding, specs.declared.node.Node.Node}
-use Rattle.gateway_hops.proofs.ElementLemmas.{is_special, scheme_valid}
+use Rattle.rfc_fields.specs.Grammar.{Element, IsSeparator, Octet, Octet.{Pair, Plain}, comma, is_bare, is_element}
+use Rattle.rfc_fields.specs.Grammar.{is_octet, octet_text, backslash, quote, Part.{Byte, Quoted}}
+use Rattle.rfc_fields.specs.{Laws.{JoinKeepsMembers, ParsesOneWay}, Members.{combined, field_members, is_well_formed}}
+use Rattle.rfc_fields.specs.{Members.{members, members_of}, Scan.{Member, Member.Whole}, Values.{is_token, value_text}}
+use Rattle.gateway_hops.specs.{Arrivals.{ArrivalParts, scheme_text}, Elements.{element_text, escaped, optional_pair}}
+use Rattle.gateway_hops.specs.{Elements.{pair_text, quoted_text, value_of}, Fields.{believes, forwarded_lines, kept_if}}
+use Rattle.gateway_hops.specs.{Last.{EndsWith, IsTold}, Nodes.node_text, declared.arrival.Scheme.Scheme}
+use Rattle.gateway_hops.specs.declared.{arrival.Scheme.TheVariants.{Http, Https}, fields.Forwarding.Forwarding}
+use Rattle.gateway_hops.{specs.declared.node.Node.Node, proofs.ElementLemmas.{is_special, scheme_valid}}
 
 -- ---- the element by the grammar of lists
 

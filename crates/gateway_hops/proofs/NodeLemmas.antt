@@ -1,13 +1,12 @@
 -- The text of a node is a value of a field.
 use Rattle.std.proofs.Common.{◌≡◌, ℕ, zero, suc, ◌/◌, ◌%◌, ◌^◌, ◌<◌, ◌⊎◌, Bool, true, List, [], ◌∷◌, ◌++◌, drop, get_or}
 use Rattle.std.proofs.Common.{IsTrue, Ok, Err, OnOk, Result, arith, bytes_eq, codes, decimal, length, not, refl, subst}
-use Rattle.std.{proofs.Common.{sym, take}, specs.Prelude.{◌&&◌, ◌==◌}, specs.List.list_all, specs.Net.Addr.octets_of}
-use Rattle.std.{specs.Net.Text.{hex_groups_text, ipv4_text, ipv6_text}, proofs.lemmas.Bool.{and_parts, cond_both}}
-use Rattle.std.{proofs.lemmas.Bool.eqb-true, proofs.lemmas.Bool.Decides.nat_tests}
+use Rattle.std.proofs.{Common.{sym, take}, lemmas.Bool.{and_parts, cond_both, eqb-true, Decides.nat_tests}}
 use Rattle.std.proofs.lemmas.List.Elements.{All-append, All-cons, All-nil, All-weaker}
 use Rattle.std.proofs.NetLemmas.Alphabet.{All-hex_groups_text, All-ipv4_text, IsDigitOrDot, IsHexOrColon}
-use Rattle.std.proofs.NetLemmas.Texts.{AllSegments, AllSegments-drop}
-use Rattle.http_header.{specs.FieldValue.IsFieldValue, specs.Token.is_value_byte, proofs.TokenLemmas.AllPass-from_test}
+use Rattle.std.{proofs.NetLemmas.Texts.{AllSegments, AllSegments-drop}, specs.{Prelude.{◌&&◌, ◌==◌}, List.list_all}}
+use Rattle.std.specs.Net.{Addr.octets_of, Text.{hex_groups_text, ipv4_text, ipv6_text}}
+use Rattle.http_header.{specs.{FieldValue.IsFieldValue, Token.is_value_byte}, proofs.TokenLemmas.AllPass-from_test}
 use Rattle.gateway_hops.specs.Nodes.{is_obfuscated, is_obfuscated_byte}
 use Rattle.headers_syntax.proofs.PlainLemmas.{decimal_plain, is_plain, plain_bounds}
 

@@ -4,10 +4,9 @@ use Rattle.std.{proofs.Common.{codes, filter, inl, inr, map}, specs.Prelude.{◌
 use Rattle.std.{specs.List.list_any, proofs.lemmas.Bool.{and_parts, cases_Bool, not-true, or_parts}}
 use Rattle.std.{proofs.lemmas.List.append-nil, proofs.lemmas.Slice.Eq.bytes_eq-Decides}
 use Rattle.headers.specs.LineMap as Encodings
-use Rattle.headers.specs.Lines.{Line}
-use Rattle.gateway_messages.{specs.FieldLines.{Field, lines_under}, specs.Forwarding.framing_names}
-use Rattle.gateway_messages.specs.Recipients.{KnowsPlain, Recipient, framing_by, lines_where}
-use Rattle.gateway_messages.proofs.RecipientLemmas.{lines_where-append}
+use Rattle.{headers.specs.Lines.Line, gateway_messages.specs.FieldLines.{Field, lines_under}}
+use Rattle.gateway_messages.specs.{Forwarding.framing_names, Recipients.{KnowsPlain, Recipient, framing_by}}
+use Rattle.gateway_messages.{specs.Recipients.lines_where, proofs.RecipientLemmas.lines_where-append}
 use Rattle.gateway_hops.specs.Replaced.{frame_nothing, frames, has_field, lines_with_name, replaced_by}
 
 -- ---- the field lines whose name passes a test

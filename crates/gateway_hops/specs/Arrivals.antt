@@ -1,8 +1,7 @@
 -- How a request arrived at a gateway.
-use Rattle.std.specs.Prelude.{Bool, Option, option_map, codes}
-use Rattle.headers.specs.Lines.{Line}
-use Rattle.gateway_hops.{specs.declared.arrival.Arrival.Arrival, specs.declared.arrival.Scheme.Scheme}
-use Rattle.gateway_hops.{specs.declared.arrival.Scheme.TheVariants.{Http, Https}, specs.declared.node.Node.Node}
+use Rattle.{std.specs.Prelude.{Bool, Option, option_map, codes}, headers.specs.Lines.Line}
+use Rattle.gateway_hops.specs.declared.arrival.{Arrival.Arrival, Scheme.{Scheme, TheVariants.{Http, Https}}}
+use Rattle.gateway_hops.specs.declared.node.Node.{Node}
 
 abbrev pub scheme_text : Scheme → Line
 scheme_text Http = codes "http"

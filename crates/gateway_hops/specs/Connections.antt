@@ -1,8 +1,7 @@
 -- What a gateway says about its next connection (RFC 9110, sections 7.6.1, 7.8 and 10.1.4).
 use Rattle.std.specs.Prelude.{Bool, List, [], ◌∷◌, ◌++◌, Option, codes, is_some, option_map, option_to_list}
 use Rattle.std.specs.Prelude.{if◌then◌else◌}
-use Rattle.headers.{specs.LineMap.Field, specs.Lines.Line}
-use Rattle.rfc_fields.specs.Members.{combined}
+use Rattle.{headers.specs.{LineMap.Field, Lines.Line}, rfc_fields.specs.Members.combined}
 use Rattle.gateway_hops.specs.declared.connection.NextConnection.{NextConnection}
 
 -- what a `NextConnection` shows

@@ -1,10 +1,8 @@
 -- An element of Forwarded (RFC 7239, section 4).
 use Rattle.std.specs.Prelude.{ℕ, ◌==◌, ◌||◌, List, [], ◌∷◌, ◌++◌, Option, Some, None, codes, if◌then◌else◌, option_map}
-use Rattle.std.specs.List.{flat_map}
-use Rattle.headers.specs.Lines.{Line}
-use Rattle.rfc_fields.{specs.Grammar.{backslash, quote}, specs.Values.{ValueParts, is_token, value_text}}
-use Rattle.rfc_fields.specs.Values.ValueParts.{QuotedText, TokenText}
-use Rattle.gateway_hops.{specs.Arrivals.{ArrivalParts, scheme_text}, specs.Nodes.node_text}
+use Rattle.{std.specs.List.flat_map, headers.specs.Lines.Line, rfc_fields.specs.Grammar.{backslash, quote}}
+use Rattle.rfc_fields.specs.Values.{ValueParts, ValueParts.{QuotedText, TokenText}, is_token, value_text}
+use Rattle.gateway_hops.specs.{Arrivals.{ArrivalParts, scheme_text}, Nodes.node_text}
 
 -- an octet as it is between quotes
 abbrev pub escaped : ℕ → List ℕ

@@ -1,12 +1,10 @@
 -- The field lines that tell the next server how a request arrived.
 use Rattle.std.specs.Prelude.{ℕ, Bool, true, false, ◌&&◌, List, [], ◌∷◌, ◌++◌, Option, codes, option_to_list}
-use Rattle.std.{specs.Prelude.if◌then◌else◌, specs.List.list_all}
-use Rattle.headers.{specs.LineMap.{Field, LineMap}, specs.Lines.Line}
-use Rattle.rfc_fields.specs.Members.{is_well_formed}
-use Rattle.gateway_hops.{specs.Arrivals.{ArrivalParts, scheme_text}, specs.Elements.element_text}
-use Rattle.gateway_hops.{specs.Nodes.bare_text, specs.declared.fields.Forwarding.Forwarding}
-use Rattle.gateway_hops.specs.declared.fields.Received.{Received}
-use Rattle.gateway_hops.specs.declared.fields.Received.TheVariants.{Dropped, KeptFromTrusted}
+use Rattle.std.specs.{Prelude.if◌then◌else◌, List.list_all}
+use Rattle.{headers.specs.{LineMap.{Field, LineMap}, Lines.Line}, rfc_fields.specs.Members.is_well_formed}
+use Rattle.gateway_hops.specs.{Arrivals.{ArrivalParts, scheme_text}, Elements.element_text, Nodes.bare_text}
+use Rattle.gateway_hops.specs.declared.fields.{Forwarding.Forwarding, Received.{Received, TheVariants.Dropped}}
+use Rattle.gateway_hops.specs.declared.fields.Received.TheVariants.{KeptFromTrusted}
 
 -- the gateway trusts the received fields
 abbrev pub is_believed : Received → Bool → Bool

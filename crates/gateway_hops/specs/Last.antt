@@ -1,9 +1,8 @@
 -- The element that a gateway adds to Forwarded is the last.
-use Rattle.std.{specs.Prelude.{◌≡◌, true, List, [], ◌∷◌, ◌++◌, Some}, specs.List.list_all}
-use Rattle.http_header.specs.FieldValue.{IsFieldValue}
-use Rattle.headers.specs.Lines.{Line}
-use Rattle.rfc_fields.{specs.Members.{combined, field_members, is_well_formed, members}, specs.Scan.Member.Whole}
-use Rattle.gateway_hops.{specs.Arrivals.ArrivalParts, specs.Nodes.node_text, specs.declared.node.Node.Node}
+use Rattle.std.specs.{Prelude.{◌≡◌, true, List, [], ◌∷◌, ◌++◌, Some}, List.list_all}
+use Rattle.{http_header.specs.FieldValue.IsFieldValue, headers.specs.Lines.Line, rfc_fields.specs.Members.combined}
+use Rattle.rfc_fields.specs.{Members.{field_members, is_well_formed, members}, Scan.Member.Whole}
+use Rattle.gateway_hops.specs.{Arrivals.ArrivalParts, Nodes.node_text, declared.node.Node.Node}
 
 -- the values of an `Arrival` are allowed in a field
 pub record IsTold (arrival : ArrivalParts) : Type 0 where

@@ -1,12 +1,10 @@
 -- Node identifiers (RFC 7239, section 6).
 use Rattle.std.specs.Prelude.{ℕ, ◌==◌, Bool, false, ◌||◌, ◌&&◌, not, List, [], ◌∷◌, ◌++◌, length, Option, Some, None}
-use Rattle.std.{specs.Prelude.{codes, decimal}, specs.Char.is_ascii_alphanumeric, specs.List.list_all}
-use Rattle.std.{specs.Net.Addr.{ipv4_octets, ipv6_segments}, specs.Net.Text.{ip_text, ipv4_text, ipv6_text}}
-use Rattle.std.{specs.declared.net.ip_addr.IpAddr.TheVariants.{V4, V6}, specs.declared.net.ipv6_addr.Ipv6Addr.Ipv6Addr}
-use Rattle.headers.specs.Lines.{Line}
-use Rattle.gateway_hops.{specs.declared.node.Node.Node, specs.declared.node.NodeName.NodeName}
-use Rattle.gateway_hops.specs.declared.node.NodeName.TheVariants.{Address, Unknown, Hidden}
-use Rattle.gateway_hops.specs.declared.node.NodePort.{NodePort}
+use Rattle.std.specs.{Prelude.{codes, decimal}, Char.is_ascii_alphanumeric, List.list_all, Net.Addr.ipv4_octets}
+use Rattle.std.specs.Net.{Addr.ipv6_segments, Text.{ip_text, ipv4_text, ipv6_text}}
+use Rattle.std.specs.declared.net.{ip_addr.IpAddr.TheVariants.{V4, V6}, ipv6_addr.Ipv6Addr.Ipv6Addr}
+use Rattle.{headers.specs.Lines.Line, gateway_hops.specs.declared.node.{Node.Node, NodeName.NodeName}}
+use Rattle.gateway_hops.specs.declared.node.{NodeName.TheVariants.{Address, Unknown, Hidden}, NodePort.NodePort}
 use Rattle.gateway_hops.specs.declared.node.NodePort.TheVariants as Port
 
 -- ALPHA / DIGIT / "." / "_" / "-"

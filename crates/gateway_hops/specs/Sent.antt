@@ -1,20 +1,17 @@
 -- What a gateway sends of a request on its next connection.
 use Rattle.std.specs.Prelude.{◌≡◌, Bool, true, false, List, ◌++◌}
-use Rattle.headers.specs.LineMap.{Field, LineMap}
-use Rattle.gateway_hops.{specs.Arrivals.{ArrivalParts, arrival_parts}, specs.Fields.forwarding_fields}
-use Rattle.gateway_hops.{specs.declared.arrival.Arrival.Arrival, specs.declared.fields.Forwarding.Forwarding}
-use Rattle.gateway_messages.{specs.Expectations.{IsExpectation, expect_fields}, specs.FieldLines.fields_of}
+use Rattle.{headers.specs.LineMap.{Field, LineMap}, gateway_hops.specs.Arrivals.{ArrivalParts, arrival_parts}}
+use Rattle.gateway_hops.specs.{Fields.forwarding_fields, declared.arrival.Arrival.Arrival}
+use Rattle.gateway_hops.specs.declared.{fields.Forwarding.Forwarding, connection.NextConnection.NextConnection}
+use Rattle.gateway_hops.specs.declared.request.HopOutcome.{HopOutcome, TheVariants.{Send, RequireLength, Respond}}
+use Rattle.gateway_hops.specs.declared.request.{HopOutcome.TheVariants.Reject, SentRequest.SentRequest}
+use Rattle.gateway_hops.specs.{Connections.{ConnectionParts, connection_fields, connection_parts}, Replaced.replaced_by}
+use Rattle.gateway_messages.specs.{Expectations.{IsExpectation, expect_fields}, FieldLines.fields_of}
 use Rattle.gateway_messages.specs.Requests.{IsForGateway, IsForwarded, Rejects, Request}
-use Rattle.gateway_messages.{specs.declared.expectation.Expectation.Expectation, specs.declared.framing.Framing.Framing}
-use Rattle.gateway_messages.{specs.declared.framing.Framing.TheVariants.Chunked, specs.declared.gateway.Gateway.Gateway}
-use Rattle.gateway_messages.specs.declared.protocol.Protocol.{Protocol}
-use Rattle.gateway_messages.specs.declared.protocol.Protocol.TheVariants.{Http10}
+use Rattle.gateway_messages.specs.declared.{expectation.Expectation.Expectation, framing.Framing.Framing}
+use Rattle.gateway_messages.specs.declared.{framing.Framing.TheVariants.Chunked, gateway.Gateway.Gateway}
+use Rattle.gateway_messages.specs.declared.protocol.Protocol.{Protocol, TheVariants.Http10}
 use Rattle.gateway_messages.specs.declared.request.ForwardedRequest.{ForwardedRequest}
-use Rattle.gateway_hops.specs.Connections.{ConnectionParts, connection_fields, connection_parts}
-use Rattle.gateway_hops.{specs.Replaced.replaced_by, specs.declared.connection.NextConnection.NextConnection}
-use Rattle.gateway_hops.specs.declared.request.HopOutcome.{HopOutcome}
-use Rattle.gateway_hops.specs.declared.request.HopOutcome.TheVariants.{Send, RequireLength, Respond, Reject}
-use Rattle.gateway_hops.specs.declared.request.SentRequest.{SentRequest}
 
 -- what a gateway knows of the two connections of a request, and what it says on the next one
 pub record Hop : Type 0 where

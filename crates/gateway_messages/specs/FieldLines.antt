@@ -1,6 +1,5 @@
 -- Field lines in order (RFC 9110, section 5.2), and the field lines of each name.
-use Rattle.std.specs.Prelude.{ℕ, List, map, filter, bytes_eq}
-use Rattle.http_header.specs.FieldValue.{FieldValue}
+use Rattle.{std.specs.Prelude.{ℕ, List, map, filter, bytes_eq}, http_header.specs.FieldValue.FieldValue}
 use Rattle.{headers.specs.{LineMap.LineMap, Lines.Line}, gateway_messages.specs.declared.field_line.FieldLine.FieldLine}
 
 -- a field name with one field line value

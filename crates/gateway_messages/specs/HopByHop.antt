@@ -1,8 +1,7 @@
 -- Which fields are meant for one connection (RFC 9110, section 7.6.1).
 use Rattle.std.specs.{Prelude.{◌≡◌, ℕ, Bool, true, false, ◌||◌, ◌&&◌, List, [], ◌∷◌, bytes_eq, codes}, List.list_all}
-use Rattle.std.specs.List.{list_any}
-use Rattle.headers.specs.{LineMap.LineMap}
-use Rattle.rfc_fields.specs.{Directives.{is_same_token, is_token_member}, Members.field_members, Scan.Member}
+use Rattle.{std.specs.List.list_any, headers.specs.LineMap.LineMap, rfc_fields.specs.Directives.is_same_token}
+use Rattle.rfc_fields.specs.{Directives.is_token_member, Members.field_members, Scan.Member}
 use Rattle.gateway_messages.specs.declared.{gateway.Gateway.Gateway, rejection.Rejection.Rejection}
 
 -- fields of one connection, whether a connection option names them or not

@@ -1,7 +1,6 @@
 -- How often a request may still be forwarded (RFC 9110, section 7.6.2).
 use Rattle.std.specs.Prelude.{◌≡◌, ℕ, ◌-◌, ◌^◌, Bool, ◌||◌, List, [], Option, Some, None, IsTrue, bytes_eq, codes}
-use Rattle.std.specs.Option.{option_and_then}
-use Rattle.headers.specs.{LineMap.LineMap, Lines.{Line, only_line}, Typed.HasLine}
+use Rattle.{std.specs.Option.option_and_then, headers.specs.{LineMap.LineMap, Lines.{Line, only_line}, Typed.HasLine}}
 use Rattle.rfc_fields.specs.Numbers.{number_within}
 
 -- Max-Forwards counts for these methods

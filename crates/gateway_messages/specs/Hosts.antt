@@ -2,8 +2,7 @@
 use Rattle.std.specs.Prelude.{◌≡◌, ◌<◌, ◌⊎◌, ℕ, ◌==◌, Bool, true, false, ◌||◌, ◌&&◌, List, [], ◌∷◌, ◌++◌, length}
 use Rattle.std.specs.{Prelude.{Option, Some, None, codes, ⊤}, Char.{is_ascii_alphanumeric, is_ascii_digit}}
 use Rattle.std.specs.{Char.is_ascii_hexdigit, List.{concat, list_all}, Net.Grammar.{IsIpv4Text, IsIpv6Text}}
-use Rattle.std.specs.declared.net.{ipv4_addr.Ipv4Addr.Ipv4Addr, ipv6_addr.Ipv6Addr.Ipv6Addr}
-use Rattle.headers.specs.Lines.{Line}
+use Rattle.{std.specs.declared.net.{ipv4_addr.Ipv4Addr.Ipv4Addr, ipv6_addr.Ipv6Addr.Ipv6Addr}, headers.specs.Lines.Line}
 use Rattle.gateway_messages.specs.declared.protocol.Protocol.{Protocol, TheVariants.{Http10, Http11}}
 
 -- - . _ ~

@@ -1,6 +1,5 @@
 -- Which status answers a rejected request, and what a rejection prints.
-use Rattle.std.specs.Prelude.{ℕ, List, codes}
-use Rattle.gateway_messages.specs.declared.rejection.Rejection.{Rejection}
+use Rattle.{std.specs.Prelude.{ℕ, List, codes}, gateway_messages.specs.declared.rejection.Rejection.Rejection}
 
 abbrev pub status_of : Rejection → ℕ
 status_of Rejection.LengthAndCoding = 400

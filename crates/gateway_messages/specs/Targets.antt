@@ -1,7 +1,6 @@
 -- The scheme and the authority of a target in absolute-form (RFC 9112, section 3.2.2).
 use Rattle.std.specs.Prelude.{ℕ, ◌==◌, Bool, ◌||◌, ◌&&◌, not, nat_le, List, bytes_eq, codes, if◌then◌else◌, length}
-use Rattle.std.specs.{Prelude.take, List.prefix_len}
-use Rattle.http_header.specs.Token.{lowercase}
+use Rattle.{std.specs.{Prelude.take, List.prefix_len}, http_header.specs.Token.lowercase}
 
 -- the target begins with the mark of this length, in any case
 abbrev pub begins_with : ℕ → List ℕ → List ℕ → Bool

@@ -1,7 +1,6 @@
 -- The trailer fields that a gateway forwards (RFC 9110, sections 6.5 and 7.6.1; RFC 9112, section 7.1.2).
 use Rattle.std.specs.Prelude.{◌≡◌, ◌≢◌, ℕ, Bool, true, false, ◌&&◌, not, List, [], ◌∷◌, bytes_eq, codes}
-use Rattle.std.specs.List.{list_any}
-use Rattle.{headers.specs.LineMap.LineMap, rfc_fields.specs.Scan.Member}
+use Rattle.{std.specs.List.list_any, headers.specs.LineMap.LineMap, rfc_fields.specs.Scan.Member}
 use Rattle.gateway_messages.specs.{Forwarding.{IsEndToEnd, IsHopByHop}, HopByHop.is_hop_by_hop}
 use Rattle.gateway_messages.specs.declared.{framing.Framing.{Framing, TheVariants.Chunked}, gateway.Gateway.Gateway}
 

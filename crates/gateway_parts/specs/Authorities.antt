@@ -1,7 +1,6 @@
 -- The authority of a request (RFC 9112, section 3.2).
 use Rattle.std.specs.Prelude.{◌≡◌, ℕ, Bool, true, false, List, [], ◌∷◌, Option, Some, None, codes}
-use Rattle.http_header.specs.FieldValue.{FieldValue, IsFieldValue}
-use Rattle.headers.{specs.LineMap.LineMap, specs.Lines.Line}
+use Rattle.{http_header.specs.FieldValue.{FieldValue, IsFieldValue}, headers.specs.{LineMap.LineMap, Lines.Line}}
 use Rattle.gateway_messages.specs.HostTests.{is_host}
 
 -- a host and maybe a port

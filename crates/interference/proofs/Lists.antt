@@ -1,7 +1,6 @@
 -- Places in lists, and stores.
-use Rattle.std.proofs.Common.{◌≡◌, ℕ, length, List, [], ◌∷◌, ◌++◌, nat_eq, Option, Some, None}
-use Rattle.std.{proofs.Common.{arith}, specs.Prelude.{⊤, if◌then◌else◌}}
-use Rattle.interference.{specs.Events.{nth, with_number, without}, specs.Worlds.Stored}
+use Rattle.std.{proofs.Common.{◌≡◌, ℕ, length, List, [], ◌∷◌, ◌++◌, nat_eq, Option, Some, None, arith}, specs.Prelude.⊤}
+use Rattle.{std.specs.Prelude.if◌then◌else◌, interference.specs.{Events.{nth, with_number, without}, Worlds.Stored}}
 
 -- at each place stands what did, or what was added
 pub nth_push : {X : Type 0} (d : X) (xs : List X) (x : X) (k : ℕ)

@@ -1,6 +1,5 @@
 -- Requests that agree.
-use Rattle.std.proofs.Common.{◌≡◌, ℕ, true, List, [], ◌∷◌, Option, refl, arith}
-use Rattle.std.proofs.lemmas.Slice.Eq.{bytes_eq-Decides}
+use Rattle.std.proofs.{Common.{◌≡◌, ℕ, true, List, [], ◌∷◌, Option, refl, arith}, lemmas.Slice.Eq.bytes_eq-Decides}
 use Rattle.interference.specs.Worlds.{Request, Head, same_value, agree, matches}
 
 same_value-is : (x y : Option (List ℕ)) → same_value x y ≡ true → x ≡ y

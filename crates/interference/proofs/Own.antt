@@ -1,24 +1,16 @@
 -- What each event keeps, for confidentiality.
-use Rattle.std.proofs.Common.{◌≡◌, ℕ, ◌<◌, ◌≤◌, Bool, true, false, cond, List, [], ◌∷◌}
-use Rattle.std.proofs.Common.{Option, Some, None, refl, arith, inl}
-use Rattle.std.{specs.Prelude.⊤, proofs.Common.{le_refl}}
-use Rattle.std.{proofs.lemmas.Bool.Decides.nat_tests}
-use Rattle.std.proofs.lemmas.Slice.Eq.{bytes_eq-Decides}
-use Rattle.interference.specs.Events.{Event, Setting, happens, run_from, run, nth, with_number, is_usable}
-use Rattle.interference.specs.Events.{looks, nodes_after, reply_of}
-use Rattle.interference.specs.Events.{reply_stored, replies, answered, answers}
-use Rattle.interference.specs.Events.{with_stored, is_renewable, freshened}
-use Rattle.interference.{specs.Events.nodes_freshened, specs.Events.Event.{Ticks, Changes, Sends, Begins, Asks}}
+use Rattle.std.proofs.Common.{◌≡◌, ℕ, ◌<◌, ◌≤◌, Bool, true, false, cond, List, [], ◌∷◌, Option, Some, None, refl, arith}
+use Rattle.std.proofs.{Common.{inl, le_refl}, lemmas.{Bool.Decides.nat_tests, Slice.Eq.bytes_eq-Decides}}
+use Rattle.{std.specs.Prelude.⊤, interference.specs.Events.{Event, Event.{Ticks, Changes, Sends, Begins, Asks}}}
 use Rattle.interference.specs.Events.Event.{Answers, AnswersNotModified, Returns, Looks, Stores, Freshens, Replies}
-use Rattle.interference.{specs.Events.Event.{Forgets, Arrives}, specs.Statements.{Has, HasStrongTags, IsFor}}
-use Rattle.interference.{specs.Statements.{IsRecent}, specs.Worlds.Request}
-use Rattle.interference.specs.Worlds.{Head, Origin, Dated, Stored, Node, Asked, Message}
-use Rattle.interference.specs.Worlds.{Pass, Received, Clients, World, start, matches, may_store}
-use Rattle.interference.{specs.Worlds.{Hop}, specs.Worlds.Kind.Right}
-use Rattle.interference.{specs.Worlds.Reply.{Whole, NotModified}, specs.Worlds.Message.{Going, Coming, Nothing}}
-use Rattle.interference.{specs.Worlds.Doing.{Waits, GivesStored, Completes, Gives}, specs.Worlds.Pass.{At, Ended}}
-use Rattle.interference.{proofs.Lists.{IfFound, nth_push, number_without}, proofs.Matching.{matches-first}}
-use Rattle.interference.proofs.Matching.{matches-sym}
+use Rattle.interference.specs.Events.{Event.{Forgets, Arrives}, Setting, happens, run_from, run, nth, with_number}
+use Rattle.interference.specs.Events.{is_usable, looks, nodes_after, reply_of, reply_stored, replies, answered, answers}
+use Rattle.interference.specs.{Events.{with_stored, is_renewable, freshened, nodes_freshened}, Statements.Has}
+use Rattle.interference.specs.{Statements.{HasStrongTags, IsFor, IsRecent}, Worlds.{Request, Head, Origin, Dated}}
+use Rattle.interference.specs.Worlds.{Stored, Node, Asked, Message, Message.{Going, Coming, Nothing}, Pass, Pass.At}
+use Rattle.interference.specs.Worlds.{Pass.Ended, Received, Clients, World, start, matches, may_store, Hop, Kind.Right}
+use Rattle.interference.specs.Worlds.{Reply.{Whole, NotModified}, Doing.{Waits, GivesStored, Completes, Gives}}
+use Rattle.interference.proofs.{Lists.{IfFound, nth_push, number_without}, Matching.{matches-first, matches-sym}}
 
 abbrev pub with_content : ℕ → ℕ → Head → List ℕ → Dated
 with_content version date head content =

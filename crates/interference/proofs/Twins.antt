@@ -1,22 +1,16 @@
 -- Two runs that differ in secrets: what is the same in both, and that each event keeps it so.
-use Rattle.std.proofs.Common.{◌≡◌, ℕ, Bool, true, false, List, [], ◌∷◌, Option, Some}
-use Rattle.std.{proofs.Common.{None, refl, arith, inl, inr, ◌⊎◌, length}, specs.Prelude.⊤}
-use Rattle.std.proofs.lemmas.List.{length-append}
-use Rattle.interference.specs.Events.{nth, with_number, is_usable, is_renewable, Event, Setting, happens, run_from, run}
-use Rattle.interference.specs.Events.{begins, asks_on, comes_back, looks, completed, content_of, nodes_after}
-use Rattle.interference.specs.Events.{nodes_freshened, freshened, replies, arrives, changed_by, answers, message_at}
-use Rattle.interference.specs.Events.{sends, goes_on}
-use Rattle.interference.specs.Events.Event.{Answers}
-use Rattle.interference.{specs.Events.Event.{Forgets, Ticks, Changes, Sends}}
+use Rattle.std.proofs.Common.{◌≡◌, ℕ, Bool, true, false, List, [], ◌∷◌, Option, Some, None, refl, arith, inl, inr, ◌⊎◌}
+use Rattle.{std.{proofs.{Common.length, lemmas.List.length-append}, specs.Prelude.⊤}, interference.specs.Events.nth}
+use Rattle.interference.specs.Events.{with_number, is_usable, is_renewable, Event, Event.{Answers, Forgets, Ticks}}
+use Rattle.interference.specs.Events.{Event.{Changes, Sends}, Setting, happens, run_from, run, begins, asks_on}
+use Rattle.interference.specs.Events.{comes_back, looks, completed, content_of, nodes_after, nodes_freshened, freshened}
+use Rattle.interference.specs.Events.{replies, arrives, changed_by, answers, message_at, sends, goes_on}
 use Rattle.interference.specs.Statements.{Alike, DifferInPrivate, DifferInSecrets, NamesNone, NoVaryNamesASecret}
-use Rattle.interference.{specs.Statements.VariesByNone, specs.Worlds.{Request, Storing, Head, Origin, Dated, Stored}}
-use Rattle.interference.specs.Worlds.{Node, Asked, Reply, Message, Place, Doing, Pass, Received, Clients, World}
-use Rattle.interference.specs.Worlds.{may_store, agree, agree_as, start}
-use Rattle.interference.{specs.Worlds.{told}, specs.Worlds.Storing.{NotShared, Shared}}
-use Rattle.interference.{specs.Worlds.Kind.Right, specs.Worlds.Reply.{Whole, NotModified}, specs.Worlds.Message.Going}
-use Rattle.interference.{specs.Worlds.Message.{Coming, Nothing}, specs.Worlds.Doing.{Completes}}
-use Rattle.interference.{specs.Worlds.Doing.Gives, specs.Worlds.Pass.{At, Ended}}
-use Rattle.interference.proofs.Lists.{nth_push, number_without}
+use Rattle.interference.specs.{Statements.VariesByNone, Worlds.{Request, Storing, Storing.{NotShared, Shared}, Head}}
+use Rattle.interference.specs.Worlds.{Origin, Dated, Stored, Node, Asked, Reply, Reply.{Whole, NotModified}, Message}
+use Rattle.interference.specs.Worlds.{Message.{Going, Coming, Nothing}, Place, Doing, Doing.{Completes, Gives}, Pass}
+use Rattle.interference.specs.Worlds.{Pass.{At, Ended}, Received, Clients, World, may_store, agree, agree_as, start}
+use Rattle.interference.{specs.Worlds.{told, Kind.Right}, proofs.Lists.{nth_push, number_without}}
 
 -- ---- requests that are alike
 

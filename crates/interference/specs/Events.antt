@@ -1,12 +1,11 @@
 -- What may happen, in any order.
 use Rattle.std.specs.Prelude.{ℕ, zero, suc, Bool, true, false, List, [], ◌∷◌, ◌++◌, ◌==◌, ◌&&◌, bytes_eq, if◌then◌else◌}
-use Rattle.std.specs.Prelude.{Option, Some, None}
-use Rattle.interference.specs.Worlds.{Request, Head, Origin, Dated, Stored, Node, Kind, Asked, Hop, Reply, Message}
-use Rattle.interference.specs.Worlds.{Place, Pass, Received, Clients, World, is_fresh, matches, may_store}
-use Rattle.interference.{specs.Worlds.{authorization, start, told}, specs.Worlds.Kind.{ByPlace, OneSlot}}
-use Rattle.interference.specs.Worlds.Kind.{IgnoresAuthorization, FreshensOthers, FreshensInPlace}
-use Rattle.interference.{specs.Worlds.Reply.{Whole, NotModified}, specs.Worlds.Message.{Going, Coming, Nothing}}
-use Rattle.interference.{specs.Worlds.Doing.{Waits, GivesStored, Completes, Gives}, specs.Worlds.Pass.{At, Ended}}
+use Rattle.{std.specs.Prelude.{Option, Some, None}, interference.specs.Worlds.{Request, Head, Origin, Dated, Stored}}
+use Rattle.interference.specs.Worlds.{Node, Kind, Kind.{ByPlace, OneSlot, IgnoresAuthorization, FreshensOthers}}
+use Rattle.interference.specs.Worlds.{Kind.FreshensInPlace, Asked, Hop, Reply, Reply.{Whole, NotModified}, Message}
+use Rattle.interference.specs.Worlds.{Message.{Going, Coming, Nothing}, Place, Pass, Pass.{At, Ended}, Received}
+use Rattle.interference.specs.Worlds.{Clients, World, is_fresh, matches, may_store, authorization, start, told}
+use Rattle.interference.specs.Worlds.Doing.{Waits, GivesStored, Completes, Gives}
 
 -- What a run is of: caches of one kind, an origin server, and clients.
 pub record Setting : Type 0 where

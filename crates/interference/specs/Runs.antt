@@ -1,11 +1,10 @@
 -- Runs that show that the theorems aren't vacuous, and that each of their premises is needed. At the end of a line are
 -- the places of the messages (m) and passes (p) that its events add.
 use Rattle.std.specs.Prelude.{ℕ, zero, suc, Bool, true, false, List, [], ◌∷◌, ◌++◌, ◌==◌, if◌then◌else◌, Option, Some}
-use Rattle.std.specs.Prelude.{None, bytes_eq}
-use Rattle.interference.{specs.Events.{Event, Setting}, specs.Events.Event.{Ticks, Changes, Sends, Begins, Asks}}
-use Rattle.interference.specs.Events.Event.{Answers, AnswersNotModified, Returns, Looks, Stores, Freshens, Replies}
-use Rattle.interference.{specs.Events.Event.Arrives, specs.Worlds.{Request, Storing, Answer, Origin, Dated, Kind}}
-use Rattle.interference.{specs.Worlds.{Clients, authorization, cookie}, specs.Worlds.Storing.{NotShared, Shared}}
+use Rattle.{std.specs.Prelude.{None, bytes_eq}, interference.specs.Events.{Event, Event.{Ticks, Changes, Sends}}}
+use Rattle.interference.specs.Events.Event.{Begins, Asks, Answers, AnswersNotModified, Returns, Looks, Stores, Freshens}
+use Rattle.interference.specs.{Events.{Event.{Replies, Arrives}, Setting}, Worlds.{Request, Storing, Storing.NotShared}}
+use Rattle.interference.specs.Worlds.{Storing.Shared, Answer, Origin, Dated, Kind, Clients, authorization, cookie}
 
 abbrev pub ann : ℕ
 ann = 1

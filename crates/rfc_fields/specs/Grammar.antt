@@ -1,7 +1,6 @@
 -- RFC 9110, section 5.6: quoted-strings, and lists.
 use Rattle.std.specs.{Prelude.{◌≡◌, ℕ, Bool, true, false, ◌&&◌, ◌==◌, not, List, [], ◌∷◌, ◌++◌}, List.flat_map}
-use Rattle.std.specs.List.{list_all}
-use Rattle.http_header.specs.Token.{is_value_byte}
+use Rattle.{std.specs.List.list_all, http_header.specs.Token.is_value_byte}
 
 -- DQUOTE
 abbrev pub quote : ℕ

@@ -1,11 +1,9 @@
 -- The last of some attributes, one at a time.
 use Rattle.std.proofs.Common.{◌≡◌, ◌∙◌, ℕ, List, Option, Some, None, ap, option_map, refl, sym}
-use denote.Ref.{Bor}
-use Rattle.std.specs.{Option.option_or}
-use Rattle.rfc_fields.specs.{Cuts.cut, Grammar.semicolon}
-use Rattle.rfc_lists.specs.Attributes.{last_in, last_of, value_of}
-use Rattle.rfc_lists.specs.declared.attributes.Known.{Known}
+use Rattle.{std.specs.Option.option_or, rfc_fields.specs.{Cuts.cut, Grammar.semicolon}}
+use Rattle.rfc_lists.specs.{Attributes.{last_in, last_of, value_of}, declared.attributes.Known.Known}
 use Rattle.rfc_lists.proofs.SplitLemmas.{is_at, last_piece, next_piece}
+use denote.Ref.{Bor}
 
 or-or : (a b d : Option (List ℕ)) → option_or (option_or a b) d ≡ option_or a (option_or b d)
 or-or None b d = refl

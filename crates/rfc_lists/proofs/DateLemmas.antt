@@ -1,10 +1,7 @@
 -- The tokens of a date, one at a time.
-use Rattle.std.proofs.Common.{◌≡◌, ◌∙◌, ℕ, List, Some, None, ap}
-use Rattle.std.specs.List.{slice_split}
-use Rattle.rfc_lists.specs.CookieDates.{cut_token, is_delimiter, with_token}
-use Rattle.rfc_lists.specs.CookieDates.{with_tokens}
-use Rattle.rfc_lists.specs.declared.cookie_dates.Found.{Found}
-use Rattle.rfc_lists.proofs.SplitLemmas.{last_piece, next_piece}
+use Rattle.std.{proofs.Common.{◌≡◌, ◌∙◌, ℕ, List, Some, None, ap}, specs.List.slice_split}
+use Rattle.rfc_lists.specs.CookieDates.{cut_token, is_delimiter, with_token, with_tokens}
+use Rattle.rfc_lists.{specs.declared.cookie_dates.Found.Found, proofs.SplitLemmas.{last_piece, next_piece}}
 
 pub next_token : (text first others : List ℕ) (all found : Found) → cut_token text ≡ Some (first, others)
     → all ≡ with_tokens found (slice_split is_delimiter text)

@@ -1,12 +1,11 @@
 -- Pairs, one at a time, with their names behind references.
-use Rattle.std.proofs.Common.{◌≡◌, ◌∙◌, ℕ, ◌<◌, true, false, cond, List, [], ◌∷◌, ◌++◌, length, map, Some, None}
-use Rattle.std.proofs.Common.{ap, arith, refl, sym, nat_lt}
-use denote.Ref.{Bor}
-use Rattle.std.proofs.lemmas.{Bool.Decides.nat_tests, List.{length-map, map-append}}
-use Rattle.std.specs.{Prelude.{Bool, ◌&&◌, ◌||◌, ◌==◌, not}, List.list_any, Option.option_map_or}
-use Rattle.headers_syntax.specs.{AsciiCase.same_name, Text.trim}
-use Rattle.rfc_fields.specs.{Directives.HasParameters, Members.members_of, Scan.Member, Scan.Member.Whole}
+use Rattle.std.proofs.Common.{◌≡◌, ◌∙◌, ℕ, ◌<◌, true, false, cond, List, [], ◌∷◌, ◌++◌, length, map, Some, None, ap}
+use Rattle.std.proofs.{Common.{arith, refl, sym, nat_lt}, lemmas.{Bool.Decides.nat_tests, List.length-map}}
+use Rattle.std.{proofs.lemmas.List.map-append, specs.{Prelude.{Bool, ◌&&◌, ◌||◌, ◌==◌, not}, List.list_any}}
+use Rattle.{std.specs.Option.option_map_or, headers_syntax.specs.{AsciiCase.same_name, Text.trim}}
+use Rattle.rfc_fields.specs.{Directives.HasParameters, Members.members_of, Scan.{Member, Member.Whole}}
 use Rattle.rfc_lists.specs.Elements.{are_hop, are_pairs, is_hop, is_new, pair_name, with_first}
+use denote.Ref.{Bor}
 
 abbrev pub text_of : Bor (List ℕ) → List ℕ
 text_of name = name.now

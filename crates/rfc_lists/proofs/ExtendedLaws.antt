@@ -1,18 +1,15 @@
 -- Value-chars by the grammar, and texts that are written as such.
-use Rattle.std.proofs.Common.{◌≡◌, ◌≢◌, ◌∙◌, ℕ, ◌+◌, ◌/◌, ◌%◌, ◌<◌, Bool, true, false, not, cond, List, [], ◌∷◌}
-use Rattle.std.proofs.Common.{◌++◌}
+use Rattle.std.proofs.Common.{◌≡◌, ◌≢◌, ◌∙◌, ℕ, ◌+◌, ◌/◌, ◌%◌, ◌<◌, Bool, true, false, not, cond, List, [], ◌∷◌, ◌++◌}
 use Rattle.std.proofs.Common.{length, map, take, drop, Option, Some, None, ap, arith, codes, option_and_then}
-use Rattle.std.proofs.Common.{option_map, refl, sym}
-use Rattle.std.proofs.lemmas.Bool.{and_parts, eqb-true, lt-ltb, ltb-true, Decides.nat_tests}
-use Rattle.std.specs.{Prelude.{◌&&◌, ◌==◌}, Char.{digit_value, is_ascii_hexdigit}, Fmt.digit_glyph}
-use Rattle.std.specs.{List.{flat_map, list_all}, Option.option_map_or}
+use Rattle.std.proofs.{Common.{option_map, refl, sym}, lemmas.Bool.{and_parts, eqb-true, lt-ltb, ltb-true}}
+use Rattle.std.{proofs.lemmas.Bool.Decides.nat_tests, specs.{Prelude.{◌&&◌, ◌==◌}, Char.digit_value}}
+use Rattle.std.specs.{Char.is_ascii_hexdigit, Fmt.digit_glyph, List.{flat_map, list_all}, Option.option_map_or}
 use Rattle.percent_encoding.specs.Percent.{percent_decode, percent_encode_byte}
 use Rattle.percent_encoding.proofs.PercentLemmas.{percent_decode-nil, percent_decode_escape, percent_decode_not_percent}
-use Rattle.rfc_fields.specs.Cuts.{cut}
-use Rattle.rfc_lists.specs.Extended.{ValueChar, ValueChar.{Plain, Encoded}, apostrophe, are_value_chars, char_octet}
-use Rattle.rfc_lists.specs.Extended.{char_text, encoded, is_attr_char}
-use Rattle.rfc_lists.specs.Extended.{decoded_in, is_value_char, text_after, text_in, utf8_text}
-use Rattle.rfc_lists.specs.Laws.{AreChars, ExtendedReadsBack, ValueCharsAreSuch, ValueCharsParse, is_byte}
+use Rattle.{rfc_fields.specs.Cuts.cut, rfc_lists.specs.Extended.{ValueChar, ValueChar.{Plain, Encoded}, apostrophe}}
+use Rattle.rfc_lists.specs.Extended.{are_value_chars, char_octet, char_text, encoded, is_attr_char, decoded_in}
+use Rattle.rfc_lists.specs.{Extended.{is_value_char, text_after, text_in, utf8_text}, Laws.AreChars}
+use Rattle.rfc_lists.specs.Laws.{ExtendedReadsBack, ValueCharsAreSuch, ValueCharsParse, is_byte}
 
 false_true : false ≡ true → ⊥
 false_true e = cc

@@ -1,13 +1,11 @@
 -- Value-chars, byte by byte.
 use Rattle.std.proofs.Common.{◌≡◌, ◌∙◌, ℕ, ◌+◌, ◌<◌, ◌≤◌, ◌==◌, Bool, true, false, List, ◌∷◌, length, get_or, drop}
-use Rattle.std.proofs.Common.{Option, Some, None, ap, sym, add-one, arith, if◌then◌else◌}
-use Rattle.std.proofs.{lemmas.{Bool.{cases_Bool, false_from_ne_true}, List.drop_all}, Math.Seq.drop-cons}
-use Rattle.std.proofs.lemmas.Str.{IsUtf8-from_is_utf8, is_utf8-from_IsUtf8}
-use Rattle.std.specs.{Option.option_map_or, Str.{IsUtf8, is_utf8}}
-use Rattle.std.specs.{Prelude.◌&&◌, List.{list_all}}
-use Rattle.rfc_fields.specs.Cuts.{cut}
-use Rattle.rfc_lists.specs.Extended.{are_subtags, are_value_chars, due_after, hyphen, is_subtag, utf8_text}
-use Rattle.rfc_lists.proofs.SplitLemmas.{is_at, last_piece, next_piece}
+use Rattle.std.proofs.{Common.{Option, Some, None, ap, sym, add-one, arith, if◌then◌else◌}, lemmas.Bool.cases_Bool}
+use Rattle.std.proofs.lemmas.{Bool.false_from_ne_true, List.drop_all, Str.{IsUtf8-from_is_utf8, is_utf8-from_IsUtf8}}
+use Rattle.std.{proofs.Math.Seq.drop-cons, specs.{Option.option_map_or, Str.{IsUtf8, is_utf8}, Prelude.◌&&◌}}
+use Rattle.{std.specs.List.list_all, rfc_fields.specs.Cuts.cut, rfc_lists.specs.Extended.{are_subtags, are_value_chars}}
+use Rattle.rfc_lists.{specs.Extended.{due_after, hyphen, is_subtag, utf8_text}, proofs.SplitLemmas.{is_at, last_piece}}
+use Rattle.rfc_lists.proofs.SplitLemmas.{next_piece}
 
 step : (due i : ℕ) (s : List ℕ) → i < length s → are_value_chars due (drop i s)
     ≡ option_map_or (λ next. are_value_chars next (drop (i + 1) s)) (due_after due (get_or s i 0)) false

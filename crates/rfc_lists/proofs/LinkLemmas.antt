@@ -1,11 +1,9 @@
 -- The first link of a text, and the others.
 use Rattle.std.proofs.Common.{append-nil, ◌≡◌, ◌∙◌, ℕ, ◌+◌, ◌<◌, true, false, cond, List, [], ◌∷◌, ◌++◌, length, get_or}
 use Rattle.std.proofs.Common.{take, drop, refl, ap, add-one, arith, if◌then◌else◌, Option, Some, None, nat_lt}
-use Rattle.std.specs.{Option.option_map_or, Prelude.flat_map}
-use Rattle.std.proofs.{lemmas.{Bool.cases_Bool, List.drop_all}, Math.Seq.drop-cons}
-use Rattle.headers_syntax.specs.Text.{trim}
-use Rattle.rfc_lists.specs.Links.{after, cut_link, line_text, link_len, link_text, links_from, separates}
-use Rattle.rfc_lists.specs.declared.links.Place.{Place}
+use Rattle.std.{proofs.{lemmas.{Bool.cases_Bool, List.drop_all}, Math.Seq.drop-cons}, specs.Option.option_map_or}
+use Rattle.{std.specs.Prelude.flat_map, headers_syntax.specs.Text.trim, rfc_lists.specs.Links.{after, cut_link}}
+use Rattle.rfc_lists.specs.{Links.{line_text, link_len, link_text, links_from, separates}, declared.links.Place.Place}
 use Rattle.rfc_lists.specs.declared.links.Place.TheVariants.{Outside}
 
 module _ (place : Place) (i : ℕ) (s : List ℕ) where

@@ -1,14 +1,12 @@
 -- Plain texts that are written as parameters.
-use Rattle.std.proofs.Common.{◌≡◌, ◌∙◌, ℕ, Bool, true, false, cond, List, [], ◌∷◌, ◌++◌, map, Some, ap}
-use Rattle.std.proofs.Common.{refl}
-use Rattle.std.proofs.lemmas.Bool.{and_parts}
-use Rattle.std.specs.{Prelude.{◌&&◌, ◌||◌, ◌==◌, not}, List.{flat_map, list_all}}
+use Rattle.std.proofs.Common.{◌≡◌, ◌∙◌, ℕ, Bool, true, false, cond, List, [], ◌∷◌, ◌++◌, map, Some, ap, refl}
+use Rattle.std.{proofs.lemmas.Bool.and_parts, specs.{Prelude.{◌&&◌, ◌||◌, ◌==◌, not}, List.{flat_map, list_all}}}
 use Rattle.{http_header.specs.Token.is_value_byte, rfc_fields.specs.Grammar.{Octet, Octet.{Pair, Plain}, backslash}}
-use Rattle.rfc_fields.specs.{Directives.{DirectiveParts, IsDirective, equals}, Grammar.{is_octet, octet_text}}
-use Rattle.rfc_fields.specs.{Grammar.{octet_value, quote}, Laws.QuotedTextsParse}
-use Rattle.rfc_fields.specs.Values.{ValueParts.{QuotedText, TokenText}, is_quoted_text, is_token, octets_from}
-use Rattle.rfc_lists.specs.{Extended.{extended_value, star}, Laws.{Means, ParametersReadBack}}
-use Rattle.rfc_lists.specs.Parameters.{is_extended, is_quoted, parameter_text, quoted_octet, quoted_string, value_text}
+use Rattle.rfc_fields.specs.{Grammar.{is_octet, octet_text, octet_value, quote}, Directives.DirectiveParts}
+use Rattle.rfc_fields.specs.{Directives.{IsDirective, equals}, Laws.QuotedTextsParse, Values.ValueParts.QuotedText}
+use Rattle.rfc_fields.specs.Values.{ValueParts.TokenText, is_quoted_text, is_token, octets_from}
+use Rattle.rfc_lists.specs.{Extended.{extended_value, star}, Laws.{Means, ParametersReadBack}, Parameters.is_extended}
+use Rattle.rfc_lists.specs.Parameters.{is_quoted, parameter_text, quoted_octet, quoted_string, value_text}
 use Rattle.rfc_lists.specs.declared.parameters.ParameterKind.{ParameterKind}
 
 abbrev octet_if : ℕ → Bool → Octet

@@ -1,11 +1,9 @@
 -- A text that is cut at each place of a byte, one at a time.
-use Rattle.std.proofs.Common.{append-nil, ◌≡◌, ◌∙◌, inl, inr, ℕ, ◌<◌, ◌≤◌, ◌==◌, Bool, List, [], ◌∷◌, ◌++◌, length}
-use Rattle.std.proofs.Common.{◌+◌, ap, drop, take, Option, Some, None, flat_map, option_map, position}
-use Rattle.std.proofs.Common.{arith}
-use Rattle.std.{proofs.lemmas.Bool.{cases_Bool, cases_lt}, specs.List.{position_or_len, slice_split}}
-use Rattle.std.specs.Option.{option_map_or}
-use Rattle.std.proofs.lemmas.List.{Splits.{slice_split_first, slice_split_none}, Sums.fails_before_first}
-use Rattle.rfc_fields.specs.Cuts.{cut}
+use Rattle.std.proofs.Common.{append-nil, ◌≡◌, ◌∙◌, inl, inr, ℕ, ◌<◌, ◌≤◌, ◌==◌, Bool, List, [], ◌∷◌, ◌++◌, length, ◌+◌}
+use Rattle.std.proofs.Common.{ap, drop, take, Option, Some, None, flat_map, option_map, position, arith}
+use Rattle.std.proofs.lemmas.{Bool.{cases_Bool, cases_lt}, List.Splits.{slice_split_first, slice_split_none}}
+use Rattle.std.{proofs.lemmas.List.Sums.fails_before_first, specs.List.{position_or_len, slice_split}}
+use Rattle.{std.specs.Option.option_map_or, rfc_fields.specs.Cuts.cut}
 
 abbrev pub is_at : ℕ → ℕ → Bool
 is_at c b = b == c

@@ -2,15 +2,13 @@
 -- draft-ietf-httpbis-rfc6265bis, section 5.6.7).
 use Rattle.std.specs.Prelude.{ℕ, ◌-◌, ◌^◌, Bool, true, false, not, ◌&&◌, ◌||◌, ◌==◌, List, [], ◌∷◌, ◌++◌, length, take}
 use Rattle.std.specs.Prelude.{Option, Some, None, bytes_eq, codes, decimal, is_some, nat_le, option_and_then}
-use Rattle.std.specs.Prelude.{option_map}
-use Rattle.std.specs.{Prelude.{if◌then◌else◌, unwrap_or}, Char.is_ascii_digit, List.{list_all, slice_split}}
-use Rattle.std.specs.Option.{option_map_or, option_or}
-use Rattle.{http_header.specs.Token.lowercase, headers_syntax.specs.{AsciiCase.same_name, Text.trim}}
-use Rattle.rfc_fields.specs.{Cuts.cut, Directives.equals, Grammar.semicolon, Numbers.number_within}
-use Rattle.rfc_lists.specs.{CookieDates.{cookie_date, date_text}, Extended.hyphen, Lines.{line, valued_line}}
-use Rattle.rfc_lists.specs.declared.{cookie_dates.CookieDate.CookieDate, attributes.Known.Known}
-use Rattle.rfc_lists.specs.declared.attributes.Known.TheVariants.{Path, Domain, MaxAge, Expires, Secure, HttpOnly}
-use Rattle.rfc_lists.specs.declared.attributes.Known.TheVariants.{SameSite}
+use Rattle.std.specs.{Prelude.{option_map, if◌then◌else◌, unwrap_or}, Char.is_ascii_digit, List.{list_all, slice_split}}
+use Rattle.{std.specs.Option.{option_map_or, option_or}, http_header.specs.Token.lowercase}
+use Rattle.{headers_syntax.specs.{AsciiCase.same_name, Text.trim}, rfc_fields.specs.{Cuts.cut, Directives.equals}}
+use Rattle.{rfc_fields.specs.{Grammar.semicolon, Numbers.number_within}, rfc_lists.specs.CookieDates.cookie_date}
+use Rattle.rfc_lists.specs.{CookieDates.date_text, Extended.hyphen, Lines.{line, valued_line}}
+use Rattle.rfc_lists.specs.declared.{cookie_dates.CookieDate.CookieDate, attributes.Known.{Known, TheVariants.Path}}
+use Rattle.rfc_lists.specs.declared.attributes.Known.TheVariants.{Domain, MaxAge, Expires, Secure, HttpOnly, SameSite}
 
 abbrev pub name_of : Known → List ℕ
 name_of Path = codes "Path"

@@ -1,11 +1,10 @@
 -- What caches did (RFC 9211): items of a structured field, with parameters (RFC 8941, sections 3.1.2 and 3.3).
-use Rattle.std.specs.Prelude.{ℕ, Bool, false, List, [], ◌∷◌, Option, None, Some, option_and_then}
-use Rattle.std.specs.{Prelude.if◌then◌else◌, Option.option_map_or}
-use Rattle.rfc_fields.specs.{Cuts.cut, Directives.equals, Scan.Member, Scan.Member.{Whole, Malformed}}
-use Rattle.rfc_fields.specs.Values.{octets_from}
-use Rattle.rfc_values.specs.{Bytes.begins_token, Dictionaries.{Entry, MemberParts, entry}, Items.ValueParts}
-use Rattle.rfc_values.specs.Items.ValueParts.{Integer, Boolean, Text, Other}
-use Rattle.rfc_lists.specs.Lines.{line, malformed_line, valued_line}
+use Rattle.std.specs.Prelude.{ℕ, Bool, false, List, [], ◌∷◌, Option, None, Some, option_and_then, if◌then◌else◌}
+use Rattle.{std.specs.Option.option_map_or, rfc_fields.specs.{Cuts.cut, Directives.equals, Scan.{Member, Member.Whole}}}
+use Rattle.{rfc_fields.specs.{Scan.Member.Malformed, Values.octets_from}, rfc_values.specs.Bytes.begins_token}
+use Rattle.rfc_values.specs.{Dictionaries.{Entry, MemberParts, entry}, Items.{ValueParts, ValueParts.Integer}}
+use Rattle.{rfc_values.specs.Items.ValueParts.{Boolean, Text, Other}, rfc_lists.specs.Lines.{line, malformed_line}}
+use Rattle.rfc_lists.specs.Lines.{valued_line}
 
 -- the only member of a dictionary: a key, and perhaps a value
 abbrev pub alone : Entry → Option MemberParts

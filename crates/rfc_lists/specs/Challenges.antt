@@ -1,12 +1,10 @@
 -- Challenges (RFC 9110, sections 11.3 and 11.6.1): schemes, each followed by parameters, or by a token68.
-use Rattle.std.specs.Prelude.{ℕ, Bool, true, false, not, ◌&&◌, ◌||◌, ◌==◌, List, [], ◌∷◌, ◌++◌, length, drop}
-use Rattle.std.specs.Prelude.{Option, Some, None, is_some, if◌then◌else◌}
-use Rattle.std.specs.{Char.is_ascii_alphanumeric, List.{list_all, prefix_len}, Option.option_map_or}
-use Rattle.headers_syntax.specs.{Lines.Line, Text.trim}
-use Rattle.rfc_fields.specs.{Cuts.cut, Directives.{equals}, Grammar.space, Members.field_members}
-use Rattle.rfc_fields.specs.{Scan.Member, Scan.Member.{Whole, Malformed}, Values.is_token}
-use Rattle.rfc_lists.specs.Lines.{directive_line, line, malformed_line, parameter_in}
-use Rattle.rfc_lists.specs.declared.challenges.Place.{Place}
+use Rattle.std.specs.Prelude.{ℕ, Bool, true, false, not, ◌&&◌, ◌||◌, ◌==◌, List, [], ◌∷◌, ◌++◌, length, drop, Option}
+use Rattle.std.specs.{Prelude.{Some, None, is_some, if◌then◌else◌}, Char.is_ascii_alphanumeric, List.list_all}
+use Rattle.{std.specs.{List.prefix_len, Option.option_map_or}, headers_syntax.specs.{Lines.Line, Text.trim}}
+use Rattle.rfc_fields.specs.{Cuts.cut, Directives.equals, Grammar.space, Members.field_members, Scan.Member}
+use Rattle.{rfc_fields.specs.{Scan.Member.{Whole, Malformed}, Values.is_token}, rfc_lists.specs.Lines.directive_line}
+use Rattle.rfc_lists.specs.{Lines.{line, malformed_line, parameter_in}, declared.challenges.Place.Place}
 use Rattle.rfc_lists.specs.declared.challenges.Place.TheVariants.{Before, Open, Closed}
 
 -- 1*( ALPHA / DIGIT / "-" / "." / "_" / "~" / "+" / "/" ) *"=" (section 11.2)

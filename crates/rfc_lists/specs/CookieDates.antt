@@ -1,12 +1,10 @@
 -- Dates of cookies (RFC 6265, section 5.1.1).
-use Rattle.std.specs.Prelude.{ℕ, ◌+◌, ◌-◌, ◌/◌, ◌%◌, ◌^◌, Bool, ◌&&◌, ◌||◌, ◌==◌, List, [], ◌∷◌, ◌++◌, length}
-use Rattle.std.specs.Prelude.{take, drop, Option}
-use Rattle.std.specs.Prelude.{Some, None, codes, nat_le, nat_lt, option_and_then, option_map, if◌then◌else◌, is_some}
-use Rattle.std.specs.{Char.is_ascii_digit, Int.is_in_range, List.{position, prefix_len, slice_split}}
-use Rattle.std.specs.Option.{option_map_or}
-use Rattle.{headers_syntax.specs.AsciiCase.same_name, rfc_fields.specs.{Cuts.cut, Numbers.number_within}}
-use Rattle.{httpdate.specs.Calendar.days_in_month, rfc_lists.specs.Extended.hyphen}
-use Rattle.rfc_lists.specs.declared.cookie_dates.{CookieDate.CookieDate, Found.Found, Time.Time}
+use Rattle.std.specs.Prelude.{ℕ, ◌+◌, ◌-◌, ◌/◌, ◌%◌, ◌^◌, Bool, ◌&&◌, ◌||◌, ◌==◌, List, [], ◌∷◌, ◌++◌, length, take}
+use Rattle.std.specs.Prelude.{drop, Option, Some, None, codes, nat_le, nat_lt, option_and_then, option_map}
+use Rattle.std.specs.{Prelude.{if◌then◌else◌, is_some}, Char.is_ascii_digit, Int.is_in_range, List.position}
+use Rattle.{std.specs.{List.{prefix_len, slice_split}, Option.option_map_or}, headers_syntax.specs.AsciiCase.same_name}
+use Rattle.{rfc_fields.specs.{Cuts.cut, Numbers.number_within}, httpdate.specs.Calendar.days_in_month}
+use Rattle.rfc_lists.specs.{Extended.hyphen, declared.cookie_dates.{CookieDate.CookieDate, Found.Found, Time.Time}}
 
 -- b':'
 abbrev pub colon : ℕ

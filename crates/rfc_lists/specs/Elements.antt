@@ -1,15 +1,12 @@
 -- Elements with parameters: of lists (RFC 9110, sections 5.6.1 and 5.6.6), and those that are a line each.
 use Rattle.std.specs.Prelude.{ℕ, Bool, true, false, not, ◌&&◌, ◌==◌, List, [], ◌∷◌, ◌++◌, length, nat_lt, Option, None}
-use Rattle.std.specs.Prelude.{option_map, option_and_then, if◌then◌else◌}
-use Rattle.std.specs.{List.{flat_map, list_any}, Option.option_map_or}
-use Rattle.{http_header.specs.Token.lowercase, headers_syntax.specs.{AsciiCase.same_name, Lines.Line, Text.trim}}
-use Rattle.rfc_fields.specs.{Directives.{DirectiveParts, directive_in}, Members.{field_members, members_of}}
-use Rattle.rfc_fields.specs.{Scan.Member, Scan.Member.{Whole, Malformed}, Values.is_token}
-use Rattle.rfc_lists.specs.Caches.{item_line, name_line}
-use Rattle.rfc_lists.specs.Lines.{between_semicolons, line, malformed_line, member_line, parameter_line, text_line}
-use Rattle.rfc_lists.specs.Lines.{with_argument}
-use Rattle.rfc_lists.specs.declared.elements.Form.{Form}
-use Rattle.rfc_lists.specs.declared.elements.Form.TheVariants.{Element, Disposition, Hop, Cache}
+use Rattle.std.specs.{Prelude.{option_map, option_and_then, if◌then◌else◌}, List.{flat_map, list_any}}
+use Rattle.{std.specs.Option.option_map_or, http_header.specs.Token.lowercase, headers_syntax.specs.AsciiCase.same_name}
+use Rattle.{headers_syntax.specs.{Lines.Line, Text.trim}, rfc_fields.specs.Directives.{DirectiveParts, directive_in}}
+use Rattle.rfc_fields.specs.{Members.{field_members, members_of}, Scan.{Member, Member.{Whole, Malformed}}}
+use Rattle.{rfc_fields.specs.Values.is_token, rfc_lists.specs.{Caches.{item_line, name_line}, Lines.between_semicolons}}
+use Rattle.rfc_lists.specs.Lines.{line, malformed_line, member_line, parameter_line, text_line, with_argument}
+use Rattle.rfc_lists.specs.declared.elements.Form.{Form, TheVariants.{Element, Disposition, Hop, Cache}}
 
 -- the type of a disposition, in lower case (RFC 6266, section 4.1)
 abbrev pub type_line : List ℕ → List ℕ

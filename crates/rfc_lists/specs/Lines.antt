@@ -1,9 +1,8 @@
 -- Lines of text.
 use Rattle.std.specs.Prelude.{ℕ, true, false, List, [], ◌∷◌, ◌++◌, Option, None, Some, if◌then◌else◌, is_some}
-use Rattle.std.specs.Option.{option_and_then, option_map_or}
-use Rattle.headers_syntax.specs.Text.{trim}
+use Rattle.{std.specs.Option.{option_and_then, option_map_or}, headers_syntax.specs.Text.trim}
 use Rattle.rfc_fields.specs.{Cuts.cut, Directives.{DirectiveParts, directive_in, equals}, Values.octets_of}
-use Rattle.rfc_fields.specs.{Grammar.semicolon, Members.pieces_left, Scan.Member, Scan.Member.{Whole, Malformed}}
+use Rattle.rfc_fields.specs.{Grammar.semicolon, Members.pieces_left, Scan.{Member, Member.{Whole, Malformed}}}
 
 -- a letter, a text and a byte 10
 abbrev pub line : ℕ → List ℕ → List ℕ

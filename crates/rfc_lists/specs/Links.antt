@@ -1,14 +1,12 @@
 -- Links (RFC 8288, section 3): a target between angle brackets, and parameters.
 use Rattle.std.specs.Prelude.{ℕ, ◌+◌, Bool, true, false, ◌&&◌, ◌==◌, List, [], ◌∷◌, ◌++◌, length, take, drop, Option}
-use Rattle.std.specs.Prelude.{Some, None, codes, nat_lt, option_and_then, if◌then◌else◌}
-use Rattle.std.specs.{List.{flat_map, slice_split}, Option.{option_map_or, option_or}}
-use Rattle.{http_header.specs.Token.lowercase, headers_syntax.specs.{Lines.Line, Text.trim}}
-use Rattle.rfc_fields.specs.{Cuts.cut, Directives.{DirectiveParts, directive_in, is_named}, Values.octets_of}
-use Rattle.rfc_fields.specs.Grammar.{backslash, comma, quote, space}
-use Rattle.rfc_fields.specs.{Members.members_of, Scan.Member, Scan.Member.{Whole, Malformed}}
+use Rattle.std.specs.{Prelude.{Some, None, codes, nat_lt, option_and_then, if◌then◌else◌}, List.{flat_map, slice_split}}
+use Rattle.{std.specs.Option.{option_map_or, option_or}, http_header.specs.Token.lowercase}
+use Rattle.{headers_syntax.specs.{Lines.Line, Text.trim}, rfc_fields.specs.{Cuts.cut, Directives.DirectiveParts}}
+use Rattle.rfc_fields.specs.{Directives.{directive_in, is_named}, Values.octets_of, Grammar.{backslash, comma, quote}}
+use Rattle.rfc_fields.specs.{Grammar.space, Members.members_of, Scan.{Member, Member.{Whole, Malformed}}}
 use Rattle.rfc_lists.specs.Lines.{between_semicolons, line, malformed_line, parameter_line, squeezed}
-use Rattle.rfc_lists.specs.declared.links.Place.{Place}
-use Rattle.rfc_lists.specs.declared.links.Place.TheVariants.{Outside, Bracketed, Quoted, Escaped}
+use Rattle.rfc_lists.specs.declared.links.Place.{Place, TheVariants.{Outside, Bracketed, Quoted, Escaped}}
 
 -- where the byte after this one is
 abbrev pub after : Place → ℕ → Place

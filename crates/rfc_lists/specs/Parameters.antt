@@ -1,11 +1,10 @@
 -- Parameters as they are written (RFC 9110, section 5.6.6; RFC 8187, section 3.2).
 use Rattle.std.specs.Prelude.{ℕ, Bool, true, false, not, ◌&&◌, ◌||◌, ◌==◌, List, [], ◌∷◌, ◌++◌, codes, nat_le, nat_lt}
 use Rattle.std.specs.{Prelude.if◌then◌else◌, List.{flat_map, list_all}}
-use Rattle.headers_syntax.specs.AsciiCase.{same_name}
-use Rattle.rfc_fields.specs.{Directives.equals, Grammar.{backslash, quote}, Values.is_token}
-use Rattle.rfc_lists.specs.Extended.{extended_value, star}
-use Rattle.rfc_lists.specs.declared.parameters.ParameterKind.{ParameterKind}
-use Rattle.rfc_lists.specs.declared.parameters.ParameterKind.TheVariants.{Extended, Plain, Quoted, Challenge}
+use Rattle.{headers_syntax.specs.AsciiCase.same_name, rfc_fields.specs.{Directives.equals, Grammar.{backslash, quote}}}
+use Rattle.{rfc_fields.specs.Values.is_token, rfc_lists.specs.Extended.{extended_value, star}}
+use Rattle.rfc_lists.specs.declared.parameters.ParameterKind.{ParameterKind, TheVariants.{Extended, Plain, Quoted}}
+use Rattle.rfc_lists.specs.declared.parameters.ParameterKind.TheVariants.{Challenge}
 
 -- a space or visible ASCII
 abbrev pub is_plain : ℕ → Bool

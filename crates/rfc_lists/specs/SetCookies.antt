@@ -1,13 +1,11 @@
 -- Cookies to be set (RFC 6265, section 5.2).
-use Rattle.std.specs.Prelude.{ℕ, Bool, false, not, ◌&&◌, ◌||◌, ◌==◌, List, [], ◌∷◌, ◌++◌, length}
-use Rattle.std.specs.Prelude.{if◌then◌else◌, unwrap_or}
-use Rattle.std.specs.{List.{flat_map, slice_split}, Option.{option_map_or}}
-use Rattle.headers_syntax.specs.{AsciiCase.same_name, Lines.Line, Text.trim}
-use Rattle.rfc_fields.specs.{Cuts.cut, Directives.equals, Grammar.semicolon}
-use Rattle.rfc_lists.specs.Attributes.{attribute_in, broken_lines, meaning_lines, name_of}
-use Rattle.rfc_lists.specs.Lines.{line, malformed_line, valued_line}
-use Rattle.rfc_lists.specs.declared.attributes.Known.TheVariants.{Path, Domain, MaxAge, Expires, Secure, HttpOnly}
-use Rattle.rfc_lists.specs.declared.attributes.Known.TheVariants.{SameSite}
+use Rattle.std.specs.Prelude.{ℕ, Bool, false, not, ◌&&◌, ◌||◌, ◌==◌, List, [], ◌∷◌, ◌++◌, length, if◌then◌else◌}
+use Rattle.std.specs.{Prelude.unwrap_or, List.{flat_map, slice_split}, Option.option_map_or}
+use Rattle.{headers_syntax.specs.{AsciiCase.same_name, Lines.Line, Text.trim}, rfc_fields.specs.Cuts.cut}
+use Rattle.{rfc_fields.specs.{Directives.equals, Grammar.semicolon}, rfc_lists.specs.Attributes.attribute_in}
+use Rattle.rfc_lists.specs.{Attributes.{broken_lines, meaning_lines, name_of}, Lines.{line, malformed_line}}
+use Rattle.rfc_lists.specs.{Lines.valued_line, declared.attributes.Known.TheVariants.{Path, Domain, MaxAge, Expires}}
+use Rattle.rfc_lists.specs.declared.attributes.Known.TheVariants.{Secure, HttpOnly, SameSite}
 
 -- a name and a value around the first `=`, or a name alone, without the blanks around them
 abbrev pub pair_line : List ℕ → List ℕ

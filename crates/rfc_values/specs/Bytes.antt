@@ -1,9 +1,7 @@
 -- The bytes of structured fields (RFC 8941, section 3).
 use Rattle.std.specs.Prelude.{ℕ, Bool, ◌&&◌, ◌||◌, ◌==◌, not, nat_le, List, [], ◌∷◌, length, ◌-◌, take, if◌then◌else◌}
-use Rattle.std.specs.Char.{is_ascii_digit}
-use Rattle.http_header.specs.Token.{is_token_byte}
-use Rattle.rfc_values.specs.declared.bytes.Class.{Class}
-use Rattle.rfc_values.specs.declared.bytes.Class.TheVariants.{Base64, Blank, Digit, Key, Space, Token}
+use Rattle.{std.specs.Char.is_ascii_digit, http_header.specs.Token.is_token_byte}
+use Rattle.rfc_values.specs.declared.bytes.Class.{Class, TheVariants.{Base64, Blank, Digit, Key, Space, Token}}
 
 abbrev pub is_lowercase : ℕ → Bool
 is_lowercase b = nat_le 97 b && nat_le b 122

@@ -2,9 +2,8 @@
 -- Each takes as many bytes as it can, so there is one reading at most.
 use Rattle.std.specs.Prelude.{ℕ, zero, suc, Bool, true, false, ◌&&◌, ◌||◌, ◌==◌, ◌-◌, nat_le, nat_lt, List, [], ◌∷◌}
 use Rattle.std.specs.Prelude.{length, take, Option, Some, None, option_and_then, option_map, if◌then◌else◌}
-use Rattle.std.specs.Char.{is_ascii_digit}
-use Rattle.rfc_values.specs.Bytes.{after_run, before, begins_key, begins_token, is_printable}
-use Rattle.rfc_values.specs.declared.bytes.Class.TheVariants.{Base64, Digit, Key, Space, Token}
+use Rattle.{std.specs.Char.is_ascii_digit, rfc_values.specs.Bytes.{after_run, before, begins_key, begins_token}}
+use Rattle.rfc_values.specs.{Bytes.is_printable, declared.bytes.Class.TheVariants.{Base64, Digit, Key, Space, Token}}
 
 -- the value of an item: an integer with its text, a boolean, a string with what stands between its quotes, or another
 pub data ValueParts : Type 0 where

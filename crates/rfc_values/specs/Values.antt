@@ -2,10 +2,9 @@
 use Rattle.std.specs.Prelude.{ℕ, List, option_copied}
 use Rattle.rfc_values.specs.Dictionaries.{Entry as EntryParts, MemberParts}
 use Rattle.rfc_values.specs.Items.{Reading as Read, Step as StepParts, ValueParts}
-use Rattle.rfc_values.{specs.Items.Step.{Ends, Fails, Goes}, specs.Items.ValueParts.{Integer, Boolean, Text, Other}}
-use Rattle.rfc_values.specs.declared.dictionaries.DictionaryMember.{DictionaryMember}
-use Rattle.rfc_values.specs.declared.dictionaries.Member.{Member}
-use Rattle.rfc_values.{specs.declared.items.Reading.Reading, specs.declared.items.ItemValue.ItemValue}
+use Rattle.rfc_values.specs.Items.{Step.{Ends, Fails, Goes}, ValueParts.{Integer, Boolean, Text, Other}}
+use Rattle.rfc_values.specs.declared.dictionaries.{DictionaryMember.DictionaryMember, Member.Member}
+use Rattle.rfc_values.specs.declared.items.{Reading.Reading, ItemValue.ItemValue}
 use Rattle.rfc_values.specs.declared.items.ItemValue.TheVariants as value
 use Rattle.rfc_values.specs.declared.parameters.Step.{Step}
 use Rattle.rfc_values.specs.declared.parameters.Step.TheVariants as step

@@ -1,12 +1,11 @@
 -- The literal bytes of exchanges, as the stream goes on, and as one more exchange ends.
 use Rattle.std.proofs.Common.{◌≡◌, ℕ, List, [], ◌∷◌, ◌++◌, refl, sym, ap, ◌∙◌, subst, append_assoc, append-nil}
 use Rattle.http1.{specs.declared.conn.Limits.Limits, proofs.OneParse.request_message_unique}
-use Rattle.http_server.{specs.declared.state.Config.Config, specs.declared.state.State.State}
-use Rattle.http_server.specs.declared.state.State.TheVariants.{Open, Closing, Aborted}
-use Rattle.http_server.{specs.declared.state.Reason.TheVariants.Refused, specs.Exchange.{Call, Serves}}
+use Rattle.http_server.specs.declared.state.{Config.Config, State.{State, TheVariants.{Open, Closing, Aborted}}}
+use Rattle.http_server.specs.{declared.state.Reason.TheVariants.Refused, Exchange.{Call, Serves}}
 use Rattle.http_server.proofs.StreamLemmas.{IsInterim-append, ReadsCall-append, Serves-append}
-use Rattle.server_connection.{specs.Literal.{IsLater, SendsCall, SendsCalls}, specs.Machine.{Account, IsLaid}}
-use Rattle.server_connection.{specs.Pieces.Gives, specs.Plan.Plans}
+use Rattle.server_connection.specs.{Literal.{IsLater, SendsCall, SendsCalls}, Machine.{Account, IsLaid}, Pieces.Gives}
+use Rattle.server_connection.specs.Plan.{Plans}
 
 -- the calls say where the next request begins
 pub rest_same : (config : Config) (calls : List Call) (stream text other rest after : List ℕ)

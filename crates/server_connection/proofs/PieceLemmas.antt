@@ -1,10 +1,9 @@
 -- The bytes that pieces send, one step after another.
 use Rattle.std.proofs.Common.{◌≡◌, ℕ, ◌+◌, ◌-◌, ◌≤◌, List, [], ◌∷◌, ◌++◌, length, refl, sym, ap, ◌∙◌, subst, arith}
 use Rattle.std.proofs.Common.{append_assoc, append-nil, length-append}
-use Rattle.server_connection.{specs.declared.piece.OpenRange.OpenRange, specs.declared.piece.Piece.Piece}
-use Rattle.server_connection.{specs.declared.piece.Piece.TheVariants.{Literal, Range}, specs.Pieces.{Gives, Emits}}
-use Rattle.server_connection.specs.Pieces.{Advances, piece_len, total_len, rest_of, Shortens}
-use Rattle.server_connection.specs.Pieces.Advances.{stays, emits, skips}
+use Rattle.server_connection.specs.declared.piece.{OpenRange.OpenRange, Piece.{Piece, TheVariants.{Literal, Range}}}
+use Rattle.server_connection.specs.Pieces.{Gives, Emits, Advances, Advances.{stays, emits, skips}, piece_len, total_len}
+use Rattle.server_connection.specs.Pieces.{rest_of, Shortens}
 
 pub total_len-push : (pieces : List Piece) (piece : Piece) → total_len (pieces ++ piece ∷ []) ≡ total_len pieces +
     piece_len piece

@@ -4,39 +4,34 @@ use Rattle.std.proofs.Common.{if◌then◌else◌, Option, Some, None, IsTrue, I
 use Rattle.std.proofs.Common.{ap, ◌∙◌, subst, append_assoc, append-nil, inl, inr, arith, length-append, ◌≤◌, Global}
 use Rattle.std.{proofs.Math.Seq.take-append_seam, proofs.lemmas.Bool.eqb-true, proofs.lemmas.List.nil_from_length}
 use Rattle.std.{proofs.lemmas.List.take-append-drop, specs.Io.KnownBytes.{Appends, Consumes, Keeps as StaysKnown}}
-use Rattle.bytes.specs.declared.unique.BytesMut.{BytesMut}
-use Rattle.server_connection.specs.Machine.{Aborts, Account, Begins, Ends, GoesOn, HandsOut, HasAnswered, HasAborted}
-use Rattle.server_connection.specs.Machine.{Asks, CutsOff, Drops, Empties, GivesUp, HasPlanned, IsLaid, Offers, Stays}
-use Rattle.server_connection.specs.Machine.{IsNextRange, IsSending, Keeps, Opens, Refuses, KeepsRest, KeepsState, Leads}
-use Rattle.server_connection.specs.Machine.{Past, Runs, RunsAt, SendsOn, TakesIn, Moves, core, core_asking, history_of}
-use Rattle.server_connection.specs.Machine.{new_past, past_after, view, account, sends_left, with_calls, work}
+use Rattle.{bytes.specs.declared.unique.BytesMut.BytesMut, server_connection.specs.Machine.{Aborts, Account, Begins}}
+use Rattle.server_connection.specs.Machine.{Ends, GoesOn, HandsOut, HasAnswered, HasAborted, Asks, CutsOff, Drops}
+use Rattle.server_connection.specs.Machine.{Empties, GivesUp, HasPlanned, IsLaid, Offers, Stays, IsNextRange, IsSending}
+use Rattle.server_connection.specs.Machine.{Keeps, Opens, Refuses, KeepsRest, KeepsState, Leads, Past, Runs, RunsAt}
+use Rattle.server_connection.specs.Machine.{SendsOn, TakesIn, Moves, core, core_asking, history_of, new_past}
+use Rattle.server_connection.specs.Machine.{past_after, view, account, sends_left, with_calls, work}
+use Rattle.server_connection.specs.declared.machine.{Machine.Machine, Phase.{Phase, TheVariants.{Receiving, Asking}}}
+use Rattle.server_connection.specs.declared.{machine.Phase.TheVariants.Responding, piece.OpenRange.OpenRange}
+use Rattle.server_connection.specs.{declared.{piece.Piece.Piece, plan.ResponsePlan.ResponsePlan}, Connection.Exchanged}
+use Rattle.server_connection.specs.Connection.{HasEnded, HasRested, HasTurned, IsClosing, IsReached, IsReached.begun}
+use Rattle.server_connection.specs.Connection.{IsReached.moved, IsSentLiterally, IsTurned, IsTurned.{by_none, by_read}}
+use Rattle.server_connection.specs.{Connection.{IsTurned.by_write, Turns, WaitsAtRest}, Literal.{IsLater, IsLiteral}}
+use Rattle.server_connection.specs.{Pieces.{Shortens, Advances, Gives}, Plan.{Answers, Plans, sent_pieces}}
 use Rattle.server_connection.proofs.SendLemmas.{base_out, answers, call, closes_after, cuts, hands_on, laid_closed}
-use Rattle.server_connection.{proofs.SendLemmas.{laid_open, moves, stays_open}, specs.declared.machine.Machine.Machine}
-use Rattle.server_connection.{specs.declared.piece.OpenRange.OpenRange, specs.declared.piece.Piece.Piece}
-use Rattle.server_connection.specs.declared.plan.ResponsePlan.{ResponsePlan}
-use Rattle.server_connection.specs.Connection.{Exchanged, HasEnded, HasRested, HasTurned, IsClosing, IsReached}
-use Rattle.server_connection.specs.Connection.{IsSentLiterally, IsTurned, Turns, WaitsAtRest, IsReached.begun}
-use Rattle.server_connection.specs.Connection.IsTurned.{by_none, by_read, by_write}
-use Rattle.server_connection.{specs.Connection.IsReached.moved, specs.Literal.{IsLater, IsLiteral}}
-use Rattle.server_connection.{specs.Pieces.{Shortens, Advances, Gives}, specs.declared.machine.Phase.Phase}
-use Rattle.server_connection.specs.declared.machine.Phase.TheVariants.{Receiving, Asking, Responding}
-use Rattle.server_connection.{specs.Plan.{Answers, Plans, sent_pieces}, proofs.LiteralLemmas.{laid_more, rest_same}}
-use Rattle.server_connection.proofs.PieceLemmas.{sends_range_at, sends_short}
-use Rattle.http_server.specs.Exchange.{Chain, Call, ExpectsContinue, IsInterim, Serves, continue_text}
-use Rattle.http_server.{specs.declared.state.Config.Config, specs.declared.state.State.State}
-use Rattle.http_server.specs.declared.state.State.TheVariants.{Open, Closing, Aborted}
-use Rattle.http_server.{specs.declared.state.Reason.TheVariants.{Asked, Refused}, specs.declared.state.Refusal.Refusal}
-use Rattle.http_server.{specs.declared.state.Refusal.TheVariants.BodyTooLarge, specs.Encoding.answering}
-use Rattle.http_server.{specs.History.{History, IsServed, Stands, after_read, after_sent, output}, specs.Machine.Core}
-use Rattle.http_server.{specs.Machine.{HasHead, HasRequest, Holds, HoldsAt, IsPlaced}, specs.Refusal.refusal_text}
-use Rattle.http_server.{proofs.MachineLemmas.{busy, may_abort, running, served}, proofs.KnownLemmas.Appends-then}
-use Rattle.http_server.{proofs.KnownLemmas.Consumes-then, proofs.TransferLemmas.{hands_out, receives, with_history}}
-use Rattle.http_server.proofs.StreamLemmas.{Chain-append}
-use Rattle.http.{specs.declared.request.Parts.Parts, specs.Request.head_of}
-use Rattle.http1.{specs.declared.conn.Event.Event, specs.declared.conn.Event.TheVariants.Head}
-use Rattle.http1.{specs.declared.conn.Progress.Progress, specs.declared.server.Server.Server, specs.Conn.ReadsPiece}
-use Rattle.http1.specs.Server.{ReadsAt, ServerReads, reading}
-use Rattle.httparse.{specs.declared.spans.HeaderSpan.HeaderSpan, specs.declared.spans.RequestSpans.RequestSpans}
+use Rattle.server_connection.proofs.{SendLemmas.{laid_open, moves, stays_open}, LiteralLemmas.{laid_more, rest_same}}
+use Rattle.{server_connection.proofs.PieceLemmas.{sends_range_at, sends_short}, http_server.specs.Exchange.Chain}
+use Rattle.http_server.specs.Exchange.{Call, ExpectsContinue, IsInterim, Serves, continue_text}
+use Rattle.http_server.specs.declared.state.{Config.Config, State.{State, TheVariants.{Open, Closing, Aborted}}}
+use Rattle.http_server.specs.declared.state.{Reason.TheVariants.{Asked, Refused}, Refusal.Refusal}
+use Rattle.http_server.specs.{declared.state.Refusal.TheVariants.BodyTooLarge, Encoding.answering, History.History}
+use Rattle.http_server.specs.{History.{IsServed, Stands, after_read, after_sent, output}, Machine.{Core, HasHead}}
+use Rattle.http_server.specs.{Machine.{HasRequest, Holds, HoldsAt, IsPlaced}, Refusal.refusal_text}
+use Rattle.http_server.proofs.{MachineLemmas.{busy, may_abort, running, served}, KnownLemmas.Appends-then}
+use Rattle.http_server.proofs.{KnownLemmas.Consumes-then, TransferLemmas.{hands_out, receives, with_history}}
+use Rattle.{http_server.proofs.StreamLemmas.Chain-append, http.specs.{declared.request.Parts.Parts, Request.head_of}}
+use Rattle.http1.specs.declared.{conn.{Event.{Event, TheVariants.Head}, Progress.Progress}, server.Server.Server}
+use Rattle.http1.specs.{Conn.ReadsPiece, Server.{ReadsAt, ServerReads, reading}}
+use Rattle.httparse.specs.declared.spans.{HeaderSpan.HeaderSpan, RequestSpans.RequestSpans}
 
 -- ---- known bytes
 

@@ -1,16 +1,13 @@
 -- What is written over a connection, and what it wants of its host.
-use Rattle.std.specs.Prelude.{◌≡◌, ◌≢◌, ℕ, ◌⊎◌, Bool, true, false, List, [], ◌++◌, Option, ⊤}
-use Rattle.std.specs.Io.KnownBytes.{Appends, Consumes, IsAtEnd}
-use Rattle.http_server.{specs.declared.state.Config.Config, specs.declared.state.State.State}
-use Rattle.http_server.{specs.declared.state.State.TheVariants.{Open, Closing, Upgraded, Aborted}, specs.Exchange.Chain}
-use Rattle.http_server.specs.History.{History, IsServed, Rests}
-use Rattle.server_connection.{specs.Literal.{IsLiteral, SendsCalls}, specs.declared.connection.Event.Event}
+use Rattle.std.specs.{Prelude.{◌≡◌, ◌≢◌, ℕ, ◌⊎◌, Bool, true, false, List, [], ◌++◌, Option, ⊤}, Io.KnownBytes.Appends}
+use Rattle.{std.specs.Io.KnownBytes.{Consumes, IsAtEnd}, http_server.specs.declared.state.{Config.Config, State.State}}
+use Rattle.http_server.specs.{declared.state.State.TheVariants.{Open, Closing, Upgraded, Aborted}, Exchange.Chain}
+use Rattle.{http_server.specs.History.{History, IsServed, Rests}, server_connection.specs.Literal.IsLiteral}
+use Rattle.server_connection.specs.{Literal.SendsCalls, declared.connection.Event.Event}
 use Rattle.server_connection.specs.declared.connection.Event.TheVariants as Says
-use Rattle.server_connection.specs.declared.machine.Machine.{Machine}
-use Rattle.server_connection.specs.declared.machine.Phase.TheVariants.{Receiving, Asking}
-use Rattle.server_connection.specs.declared.piece.OpenRange.{OpenRange}
-use Rattle.server_connection.specs.Machine.{IsNextRange, Moves, Past, Runs, Sends}
-use Rattle.server_connection.{specs.Machine.{history_of, new_past}, specs.Pieces.Gives, specs.Plan.{Answers, Plans}}
+use Rattle.server_connection.specs.declared.machine.{Machine.Machine, Phase.TheVariants.{Receiving, Asking}}
+use Rattle.server_connection.specs.{declared.piece.OpenRange.OpenRange, Machine.{IsNextRange, Moves, Past, Runs, Sends}}
+use Rattle.server_connection.specs.{Machine.{history_of, new_past}, Pieces.Gives, Plan.{Answers, Plans}}
 
 -- the connection ended as HTTP has it
 abbrev pub IsClosing : State → Type 0

@@ -1,12 +1,10 @@
 -- What `http1` puts around the content of a plan.
 use Rattle.std.specs.Prelude.{◌≡◌, ◌≢◌, ℕ, ◌^◌, ◌<◌, Bool, true, false, List, [], ◌++◌, None, if◌then◌else◌, ◌==◌}
-use Rattle.http1.{specs.declared.conn.BodySize.BodySize, specs.declared.conn.BodySize.TheVariants.{Empty, Known}}
-use Rattle.http1.{specs.declared.server.Server.Server, specs.Conn.{data_prefix, data_suffix, after_data, finish_text}}
-use Rattle.http1.{specs.Fields.Header, specs.Server.{writing, with_writing, after_end, response_refusal}}
-use Rattle.http1.specs.Server.{planned_response, after_response}
-use Rattle.http1_typed.specs.Parts.{reason_of}
-use Rattle.http_server.specs.Response.{fields}
-use Rattle.server_connection.{specs.declared.plan.ResponsePlan.ResponsePlan, specs.Pieces.total_len}
+use Rattle.http1.specs.declared.{conn.BodySize.{BodySize, TheVariants.{Empty, Known}}, server.Server.Server}
+use Rattle.http1.specs.{Conn.{data_prefix, data_suffix, after_data, finish_text}, Fields.Header, Server.writing}
+use Rattle.http1.specs.Server.{with_writing, after_end, response_refusal, planned_response, after_response}
+use Rattle.{http1_typed.specs.Parts.reason_of, http_server.specs.Response.fields}
+use Rattle.server_connection.specs.{declared.plan.ResponsePlan.ResponsePlan, Pieces.total_len}
 
 -- how long a plan's content is
 abbrev pub content_len : ResponsePlan → ℕ

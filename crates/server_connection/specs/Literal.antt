@@ -1,13 +1,10 @@
 -- The bytes of whole exchanges, literally.
 use Rattle.std.specs.Prelude.{◌≡◌, ℕ, Bool, List, [], ◌∷◌, ◌++◌, if◌then◌else◌}
-use Rattle.http1.{specs.declared.conn.Limits.Limits, specs.declared.server.Server.Server, specs.Framing.method_kind}
-use Rattle.http1.specs.Server.{is_head}
-use Rattle.http_server.{specs.declared.state.Config.Config, specs.declared.state.State.State}
-use Rattle.http_server.specs.declared.state.State.TheVariants.{Open, Closing, Upgraded, Aborted}
-use Rattle.http_server.{specs.declared.state.Reason.TheVariants.{Asked, EndOfInput, Refused}, specs.Encoding.answering}
-use Rattle.http_server.{specs.Exchange.{Call, Exchanges, IsInterim}, specs.Refusal.refusal_text}
-use Rattle.server_connection.{specs.declared.plan.ResponsePlan.ResponsePlan, specs.Encoding.Frames}
-use Rattle.server_connection.specs.Pieces.{AreSent, Gives}
+use Rattle.http1.specs.{declared.{conn.Limits.Limits, server.Server.Server}, Framing.method_kind, Server.is_head}
+use Rattle.http_server.specs.declared.state.{Config.Config, State.{State, TheVariants.{Open, Closing, Upgraded}}}
+use Rattle.http_server.specs.declared.state.{State.TheVariants.Aborted, Reason.TheVariants.{Asked, EndOfInput, Refused}}
+use Rattle.http_server.specs.{Encoding.answering, Exchange.{Call, Exchanges, IsInterim}, Refusal.refusal_text}
+use Rattle.server_connection.specs.{declared.plan.ResponsePlan.ResponsePlan, Encoding.Frames, Pieces.{AreSent, Gives}}
 use Rattle.server_connection.specs.Plan.{HasHeadOf, Plans, sent_pieces}
 
 -- The stream begins with the request of the call, and the text is all that was sent for it. Its response carries out a

@@ -1,26 +1,21 @@
 -- What holds of a connection between its steps.
 use Rattle.std.specs.Prelude.{◌≡◌, ◌≢◌, ℕ, ◌+◌, ◌<◌, ◌≤◌, ◌⊎◌, Bool, true, false, List, [], ◌∷◌, ◌++◌, length, drop, Option, Some}
 use Rattle.std.specs.Prelude.{None, if◌then◌else◌, ◌==◌}
-use Rattle.http.{specs.declared.request.Parts.Parts, specs.declared.request.Request.Request, specs.Request.body_of}
-use Rattle.http.specs.Request.{head_of, with_body}
+use Rattle.http.specs.{declared.request.{Parts.Parts, Request.Request}, Request.{body_of, head_of, with_body}}
 use Rattle.http1.specs.Framing.{method_kind}
 use Rattle.http1.specs.Message as Wire
-use Rattle.http1.{specs.declared.server.Server.Server, specs.Server.{is_head, IsClosed}}
-use Rattle.http_server.{specs.declared.state.Config.Config, specs.declared.state.State.State}
-use Rattle.http_server.specs.declared.state.State.TheVariants.{Open, Closing, Aborted}
-use Rattle.http_server.specs.declared.state.Reason.TheVariants.{Asked, EndOfInput, Refused}
-use Rattle.http_server.{specs.declared.state.Refusal.Refusal, specs.declared.state.Refusal.TheVariants.BodyTooLarge}
-use Rattle.http_server.{specs.Encoding.answering, specs.Exchange.{Call, Chain, ExpectsContinue, IsInterim, ReadsCall}}
-use Rattle.http_server.{specs.Exchange.{Serves, continue_text}, specs.History.{History, output}, specs.Machine.Core}
-use Rattle.http_server.{specs.Machine.{HasRequest, Holds, MayAbort}, specs.Refusal.refusal_text}
-use Rattle.server_connection.{specs.declared.machine.Machine.Machine, specs.declared.machine.Phase.Phase}
-use Rattle.server_connection.specs.declared.machine.Phase.TheVariants.{Receiving, Asking, Responding}
-use Rattle.server_connection.{specs.declared.piece.OpenRange.OpenRange, specs.declared.piece.Piece.Piece}
-use Rattle.server_connection.specs.declared.piece.Piece.TheVariants.{Range}
-use Rattle.server_connection.specs.declared.plan.ResponsePlan.{ResponsePlan}
-use Rattle.server_connection.{specs.Encoding.Frames, specs.Literal.{IsLiteral, SendsCalls}, specs.Pieces.Gives}
-use Rattle.server_connection.{specs.Pieces.{Advances, CanShorten, Shortens, rest_of}, specs.Plan.{Plans, Answers}}
-use Rattle.server_connection.specs.Plan.{sent_pieces}
+use Rattle.http1.specs.{declared.server.Server.Server, Server.{is_head, IsClosed}}
+use Rattle.http_server.specs.declared.state.{Config.Config, State.{State, TheVariants.{Open, Closing, Aborted}}}
+use Rattle.http_server.specs.declared.state.{Reason.TheVariants.{Asked, EndOfInput, Refused}, Refusal.Refusal}
+use Rattle.http_server.specs.{declared.state.Refusal.TheVariants.BodyTooLarge, Encoding.answering, Exchange.Call}
+use Rattle.http_server.specs.Exchange.{Chain, ExpectsContinue, IsInterim, ReadsCall, Serves, continue_text}
+use Rattle.http_server.specs.{History.{History, output}, Machine.{Core, HasRequest, Holds, MayAbort}}
+use Rattle.{http_server.specs.Refusal.refusal_text, server_connection.specs.declared.machine.Machine.Machine}
+use Rattle.server_connection.specs.declared.machine.Phase.{Phase, TheVariants.{Receiving, Asking, Responding}}
+use Rattle.server_connection.specs.declared.piece.{OpenRange.OpenRange, Piece.{Piece, TheVariants.Range}}
+use Rattle.server_connection.specs.{declared.plan.ResponsePlan.ResponsePlan, Encoding.Frames, Literal.IsLiteral}
+use Rattle.server_connection.specs.{Literal.SendsCalls, Pieces.{Gives, Advances, CanShorten, Shortens, rest_of}}
+use Rattle.server_connection.specs.Plan.{Plans, Answers, sent_pieces}
 
 -- what a connection has received and sent, and the exchanges that it has completed
 pub record Past : Type 0 where

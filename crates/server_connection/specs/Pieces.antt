@@ -1,7 +1,6 @@
 -- The bytes that the pieces of a plan send.
 use Rattle.std.specs.Prelude.{◌≡◌, ℕ, ◌+◌, ◌-◌, ◌^◌, ◌<◌, ◌≤◌, List, [], ◌∷◌, ◌++◌, length}
-use Rattle.server_connection.{specs.declared.piece.OpenRange.OpenRange, specs.declared.piece.Piece.Piece}
-use Rattle.server_connection.specs.declared.piece.Piece.TheVariants.{Literal, Range}
+use Rattle.server_connection.specs.declared.piece.{OpenRange.OpenRange, Piece.{Piece, TheVariants.{Literal, Range}}}
 
 -- how many bytes a piece sends
 abbrev pub piece_len : Piece → ℕ

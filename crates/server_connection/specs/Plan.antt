@@ -1,11 +1,9 @@
 -- A plan, and the responses that carry it out.
 use Rattle.std.specs.Prelude.{◌≡◌, ℕ, Bool, true, false, List, [], length}
-use Rattle.http.{specs.declared.request.Request.Request, specs.Request.head_of}
-use Rattle.http1.{specs.Framing.method_kind, specs.Server.is_head}
-use Rattle.http_server.{specs.declared.response.Response.Response, specs.Response.{fields, fields_of}}
-use Rattle.server_connection.{specs.declared.plan.ResponsePlan.ResponsePlan, specs.declared.piece.Piece.Piece}
-use Rattle.server_connection.specs.Pieces.{Gives}
-use Rattle.server_connection.specs.Pieces.{AreSent, total_len}
+use Rattle.{http.specs.{declared.request.Request.Request, Request.head_of}, http1.specs.Framing.method_kind}
+use Rattle.{http1.specs.Server.is_head, http_server.specs.{declared.response.Response.Response, Response.fields}}
+use Rattle.{http_server.specs.Response.fields_of, server_connection.specs.declared.plan.ResponsePlan.ResponsePlan}
+use Rattle.server_connection.specs.{declared.piece.Piece.Piece, Pieces.{Gives, AreSent, total_len}}
 
 -- what an application is given to fill: a 200 with no field line and no content
 pub record IsBlank (plan : ResponsePlan) : Type 0 where

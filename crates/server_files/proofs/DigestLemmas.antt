@@ -1,12 +1,11 @@
 -- The digits of a digest are a boundary, and stand in a tag.
 use Rattle.std.proofs.Common.{◌≡◌, ℕ, suc, zero, ◌/◌, ◌%◌, ◌<◌, true, false, List, [], ◌∷◌, ◌++◌, length, get_or, refl}
-use Rattle.std.{proofs.Common.{arith, rules, IsTrue}, proofs.lemmas.Bool.Decides.nat_tests}
-use Rattle.std.proofs.lemmas.List.Elements.{All-append, All-cons, All-get_or, All-nil, All-weaker}
-use Rattle.std.{proofs.lemmas.List.Sums.AllPass-from_list_all, specs.Int.{byte_at, bytes_high_first}}
-use Rattle.std.{specs.List.{AllPass, list_all}, specs.Prelude.{All, slice_index}}
+use Rattle.std.proofs.{Common.{arith, rules, IsTrue}, lemmas.{Bool.Decides.nat_tests, List.Elements.All-append}}
+use Rattle.std.proofs.lemmas.List.{Elements.{All-cons, All-get_or, All-nil, All-weaker}, Sums.AllPass-from_list_all}
+use Rattle.std.specs.{Int.{byte_at, bytes_high_first}, List.{AllPass, list_all}, Prelude.{All, slice_index}}
 use Rattle.hex.{specs.Hex.{encode_lower, encode_with, lower_digits}, proofs.HexLemmas.length-encode_with}
-use Rattle.http_header.{specs.FieldValue.IsFieldValue, specs.Token.is_value_byte, proofs.TokenLemmas.AllPass-from_test}
-use Rattle.headers.{specs.EntityTag.{IsSomeTag, is_tag_byte}, specs.Text.quote}
+use Rattle.http_header.{specs.{FieldValue.IsFieldValue, Token.is_value_byte}, proofs.TokenLemmas.AllPass-from_test}
+use Rattle.headers.specs.{EntityTag.{IsSomeTag, is_tag_byte}, Text.quote}
 use Rattle.decide_preconditions.{specs.Boundaries.{is_boundary, is_boundary_byte}, proofs.BoundaryLemmas.value_byte}
 use Rattle.sha2.{specs.Sha256.{digest_bytes, sha256}, proofs.Facts256.length-sha256}
 use Rattle.server_files.specs.Tags.{content_digest, strong_tag}

@@ -1,8 +1,7 @@
 -- The names of a path, and the folder whose index it names.
 use Rattle.std.proofs.Common.{◌≡◌, ℕ, Bor, List, [], ◌∷◌, ◌++◌, Option, Some, None, true, false, sym, ap, ◌∙◌}
-use Rattle.std.{proofs.lemmas.Iterator.YieldsList, proofs.lemmas.List.append_cancel_right, specs.Prelude.codes}
-use Rattle.std.specs.Prelude.{MatchOption, option_map}
-use Rattle.server_files.specs.Path.{IsFolderOf, names_folder}
+use Rattle.std.{proofs.lemmas.{Iterator.YieldsList, List.append_cancel_right}, specs.Prelude.{codes, MatchOption}}
+use Rattle.{std.specs.Prelude.option_map, server_files.specs.Path.{IsFolderOf, names_folder}}
 
 module _ {S A B : Type 0} (steps : S → Option A → S → Type 0) (v : A → B) (s t : S) where
   -- an item that is yielded first is the first of the list, and the others follow

@@ -1,8 +1,7 @@
 -- A redirect leads to the host that was asked.
 use Rattle.std.proofs.Common.{◌≡◌, ℕ, Bool, true, false, List, [], ◌∷◌, ◌++◌, Option, Some, refl, subst, arith, ap, inl}
-use Rattle.std.{proofs.Common.◌∙◌, proofs.lemmas.Bool.eq-eqb, proofs.lemmas.Bool.Decides.nat_tests}
-use Rattle.std.{specs.List.{onto_first, slice_split}, specs.Prelude.{codes, if◌then◌else◌, ◌==◌}}
-use Rattle.percent_encoding.specs.Percent.{percent_decode}
+use Rattle.std.{proofs.{Common.◌∙◌, lemmas.Bool.{eq-eqb, Decides.nat_tests}}, specs.List.{onto_first, slice_split}}
+use Rattle.{std.specs.Prelude.{codes, if◌then◌else◌, ◌==◌}, percent_encoding.specs.Percent.percent_decode}
 use Rattle.server_files.specs.Path.{IsStorePath, Names, are_names, ends_in_slash, is_plain, with_index}
 use Rattle.server_files.specs.Redirect.{HasNoIndex, IsOnHost, index_target}
 

@@ -1,6 +1,5 @@
 -- Codings of contents (RFC 9110, section 8.4.1).
-use Rattle.std.specs.Prelude.{ℕ, Bool, true, false, List, [], codes}
-use Rattle.server_files.specs.declared.coding.Coding.{Coding}
+use Rattle.{std.specs.Prelude.{ℕ, Bool, true, false, List, [], codes}, server_files.specs.declared.coding.Coding.Coding}
 use Rattle.server_files.specs.declared.coding.Coding.TheVariants.{Identity, Brotli, Gzip}
 
 -- the registered name

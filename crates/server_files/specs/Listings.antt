@@ -1,9 +1,8 @@
 -- The names in a folder, and the page that lists them.
 use Rattle.std.specs.Prelude.{ℕ, ◌-◌, Bool, true, not, ◌&&◌, ◌||◌, ◌==◌, List, [], ◌∷◌, ◌++◌, bytes_eq, codes, filter}
-use Rattle.std.specs.Prelude.{flat_map, if◌then◌else◌, length, string_bytes, take, String}
-use Rattle.std.{specs.Char.is_ascii_alphanumeric, specs.List.{list_all, list_any, slice_split}}
-use Rattle.percent_encoding.specs.Percent.{percent_encode_byte}
-use Rattle.server_files.{specs.Pages.page_with, specs.Path.{ends_in_slash, is_name}}
+use Rattle.std.specs.{Prelude.{flat_map, if◌then◌else◌, length, string_bytes, take, String}, Char.is_ascii_alphanumeric}
+use Rattle.{std.specs.List.{list_all, list_any, slice_split}, percent_encoding.specs.Percent.percent_encode_byte}
+use Rattle.server_files.specs.{Pages.page_with, Path.{ends_in_slash, is_name}}
 
 -- ---- names
 

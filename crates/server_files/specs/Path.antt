@@ -1,8 +1,7 @@
 -- Paths of a store, and the path that a URI names.
 use Rattle.std.specs.Prelude.{◌≡◌, ℕ, ◌-◌, Bool, true, false, not, ◌&&◌, ◌||◌, ◌==◌, nat_lt, List, [], ◌∷◌, ◌++◌}
 use Rattle.std.specs.Prelude.{Option, Some, None, bytes_eq, codes, drop, IsUtf8, if◌then◌else◌, length, slice_index}
-use Rattle.std.specs.List.{list_all, slice_split}
-use Rattle.percent_encoding.specs.Percent.{percent_decode}
+use Rattle.{std.specs.List.{list_all, slice_split}, percent_encoding.specs.Percent.percent_decode}
 
 -- any byte but NUL (0) and the backslash (92)
 abbrev pub is_name_byte : ℕ → Bool

@@ -1,7 +1,6 @@
 -- Where the index of a folder is found.
 use Rattle.std.specs.Prelude.{◌≡◌, ◌≢◌, ◌⊎◌, ℕ, true, List, [], ◌++◌, Option, Some, None, codes, slice_index}
-use Rattle.http_header.specs.FieldValue.{FieldValue, IsFieldValue, plain_value}
-use Rattle.server_files.specs.Path.{ends_in_slash}
+use Rattle.{http_header.specs.FieldValue.{FieldValue, IsFieldValue, plain_value}, server_files.specs.Path.ends_in_slash}
 
 -- a query after its question mark
 abbrev pub query_text : Option (List ℕ) → List ℕ

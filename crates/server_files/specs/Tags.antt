@@ -1,7 +1,5 @@
 -- Entity tags of bytes in memory.
-use Rattle.std.specs.Prelude.{ℕ, false, List}
-use Rattle.sha2.specs.Sha256.{sha256}
-use Rattle.hex.specs.Hex.{encode_lower}
+use Rattle.{std.specs.Prelude.{ℕ, false, List}, sha2.specs.Sha256.sha256, hex.specs.Hex.encode_lower}
 use Rattle.headers.specs.EntityTag.{tag_text}
 
 -- the digits of a content's SHA-256

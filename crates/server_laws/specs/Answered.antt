@@ -1,18 +1,15 @@
 -- Answers that are written out, and what their bytes parse as.
 use Rattle.std.specs.Prelude.{◌≡◌, ℕ, false, List, [], ◌∷◌, ◌++◌, Option, Some, None, codes, decimal, ◌+◌, bytes_eq}
 use Rattle.std.specs.Prelude.{flat_map, if◌then◌else◌}
-use Rattle.http1.specs.Fields.{Header}
-use Rattle.http_header.specs.FieldValue.{FieldValue}
-use Rattle.headers.{specs.Date.fixdate, specs.LineMap.LineMap, specs.Lines.Line}
-use Rattle.server_connection.{specs.Pieces.AreSent, specs.declared.piece.Piece.Piece}
-use Rattle.server_connection.specs.declared.piece.Piece.TheVariants.{Range}
+use Rattle.{http1.specs.Fields.Header, http_header.specs.FieldValue.FieldValue, headers.specs.Date.fixdate}
+use Rattle.{headers.specs.{LineMap.LineMap, Lines.Line}, server_connection.specs.Pieces.AreSent}
+use Rattle.server_connection.specs.declared.piece.Piece.{Piece, TheVariants.Range}
 use Rattle.server_connection.specs.declared.plan.ResponsePlan.{ResponsePlan as Response}
-use Rattle.decide_preconditions.{specs.Fields.{lines_sent, not_after}, specs.declared.part.Part.Part}
-use Rattle.decide_resource.specs.Fields.{lines_of_value}
-use Rattle.server_service.{specs.Answer.{cache_fields, clock, first_fields}, specs.File.{coding_value, gives_of}}
-use Rattle.server_service.{specs.File.{len_of, tag_of}, specs.Response.{fields_of, lines_under, trimmed_lines}}
-use Rattle.server_service.{specs.declared.file.File.File, specs.declared.settings.Settings.Settings}
-use Rattle.server_service.{specs.declared.settings.Site.Site, specs.declared.source.Source.Source}
+use Rattle.decide_preconditions.specs.{Fields.{lines_sent, not_after}, declared.part.Part.Part}
+use Rattle.{decide_resource.specs.Fields.lines_of_value, server_service.specs.Answer.{cache_fields, clock}}
+use Rattle.server_service.specs.{Answer.first_fields, File.{coding_value, gives_of, len_of, tag_of}, Response.fields_of}
+use Rattle.server_service.specs.{Response.{lines_under, trimmed_lines}, declared.file.File.File}
+use Rattle.server_service.specs.declared.{settings.{Settings.Settings, Site.Site}, source.Source.Source}
 use Rattle.server_service.specs.declared.source.Source.TheVariants.{Kept as InMemory}
 use Rattle.server_files.specs.declared.kept.Kept.{Kept}
 

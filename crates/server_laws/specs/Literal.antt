@@ -1,15 +1,12 @@
 -- Requests and responses that are written out.
 use Rattle.std.specs.Prelude.{◌≡◌, ℕ, List, [], ◌∷◌, ◌++◌, Option, Some, None, codes, decimal, true}
-use Rattle.http.{specs.declared.request.Request.Request, specs.Request.{body_of, head_of}}
-use Rattle.httparse.specs.Grammar.{RequestHead}
-use Rattle.http_header.specs.FieldValue.{plain_value}
-use Rattle.http_uri.specs.Uri.{uri_authority, uri_path, uri_query}
-use Rattle.http1.{specs.Fields.Header, specs.Head.request_head, specs.declared.framing.MethodKind.TheVariants.Other}
-use Rattle.http1.{specs.Conn.keeps_alive, specs.Framing.method_kind, specs.Message.known_of}
-use Rattle.http1_typed.specs.Parts.{version_of}
-use Rattle.headers.specs.Date.{fixdate}
-use Rattle.server_service.specs.Answer.{date_fields}
-use Rattle.server_connection.{specs.declared.plan.ResponsePlan.ResponsePlan, specs.Encoding.{content_len, plan_fields}}
+use Rattle.http.specs.{declared.request.Request.Request, Request.{body_of, head_of}}
+use Rattle.{httparse.specs.Grammar.RequestHead, http_header.specs.FieldValue.plain_value}
+use Rattle.{http_uri.specs.Uri.{uri_authority, uri_path, uri_query}, http1.specs.{Fields.Header, Head.request_head}}
+use Rattle.http1.specs.{declared.framing.MethodKind.TheVariants.Other, Conn.keeps_alive, Framing.method_kind}
+use Rattle.{http1.specs.Message.known_of, http1_typed.specs.Parts.version_of, headers.specs.Date.fixdate}
+use Rattle.{server_service.specs.Answer.date_fields, server_connection.specs.declared.plan.ResponsePlan.ResponsePlan}
+use Rattle.server_connection.specs.Encoding.{content_len, plan_fields}
 
 -- a request for the root of a host, without content
 abbrev pub request_text : List ℕ → List ℕ

@@ -1,8 +1,7 @@
 -- Requests that differ in their methods, or in a condition.
 use Rattle.std.specs.Prelude.{◌≡◌, ℕ, List, [], codes, ◌≢◌, ◌∷◌}
-use Rattle.http.{specs.Request.head_of, specs.declared.request.Request.Request}
-use Rattle.headers.{specs.LineMap.lines_at, specs.Lines.Line}
-use Rattle.decide_preconditions.specs.Preconditions.{IsGetOrHead}
+use Rattle.{http.specs.{Request.head_of, declared.request.Request.Request}, headers.specs.LineMap.lines_at}
+use Rattle.{headers.specs.Lines.Line, decide_preconditions.specs.Preconditions.IsGetOrHead}
 
 -- one is a GET without Range, and the other a HEAD with the same target, version and fields
 pub record IsHeadOf (get head : Request (List ℕ)) : Type 0 where

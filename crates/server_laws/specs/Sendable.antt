@@ -1,11 +1,8 @@
 -- Responses that a connection sends.
 use Rattle.std.specs.Prelude.{◌≡◌, ◌≢◌, ◌⊎◌, ℕ, ◌≤◌, Bool, true, false, ◌&&◌, List, [], ◌∷◌, codes, decimal}
-use Rattle.std.{specs.Prelude.{if◌then◌else◌, nat_lt, Option, Some, None, ⊤}, specs.List.list_all}
-use Rattle.std.specs.Option.{option_map_or}
-use Rattle.http1.{specs.declared.framing.MethodKind.MethodKind, specs.Conn.is_connect, specs.Fields.Header}
-use Rattle.http1.{specs.Fields.values_named, specs.Head.is_header}
-use Rattle.decide_cors.specs.Policy.{Policy}
-use Rattle.server_service.specs.Response.{is_bare}
+use Rattle.std.specs.{Prelude.{if◌then◌else◌, nat_lt, Option, Some, None, ⊤}, List.list_all, Option.option_map_or}
+use Rattle.http1.specs.{declared.framing.MethodKind.MethodKind, Conn.is_connect, Fields.{Header, values_named}}
+use Rattle.{http1.specs.Head.is_header, decide_cors.specs.Policy.Policy, server_service.specs.Response.is_bare}
 
 -- The status may answer a request of this method by a content of this length, whose fields state that length or leave
 -- it to the connection. It is final, 205 has no content (RFC 9110, section 15.3.6), 204 and 304 state no length, and

@@ -1,15 +1,11 @@
 -- What a connection that got one request has sent.
 use Rattle.std.specs.Prelude.{◌≡◌, ℕ, ◌-◌, ◌≤◌, List, [], ◌++◌, length, map, All, Option, None, codes}
-use Rattle.httparse.{specs.Grammar.{print_response, status_code}, specs.Spans.name_and_value}
-use Rattle.http1.{specs.declared.conn.Limits.Limits, specs.Fields.Header, specs.Framing.method_kind}
-use Rattle.http1.specs.Message.{ReadsResponseMessage}
-use Rattle.http_server.specs.Exchange.{IsAdded}
-use Rattle.headers.specs.Text.{trim}
-use Rattle.server_connection.{specs.Pieces.Gives, specs.Plan.Plans}
-use Rattle.server_service.{specs.Answer.{IsAnswer, IsSameSite}, specs.File.gives_of, specs.Memory.HasOne}
-use Rattle.server_service.{specs.declared.memory.Memory.Memory, specs.declared.service.FileService.FileService}
-use Rattle.server_files.specs.Tags.{content_digest, strong_tag}
-use Rattle.server_laws.specs.Literal.{ok_fields, ok_text}
+use Rattle.httparse.specs.{Grammar.{print_response, status_code}, Spans.name_and_value}
+use Rattle.http1.specs.{declared.conn.Limits.Limits, Fields.Header, Framing.method_kind, Message.ReadsResponseMessage}
+use Rattle.{http_server.specs.Exchange.IsAdded, headers.specs.Text.trim, server_connection.specs.Pieces.Gives}
+use Rattle.{server_connection.specs.Plan.Plans, server_service.specs.{Answer.{IsAnswer, IsSameSite}, File.gives_of}}
+use Rattle.server_service.specs.{Memory.HasOne, declared.{memory.Memory.Memory, service.FileService.FileService}}
+use Rattle.{server_files.specs.Tags.{content_digest, strong_tag}, server_laws.specs.Literal.{ok_fields, ok_text}}
 use Rattle.http1.specs.Message as Wire
 
 abbrev pub plans : Plans (FileService Memory)

@@ -1,8 +1,7 @@
 -- Stores that have the same where a request looks, or what a client takes for it.
 use Rattle.std.specs.Prelude.{◌≡◌, ◌++◌, ℕ, Bool, true, List, Some, ◌⊎◌, Option}
-use Rattle.server_files.{specs.Codings.coding_suffix, specs.Path.Names, specs.declared.coding.Coding.Coding}
-use Rattle.server_service.{specs.declared.file.Entry.Entry, specs.File.tag_of}
-use Rattle.server_service.{specs.declared.file.Entry.TheVariants.Readable, specs.declared.file.File.File}
+use Rattle.server_files.specs.{Codings.coding_suffix, Path.Names, declared.coding.Coding.Coding}
+use Rattle.server_service.specs.{declared.file.{Entry.{Entry, TheVariants.Readable}, File.File}, File.tag_of}
 use Rattle.http_header.specs.FieldValue.{FieldValue}
 
 -- a store that has one entry at each path

@@ -1,10 +1,9 @@
 -- What is logged of a text has no quote.
 use Rattle.std.proofs.Common.{◌≡◌, ℕ, ◌/◌, ◌%◌, ◌<◌, Bool, true, false, List, [], ◌∷◌, ◌++◌, refl, arith}
-use Rattle.std.{proofs.lemmas.Bool.Decides.nat_tests, proofs.lemmas.List.Elements.{All-head, All-tail}}
-use Rattle.std.{proofs.lemmas.List.Sums.AllPass-from_list_all, specs.List.list_all, specs.Prelude.{All, codes}}
-use Rattle.std.specs.Prelude.{if◌then◌else◌, slice_index}
-use Rattle.hex.specs.Hex.{encode_lower, encode_with, lower_digits}
-use Rattle.server_program.specs.Log.{is_plain_byte, is_quotable, logged, logged_byte}
+use Rattle.std.proofs.lemmas.{Bool.Decides.nat_tests, List.{Elements.{All-head, All-tail}, Sums.AllPass-from_list_all}}
+use Rattle.{std.specs.{List.list_all, Prelude.{All, codes, if◌then◌else◌, slice_index}}, hex.specs.Hex.encode_lower}
+use Rattle.{hex.specs.Hex.{encode_with, lower_digits}, server_program.specs.Log.{is_plain_byte, is_quotable, logged}}
+use Rattle.server_program.specs.Log.{logged_byte}
 
 digit : (n : ℕ) → n < 16 → is_quotable (slice_index lower_digits n) ≡ true
 digit n below = AllPass-from_list_all is_quotable lower_digits refl n 0 below

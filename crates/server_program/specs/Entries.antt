@@ -1,10 +1,9 @@
 -- The entry of a path for which the system gives an error.
-use Rattle.std.specs.Prelude.{Bool, true, false, Result, Ok, Err, alloc_error}
-use Rattle.std.{specs.declared.alloc.AllocError.AllocError, specs.declared.io.ErrorKind.ErrorKind}
-use Rattle.std.specs.declared.io.ErrorKind.TheVariants.{FilesystemLoop, InvalidFilename, NotADirectory, NotFound}
-use Rattle.std.specs.declared.io.ErrorKind.TheVariants.{OutOfMemory, PermissionDenied}
-use Rattle.server_service.{specs.declared.file.Entry.Entry, specs.declared.file.Entry.TheVariants.{Missing, Forbidden}}
-use Rattle.server_service.specs.declared.file.Entry.TheVariants.{Unavailable, Folder, Listed, Readable}
+use Rattle.std.specs.{Prelude.{Bool, true, false, Result, Ok, Err, alloc_error}, declared.alloc.AllocError.AllocError}
+use Rattle.std.specs.declared.io.ErrorKind.{ErrorKind, TheVariants.{FilesystemLoop, InvalidFilename, NotADirectory}}
+use Rattle.std.specs.declared.io.ErrorKind.TheVariants.{NotFound, OutOfMemory, PermissionDenied}
+use Rattle.server_service.specs.declared.file.Entry.{Entry, TheVariants.{Missing, Forbidden, Unavailable, Folder}}
+use Rattle.server_service.specs.declared.file.Entry.TheVariants.{Listed, Readable}
 
 -- nothing, what may not be read, or what can't be read now; that memory ran out stays an error
 abbrev pub entry_for : ErrorKind → Result Entry AllocError

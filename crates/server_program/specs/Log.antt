@@ -1,12 +1,10 @@
 -- A line of an access log, in the combined format (Common Log Format of the NCSA, with Referer and User-Agent).
 use Rattle.std.specs.Prelude.{◌≡◌, ◌≢◌, ◌⊎◌, ℕ, ◌==◌, Bool, not, ◌&&◌, ◌||◌, nat_le, nat_lt, List, [], ◌∷◌, ◌++◌}
 use Rattle.std.specs.Prelude.{Option, Some, None, bytes_eq, codes, decimal, flat_map, if◌then◌else◌, slice_range}
-use Rattle.hex.specs.Hex.{encode_lower}
-use Rattle.http.{specs.declared.request.Request.Request, specs.Request.head_of}
-use Rattle.http.{specs.declared.version.TheConstants.Version.HTTP_10, specs.declared.version.Version.Version}
-use Rattle.http_uri.{specs.declared.uri.Uri.Uri, specs.Uri.{uri_path, uri_query}}
-use Rattle.headers.{specs.Date.fixdate, specs.LineMap.{LineMap, lines_at}, specs.Lines.Line}
-use Rattle.server_connection.specs.Encoding.{content_len}
+use Rattle.{hex.specs.Hex.encode_lower, http.specs.declared.request.Request.Request}
+use Rattle.http.specs.{declared.version.{TheConstants.Version.HTTP_10, Version.Version}, Request.head_of}
+use Rattle.{http_uri.specs.{declared.uri.Uri.Uri, Uri.{uri_path, uri_query}}, headers.specs.Date.fixdate}
+use Rattle.{headers.specs.{LineMap.{LineMap, lines_at}, Lines.Line}, server_connection.specs.Encoding.content_len}
 use Rattle.server_connection.specs.declared.plan.ResponsePlan.{ResponsePlan as Response}
 use Rattle.server_files.specs.Redirect.{query_text}
 

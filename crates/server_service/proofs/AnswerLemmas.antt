@@ -1,38 +1,31 @@
 -- What the answer of a resource sends.
 use Rattle.std.proofs.Common.{◌≡◌, ℕ, Bool, true, false, List, [], ◌++◌, Option, Some, None, ap, sym, subst, arith, ◌∙◌}
-use Rattle.std.{proofs.Common.Bor, proofs.lemmas.List.Elements.All-head, proofs.lemmas.Option.slice_get-map}
-use Rattle.std.{specs.Bool.MatchBool, specs.Option.{is_some, option_map}, specs.Prelude.{⊤, map, option_copied}}
-use Rattle.std.specs.Prelude.{slice_get, string_bytes}
-use Rattle.http_header.specs.FieldValue.{FieldValue}
-use Rattle.http1.specs.Fields.{Header}
-use Rattle.headers.specs.LineMap.{Field, LineMap}
-use Rattle.memchr.specs.Find.{FindsNeedle}
-use Rattle.decide_preconditions.{specs.Contents.{divisible_len, limits_of}, specs.Parts.IsPartOf, specs.Plans.IsPlan}
-use Rattle.decide_preconditions.{specs.Responses.IsAnswered, specs.declared.limits.RangeLimits.RangeLimits}
-use Rattle.decide_preconditions.{specs.declared.plan.Plan.Plan, specs.declared.plan.Plan.TheVariants.NotModified}
-use Rattle.decide_preconditions.specs.declared.plan.Plan.TheVariants.{Failed, Full, Single, Multiple, Unsatisfiable}
+use Rattle.std.{proofs.{Common.Bor, lemmas.{List.Elements.All-head, Option.slice_get-map}}, specs.Bool.MatchBool}
+use Rattle.std.specs.{Option.{is_some, option_map}, Prelude.{⊤, map, option_copied, slice_get, string_bytes}}
+use Rattle.{http_header.specs.FieldValue.FieldValue, http1.specs.Fields.Header, headers.specs.LineMap.{Field, LineMap}}
+use Rattle.{memchr.specs.Find.FindsNeedle, decide_preconditions.specs.Contents.{divisible_len, limits_of}}
+use Rattle.decide_preconditions.specs.{Parts.IsPartOf, Plans.IsPlan, Responses.IsAnswered}
+use Rattle.decide_preconditions.specs.declared.{limits.RangeLimits.RangeLimits, plan.Plan.Plan}
+use Rattle.decide_preconditions.specs.declared.plan.Plan.TheVariants.{NotModified, Failed, Full, Single, Multiple}
+use Rattle.decide_preconditions.specs.declared.plan.Plan.TheVariants.{Unsatisfiable}
 use Rattle.decide_preconditions.specs.declared.resource.TargetState.{TargetState as Target}
-use Rattle.decide_preconditions.specs.declared.response.Response.{Response}
-use Rattle.decide_resource.specs.Answers.{GivesIf, IsAnswer, at_place, content_of, is_admitted, is_sent, sent_for}
-use Rattle.decide_resource.specs.Answers.{target_of}
+use Rattle.{decide_preconditions.specs.declared.response.Response.Response, decide_resource.specs.Answers.GivesIf}
+use Rattle.decide_resource.specs.Answers.{IsAnswer, at_place, content_of, is_admitted, is_sent, sent_for, target_of}
 use Rattle.decide_resource.specs.Requests.{Request as Asked}
-use Rattle.decide_resource.{specs.declared.answer.Answer.Answer, specs.declared.answer.Sends.Sends}
-use Rattle.decide_resource.specs.declared.answer.Sends.TheVariants.{Nothing, Alternatives, Planned, Perform}
-use Rattle.decide_resource.{specs.declared.reason.Reason.Reason, specs.declared.reason.Reason.TheVariants.InvalidHost}
-use Rattle.decide_resource.specs.declared.reason.Reason.TheVariants.{Misdirected, Preflight, Denied, UnknownMethod}
-use Rattle.decide_resource.specs.declared.reason.Reason.TheVariants.{MethodNotAllowed, UnmetExpectation, PartialContent}
-use Rattle.decide_resource.specs.declared.reason.Reason.TheVariants.{Moved, Gone, NotFound, Options, LengthRequired}
-use Rattle.decide_resource.specs.declared.reason.Reason.TheVariants.{ContentTooLarge}
+use Rattle.decide_resource.specs.declared.answer.{Answer.Answer, Sends.{Sends, TheVariants.{Nothing, Alternatives}}}
+use Rattle.decide_resource.specs.declared.{answer.Sends.TheVariants.{Planned, Perform}, reason.Reason.Reason}
+use Rattle.decide_resource.specs.declared.reason.Reason.TheVariants.{InvalidHost, Misdirected, Preflight, Denied}
+use Rattle.decide_resource.specs.declared.reason.Reason.TheVariants.{UnknownMethod, MethodNotAllowed, UnmetExpectation}
+use Rattle.decide_resource.specs.declared.reason.Reason.TheVariants.{PartialContent, Moved, Gone, NotFound, Options}
+use Rattle.decide_resource.specs.declared.reason.Reason.TheVariants.{LengthRequired, ContentTooLarge}
 use Rattle.decide_resource.specs.declared.reason.Reason.TheVariants.{UnsupportedMediaType, UnsupportedCoding}
 use Rattle.decide_resource.specs.declared.reason.Reason.TheVariants.{NotAcceptable, PreconditionRequired, Admitted}
-use Rattle.decide_resource.specs.declared.representation.Representation.{Representation}
-use Rattle.decide_resource.specs.declared.resource.Resource.{Resource}
+use Rattle.decide_resource.specs.declared.{representation.Representation.Representation, resource.Resource.Resource}
 use Rattle.decide_cors.specs.Policy.{Policy}
 use Rattle.server_connection.specs.declared.plan.ResponsePlan.{ResponsePlan as Exchanged}
 use Rattle.server_service.specs.Answer.{Carries, FitsIn, FitsOf, cache_sent, explained_fields, pieces_for}
-use Rattle.server_service.{specs.File.{len_of, representation_of}, specs.Parts.{Fits, Occurs}}
-use Rattle.server_service.{specs.Response.{headers_sent, trimmed_lines}, specs.declared.settings.Site.Site}
-use Rattle.server_service.specs.declared.file.File.{File}
+use Rattle.server_service.specs.{File.{len_of, representation_of}, Parts.{Fits, Occurs}, Response.headers_sent}
+use Rattle.server_service.specs.{Response.trimmed_lines, declared.{settings.Site.Site, file.File.File}}
 
 -- the parts of a plan lie in the representation
 pub Fits-from_plan : (present : ℕ) (method : List ℕ) (request : LineMap) (target : Target) (len : ℕ)

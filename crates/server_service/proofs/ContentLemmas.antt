@@ -1,11 +1,10 @@
 -- What is sent of bytes in memory.
 use Rattle.std.proofs.Common.{◌≡◌, ℕ, ◌+◌, List, [], ◌∷◌, ◌++◌, length, take, drop, refl, sym, ap, ◌∙◌, append_assoc}
-use Rattle.std.{proofs.Common.{append-nil, arith}, proofs.lemmas.List.{drop-drop, drop-take, take-append-drop}}
-use Rattle.std.proofs.lemmas.List.{take-take, take_all}
-use Rattle.server_connection.{specs.Pieces.{Advances, AreSent, Emits, piece_len}, specs.Pieces.Advances.{stays, emits}}
-use Rattle.server_connection.{specs.Pieces.Advances.skips, specs.declared.piece.Piece.Piece}
+use Rattle.std.proofs.{Common.{append-nil, arith}, lemmas.List.{drop-drop, drop-take, take-append-drop, take-take}}
+use Rattle.{std.proofs.lemmas.List.take_all, server_connection.specs.Pieces.{Advances, Advances.{stays, emits, skips}}}
+use Rattle.server_connection.specs.{Pieces.{AreSent, Emits, piece_len}, declared.piece.Piece.Piece}
 use Rattle.server_connection.specs.declared.piece.Piece.TheVariants.{Literal, Range}
-use Rattle.server_service.{specs.File.gives_at, specs.Parts.{bytes_of, piece_bytes}}
+use Rattle.server_service.specs.{File.gives_at, Parts.{bytes_of, piece_bytes}}
 use Rattle.server_files.specs.declared.kept.Kept.{Kept}
 use Rattle.server_service.specs.declared.source.Source.TheVariants.{Kept as InMemory}
 

@@ -1,10 +1,8 @@
 -- Fields that are set in their order.
 use Rattle.std.proofs.Common.{◌≡◌, ℕ, Bool, ◌||◌, ◌≤◌, ◌<◌, ◌-◌, List, [], ◌∷◌, ◌++◌, length, take, drop, get_or, arith}
-use Rattle.std.{proofs.Common.{refl, ap, sym, ◌∙◌}, proofs.lemmas.List.take_all, specs.List.list_any}
-use Rattle.std.specs.Prelude.{bytes_eq}
+use Rattle.std.{proofs.{Common.{refl, ap, sym, ◌∙◌}, lemmas.List.take_all}, specs.{List.list_any, Prelude.bytes_eq}}
 use Rattle.headers.specs.LineMap.{field_of, fields_of as encoded_fields}
-use Rattle.headers.specs.declared.Encoded.{Encoded}
-use Rattle.server_service.specs.Response.{headers_set, is_named, lines_unless}
+use Rattle.{headers.specs.declared.Encoded.Encoded, server_service.specs.Response.{headers_set, is_named, lines_unless}}
 
 -- the first field, and the others
 pub headers_set-next : (fields : List Encoded) (field : Encoded) → 1 ≤ length fields → field ≡ get_or fields 0 field

@@ -1,12 +1,10 @@
 -- A request has one response at most.
 use Rattle.std.proofs.Common.{◌≡◌, ℕ, Bool, true, List, [], ◌++◌, Option, Some, None, refl, map, sym, ap, subst, ◌∙◌}
 use Rattle.std.{proofs.Common.{inl, inr}, specs.Prelude.{is_some, string_bytes}}
-use Rattle.http.{specs.declared.request.Request.Request, specs.Request.head_of}
-use Rattle.http_uri.{specs.declared.uri.Uri.Uri, specs.Uri.{uri_authority, uri_path, uri_query}}
-use Rattle.http1.specs.Fields.{Header}
+use Rattle.{http.specs.{declared.request.Request.Request, Request.head_of}, http_uri.specs.declared.uri.Uri.Uri}
+use Rattle.{http_uri.specs.Uri.{uri_authority, uri_path, uri_query}, http1.specs.Fields.Header}
 use Rattle.headers.specs.LineMap.{Field, LineMap, fields_of as encoded_fields}
-use Rattle.headers.specs.Lines.{Line}
-use Rattle.server_connection.specs.declared.piece.Piece.{Piece}
+use Rattle.{headers.specs.Lines.Line, server_connection.specs.declared.piece.Piece.Piece}
 use Rattle.server_connection.specs.declared.plan.ResponsePlan.{ResponsePlan as Response}
 use Rattle.gateway_messages.specs.declared.protocol.Protocol.{Protocol}
 use Rattle.decide_preconditions.{specs.Contents.{divisible_len, limits_of}, specs.declared.part.Part.Part}
@@ -14,23 +12,21 @@ use Rattle.decide_preconditions.specs.declared.plan.Plan.TheVariants.{Full, Mult
 use Rattle.decide_resource.specs.declared.denied.Denied.{Denied as Denial}
 use Rattle.decide_resource.specs.Answers.{AreSame, AreSent, IsAnswer, at_place, content_of, target_of}
 use Rattle.decide_resource.specs.Requests.{Request as Asked, head_of as as_head}
-use Rattle.decide_resource.{specs.declared.answer.Answer.Answer, specs.declared.answer.Sends.Sends}
-use Rattle.decide_resource.specs.declared.answer.Sends.TheVariants.{Nothing, Alternatives, Planned, Perform}
-use Rattle.decide_resource.{specs.declared.reason.Reason.Reason, specs.declared.request.RequestContent.RequestContent}
-use Rattle.decide_resource.{specs.declared.resource.Resource.Resource, specs.declared.resource.State.State}
-use Rattle.decide_resource.{proofs.AnswerLemmas.one_answer, proofs.ItemLemmas.same_answer}
-use Rattle.server_files.specs.declared.listing.Listing.{Listing}
+use Rattle.decide_resource.specs.declared.answer.{Answer.Answer, Sends.{Sends, TheVariants.{Nothing, Alternatives}}}
+use Rattle.decide_resource.specs.declared.{answer.Sends.TheVariants.{Planned, Perform}, reason.Reason.Reason}
+use Rattle.decide_resource.specs.declared.{request.RequestContent.RequestContent, resource.Resource.Resource}
+use Rattle.decide_resource.{specs.declared.resource.State.State, proofs.AnswerLemmas.one_answer}
+use Rattle.{decide_resource.proofs.ItemLemmas.same_answer, server_files.specs.declared.listing.Listing.Listing}
 use Rattle.server_service.specs.Answer.{Carries, Decides, IsAnswerAt, IsDescribed, IsHeldBy, IsSendable, cache_sent}
 use Rattle.server_service.specs.Answer.{clock, explained_fields, file_at, file_sent, first_fields, pieces_for}
-use Rattle.server_service.{specs.Answer.{pieces_of, sends_several, status_for}, specs.Asked.{Asks, HasAuthority}}
-use Rattle.server_service.{specs.Asked.IsProtocolOf, specs.File.representation_of, specs.Found.FindsEntry}
-use Rattle.server_service.{specs.Found.{FindsFolder, FindsListing, IsEmpty, LeadsTo}, specs.Multipart.multipart}
-use Rattle.server_service.specs.Response.{IsSameResponse, headers_sent, trimmed_lines}
-use Rattle.server_service.{specs.declared.file.Entry.Entry, specs.declared.file.Entry.TheVariants.{Missing, Forbidden}}
-use Rattle.server_service.specs.declared.file.Entry.TheVariants.{Unavailable, Folder, Listed, Readable}
-use Rattle.server_service.{specs.declared.file.File.File, specs.declared.found.Found.Found}
-use Rattle.server_service.{specs.declared.settings.Site.Site, specs.declared.source.Source.Source}
-use Rattle.server_service.{proofs.AnswerLemmas.{IsPlanOf, IsPlannedIn, planned_in}, proofs.PlanLemmas.same_by_plan}
+use Rattle.server_service.specs.{Answer.{pieces_of, sends_several, status_for}, Asked.{Asks, HasAuthority}}
+use Rattle.server_service.specs.{Asked.IsProtocolOf, File.representation_of, Found.{FindsEntry, FindsFolder}}
+use Rattle.server_service.specs.{Found.{FindsListing, IsEmpty, LeadsTo}, Multipart.multipart, Response.IsSameResponse}
+use Rattle.server_service.specs.{Response.{headers_sent, trimmed_lines}, declared.file.Entry.Entry}
+use Rattle.server_service.specs.declared.file.Entry.TheVariants.{Missing, Forbidden, Unavailable, Folder, Listed}
+use Rattle.server_service.specs.declared.{file.{Entry.TheVariants.Readable, File.File}, found.Found.Found}
+use Rattle.server_service.{specs.declared.{settings.Site.Site, source.Source.Source}, proofs.AnswerLemmas.IsPlanOf}
+use Rattle.server_service.proofs.{AnswerLemmas.{IsPlannedIn, planned_in}, PlanLemmas.same_by_plan}
 use Rattle.server_service.proofs.RepresentationLemmas.{contents_once}
 
 -- ---- what a path leads to

@@ -1,22 +1,19 @@
 -- A part holds no bytes that the content doesn't.
 use Rattle.std.proofs.Common.{◌≡◌, ℕ, ◌+◌, ◌-◌, ◌<◌, List, [], ◌∷◌, length, drop, get_or, arith, ap, sym, ◌∙◌, subst}
-use Rattle.std.{proofs.Common.{Option, Some, length-drop, true, false, refl, inl, inr}, proofs.lemmas.List.get_or-drop}
+use Rattle.std.proofs.{Common.{Option, Some, length-drop, true, false, refl, inl, inr}, lemmas.List.get_or-drop}
 use Rattle.std.{proofs.lemmas.List.{get_or-take, length-take}, specs.Prelude.{codes, slice_range}}
-use Rattle.memchr.specs.Find.{OccursAt}
-use Rattle.headers.specs.LineMap.{LineMap}
-use Rattle.decide_preconditions.{specs.Contents.{divisible_len, limits_of}, specs.Plans.IsPlan}
-use Rattle.decide_preconditions.{specs.declared.limits.RangeLimits.RangeLimits, specs.declared.part.Part.Part}
-use Rattle.decide_preconditions.{specs.declared.plan.Plan.Plan, specs.declared.plan.Plan.TheVariants.NotModified}
-use Rattle.decide_preconditions.specs.declared.plan.Plan.TheVariants.{Failed, Full, Single, Multiple, Unsatisfiable}
+use Rattle.{memchr.specs.Find.OccursAt, headers.specs.LineMap.LineMap}
+use Rattle.decide_preconditions.specs.{Contents.{divisible_len, limits_of}, Plans.IsPlan}
+use Rattle.decide_preconditions.specs.declared.{limits.RangeLimits.RangeLimits, part.Part.Part, plan.Plan.Plan}
+use Rattle.decide_preconditions.specs.declared.plan.Plan.TheVariants.{NotModified, Failed, Full, Single, Multiple}
+use Rattle.decide_preconditions.specs.declared.plan.Plan.TheVariants.{Unsatisfiable}
 use Rattle.decide_preconditions.specs.declared.resource.TargetState.{TargetState as Target}
 use Rattle.decide_resource.specs.Answers.{at_place, content_of, target_of}
 use Rattle.decide_resource.specs.Requests.{Request as Asked, head_of as as_head}
-use Rattle.decide_resource.{specs.declared.answer.Answer.Answer, specs.declared.answer.Sends.Sends}
-use Rattle.decide_resource.specs.declared.answer.Sends.TheVariants.{Nothing, Alternatives, Planned, Perform}
-use Rattle.decide_resource.specs.declared.resource.Resource.{Resource}
-use Rattle.server_service.specs.Answer.{Decides, IsHeldBy, file_sent, is_several, sends_several}
-use Rattle.server_service.{specs.Parts.{IsKnownToHold, Occurs, part_bytes}, specs.declared.file.File.File}
-use Rattle.server_service.specs.declared.source.Source.{Source}
+use Rattle.decide_resource.specs.declared.answer.{Answer.Answer, Sends.{Sends, TheVariants.{Nothing, Alternatives}}}
+use Rattle.decide_resource.specs.declared.{answer.Sends.TheVariants.{Planned, Perform}, resource.Resource.Resource}
+use Rattle.server_service.specs.{Answer.{Decides, IsHeldBy, file_sent, is_several, sends_several}, Parts.IsKnownToHold}
+use Rattle.server_service.specs.{Parts.{Occurs, part_bytes}, declared.{file.File.File, source.Source.Source}}
 use Rattle.server_files.specs.declared.kept.Kept.{Kept}
 use Rattle.server_service.specs.declared.source.Source.TheVariants.{Kept as InMemory}
 use Rattle.server_service.proofs.AnswerLemmas.{IsPlannedIn, planned_in}

@@ -1,12 +1,10 @@
 -- What depends on a plan is the same for two plans of one request.
 use Rattle.std.proofs.Common.{◌≡◌, ℕ, ◌<◌, List, [], ◌∷◌, Some, length, refl, sym, ap, ◌∙◌, arith}
-use Rattle.std.specs.Prelude.{if◌then◌else◌, ◌==◌}
-use Rattle.headers.specs.LineMap.{LineMap}
-use Rattle.decide_preconditions.{specs.Fields.status_of, specs.Plans.{IsPlan, IsSamePlan, parts_sent}}
-use Rattle.decide_preconditions.{specs.declared.limits.RangeLimits.RangeLimits, specs.declared.part.Part.Part}
-use Rattle.decide_preconditions.{specs.declared.plan.Plan.Plan, specs.declared.plan.Plan.TheVariants.NotModified}
-use Rattle.decide_preconditions.specs.declared.plan.Plan.TheVariants.{Failed, Full, Single, Multiple, Unsatisfiable}
-use Rattle.decide_preconditions.specs.declared.resource.TargetState.{TargetState}
+use Rattle.{std.specs.Prelude.{if◌then◌else◌, ◌==◌}, headers.specs.LineMap.LineMap}
+use Rattle.decide_preconditions.specs.{Fields.status_of, Plans.{IsPlan, IsSamePlan, parts_sent}}
+use Rattle.decide_preconditions.specs.declared.{limits.RangeLimits.RangeLimits, part.Part.Part, plan.Plan.Plan}
+use Rattle.decide_preconditions.specs.declared.plan.Plan.TheVariants.{NotModified, Failed, Full, Single, Multiple}
+use Rattle.decide_preconditions.specs.declared.{plan.Plan.TheVariants.Unsatisfiable, resource.TargetState.TargetState}
 
 -- what depends on a plan, from its parts if it sends some of them: `several` depends on two or more
 abbrev by_parts : {X : Type 0} → (Plan → X) → (List Part → X) → List Part → X

@@ -1,9 +1,8 @@
 -- Reads of the bytes of a file.
 use Rattle.std.proofs.Common.{◌≡◌, ℕ, ◌-◌, ◌≤◌, List, ◌++◌, length, min, take, drop, arith, ap, sym, ◌∙◌, IfOk, Result}
-use Rattle.std.{proofs.Common.{Ok, Err, take_all}, proofs.Math.Nat.min-le_left, proofs.lemmas.List.length-append}
-use Rattle.std.{proofs.lemmas.List.{length-drop, length-take-le, take-append-le}, specs.Io.ReadsAtMost}
-use Rattle.server_service.{specs.File.{Reads, gives_at}, specs.declared.source.Source.Source}
-use Rattle.server_service.specs.declared.source.Source.TheVariants.{Kept, Opened}
+use Rattle.std.proofs.{Common.{Ok, Err, take_all}, Math.Nat.min-le_left, lemmas.List.{length-append, length-drop}}
+use Rattle.std.{proofs.lemmas.List.{length-take-le, take-append-le}, specs.Io.ReadsAtMost}
+use Rattle.server_service.specs.{File.{Reads, gives_at}, declared.source.Source.{Source, TheVariants.{Kept, Opened}}}
 
 -- so many bytes of a content were read from a place on into a buffer
 module _ (content old new : List ℕ) (start count : ℕ) (counted : count ≡ min (length content - start) (length old))

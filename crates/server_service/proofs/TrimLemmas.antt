@@ -1,14 +1,13 @@
 -- Values and field lines without white space at their ends.
 use Rattle.std.proofs.Common.{◌≡◌, ℕ, zero, suc, ◌+◌, ◌-◌, ◌<◌, ◌≤◌, Bool, true, false, not, eqb, IsTrue, List, [], ◌∷◌}
 use Rattle.std.proofs.Common.{◌++◌, length, take, drop, reverse, get_or, refl, sym, ap, ◌∙◌, arith, inl, inr, nat_lt}
-use Rattle.std.{proofs.Common.if◌then◌else◌, specs.List.{list_all, prefix_len, suffix_len}, proofs.Math.Bool.or_comm}
-use Rattle.std.proofs.lemmas.Bool.{and_from, and_parts, cases_Bool, cond-false, cond-true, lt-ltb, ltb-false, ltb-true}
-use Rattle.std.{proofs.lemmas.Bool.not-true, proofs.lemmas.List.{drop_all, drop_more, get_or-reverse, length-reverse}}
-use Rattle.std.proofs.lemmas.List.{map_push, reverse-append, take_all, take_more}
-use Rattle.std.{proofs.lemmas.List.Elements.All-weaker, proofs.lemmas.List.Folds.list_all-append}
-use Rattle.std.proofs.lemmas.List.Sums.{list_all-from_AllPass, prefix_len_stops}
+use Rattle.std.proofs.{Common.if◌then◌else◌, Math.Bool.or_comm, lemmas.Bool.{and_from, and_parts, cases_Bool}}
+use Rattle.std.proofs.lemmas.{Bool.{cond-false, cond-true, lt-ltb, ltb-false, ltb-true, not-true}, List.drop_all}
+use Rattle.std.proofs.lemmas.List.{drop_more, get_or-reverse, length-reverse, map_push, reverse-append, take_all}
+use Rattle.std.proofs.lemmas.List.{take_more, Elements.All-weaker, Folds.list_all-append, Sums.list_all-from_AllPass}
+use Rattle.std.{proofs.lemmas.List.Sums.prefix_len_stops, specs.List.{list_all, prefix_len, suffix_len}}
 use Rattle.httparse.specs.Grammar.{is_ows, is_token, is_token_byte, is_value_byte}
-use Rattle.http_header.{specs.FieldName.IsHeaderName, specs.FieldValue.IsFieldValue}
+use Rattle.http_header.specs.{FieldName.IsHeaderName, FieldValue.IsFieldValue}
 use Rattle.http_header.specs.Token.{is_token_byte as is_name_byte}
 use Rattle.http1.{specs.Fields.Header, specs.Head.{is_field_value, starts_visible}}
 use Rattle.headers.{specs.EntityTag.{IsTag, tag_text}, specs.Text.{is_blank, trim, trim_end, trim_start}}

@@ -1,24 +1,18 @@
 -- A GET that makes no condition and asks for no range gets the content.
 use Rattle.std.proofs.Common.{◌≡◌, ℕ, ◌<◌, Bool, true, false, not, ◌&&◌, List, [], ◌∷◌, length, cond, Option, Some}
 use Rattle.std.{proofs.Common.{None, refl, sym, subst, ◌∙◌, ap, inl, inr, arith, lit<, map}, specs.Prelude.bytes_eq}
-use Rattle.std.{specs.Prelude.{codes, find, is_some, nat_lt, option_map, slice_get, string_bytes}, specs.Global.Vec}
-use Rattle.http.{specs.declared.request.Request.Request, specs.Request.head_of}
-use Rattle.http_header.specs.FieldValue.{FieldValue}
-use Rattle.http_uri.specs.Uri.{uri_path}
-use Rattle.headers.{specs.LineMap.{Field, LineMap, lines_at}, specs.Lines.Line}
-use Rattle.server_connection.{specs.Pieces.AreSent, specs.declared.piece.Piece.Piece}
-use Rattle.server_connection.specs.declared.piece.Piece.TheVariants.{Range}
+use Rattle.std.specs.{Prelude.{codes, find, is_some, nat_lt, option_map, slice_get, string_bytes}, Global.Vec}
+use Rattle.{http.specs.{declared.request.Request.Request, Request.head_of}, http_header.specs.FieldValue.FieldValue}
+use Rattle.{http_uri.specs.Uri.uri_path, headers.specs.{LineMap.{Field, LineMap, lines_at}, Lines.Line}}
+use Rattle.server_connection.specs.{Pieces.AreSent, declared.piece.Piece.{Piece, TheVariants.Range}}
 use Rattle.server_connection.specs.declared.plan.ResponsePlan.{ResponsePlan as Response}
-use Rattle.rfc_fields.specs.Scan.{Member}
-use Rattle.gateway_messages.{specs.Expectations.has_known_expectation, specs.Requests.has_host}
-use Rattle.gateway_messages.specs.declared.protocol.Protocol.{Protocol}
-use Rattle.decide_negotiation.{specs.Choice.{Picks, first_place}, specs.Codings.encoding_quality}
-use Rattle.decide_negotiation.{specs.Languages.language_says, specs.MediaRanges.media_type_says}
-use Rattle.decide_negotiation.specs.Qualities.{quality_by, quality_in, rank}
+use Rattle.{rfc_fields.specs.Scan.Member, gateway_messages.specs.Expectations.has_known_expectation}
+use Rattle.gateway_messages.specs.{Requests.has_host, declared.protocol.Protocol.Protocol}
+use Rattle.decide_negotiation.specs.{Choice.{Picks, first_place}, Codings.encoding_quality, Languages.language_says}
+use Rattle.decide_negotiation.specs.{MediaRanges.media_type_says, Qualities.{quality_by, quality_in, rank}}
 use Rattle.decide_negotiation.{specs.declared.acceptability.Quality.Quality, proofs.ChoiceLemmas.picks_one}
-use Rattle.decide_preconditions.{specs.Plans.{IsPlan, IsPlanned, IsSamePlan}, specs.Responses.IsAnswered}
-use Rattle.decide_preconditions.{specs.Selection.Selects, specs.declared.part.Part.Part, specs.declared.plan.Plan.Plan}
-use Rattle.decide_preconditions.specs.declared.plan.Plan.TheVariants.{Full, Multiple}
+use Rattle.decide_preconditions.specs.{Plans.{IsPlan, IsPlanned, IsSamePlan}, Responses.IsAnswered, Selection.Selects}
+use Rattle.decide_preconditions.specs.declared.{part.Part.Part, plan.Plan.{Plan, TheVariants.{Full, Multiple}}}
 use Rattle.decide_preconditions.specs.declared.response.Response.{Response as Planning}
 use Rattle.decide_preconditions.{specs.declared.selection.Selection.TheVariants.Whole, proofs.OnePlanLemmas.one_plan}
 use Rattle.decide_preconditions.proofs.PreconditionLemmas.{unconditional}
@@ -28,30 +22,25 @@ use Rattle.decide_resource.specs.Applies.{is_unacceptable, is_unsized, rule_for}
 use Rattle.decide_resource.specs.Representations.{are_unacceptable, coding_of, joined, rank_by, score}
 use Rattle.decide_resource.specs.Requests.{Request as Asked}
 use Rattle.decide_resource.specs.declared.denied.Denied.{Denied as Denial}
-use Rattle.decide_resource.{specs.declared.answer.Answer.Answer, specs.declared.answer.Sends.Sends}
-use Rattle.decide_resource.{specs.declared.answer.Sends.TheVariants.Planned, specs.declared.reason.Reason.Reason}
-use Rattle.decide_resource.specs.declared.reason.Reason.TheVariants.{InvalidHost, Misdirected, Preflight, Denied}
-use Rattle.decide_resource.specs.declared.reason.Reason.TheVariants.{UnknownMethod, MethodNotAllowed, UnmetExpectation}
-use Rattle.decide_resource.specs.declared.reason.Reason.TheVariants.{Options, PartialContent, Moved, Gone, NotFound}
-use Rattle.decide_resource.specs.declared.reason.Reason.TheVariants.{LengthRequired, ContentTooLarge}
+use Rattle.decide_resource.specs.declared.answer.{Answer.Answer, Sends.{Sends, TheVariants.Planned}}
+use Rattle.decide_resource.specs.declared.reason.Reason.{Reason, TheVariants.{InvalidHost, Misdirected, Preflight}}
+use Rattle.decide_resource.specs.declared.reason.Reason.TheVariants.{Denied, UnknownMethod, MethodNotAllowed}
+use Rattle.decide_resource.specs.declared.reason.Reason.TheVariants.{UnmetExpectation, Options, PartialContent, Moved}
+use Rattle.decide_resource.specs.declared.reason.Reason.TheVariants.{Gone, NotFound, LengthRequired, ContentTooLarge}
 use Rattle.decide_resource.specs.declared.reason.Reason.TheVariants.{UnsupportedMediaType, UnsupportedCoding}
 use Rattle.decide_resource.specs.declared.reason.Reason.TheVariants.{NotAcceptable, PreconditionRequired, Admitted}
-use Rattle.decide_resource.specs.declared.representation.Negotiation.{Negotiation}
-use Rattle.decide_resource.specs.declared.representation.Representation.{Representation}
-use Rattle.decide_resource.specs.declared.request.RequestContent.{RequestContent}
-use Rattle.decide_resource.specs.declared.request.RequestContent.TheVariants.{Absent}
-use Rattle.decide_resource.{specs.declared.resource.MethodRule.MethodRule, specs.declared.resource.Resource.Resource}
-use Rattle.decide_resource.{specs.declared.resource.State.State, specs.declared.resource.State.TheVariants.Current}
-use Rattle.decide_resource.proofs.PickLemmas.{picks_alike}
+use Rattle.decide_resource.specs.declared.representation.{Negotiation.Negotiation, Representation.Representation}
+use Rattle.decide_resource.specs.declared.request.RequestContent.{RequestContent, TheVariants.Absent}
+use Rattle.decide_resource.specs.declared.resource.{MethodRule.MethodRule, Resource.Resource, State.State}
+use Rattle.decide_resource.{specs.declared.resource.State.TheVariants.Current, proofs.PickLemmas.picks_alike}
 use Rattle.server_service.specs.Answer.{AsksForAll, Decides, IsAnswerAt, clock, is_several, pieces_for, pieces_of}
-use Rattle.server_service.specs.Answer.{pieces_sent, sends_several, source_of, source_sent, status_for}
-use Rattle.server_service.{specs.Asked.Asks, specs.File.{current_of, gives_of, len_of, limits_of, representation_of}}
-use Rattle.server_service.{specs.File.validators_of, specs.Found.{FindsEntry, FindsListing, HasListing, LeadsTo}}
-use Rattle.server_service.{specs.Found.listed_file, specs.Multipart.multipart, specs.Sites.IsSite}
-use Rattle.server_service.{specs.declared.file.Entry.Entry, specs.declared.file.Entry.TheVariants.{Listed, Readable}}
-use Rattle.server_service.{specs.declared.file.File.File, specs.declared.found.Found.Found}
-use Rattle.server_service.{specs.declared.settings.Site.Site, specs.declared.source.Source.Source}
-use Rattle.server_files.{specs.Listings.listing_page, specs.Path.{Names, ends_in_slash}, specs.declared.kept.Kept.Kept}
+use Rattle.server_service.specs.{Answer.{pieces_sent, sends_several, source_of, source_sent, status_for}, Asked.Asks}
+use Rattle.server_service.specs.File.{current_of, gives_of, len_of, limits_of, representation_of, validators_of}
+use Rattle.server_service.specs.Found.{FindsEntry, FindsListing, HasListing, LeadsTo, listed_file}
+use Rattle.server_service.specs.{Multipart.multipart, Sites.IsSite, declared.file.Entry.{Entry, TheVariants.Listed}}
+use Rattle.server_service.specs.declared.{file.{Entry.TheVariants.Readable, File.File}, found.Found.Found}
+use Rattle.server_service.specs.declared.{settings.Site.Site, source.Source.Source}
+use Rattle.server_files.specs.{Listings.listing_page, Path.{Names, ends_in_slash}, declared.kept.Kept.Kept}
 use Rattle.server_files.specs.declared.listing.Listing.{Listing}
 use Rattle.server_service.specs.declared.source.Source.TheVariants.{Kept as InMemory}
 use Rattle.server_service.{proofs.ContentLemmas.sent_whole, proofs.OneResponseLemmas.asked_once}

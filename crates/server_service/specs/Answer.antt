@@ -1,10 +1,8 @@
 -- What a request is answered with.
 use Rattle.std.specs.Prelude.{◌≡◌, ◌⊎◌, ℕ, ◌^◌, ◌<◌, Bool, true, false, nat_lt, List, [], ◌∷◌, ◌++◌, codes, map, max}
-use Rattle.std.{specs.Prelude.{slice_get, Option, Some, None, ⊤, if◌then◌else◌, is_some, string_bytes}, specs.List.fold}
-use Rattle.std.{specs.List.list_all, specs.Global.Vec, specs.Option.unwrap_or}
-use Rattle.http.{specs.declared.request.Request.Request, specs.Request.head_of}
-use Rattle.http_header.specs.FieldValue.{FieldValue}
-use Rattle.http1.specs.Fields.{Header}
+use Rattle.std.specs.{Prelude.{slice_get, Option, Some, None, ⊤, if◌then◌else◌, is_some, string_bytes}, List.fold}
+use Rattle.{std.specs.{List.list_all, Global.Vec, Option.unwrap_or}, http.specs.declared.request.Request.Request}
+use Rattle.{http.specs.Request.head_of, http_header.specs.FieldValue.FieldValue, http1.specs.Fields.Header}
 use Rattle.headers.specs.Date.{fixdate}
 use Rattle.headers.specs.LineMap.{Field, LineMap, fields_of as encoded_fields}
 use Rattle.server_connection.specs.Encoding.{content_len}
@@ -14,17 +12,15 @@ use Rattle.decide_preconditions.{specs.declared.plan.Plan.Plan, specs.declared.p
 use Rattle.decide_preconditions.specs.declared.plan.Plan.TheVariants.{Failed, Full, Single, Multiple, Unsatisfiable}
 use Rattle.decide_resource.specs.Answers.{IsAnswer as IsAnswerOf}
 use Rattle.decide_resource.specs.Requests.{Request as Asked, head_of as as_head}
-use Rattle.decide_resource.{specs.declared.answer.Answer.Answer, specs.declared.answer.Sends.Sends}
-use Rattle.decide_resource.specs.declared.answer.Sends.TheVariants.{Nothing, Alternatives, Planned, Perform}
-use Rattle.decide_resource.{specs.declared.reason.Reason.Reason, specs.declared.reason.Reason.TheVariants.NotFound}
-use Rattle.decide_resource.specs.declared.representation.Representation.{Representation}
-use Rattle.decide_resource.specs.declared.resource.Resource.{Resource}
-use Rattle.server_service.{specs.Asked.Asks, specs.File.{len_of, representation_of, tag_of}, specs.Found.LeadsTo}
-use Rattle.server_service.{specs.Multipart.multipart, specs.Parts.{Fits, IsKnownToHold, part_extent}}
-use Rattle.server_service.specs.Response.{fields_of, headers_sent, is_bare_tag, is_line, page_fields, page_sent}
-use Rattle.server_service.{specs.Response.trimmed_lines, specs.declared.file.Entry.Entry, specs.declared.file.File.File}
-use Rattle.server_service.{specs.declared.found.Found.Found, specs.declared.settings.Page.Page}
-use Rattle.server_service.{specs.declared.settings.Site.Site, specs.declared.source.Source.Source}
+use Rattle.decide_resource.specs.declared.answer.{Answer.Answer, Sends.{Sends, TheVariants.{Nothing, Alternatives}}}
+use Rattle.decide_resource.specs.declared.{answer.Sends.TheVariants.{Planned, Perform}, reason.Reason.Reason}
+use Rattle.decide_resource.specs.declared.reason.Reason.TheVariants.{NotFound}
+use Rattle.decide_resource.specs.declared.{representation.Representation.Representation, resource.Resource.Resource}
+use Rattle.server_service.specs.{Asked.Asks, File.{len_of, representation_of, tag_of}, Found.LeadsTo}
+use Rattle.server_service.specs.{Multipart.multipart, Parts.{Fits, IsKnownToHold, part_extent}, Response.fields_of}
+use Rattle.server_service.specs.Response.{headers_sent, is_bare_tag, is_line, page_fields, page_sent, trimmed_lines}
+use Rattle.server_service.specs.declared.{file.{Entry.Entry, File.File}, found.Found.Found, settings.Page.Page}
+use Rattle.server_service.specs.declared.{settings.Site.Site, source.Source.Source}
 
 -- ---- the resource that a request is about
 

@@ -1,11 +1,8 @@
 -- What the decision reads of a request.
 use Rattle.std.specs.Prelude.{◌≡◌, ◌≢◌, ◌⊎◌, ℕ, List, Option, Some, None}
-use Rattle.http.{specs.declared.request.Request.Request, specs.Request.head_of}
-use Rattle.http.{specs.declared.version.TheConstants.Version.HTTP_10, specs.declared.version.Version.Version}
-use Rattle.http_header.specs.FieldValue.{IsFieldValue}
-use Rattle.http_uri.specs.Uri.{uri_authority}
-use Rattle.headers.{specs.LineMap.lines_at, specs.Lines.Line}
-use Rattle.gateway_messages.specs.declared.protocol.Protocol.{Protocol}
+use Rattle.http.specs.declared.{request.Request.Request, version.{TheConstants.Version.HTTP_10, Version.Version}}
+use Rattle.{http.specs.Request.head_of, http_header.specs.FieldValue.IsFieldValue, http_uri.specs.Uri.uri_authority}
+use Rattle.{headers.specs.{LineMap.lines_at, Lines.Line}, gateway_messages.specs.declared.protocol.Protocol.Protocol}
 use Rattle.gateway_messages.specs.declared.protocol.Protocol.TheVariants.{Http10, Http11}
 use Rattle.decide_resource.specs.Requests.{Request as Asked}
 use Rattle.decide_resource.specs.declared.request.RequestContent.TheVariants.{Absent}

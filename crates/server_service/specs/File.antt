@@ -1,20 +1,15 @@
 -- What a file gives: its bytes, and its validators.
 use Rattle.std.specs.Prelude.{◌≡◌, ℕ, ◌+◌, ◌-◌, min, nat_le, Bool, false, if◌then◌else◌, List, [], ◌++◌, length, take}
-use Rattle.std.{specs.Prelude.{drop, map, Option, Some, None, Result, Ok, IsOkAnd, ⊤}, specs.Io.ReadsAtMost}
-use Rattle.std.{specs.Char.to_ascii_lowercase, specs.Option.unwrap_or, specs.Path.path_extension}
-use Rattle.http_header.specs.FieldValue.{FieldValue, plain_value}
-use Rattle.server_connection.specs.Pieces.{Gives}
-use Rattle.decide_preconditions.{specs.Limits.usual_limits, specs.declared.content.Content.Content}
-use Rattle.decide_preconditions.specs.declared.limits.RangeLimits.{RangeLimits}
-use Rattle.decide_preconditions.specs.declared.resource.TargetState.{TargetState}
-use Rattle.decide_preconditions.specs.declared.resource.TargetState.TheVariants.{Current}
-use Rattle.decide_preconditions.specs.declared.resource.Validators.{Validators}
+use Rattle.std.specs.{Prelude.{drop, map, Option, Some, None, Result, Ok, IsOkAnd, ⊤}, Io.ReadsAtMost}
+use Rattle.std.specs.{Char.to_ascii_lowercase, Option.unwrap_or, Path.path_extension}
+use Rattle.{http_header.specs.FieldValue.{FieldValue, plain_value}, server_connection.specs.Pieces.Gives}
+use Rattle.decide_preconditions.specs.{Limits.usual_limits, declared.content.Content.Content}
+use Rattle.decide_preconditions.specs.declared.{limits.RangeLimits.RangeLimits, resource.TargetState.TargetState}
+use Rattle.decide_preconditions.specs.declared.resource.{TargetState.TheVariants.Current, Validators.Validators}
 use Rattle.decide_resource.specs.declared.representation.Representation.{Representation}
-use Rattle.server_files.{specs.Codings.{coding_name, is_encoded}, specs.MediaTypes.media_type_of}
-use Rattle.server_files.specs.Tags.{content_digest, strong_tag}
-use Rattle.server_files.specs.declared.coding.Coding.{Coding}
-use Rattle.server_service.{specs.declared.file.File.File, specs.declared.source.Source.Source}
-use Rattle.server_service.specs.declared.source.Source.TheVariants.{Kept, Opened}
+use Rattle.server_files.specs.{Codings.{coding_name, is_encoded}, MediaTypes.media_type_of, Tags.content_digest}
+use Rattle.server_files.specs.{Tags.strong_tag, declared.coding.Coding.Coding}
+use Rattle.server_service.specs.declared.{file.File.File, source.Source.{Source, TheVariants.{Kept, Opened}}}
 
 -- the media type of the file at a path, by the extension of its name in any case
 abbrev pub media_type_at : List ℕ → List ℕ

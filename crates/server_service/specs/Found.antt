@@ -1,17 +1,14 @@
 -- What the path of a request leads to.
 use Rattle.std.specs.Prelude.{◌≡◌, ◌⊎◌, ℕ, Bool, true, false, List, [], ◌∷◌, Option, Some, None, bytes_eq, codes}
 use Rattle.std.specs.Prelude.{if◌then◌else◌, string_bytes}
-use Rattle.http_header.specs.FieldValue.{plain_value}
-use Rattle.http_uri.{specs.declared.uri.Uri.Uri, specs.Uri.{uri_path, uri_query}}
-use Rattle.decide_resource.specs.declared.resource.Redirect.TheVariants.{MovedPermanently}
-use Rattle.decide_resource.specs.declared.resource.State.{State}
+use Rattle.{http_header.specs.FieldValue.plain_value, http_uri.specs.{declared.uri.Uri.Uri, Uri.{uri_path, uri_query}}}
+use Rattle.decide_resource.specs.declared.resource.{Redirect.TheVariants.MovedPermanently, State.State}
 use Rattle.decide_resource.specs.declared.resource.State.TheVariants as state
-use Rattle.server_files.{specs.Path.{IsIndexOf, Names, ends_in_slash}, specs.Redirect.{HasNoIndex, index_target}}
-use Rattle.server_files.{specs.declared.coding.Coding.TheVariants.Identity, specs.declared.listing.Listing.Listing}
-use Rattle.server_service.{specs.Representations.AreContents, specs.declared.file.Entry.Entry}
-use Rattle.server_service.specs.declared.file.Entry.TheVariants.{Missing, Forbidden, Unavailable, Folder, Listed}
-use Rattle.server_service.{specs.declared.file.Entry.TheVariants.Readable, specs.declared.file.File.File}
-use Rattle.server_service.{specs.declared.found.Found.Found, specs.declared.source.Source.TheVariants.Kept}
+use Rattle.server_files.specs.{Path.{IsIndexOf, Names, ends_in_slash}, Redirect.{HasNoIndex, index_target}}
+use Rattle.server_files.specs.declared.{coding.Coding.TheVariants.Identity, listing.Listing.Listing}
+use Rattle.server_service.specs.{Representations.AreContents, declared.file.Entry.{Entry, TheVariants.Missing}}
+use Rattle.server_service.specs.declared.file.Entry.TheVariants.{Forbidden, Unavailable, Folder, Listed, Readable}
+use Rattle.server_service.specs.declared.{file.File.File, found.Found.Found, source.Source.TheVariants.Kept}
 
 -- there is nothing to send in this state, and a read is answered by this status
 pub record IsEmpty (now : State) (code : ℕ) (found : Found) : Type 0 where

@@ -1,10 +1,9 @@
 -- What a store of one file has.
 use Rattle.std.specs.Prelude.{◌≡◌, ◌≢◌, ℕ, List, string_bytes}
 use Rattle.server_files.specs.declared.coding.Coding.TheVariants.{Identity}
-use Rattle.server_service.{specs.declared.file.Entry.Entry, specs.declared.file.Entry.TheVariants.{Missing, Forbidden}}
-use Rattle.server_service.specs.declared.file.Entry.TheVariants.{Unavailable, Folder, Listed, Readable}
-use Rattle.server_service.{specs.declared.source.Source.Source, specs.declared.source.Source.TheVariants.{Kept, Opened}}
-use Rattle.server_service.specs.declared.memory.Memory.{Memory}
+use Rattle.server_service.specs.declared.file.Entry.{Entry, TheVariants.{Missing, Forbidden, Unavailable, Folder}}
+use Rattle.server_service.specs.declared.{file.Entry.TheVariants.{Listed, Readable}, source.Source.Source}
+use Rattle.server_service.specs.declared.{source.Source.TheVariants.{Kept, Opened}, memory.Memory.Memory}
 
 -- the bytes are these, in memory
 abbrev pub IsKept : List ℕ → Source → Type 0

@@ -1,13 +1,11 @@
 -- The parts of a file that a response carries.
 use Rattle.std.specs.Prelude.{ℕ, ◌+◌, ◌-◌, List, flat_map, Some, All, ⊤, take, drop, slice_range}
-use Rattle.memchr.specs.Find.{OccursAt}
-use Rattle.headers.specs.ContentBytes.{ContentBytes}
-use Rattle.server_connection.{specs.declared.piece.OpenRange.OpenRange, specs.declared.piece.Piece.Piece}
-use Rattle.server_connection.specs.declared.piece.Piece.TheVariants.{Literal, Range}
-use Rattle.decide_preconditions.{specs.Parts.IsPartOf, specs.declared.part.Part.Part, specs.declared.plan.Plan.Plan}
+use Rattle.{memchr.specs.Find.OccursAt, headers.specs.ContentBytes.ContentBytes}
+use Rattle.server_connection.specs.declared.piece.{OpenRange.OpenRange, Piece.{Piece, TheVariants.{Literal, Range}}}
+use Rattle.decide_preconditions.specs.{Parts.IsPartOf, declared.{part.Part.Part, plan.Plan.Plan}}
 use Rattle.decide_preconditions.specs.declared.plan.Plan.TheVariants.{NotModified, Failed, Full, Single, Multiple}
 use Rattle.decide_preconditions.specs.declared.plan.Plan.TheVariants.{Unsatisfiable}
-use Rattle.server_service.{specs.declared.source.Source.Source, specs.declared.source.Source.TheVariants.{Kept, Opened}}
+use Rattle.server_service.specs.declared.source.Source.{Source, TheVariants.{Kept, Opened}}
 
 -- the bytes of one part of a content
 abbrev pub part_bytes : List ℕ → Part → List ℕ

@@ -1,11 +1,9 @@
 -- The contents of a file.
 use Rattle.std.specs.Prelude.{◌≡◌, ◌⊎◌, ℕ, Bool, true, false, List, [], ◌∷◌, ◌++◌}
-use Rattle.http_header.specs.FieldValue.{FieldValue}
-use Rattle.server_files.{specs.Codings.coding_suffix, specs.Path.is_plain, specs.declared.coding.Coding.Coding}
-use Rattle.server_files.specs.declared.coding.Coding.TheVariants.{Identity, Brotli, Gzip}
-use Rattle.server_service.{specs.declared.file.Entry.Entry, specs.declared.file.Entry.TheVariants.{Missing, Forbidden}}
-use Rattle.server_service.specs.declared.file.Entry.TheVariants.{Unavailable, Folder, Listed, Readable}
-use Rattle.server_service.specs.declared.file.File.{File}
+use Rattle.{http_header.specs.FieldValue.FieldValue, server_files.specs.{Codings.coding_suffix, Path.is_plain}}
+use Rattle.server_files.specs.declared.coding.Coding.{Coding, TheVariants.{Identity, Brotli, Gzip}}
+use Rattle.server_service.specs.declared.file.Entry.{Entry, TheVariants.{Missing, Forbidden, Unavailable, Folder}}
+use Rattle.server_service.specs.declared.file.{Entry.TheVariants.{Listed, Readable}, File.File}
 
 -- a stored content as a representation of this media type, in a coding
 abbrev pub represented : FieldValue → Coding → File → File

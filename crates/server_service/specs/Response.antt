@@ -1,16 +1,12 @@
 -- The content of a response. It is the plan by which `server_connection` sends it.
 use Rattle.std.specs.Prelude.{◌≡◌, ℕ, ◌==◌, Bool, true, ◌&&◌, ◌||◌, List, [], ◌∷◌, ◌++◌, bytes_eq, codes, find}
-use Rattle.std.{specs.Prelude.{flat_map, if◌then◌else◌, map, reverse, Option, Some, None}, specs.List.list_any}
-use Rattle.std.{specs.List.starts_with, specs.Option.option_map_or}
-use Rattle.headers.{specs.LineMap.Field, specs.Text.trim}
-use Rattle.http_header.specs.FieldValue.{FieldValue}
-use Rattle.httparse.specs.Grammar.{is_token}
-use Rattle.http1.{specs.Fields.Header, specs.Head.{is_field_value, starts_visible}}
-use Rattle.http_server.specs.Response.{fields}
-use Rattle.server_connection.{specs.declared.piece.Piece.Piece, specs.declared.piece.Piece.TheVariants.Literal}
+use Rattle.std.specs.{Prelude.{flat_map, if◌then◌else◌, map, reverse, Option, Some, None}, List.{list_any, starts_with}}
+use Rattle.{std.specs.Option.option_map_or, headers.specs.{LineMap.Field, Text.trim}}
+use Rattle.{http_header.specs.FieldValue.FieldValue, httparse.specs.Grammar.is_token, http1.specs.Fields.Header}
+use Rattle.{http1.specs.Head.{is_field_value, starts_visible}, http_server.specs.Response.fields}
+use Rattle.server_connection.specs.declared.piece.Piece.{Piece, TheVariants.Literal}
 use Rattle.server_connection.specs.declared.plan.ResponsePlan.{ResponsePlan as Response}
-use Rattle.server_files.specs.Pages.{page}
-use Rattle.server_service.specs.declared.settings.Page.{Page}
+use Rattle.{server_files.specs.Pages.page, server_service.specs.declared.settings.Page.Page}
 
 -- the names and the values of its field lines, in order
 abbrev pub fields_of : Response → List Header

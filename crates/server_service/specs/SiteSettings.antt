@@ -1,8 +1,7 @@
 -- A site that says what settings do.
-use Rattle.std.{specs.Prelude.{◌≡◌, List, [], ◌∷◌, Option, Some, None, string_bytes}, specs.Global.Vec}
-use Rattle.http_header.specs.FieldValue.{FieldValue}
-use Rattle.server_service.{specs.Sites.IsSite, specs.declared.settings.Settings.Settings}
-use Rattle.server_service.specs.declared.settings.Site.{Site}
+use Rattle.std.specs.{Prelude.{◌≡◌, List, [], ◌∷◌, Option, Some, None, string_bytes}, Global.Vec}
+use Rattle.{http_header.specs.FieldValue.FieldValue, server_service.specs.Sites.IsSite}
+use Rattle.server_service.specs.declared.settings.{Settings.Settings, Site.Site}
 
 -- the hosts of a resource, or none for any
 abbrev pub hosts_in : List FieldValue → Vec FieldValue → Option (Vec FieldValue)

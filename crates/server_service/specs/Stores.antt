@@ -1,8 +1,7 @@
 -- What a store may say of a path.
-use Rattle.std.specs.Prelude.{ℕ, List, ⊤, string_bytes}
-use Rattle.server_files.specs.Path.{IsIndexOf}
-use Rattle.server_service.{specs.declared.file.Entry.Entry, specs.declared.file.Entry.TheVariants.{Missing, Forbidden}}
-use Rattle.server_service.specs.declared.file.Entry.TheVariants.{Unavailable, Folder, Listed, Readable}
+use Rattle.{std.specs.Prelude.{ℕ, List, ⊤, string_bytes}, server_files.specs.Path.IsIndexOf}
+use Rattle.server_service.specs.declared.file.Entry.{Entry, TheVariants.{Missing, Forbidden, Unavailable, Folder}}
+use Rattle.server_service.specs.declared.file.Entry.TheVariants.{Listed, Readable}
 
 -- a listing is that of the folder whose index the path names
 abbrev pub ListsOwn : List ℕ → Entry → Type 0

@@ -1,28 +1,19 @@
 -- What a read of `http1` finds.
-use Rattle.std.proofs.Common.{◌≡◌, ℕ, ◌<◌, ◌≤◌, ◌⊎◌, inl, inr, Bool, true, false, List}
-use Rattle.std.proofs.Common.{[], ◌++◌, length, ◌-◌}
-use Rattle.std.proofs.Common.{◌&&◌, ◌==◌, not}
-use Rattle.std.proofs.lemmas.Bool.{and_parts}
-use Rattle.std.proofs.Common.{drop, sym, refl, ap, ◌∙◌, subst, append-nil, arith}
-use Rattle.httparse.{specs.Spans.{span_bytes}}
-use Rattle.httparse.specs.{declared.spans.HeaderSpan.HeaderSpan, declared.spans.RequestSpans.RequestSpans}
-use Rattle.httparse.{specs.declared.spans.Span.Span, proofs.RunLemmas.length-slice_range}
-use Rattle.http1.specs.{Body.body_of, Fields.Header, ServerTrace.headers_at}
-use Rattle.http1.specs.Conn.{ReadsPiece, is_read, unread_size}
-use Rattle.http1.specs.Decoder.{Completes, Continues, Ends, decoder_for}
-use Rattle.http1.specs.Server.{ReadsAt, ReadsHead, ServerReads, after_piece, closed_server, cycle, new_server}
-use Rattle.http1.specs.Server.{request_of, server_eof}
-use Rattle.http1.specs.{declared.conn.Event.Event, declared.conn.Limits.Limits}
-use Rattle.http1.specs.{declared.conn.Progress.Progress, declared.conn.Reading.Reading}
-use Rattle.http1.specs.{declared.decode.Decoder.Decoder, declared.framing.Framing.Framing}
-use Rattle.http1.specs.declared.server.Server.{Server}
-use Rattle.gateway_connection.specs.Content.{HasNoMap, map_of}
-use Rattle.server_stream.specs.Heads.{IsFieldsRejection, IsHeadRejection, IsUnder, content_size}
-use Rattle.server_stream.specs.{declared.connection.StreamConnection.StreamConnection}
-use Rattle.server_stream.specs.declared.event.StreamRequest.{StreamRequest}
-use Rattle.server_stream.specs.{declared.rejection.StreamRejection.StreamRejection}
-use Rattle.server_stream.specs.Steps.{HasInvalidFields, IsStarved, IsWrong, Rejects}
-use Rattle.server_stream.specs.Steps.{RunsOut, RunsOutAt, TakesHead, TakesPiece}
+use Rattle.std.proofs.Common.{◌≡◌, ℕ, ◌<◌, ◌≤◌, ◌⊎◌, inl, inr, Bool, true, false, List, [], ◌++◌, length, ◌-◌, ◌&&◌}
+use Rattle.std.proofs.{Common.{◌==◌, not, drop, sym, refl, ap, ◌∙◌, subst, append-nil, arith}, lemmas.Bool.and_parts}
+use Rattle.httparse.specs.{Spans.span_bytes, declared.spans.{HeaderSpan.HeaderSpan, RequestSpans.RequestSpans}}
+use Rattle.{httparse.{specs.declared.spans.Span.Span, proofs.RunLemmas.length-slice_range}, http1.specs.Body.body_of}
+use Rattle.http1.specs.{Fields.Header, ServerTrace.headers_at, Conn.{ReadsPiece, is_read, unread_size}}
+use Rattle.http1.specs.{Decoder.{Completes, Continues, Ends, decoder_for}, Server.{ReadsAt, ReadsHead, ServerReads}}
+use Rattle.http1.specs.Server.{after_piece, closed_server, cycle, new_server, request_of, server_eof}
+use Rattle.http1.specs.declared.conn.{Event.Event, Limits.Limits, Progress.Progress, Reading.Reading}
+use Rattle.http1.specs.declared.{decode.Decoder.Decoder, framing.Framing.Framing, server.Server.Server}
+use Rattle.{gateway_connection.specs.Content.{HasNoMap, map_of}, server_stream.specs.Heads.IsFieldsRejection}
+use Rattle.server_stream.specs.Heads.{IsHeadRejection, IsUnder, content_size}
+use Rattle.server_stream.specs.declared.connection.StreamConnection.{StreamConnection}
+use Rattle.server_stream.specs.declared.{event.StreamRequest.StreamRequest, rejection.StreamRejection.StreamRejection}
+use Rattle.server_stream.specs.Steps.{HasInvalidFields, IsStarved, IsWrong, Rejects, RunsOut, RunsOutAt, TakesHead}
+use Rattle.server_stream.specs.Steps.{TakesPiece}
 use Rattle.http1.specs.Server as Serving
 use Rattle.http1.specs.declared.conn.Event.TheVariants as Found
 use Rattle.http1.specs.declared.conn.Reading.TheVariants as Reads

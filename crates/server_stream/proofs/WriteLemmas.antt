@@ -1,11 +1,8 @@
 -- What a call that writes puts.
 use Rattle.std.proofs.Common.{◌≡◌, ℕ, ◌⊎◌, inl, inr, List, ◌++◌, Option, Some, None, Result, Ok, Err, refl, ap}
-use Rattle.std.specs.Prelude.{MatchResult, OnErr, OnOk}
-use Rattle.bytes.specs.Filled.{Filled}
-use Rattle.http1.specs.{Output.GivesOrRefuses, declared.error.WriteError.WriteError, declared.server.Server.Server}
-use Rattle.http1.specs.declared.error.WriteError.TheVariants.{OutOfMemory}
-use Rattle.server_stream.specs.Steps.{PutsText, RefusesWrite}
-use Rattle.server_stream.specs.declared.connection.StreamConnection.{StreamConnection}
+use Rattle.{std.specs.Prelude.{MatchResult, OnErr, OnOk}, bytes.specs.Filled.Filled, http1.specs.Output.GivesOrRefuses}
+use Rattle.http1.specs.declared.{error.WriteError.{WriteError, TheVariants.OutOfMemory}, server.Server.Server}
+use Rattle.server_stream.specs.{Steps.{PutsText, RefusesWrite}, declared.connection.StreamConnection.StreamConnection}
 
 gives : {T : Type 0} (x : T) (spare len : ℕ) (refusal : Option WriteError) → GivesOrRefuses refusal spare len (Ok x)
     → refusal ≡ None

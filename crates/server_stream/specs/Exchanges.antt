@@ -1,15 +1,11 @@
 -- Exchanges: requests by the grammar, and the responses to them literally.
-use Rattle.std.specs.Prelude.{◌≡◌, ◌≢◌, ⊤, ℕ, true, List, [], ◌∷◌, ◌++◌, map, Option, None}
-use Rattle.std.specs.Prelude.{Result}
-use Rattle.httparse.specs.{Spans.name_and_value}
-use Rattle.http_header.{specs.FieldValue.FieldValue, specs.HeaderMap.Entries}
-use Rattle.http1.specs.{Conn.{Plan, keeps_alive, planned_headers}}
-use Rattle.http1.specs.{Fields.Header, Framing.method_kind, Head.response_text}
-use Rattle.http1.specs.{Message.{AcceptsRequest, ReadsRequestMessage, known_of}, declared.conn.BodySize.BodySize}
-use Rattle.http1.specs.{declared.conn.Limits.Limits}
-use Rattle.http1.specs.{declared.error.WriteError.WriteError, declared.framing.Framing.Framing}
-use Rattle.gateway_connection.specs.Content.{after_pieces, map_of, pieces_text}
-use Rattle.gateway_connection.specs.Exchanges.{encoder_in, keeps_in, last_text}
+use Rattle.std.specs.Prelude.{◌≡◌, ◌≢◌, ⊤, ℕ, true, List, [], ◌∷◌, ◌++◌, map, Option, None, Result}
+use Rattle.{httparse.specs.Spans.name_and_value, http_header.specs.{FieldValue.FieldValue, HeaderMap.Entries}}
+use Rattle.http1.specs.{Conn.{Plan, keeps_alive, planned_headers}, Fields.Header, Framing.method_kind}
+use Rattle.http1.specs.{Head.response_text, Message.{AcceptsRequest, ReadsRequestMessage, known_of}}
+use Rattle.http1.specs.declared.{conn.{BodySize.BodySize, Limits.Limits}, error.WriteError.WriteError}
+use Rattle.{http1.specs.declared.framing.Framing.Framing, gateway_connection.specs.Content.{after_pieces, map_of}}
+use Rattle.gateway_connection.specs.{Content.pieces_text, Exchanges.{encoder_in, keeps_in, last_text}}
 use Rattle.server_stream.specs.{Heads.told_of, declared.event.StreamRequest.StreamRequest}
 use Rattle.httparse.specs.Grammar as Grammar
 use Rattle.http1.specs.Message as Message

@@ -1,15 +1,11 @@
 -- The head of a request, as a caller gets it, and the status of a rejection.
 use Rattle.std.specs.Prelude.{◌≡◌, ⊤, ℕ, Bool, true, false, List, map}
-use Rattle.httparse.specs.Spans.{name_and_value, span_bytes}
-use Rattle.httparse.specs.{declared.spans.HeaderSpan.HeaderSpan, declared.spans.RequestSpans.RequestSpans}
-use Rattle.http.specs.declared.error.Error.{Error}
-use Rattle.http1.specs.{Conn.unread_size, Fields.Header, ReadError.status_of}
-use Rattle.http1.specs.ServerTrace.{headers_at}
-use Rattle.http1.specs.{declared.conn.BodySize.BodySize, declared.conn.BodySize.TheVariants.{Known, Unknown}}
-use Rattle.http1.specs.{declared.framing.Framing.Framing, declared.server.Server.Server}
-use Rattle.gateway_connection.specs.Content.{HasNoMap, map_of}
-use Rattle.server_stream.specs.declared.event.StreamRequest.{StreamRequest}
-use Rattle.server_stream.specs.declared.rejection.StreamRejection.{StreamRejection}
+use Rattle.httparse.specs.{Spans.{name_and_value, span_bytes}, declared.spans.HeaderSpan.HeaderSpan}
+use Rattle.{httparse.specs.declared.spans.RequestSpans.RequestSpans, http.specs.declared.error.Error.Error}
+use Rattle.http1.specs.{Conn.unread_size, Fields.Header, ReadError.status_of, ServerTrace.headers_at}
+use Rattle.http1.specs.declared.{conn.BodySize.{BodySize, TheVariants.{Known, Unknown}}, framing.Framing.Framing}
+use Rattle.{http1.specs.declared.server.Server.Server, gateway_connection.specs.Content.{HasNoMap, map_of}}
+use Rattle.server_stream.specs.declared.{event.StreamRequest.StreamRequest, rejection.StreamRejection.StreamRejection}
 use Rattle.httparse.specs.Grammar as Grammar
 use Rattle.http.specs.declared.error.Error.TheVariants as Mapped
 use Rattle.http1.specs.Server as Serving

@@ -1,19 +1,16 @@
 -- Every history of calls on a connection, and what is true after it.
 use Rattle.std.specs.Prelude.{◌≡◌, ⊤, ℕ, ◌≤◌, true, false, List, [], ◌∷◌, ◌++◌, length, map, take, Some, None}
-use Rattle.httparse.specs.{Spans.name_and_value}
-use Rattle.http_header.{specs.FieldValue.FieldValue, specs.HeaderMap.Entries}
+use Rattle.{httparse.specs.Spans.name_and_value, http_header.specs.{FieldValue.FieldValue, HeaderMap.Entries}}
 use Rattle.http1.specs.{Body.{Body, ReadsBody}, Decoder.decoder_for, Fields.Header, Message.AcceptsRequest}
-use Rattle.http1.specs.{declared.conn.BodySize.BodySize, declared.conn.Limits.Limits, declared.decode.Decoder.Decoder}
-use Rattle.http1.specs.{declared.framing.Framing.Framing, declared.server.Server.Server}
-use Rattle.http1.specs.Server.{may_respond}
-use Rattle.gateway_connection.specs.Content.{after_pieces, map_of}
-use Rattle.gateway_connection.specs.Exchanges.{IsFront, encoder_in}
+use Rattle.http1.specs.declared.{conn.{BodySize.BodySize, Limits.Limits}, decode.Decoder.Decoder}
+use Rattle.http1.specs.{declared.{framing.Framing.Framing, server.Server.Server}, Server.may_respond}
+use Rattle.gateway_connection.specs.{Content.{after_pieces, map_of}, Exchanges.{IsFront, encoder_in}}
 use Rattle.server_stream.specs.Exchanges.{Answer, Bare, Begun, Due, Exchange, Final, IsFramedFor, ReadsKept, Response}
-use Rattle.server_stream.specs.Exchanges.{Switched, answer_text, exchange_text, no_answer, plan_of}
-use Rattle.server_stream.specs.{Heads.told_of, declared.connection.StreamConnection.StreamConnection}
-use Rattle.server_stream.specs.{declared.event.StreamRequest.StreamRequest, declared.event.StreamEvent.StreamEvent}
-use Rattle.server_stream.specs.Steps.{Ends, Finishes, HandsOut, Informs, IsNew, Puts, PutsNothing, Receives, Responds}
-use Rattle.server_stream.specs.Steps.{Says, Switches}
+use Rattle.server_stream.specs.{Exchanges.{Switched, answer_text, exchange_text, no_answer, plan_of}, Heads.told_of}
+use Rattle.server_stream.specs.declared.connection.StreamConnection.{StreamConnection}
+use Rattle.server_stream.specs.{declared.event.{StreamRequest.StreamRequest, StreamEvent.StreamEvent}, Steps.Ends}
+use Rattle.server_stream.specs.Steps.{Finishes, HandsOut, Informs, IsNew, Puts, PutsNothing, Receives, Responds, Says}
+use Rattle.server_stream.specs.Steps.{Switches}
 use Rattle.httparse.specs.Grammar as Grammar
 use Rattle.http1.specs.declared.conn.Writing.TheVariants as Writes
 use Rattle.server_stream.specs.declared.event.StreamEvent.TheVariants as Is

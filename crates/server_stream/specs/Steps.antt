@@ -1,26 +1,20 @@
 -- What each call does.
-use Rattle.std.specs.Prelude.{◌≡◌, ◌≢◌, ⊤, ℕ, ◌<◌, ◌⊎◌, true, false, List, [], ◌++◌, length, drop, map}
-use Rattle.std.specs.Prelude.{Option, Some, None}
-use Rattle.httparse.specs.Grammar.{Field, HasNoRequest, MayBecomeRequest}
-use Rattle.httparse.specs.Spans.{name_and_value}
-use Rattle.http_header.{specs.FieldValue.FieldValue, specs.HeaderMap.Entries}
+use Rattle.std.specs.Prelude.{◌≡◌, ◌≢◌, ⊤, ℕ, ◌<◌, ◌⊎◌, true, false, List, [], ◌++◌, length, drop, map, Option, Some}
+use Rattle.{std.specs.Prelude.None, httparse.specs.Grammar.{Field, HasNoRequest, MayBecomeRequest}}
+use Rattle.{httparse.specs.Spans.name_and_value, http_header.specs.{FieldValue.FieldValue, HeaderMap.Entries}}
 use Rattle.http1.specs.{Body.{Body, body_of}, Decoder.{Completes, Continues, Starves, decoder_for}, Fields.Header}
-use Rattle.http1.specs.Conn.{after_data, data_refusal, data_text, finish_refusal, finish_text}
-use Rattle.http1.specs.{Head.response_text, Message.AcceptsRequest}
-use Rattle.http1.specs.Server.{ServerRefuses, after_end, after_informational, after_piece, after_response}
-use Rattle.http1.specs.Server.{closed_server, failed_server, informational_refusal, new_server, peer_minor}
-use Rattle.http1.specs.Server.{planned_response, request_of, response_refusal, upgrade_refusal, upgraded_server}
-use Rattle.http1.specs.{Server.with_writing, declared.server.Server.Server}
-use Rattle.http1.specs.{declared.conn.BodySize.BodySize, declared.conn.Limits.Limits, declared.conn.Reading.Reading}
-use Rattle.http1.specs.{declared.decode.Decoder.Decoder, declared.error.ReadError.ReadError}
-use Rattle.http1.specs.declared.error.ReadError.TheVariants.{UnexpectedEof}
-use Rattle.http1.specs.{declared.error.WriteError.WriteError, declared.framing.Framing.Framing}
-use Rattle.gateway_connection.specs.Content.{HasNoMap, map_of}
-use Rattle.gateway_connection.specs.declared.head.TheConstants.{MAX_FIELDS}
-use Rattle.server_stream.specs.{Heads.told_of, declared.connection.StreamConnection.StreamConnection}
-use Rattle.server_stream.specs.declared.event.StreamRequest.{StreamRequest}
-use Rattle.server_stream.specs.{declared.event.StreamEvent.StreamEvent}
-use Rattle.server_stream.specs.{declared.rejection.StreamRejection.StreamRejection}
+use Rattle.http1.specs.{Conn.{after_data, data_refusal, data_text, finish_refusal, finish_text}, Head.response_text}
+use Rattle.http1.specs.{Message.AcceptsRequest, Server.{ServerRefuses, after_end, after_informational, after_piece}}
+use Rattle.http1.specs.Server.{after_response, closed_server, failed_server, informational_refusal, new_server}
+use Rattle.http1.specs.Server.{peer_minor, planned_response, request_of, response_refusal, upgrade_refusal}
+use Rattle.http1.specs.{Server.{upgraded_server, with_writing}, declared.{server.Server.Server, conn.BodySize.BodySize}}
+use Rattle.http1.specs.declared.{conn.{Limits.Limits, Reading.Reading}, decode.Decoder.Decoder}
+use Rattle.http1.specs.declared.error.{ReadError.{ReadError, TheVariants.UnexpectedEof}, WriteError.WriteError}
+use Rattle.{http1.specs.declared.framing.Framing.Framing, gateway_connection.specs.Content.{HasNoMap, map_of}}
+use Rattle.{gateway_connection.specs.declared.head.TheConstants.MAX_FIELDS, server_stream.specs.Heads.told_of}
+use Rattle.server_stream.specs.declared.connection.StreamConnection.{StreamConnection}
+use Rattle.server_stream.specs.declared.event.{StreamRequest.StreamRequest, StreamEvent.StreamEvent}
+use Rattle.server_stream.specs.declared.rejection.StreamRejection.{StreamRejection}
 use Rattle.httparse.specs.Grammar as Grammar
 use Rattle.http1.specs.declared.conn.Reading.TheVariants as Reads
 use Rattle.http1.specs.declared.conn.Writing.TheVariants as Writes

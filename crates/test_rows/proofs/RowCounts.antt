@@ -1,7 +1,6 @@
 -- Rows are counted line by line.
 use Rattle.std.proofs.Common.{◌≡◌, ℕ, ◌+◌, ◌<◌, Bool, cond, List, length, filter, take, map, get_or, sym, ◌∙◌, ap}
-use Rattle.std.{proofs.Common.subst, proofs.lemmas.List.{get_or-map, length-map}}
-use Rattle.std.proofs.lemmas.List.Filters.{length-filter_more}
+use Rattle.std.proofs.{Common.subst, lemmas.List.{get_or-map, length-map, Filters.length-filter_more}}
 
 -- one more item is counted if the test b of it is true
 pub length-filter-map_more : {X Y : Type 0} (p : Y → Bool) (v : X → Y) (xs : List X) (i : ℕ) (d : X) (b : Bool)

@@ -1,8 +1,7 @@
 -- Elements of lists.
 use Rattle.std.proofs.Common.{◌≡◌, ◌⊎◌, ℕ, zero, suc, Bool, true, false, List, [], ◌∷◌, ◌++◌, map, slice_get, nat_eq}
-use Rattle.std.{proofs.Common.{Option, Some, None, refl, sym, subst, arith, inl, inr, length}, specs.Prelude.⊤}
-use Rattle.std.{proofs.lemmas.Bool.eqb-true, specs.Prelude.if◌then◌else◌}
-use Rattle.updates.specs.Statements.{Has}
+use Rattle.std.proofs.{Common.{Option, Some, None, refl, sym, subst, arith, inl, inr, length}, lemmas.Bool.eqb-true}
+use Rattle.{std.specs.Prelude.{⊤, if◌then◌else◌}, updates.specs.Statements.Has}
 
 pub Has_append : {X : Type 0} (xs ys : List X) (x : X) → Has (xs ++ ys) x → Has xs x ⊎ Has ys x
 Has_append [] ys x has = inr has

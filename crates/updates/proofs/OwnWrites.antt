@@ -1,19 +1,14 @@
 -- What a client reads after its own write.
 use Rattle.std.proofs.Common.{◌≡◌, ℕ, zero, ◌≤◌, Bool, true, cond, max, List, [], ◌∷◌, slice_get, nat_eq, ◌&&◌}
-use Rattle.std.proofs.Common.{bytes_eq, Option, Some, None, refl, sym, arith, ◌∙◌, eq-eqb, inl, inr, le_refl}
-use Rattle.std.{proofs.Common.le_trans, proofs.Math.Nat.{le-max_right, max-le}, specs.Prelude.⊤}
-use Rattle.std.proofs.lemmas.Bool.{cond_both}
-use Rattle.updates.specs.Events.{Event, acts, happens, run, sends, sends_stored}
-use Rattle.updates.specs.Events.{after_removing, after_storing, with_node, made_of, performs}
-use Rattle.updates.specs.Events.{answers_put}
-use Rattle.updates.specs.Events.Event.{Forwards, Serves, Freshens}
-use Rattle.updates.{specs.Events.Event.{Answers, Returns, Arrives}, specs.Statements.{Has, Routes, next_after}}
-use Rattle.updates.specs.Statements.{IsRouted, Invalidates, StoresNoneFromBefore}
-use Rattle.updates.{specs.Statements.{Throughout, ReadsOlder}, specs.Worlds.{Version, Put, Request, Response, Hop}}
-use Rattle.updates.specs.Worlds.{Message, Node, Received, World, client_of, written_by, start}
-use Rattle.updates.{specs.Worlds.is_true, specs.Worlds.Request.{Get, Puts}, specs.Worlds.Response.Status200}
-use Rattle.updates.{specs.Worlds.Response.{Status204, Status304, Refused}, specs.Worlds.Message.{Going, Coming}}
-use Rattle.updates.{proofs.Lists.{slice_get_push, IfFound, each-cons, there}}
+use Rattle.std.proofs.Common.{bytes_eq, Option, Some, None, refl, sym, arith, ◌∙◌, eq-eqb, inl, inr, le_refl, le_trans}
+use Rattle.std.{proofs.{Math.Nat.{le-max_right, max-le}, lemmas.Bool.cond_both}, specs.Prelude.⊤}
+use Rattle.updates.specs.Events.{Event, Event.{Forwards, Serves, Freshens, Answers, Returns, Arrives}, acts, happens}
+use Rattle.updates.specs.Events.{run, sends, sends_stored, after_removing, after_storing, with_node, made_of, performs}
+use Rattle.updates.specs.{Events.answers_put, Statements.{Has, Routes, next_after, IsRouted, Invalidates}}
+use Rattle.updates.specs.{Statements.{StoresNoneFromBefore, Throughout, ReadsOlder}, Worlds.{Version, Put, Request}}
+use Rattle.updates.specs.Worlds.{Request.{Get, Puts}, Response, Response.{Status200, Status204, Status304, Refused}}
+use Rattle.updates.specs.Worlds.{Hop, Message, Message.{Going, Coming}, Node, Received, World, client_of, written_by}
+use Rattle.updates.{specs.Worlds.{start, is_true}, proofs.Lists.{slice_get_push, IfFound, each-cons, there}}
 
 -- ---- how old things may be
 

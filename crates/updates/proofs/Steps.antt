@@ -1,16 +1,12 @@
 -- What each event keeps.
-use Rattle.std.proofs.Common.{◌≡◌, ℕ, suc, true, List, [], ◌∷◌, ◌++◌, Option}
-use Rattle.std.{proofs.Common.{Some, None, refl, sym, ap, ◌∙◌, append_assoc, arith, slice_get}, specs.Prelude.⊤}
-use Rattle.std.{proofs.lemmas.Bool.{cond_both}, proofs.lemmas.Slice.Eq.bytes_eq-Decides}
-use Rattle.updates.specs.Events.{happens}
-use Rattle.updates.specs.Events.{Event, acts, run, place_of, found_at, sends_stored}
-use Rattle.updates.specs.Events.Event.{SendsPut, Freshens}
-use Rattle.updates.{specs.Events.Event.{Answers, Returns, Arrives}, specs.Statements.Has, specs.Worlds.Version}
-use Rattle.updates.specs.Worlds.{Request, Response, Hop, Message, Received, Change, World, given}
-use Rattle.updates.{specs.Worlds.{start, versions, is_true}, specs.Worlds.Request.{Get, Puts}}
-use Rattle.updates.{specs.Worlds.Response.{Status200, Status204, Status304}, specs.Worlds.Message.Going}
-use Rattle.updates.specs.Worlds.Message.{Coming}
-use Rattle.updates.proofs.Lists.{Has_right, Has_found, IfFound, slice_get_push}
+use Rattle.std.proofs.Common.{◌≡◌, ℕ, suc, true, List, [], ◌∷◌, ◌++◌, Option, Some, None, refl, sym, ap, ◌∙◌}
+use Rattle.std.proofs.{Common.{append_assoc, arith, slice_get}, lemmas.{Bool.cond_both, Slice.Eq.bytes_eq-Decides}}
+use Rattle.{std.specs.Prelude.⊤, updates.specs.Events.{happens, Event, Event.{SendsPut, Freshens, Answers, Returns}}}
+use Rattle.updates.specs.{Events.{Event.Arrives, acts, run, place_of, found_at, sends_stored}, Statements.Has}
+use Rattle.updates.specs.Worlds.{Version, Request, Request.{Get, Puts}, Response, Response.{Status200, Status204}}
+use Rattle.updates.specs.Worlds.{Response.Status304, Hop, Message, Message.{Going, Coming}, Received, Change, World}
+use Rattle.updates.{specs.Worlds.{given, start, versions, is_true}, proofs.Lists.{Has_right, Has_found, IfFound}}
+use Rattle.updates.proofs.Lists.{slice_get_push}
 
 -- ---- what holds of each world
 

@@ -1,10 +1,9 @@
 -- What follows for changes, and for what clients get.
-use Rattle.std.proofs.Common.{◌≡◌, ℕ, zero, suc, ◌<◌, cond, List, [], ◌∷◌, slice_get, nat_eq, Some, refl, ap}
-use Rattle.std.{proofs.Common.{arith, inl, inr}, proofs.lemmas.Option.same_Some}
-use Rattle.std.proofs.lemmas.Slice.Eq.{bytes_eq-Decides}
-use Rattle.updates.{specs.Statements.{Has, HasStrongTags, HasUniqueTags, IsGuarded, LeadsTo}, specs.Worlds.Version}
-use Rattle.updates.specs.Worlds.{Received, Change, World, client_of, given, shown, versions}
-use Rattle.updates.{proofs.Lists.{Has_append, Has_map}, proofs.Steps.{Holds, Links}}
+use Rattle.std.proofs.Common.{◌≡◌, ℕ, zero, suc, ◌<◌, cond, List, [], ◌∷◌, slice_get, nat_eq, Some, refl, ap, arith}
+use Rattle.std.proofs.{Common.{inl, inr}, lemmas.{Option.same_Some, Slice.Eq.bytes_eq-Decides}}
+use Rattle.updates.specs.{Statements.{Has, HasStrongTags, HasUniqueTags, IsGuarded, LeadsTo}, Worlds.Version}
+use Rattle.updates.{specs.Worlds.{Received, Change, World, client_of, given, shown, versions}, proofs.Lists.Has_append}
+use Rattle.updates.proofs.{Lists.Has_map, Steps.{Holds, Links}}
 
 -- what has been given was in a response
 among : (client : ℕ) (received : List Received) (v : Version) → Has (given client received) v

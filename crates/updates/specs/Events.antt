@@ -1,11 +1,10 @@
 -- What may happen, in any order. What is lost is a message that never comes, and what a cache forgets is a stored
 -- response that it never serves.
 use Rattle.std.specs.Prelude.{ℕ, suc, Bool, true, false, List, [], ◌∷◌, ◌++◌, ◌==◌, ◌&&◌, bytes_eq, if◌then◌else◌}
-use Rattle.std.specs.Prelude.{slice_get, Option, Some, None}
-use Rattle.updates.specs.Worlds.{Version, Condition, Put, Request, Response, Hop, Message, Node, World, is_true, given}
-use Rattle.updates.{specs.Worlds.written_by, specs.Worlds.Condition.{IfMatch, IfUnmodifiedSince, Unconditional}}
-use Rattle.updates.{specs.Worlds.Request.{Get, Puts}, specs.Worlds.Response.{Status200, Status204, Status304, Refused}}
-use Rattle.updates.specs.Worlds.Message.{Going, Coming}
+use Rattle.{std.specs.Prelude.{slice_get, Option, Some, None}, updates.specs.Worlds.{Version, Condition}}
+use Rattle.updates.specs.Worlds.{Condition.{IfMatch, IfUnmodifiedSince, Unconditional}, Put, Request, Request.Get}
+use Rattle.updates.specs.Worlds.{Request.Puts, Response, Response.{Status200, Status204, Status304, Refused}, Hop}
+use Rattle.updates.specs.Worlds.{Message, Message.{Going, Coming}, Node, World, is_true, given, written_by}
 
 -- how a client guards a PUT
 pub data Guard : Type 0 where

@@ -1,10 +1,9 @@
 -- What is said of a world that some events have made.
 use Rattle.std.specs.Prelude.{◌≡◌, ◌≢◌, ◌⊎◌, ℕ, ◌<◌, Bool, true, List, [], ◌∷◌, slice_get, Option, Some, None, ⊤}
-use Rattle.updates.specs.Events.{Event, happens, found_at, place_of}
-use Rattle.updates.specs.Events.Event.{Forwards, Serves, ServesTag, AnswersTag}
-use Rattle.updates.{specs.Events.Event.{Answers, Returns}, specs.Worlds.{Version, Put, Hop, Message, Change, World}}
-use Rattle.updates.{specs.Worlds.{client_of, versions}, specs.Worlds.Condition.IfMatch, specs.Worlds.Request.Get}
-use Rattle.updates.{specs.Worlds.Response.{Status200, Status204}, specs.Worlds.Message.{Going, Coming}}
+use Rattle.updates.specs.Events.{Event, Event.{Forwards, Serves, ServesTag, AnswersTag, Answers, Returns}, happens}
+use Rattle.updates.specs.{Events.{found_at, place_of}, Worlds.{Version, Put, Hop, Message, Message.{Going, Coming}}}
+use Rattle.updates.specs.Worlds.{Change, World, client_of, versions, Condition.IfMatch, Request.Get, Response.Status200}
+use Rattle.updates.specs.Worlds.Response.{Status204}
 
 -- the list has this element
 abbrev pub Has : {X : Type 0} → List X → X → Type 0

@@ -1,6 +1,5 @@
-use Rattle.std.proofs.Common.{rules, Option, subst}
-use Rattle.std.specs.Fn.{FnOnceReturnsAt}
-use Rattle.c_handles.{specs.Handles.OnHeld, specs.declared.held.HeldConnection.HeldConnection}
+use Rattle.{std.{proofs.Common.{rules, Option, subst}, specs.Fn.FnOnceReturnsAt}, c_handles.specs.Handles.OnHeld}
+use Rattle.c_handles.specs.declared.held.HeldConnection.{HeldConnection}
 use Rattle.c_connection.proofs.calling.ask_in.Goals as goal
 
 pub returns-in-Some : goal.returns-in-Some

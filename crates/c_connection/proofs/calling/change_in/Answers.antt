@@ -1,7 +1,5 @@
-use Rattle.std.proofs.Common.{rules, Some, subst, sym}
-use Rattle.std.specs.Fn.{FnOnceReturnsAtMut}
-use Rattle.c_handles.{specs.declared.held.Held.Held, specs.declared.held.Held.TheVariants.{Connection}}
-use Rattle.c_connection.specs.Calls.{OnConnection}
+use Rattle.std.{proofs.Common.{rules, Some, subst, sym}, specs.Fn.FnOnceReturnsAtMut}
+use Rattle.{c_handles.specs.declared.held.Held.{Held, TheVariants.Connection}, c_connection.specs.Calls.OnConnection}
 use Rattle.c_connection.proofs.calling.change_in.Goals as goal
 
 pub returns-in-Connection : goal.returns-in-Connection

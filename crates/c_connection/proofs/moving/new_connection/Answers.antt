@@ -1,5 +1,4 @@
-use Rattle.std.proofs.Common.{refl}
-use Rattle.http_server.specs.declared.state.Config.{Config}
+use Rattle.{std.proofs.Common.refl, http_server.specs.declared.state.Config.Config}
 use Rattle.c_connection.proofs.moving.new_connection.Goals as goal
 
 pub returns : goal.returns

@@ -1,6 +1,5 @@
-use Rattle.std.proofs.Common.{refl, subst, sym}
-use Rattle.server_connection.{specs.Plan.IsBlank, specs.declared.plan.ResponsePlan.ResponsePlan}
-use Rattle.c_connection.specs.Calls.{host_plans}
+use Rattle.{std.proofs.Common.{refl, subst, sym}, server_connection.specs.Plan.IsBlank}
+use Rattle.{server_connection.specs.declared.plan.ResponsePlan.ResponsePlan, c_connection.specs.Calls.host_plans}
 use Rattle.c_connection.proofs.moving.respond_in.Goals as goal
 
 pub returns : goal.returns

@@ -1,7 +1,6 @@
 use Rattle.std.proofs.Common.{◌≡◌, ℕ, ◌<◌, List, [], length, refl, inl, inr, ap, subst, arith}
-use Rattle.std.proofs.lemmas.Bool.Decides.{nat_tests}
-use Rattle.server_connection.specs.declared.{machine.Machine.Machine, piece.OpenRange.OpenRange}
-use Rattle.server_connection.specs.Machine.{HasNoRange, IsNextRange, OffersCount}
+use Rattle.{std.proofs.lemmas.Bool.Decides.nat_tests, server_connection.specs.declared.machine.Machine.Machine}
+use Rattle.server_connection.specs.{declared.piece.OpenRange.OpenRange, Machine.{HasNoRange, IsNextRange, OffersCount}}
 use Rattle.c_connection.proofs.moving.sent_in.Goals.{in-Some, in_default, in_default-via-in-Some+else-is_empty}
 use Rattle.c_connection.proofs.moving.sent_in.Goals.{in_default-via-in_default}
 use Rattle.c_connection.proofs.moving.sent_in.Goals as goal

@@ -1,7 +1,6 @@
 use Rattle.std.proofs.Common.{rules, List, Option, Result, Ok, Err, ℕ, refl, subst}
-use Rattle.c_parts.{specs.declared.status.Failure.Failure, specs.declared.status.Failure.TheVariants.Absent}
-use Rattle.c_handles.{specs.Handles.OnHeld, specs.declared.held.HeldConnection.HeldConnection}
-use Rattle.c_connection.specs.Calls.{IsText}
+use Rattle.{c_parts.specs.declared.status.Failure.{Failure, TheVariants.Absent}, c_handles.specs.Handles.OnHeld}
+use Rattle.{c_handles.specs.declared.held.HeldConnection.HeldConnection, c_connection.specs.Calls.IsText}
 use Rattle.c_connection.proofs.reading.write_in.Goals as goal
 
 pub returns-in_default : goal.returns-in_default

@@ -1,9 +1,7 @@
-use Rattle.std.proofs.Common.{List, ℕ, Result, Ok, Err, inr}
-use Rattle.decide_cors.specs.Policy.{Policy}
-use Rattle.c_parts.specs.declared.status.Failure.{Failure}
-use Rattle.c_decisions.{specs.Cors.{Shares, SharesBy}, specs.Rules.IsPolicyFor}
-use Rattle.c_decisions.specs.declared.cors.PolicyAnswer.{PolicyAnswer}
-use Rattle.c_decisions.{specs.declared.request.RequestTexts.RequestTexts, specs.declared.rules.Rules.Rules}
+use Rattle.{std.proofs.Common.{List, ℕ, Result, Ok, Err, inr}, decide_cors.specs.Policy.Policy}
+use Rattle.{c_parts.specs.declared.status.Failure.Failure, c_decisions.specs.Cors.{Shares, SharesBy}}
+use Rattle.c_decisions.specs.{Rules.IsPolicyFor, declared.cors.PolicyAnswer.PolicyAnswer}
+use Rattle.c_decisions.specs.declared.{request.RequestTexts.RequestTexts, rules.Rules.Rules}
 use Rattle.c_decisions.proofs.cors.answer_by_rules.Goals as goal
 
 Shares-from_policy : (given : Rules) (policy : Policy) (request : RequestTexts) (response : List ℕ)

@@ -1,5 +1,4 @@
-use Rattle.std.proofs.Common.{◌≡◌, flat_map, take}
-use Rattle.headers.specs.LineMap.{field_of}
+use Rattle.{std.proofs.Common.{◌≡◌, flat_map, take}, headers.specs.LineMap.field_of}
 use Rattle.c_decisions.specs.FieldLines.{field_text}
 use Rattle.c_decisions.proofs.field_lines.fields_text.Given as goal
 

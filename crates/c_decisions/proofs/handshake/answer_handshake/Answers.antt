@@ -1,6 +1,5 @@
-use Rattle.std.{proofs.Common.{◌≡◌, Err, inr, refl, subst, sym}, proofs.lemmas.Result.err_from_is_err_and}
-use Rattle.c_parts.specs.declared.status.Failure.TheVariants.{Memory}
-use Rattle.c_decisions.specs.Handshakes.{AnswersHandshake}
+use Rattle.std.proofs.{Common.{◌≡◌, Err, inr, refl, subst, sym}, lemmas.Result.err_from_is_err_and}
+use Rattle.{c_parts.specs.declared.status.Failure.TheVariants.Memory, c_decisions.specs.Handshakes.AnswersHandshake}
 use Rattle.c_decisions.proofs.handshake.answer_handshake.Goals as goal
 
 pub returns-in_err-show : goal.returns-in_err-show

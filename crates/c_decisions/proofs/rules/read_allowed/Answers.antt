@@ -1,7 +1,6 @@
-use Rattle.std.{proofs.Common.{◌≡◌, ◌∙◌, false, List, Err, ap, sym, subst}, proofs.lemmas.Result.err_from_is_err_and}
-use Rattle.http_header.specs.FieldValue.{FieldValue}
-use Rattle.headers.{specs.Lines.lines_of, specs.Typed.HasLine}
-use Rattle.c_decisions.{specs.Rules.{Finds, FindsOfText, ReadEach}, specs.Star.is_any, proofs.RuleLemmas.Allows-fails}
+use Rattle.std.proofs.{Common.{◌≡◌, ◌∙◌, false, List, Err, ap, sym, subst}, lemmas.Result.err_from_is_err_and}
+use Rattle.{http_header.specs.FieldValue.FieldValue, headers.specs.{Lines.lines_of, Typed.HasLine}}
+use Rattle.c_decisions.{specs.{Rules.{Finds, FindsOfText, ReadEach}, Star.is_any}, proofs.RuleLemmas.Allows-fails}
 use Rattle.c_decisions.proofs.rules.read_allowed.Goals as goal
 
 pub returns-in_err-values : goal.returns-in_err-values

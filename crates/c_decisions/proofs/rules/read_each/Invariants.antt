@@ -1,5 +1,4 @@
-use Rattle.std.{proofs.Common.take, specs.List.AllZip}
-use Rattle.headers.specs.Lines.{lines_of}
+use Rattle.{std.{proofs.Common.take, specs.List.AllZip}, headers.specs.Lines.lines_of}
 use Rattle.c_decisions.proofs.rules.read_each.Given as goal
 
 abbrev pub invariant-loop-line : goal.invariant-loop-line

@@ -1,5 +1,4 @@
-use Rattle.std.proofs.Common.{◌≡◌, [], ◌∷◌, sym, subst}
-use Rattle.http_header.specs.FieldValue.{FieldValue}
+use Rattle.{std.proofs.Common.{◌≡◌, [], ◌∷◌, sym, subst}, http_header.specs.FieldValue.FieldValue}
 use Rattle.c_decisions.proofs.rules.read_line.Goals as goal
 
 pub returns-in-Err-Invalid : goal.returns-in-Err-Invalid

@@ -1,5 +1,4 @@
-use Rattle.std.proofs.Common.{Ok, subst}
-use Rattle.decide_preconditions.specs.declared.resource.TargetState.{TargetState}
+use Rattle.{std.proofs.Common.{Ok, subst}, decide_preconditions.specs.declared.resource.TargetState.TargetState}
 use Rattle.c_decisions.specs.Targets.{IsResourceOf}
 use Rattle.c_decisions.proofs.selection.select_ranges.Goals as goal
 

@@ -1,7 +1,5 @@
-use Rattle.std.proofs.Common.{rules, ◌≡◌, ℕ, List, Some, subst}
-use Rattle.http.specs.declared.request.Request.{Request}
-use Rattle.server_connection.specs.declared.machine.Phase.TheVariants.{Asking}
-use Rattle.server_service.specs.Answer.{IsAnswer}
+use Rattle.{std.proofs.Common.{rules, ◌≡◌, ℕ, List, Some, subst}, http.specs.declared.request.Request.Request}
+use Rattle.{server_connection.specs.declared.machine.Phase.TheVariants.Asking, server_service.specs.Answer.IsAnswer}
 use Rattle.c_files.{specs.Entries.entry_in, proofs.PlanLemmas.planned}
 use Rattle.c_files.proofs.planning.plan_response.Goals as goal
 

@@ -1,6 +1,5 @@
-use Rattle.std.{proofs.Common.{◌≡◌, true}, proofs.lemmas.Bool.false_from_ne_true}
-use Rattle.decide_preconditions.specs.Boundaries.{is_boundary}
-use Rattle.c_decisions.proofs.BoundaryLemmas.{IsUtf8-boundary}
+use Rattle.std.proofs.{Common.{◌≡◌, true}, lemmas.Bool.false_from_ne_true}
+use Rattle.{decide_preconditions.specs.Boundaries.is_boundary, c_decisions.proofs.BoundaryLemmas.IsUtf8-boundary}
 use Rattle.c_files.proofs.settings.divider_of.Goals as goal
 
 pub returns-in_default : goal.returns-in_default

@@ -1,7 +1,5 @@
-use Rattle.std.proofs.Common.{ℕ, refl, subst}
-use Rattle.gateway_exchange.specs.Steps.{Answers, Settles}
-use Rattle.gateway_exchange.specs.declared.connection.GatewayConnection.{GatewayConnection}
-use Rattle.gateway_exchange.specs.declared.own.Own.TheVariants.{Chosen}
+use Rattle.{std.proofs.Common.{ℕ, refl, subst}, gateway_exchange.specs.Steps.{Answers, Settles}}
+use Rattle.gateway_exchange.specs.declared.{connection.GatewayConnection.GatewayConnection, own.Own.TheVariants.Chosen}
 use Rattle.c_gate.proofs.answering.answer_in.Goals as goal
 
 pub returns : goal.returns

@@ -1,6 +1,4 @@
-use Rattle.std.proofs.Common.{◌≡◌, ◌++◌, map}
-use Rattle.http1.specs.Head.{pairs}
-use Rattle.c_pass.specs.Sending.{FieldLine}
+use Rattle.{std.proofs.Common.{◌≡◌, ◌++◌, map}, http1.specs.Head.pairs, c_pass.specs.Sending.FieldLine}
 use Rattle.c_gate.specs.Answers.{header_lines}
 use Rattle.c_gate.proofs.answering.lines_of.Given as goal
 

@@ -1,6 +1,4 @@
-use Rattle.std.proofs.Common.{◌∙◌, ap}
-use Rattle.http1.specs.Head.{pairs}
-use Rattle.c_gate.proofs.AnswerLemmas.{responds}
+use Rattle.{std.proofs.Common.{◌∙◌, ap}, http1.specs.Head.pairs, c_gate.proofs.AnswerLemmas.responds}
 use Rattle.c_gate.proofs.answering.respond_in.Goals as goal
 
 pub returns : goal.returns

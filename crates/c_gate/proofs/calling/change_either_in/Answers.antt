@@ -1,7 +1,5 @@
-use Rattle.std.proofs.Common.{rules, Some, subst, sym}
-use Rattle.std.specs.Fn.{FnOnceReturnsAtMut}
-use Rattle.c_handles.{specs.declared.held.Held.Held, specs.declared.held.Held.TheVariants.{Gate, Tunnel}}
-use Rattle.c_gate.specs.Calls.{OnEither}
+use Rattle.std.{proofs.Common.{rules, Some, subst, sym}, specs.Fn.FnOnceReturnsAtMut}
+use Rattle.{c_handles.specs.declared.held.Held.{Held, TheVariants.{Gate, Tunnel}}, c_gate.specs.Calls.OnEither}
 use Rattle.c_gate.proofs.calling.change_either_in.Goals as goal
 
 pub returns-in-Gate : goal.returns-in-Gate

@@ -1,7 +1,5 @@
-use Rattle.std.proofs.Common.{rules, Some, subst, sym}
-use Rattle.std.specs.Fn.{FnOnceReturnsAtMut}
-use Rattle.c_handles.{specs.declared.held.Held.Held, specs.declared.held.Held.TheVariants.{Gate}}
-use Rattle.c_gate.specs.Calls.{OnGate}
+use Rattle.std.{proofs.Common.{rules, Some, subst, sym}, specs.Fn.FnOnceReturnsAtMut}
+use Rattle.{c_handles.specs.declared.held.Held.{Held, TheVariants.Gate}, c_gate.specs.Calls.OnGate}
 use Rattle.c_gate.proofs.calling.change_in.Goals as goal
 
 pub returns-in-Gate : goal.returns-in-Gate

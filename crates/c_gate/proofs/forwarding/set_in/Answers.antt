@@ -1,5 +1,4 @@
-use Rattle.std.proofs.Common.{Option, codes, refl, subst}
-use Rattle.http_header.{specs.FieldValue.FieldValue, specs.HeaderMap.get}
+use Rattle.{std.proofs.Common.{Option, codes, refl, subst}, http_header.specs.{FieldValue.FieldValue, HeaderMap.get}}
 use Rattle.gateway_exchange.specs.Steps.{Conditions}
 use Rattle.c_gate.proofs.forwarding.set_in.Goals as goal
 

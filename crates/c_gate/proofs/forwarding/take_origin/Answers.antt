@@ -1,7 +1,5 @@
-use Rattle.std.proofs.Common.{rules, Ok, Option, subst, sym}
-use Rattle.c_handles.specs.declared.held.Held.{Held}
-use Rattle.c_gate.specs.{Calls.OnGate, Origins.{IsTaken, TakesOver}}
-use Rattle.c_gate.proofs.CallLemmas.{taken_over}
+use Rattle.{std.proofs.Common.{rules, Ok, Option, subst, sym}, c_handles.specs.declared.held.Held.Held}
+use Rattle.c_gate.{specs.{Calls.OnGate, Origins.{IsTaken, TakesOver}}, proofs.CallLemmas.taken_over}
 use Rattle.c_gate.proofs.forwarding.take_origin.Goals as goal
 
 pub returns : goal.returns

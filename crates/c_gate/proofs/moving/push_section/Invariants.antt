@@ -1,5 +1,4 @@
-use Rattle.std.proofs.Common.{◌≡◌, ◌++◌, length}
-use Rattle.headers_section.specs.Section.{input_lines}
+use Rattle.{std.proofs.Common.{◌≡◌, ◌++◌, length}, headers_section.specs.Section.input_lines}
 use Rattle.c_gate.specs.Moves.{lines_text}
 use Rattle.c_gate.proofs.moving.push_section.Given as goal
 

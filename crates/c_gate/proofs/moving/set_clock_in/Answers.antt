@@ -1,6 +1,4 @@
-use Rattle.std.proofs.Common.{rules, ◌≡◌, ◌∙◌, refl}
-use Rattle.headers.specs.Date.{IsDated}
-use Rattle.gateway_exchange.specs.Steps.{Dates}
+use Rattle.{std.proofs.Common.{rules, ◌≡◌, ◌∙◌, refl}, headers.specs.Date.IsDated, gateway_exchange.specs.Steps.Dates}
 use Rattle.c_gate.proofs.moving.set_clock_in.Goals as goal
 
 pub returns : goal.returns

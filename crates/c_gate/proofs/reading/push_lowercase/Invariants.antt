@@ -1,5 +1,4 @@
-use Rattle.std.proofs.Common.{◌≡◌, ◌++◌, take}
-use Rattle.http_header.specs.Token.{lowercase}
+use Rattle.{std.proofs.Common.{◌≡◌, ◌++◌, take}, http_header.specs.Token.lowercase}
 use Rattle.c_gate.proofs.reading.push_lowercase.Given as goal
 
 abbrev pub invariant-loop-byte : goal.invariant-loop-byte

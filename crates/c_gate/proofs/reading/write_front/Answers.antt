@@ -1,5 +1,4 @@
-use Rattle.std.proofs.Common.{rules, Ok, Err, refl}
-use Rattle.c_parts.specs.declared.status.Failure.TheVariants.{Refused}
+use Rattle.{std.proofs.Common.{rules, Ok, Err, refl}, c_parts.specs.declared.status.Failure.TheVariants.Refused}
 use Rattle.c_gate.proofs.reading.write_front.Goals as goal
 
 pub returns-in-0 : goal.returns-in-0

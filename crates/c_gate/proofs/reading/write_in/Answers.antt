@@ -1,5 +1,4 @@
-use Rattle.std.proofs.Common.{rules, Ok, Err, refl}
-use Rattle.c_parts.specs.declared.status.Failure.TheVariants.{Absent}
+use Rattle.{std.proofs.Common.{rules, Ok, Err, refl}, c_parts.specs.declared.status.Failure.TheVariants.Absent}
 use Rattle.c_gate.proofs.reading.write_in.Goals as goal
 
 pub returns-in_default : goal.returns-in_default

@@ -1,6 +1,5 @@
 use Rattle.std.proofs.Common.{ℕ, List, length, Option, Err, refl, subst}
-use Rattle.c_parts.specs.declared.status.Failure.TheVariants.{Absent}
-use Rattle.c_handles.specs.Handles.{OnHeld}
+use Rattle.{c_parts.specs.declared.status.Failure.TheVariants.Absent, c_handles.specs.Handles.OnHeld}
 use Rattle.c_gate.specs.Texts.{IsFront}
 use Rattle.c_gate.proofs.reading.write_output_in.Goals as goal
 

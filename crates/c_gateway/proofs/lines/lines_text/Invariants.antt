@@ -1,5 +1,4 @@
-use Rattle.std.proofs.Common.{◌≡◌, flat_map, take}
-use Rattle.headers_section.specs.CanonicalText.{line_text}
+use Rattle.{std.proofs.Common.{◌≡◌, flat_map, take}, headers_section.specs.CanonicalText.line_text}
 use Rattle.c_gateway.proofs.lines.lines_text.Given as goal
 
 abbrev pub invariant-loop-field : goal.invariant-loop-field

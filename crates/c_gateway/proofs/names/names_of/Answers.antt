@@ -1,8 +1,7 @@
-use Rattle.std.{proofs.Common.{◌≡◌, ℕ, ◌+◌, List, Err, sym, subst, take}, proofs.lemmas.Result.err_from_is_err_and}
-use Rattle.http_header.{specs.FieldName.IsFieldName, specs.Token.lowercase}
-use Rattle.headers.specs.Lines.{lines_of}
-use Rattle.c_parts.specs.FieldText.{IsNameOf}
-use Rattle.c_gateway.{specs.Names.ReadsNames, proofs.NameLemmas.{All-more, ReadsNames-fails, lines_of-more, names-more}}
+use Rattle.std.proofs.{Common.{◌≡◌, ℕ, ◌+◌, List, Err, sym, subst, take}, lemmas.Result.err_from_is_err_and}
+use Rattle.{http_header.specs.{FieldName.IsFieldName, Token.lowercase}, headers.specs.Lines.lines_of}
+use Rattle.{c_parts.specs.FieldText.IsNameOf, c_gateway.{specs.Names.ReadsNames, proofs.NameLemmas.All-more}}
+use Rattle.c_gateway.proofs.NameLemmas.{ReadsNames-fails, lines_of-more, names-more}
 use Rattle.c_gateway.proofs.names.names_of.Goals as goal
 
 pub loop-line-preserved : goal.loop-line-preserved

@@ -1,5 +1,4 @@
-use Rattle.std.proofs.Common.{◌≡◌, All, map, take}
-use Rattle.http_header.{specs.FieldName.IsFieldName, specs.Token.lowercase}
+use Rattle.{std.proofs.Common.{◌≡◌, All, map, take}, http_header.specs.{FieldName.IsFieldName, Token.lowercase}}
 use Rattle.headers.specs.Lines.{lines_of}
 use Rattle.c_gateway.proofs.names.names_of.Given as goal
 

@@ -1,5 +1,4 @@
-use Rattle.c_parts.specs.FieldText.{field_lines}
-use Rattle.c_gateway.proofs.NameLemmas.{All-values}
+use Rattle.{c_parts.specs.FieldText.field_lines, c_gateway.proofs.NameLemmas.All-values}
 use Rattle.c_gateway.proofs.names.read_names.Goals as goal
 
 pub returns-in-None : goal.returns-in-None

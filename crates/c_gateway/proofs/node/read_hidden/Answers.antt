@@ -1,5 +1,4 @@
-use Rattle.std.{proofs.Common.{◌≡◌, true}, proofs.lemmas.Bool.false_from_ne_true}
-use Rattle.gateway_hops.specs.Nodes.{is_obfuscated}
+use Rattle.{std.proofs.{Common.{◌≡◌, true}, lemmas.Bool.false_from_ne_true}, gateway_hops.specs.Nodes.is_obfuscated}
 use Rattle.c_gateway.proofs.NodeLemmas.{IsUtf8-obfuscated}
 use Rattle.c_gateway.proofs.node.read_hidden.Goals as goal
 

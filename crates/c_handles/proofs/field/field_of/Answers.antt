@@ -1,5 +1,4 @@
-use Rattle.std.proofs.Common.{◌<◌, inr, length, rules, sym}
-use Rattle.http_header.specs.HeaderMap.{get_all}
+use Rattle.{std.proofs.Common.{◌<◌, inr, length, rules, sym}, http_header.specs.HeaderMap.get_all}
 use Rattle.c_parts.proofs.WrittenLemmas.{has_values}
 use Rattle.c_handles.proofs.field.field_of.Goals as goal
 

@@ -1,6 +1,4 @@
-use Rattle.std.proofs.Common.{◌≡◌, ◌++◌}
-use Rattle.http_header.specs.HeaderMap.{get_all}
-use Rattle.headers.specs.Lines.{lines_of}
+use Rattle.{std.proofs.Common.{◌≡◌, ◌++◌}, http_header.specs.HeaderMap.get_all, headers.specs.Lines.lines_of}
 use Rattle.c_handles.proofs.field.values_at.Given as goal
 
 abbrev pub invariant-loop-value : goal.invariant-loop-value

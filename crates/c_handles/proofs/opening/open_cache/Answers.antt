@@ -1,7 +1,5 @@
-use Rattle.std.proofs.Common.{rules, refl}
-use Rattle.c_pass.specs.Caches.{IsPlain}
-use Rattle.c_handles.{specs.Passes.IsCacheHeld, specs.declared.held.Held.TheVariants.{Cache}}
-use Rattle.c_handles.proofs.OpenLemmas.{mapped, opened}
+use Rattle.{std.proofs.Common.{rules, refl}, c_pass.specs.Caches.IsPlain, c_handles.specs.Passes.IsCacheHeld}
+use Rattle.c_handles.{specs.declared.held.Held.TheVariants.Cache, proofs.OpenLemmas.{mapped, opened}}
 use Rattle.c_handles.proofs.opening.open_cache.Goals as goal
 
 pub returns : goal.returns

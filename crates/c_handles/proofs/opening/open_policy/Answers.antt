@@ -1,7 +1,6 @@
-use Rattle.std.proofs.Common.{rules, inl, inr, refl}
-use Rattle.c_decisions.specs.Rules.{IsPolicyAnswer}
-use Rattle.c_handles.{specs.Policies.IsPolicyHeld, specs.declared.held.Held.TheVariants.{Policy}}
-use Rattle.c_handles.proofs.OpenLemmas.{mapped, opened}
+use Rattle.{std.proofs.Common.{rules, inl, inr, refl}, c_decisions.specs.Rules.IsPolicyAnswer}
+use Rattle.c_handles.{specs.{Policies.IsPolicyHeld, declared.held.Held.TheVariants.Policy}, proofs.OpenLemmas.mapped}
+use Rattle.c_handles.proofs.OpenLemmas.{opened}
 use Rattle.c_handles.proofs.opening.open_policy.Goals as goal
 
 pub returns : goal.returns

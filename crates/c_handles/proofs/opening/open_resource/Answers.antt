@@ -1,6 +1,5 @@
-use Rattle.std.proofs.Common.{rules, inl, inr, refl}
-use Rattle.c_resource.specs.Resources.{IsResourceAnswer}
-use Rattle.c_handles.{specs.Resources.IsResourceHeld, specs.declared.held.Held.TheVariants.{Resource}}
+use Rattle.{std.proofs.Common.{rules, inl, inr, refl}, c_resource.specs.Resources.IsResourceAnswer}
+use Rattle.c_handles.specs.{Resources.IsResourceHeld, declared.held.Held.TheVariants.Resource}
 use Rattle.c_handles.proofs.OpenLemmas.{mapped, opened}
 use Rattle.c_handles.proofs.opening.open_resource.Goals as goal
 

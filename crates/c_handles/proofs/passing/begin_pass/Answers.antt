@@ -1,5 +1,4 @@
-use Rattle.std.proofs.Common.{rules}
-use Rattle.c_handles.proofs.PassLemmas.{lost_through}
+use Rattle.{std.proofs.Common.rules, c_handles.proofs.PassLemmas.lost_through}
 use Rattle.c_handles.proofs.passing.begin_pass.Goals as goal
 
 pub returns : goal.returns

@@ -1,6 +1,5 @@
 use Rattle.std.proofs.Common.{rules, Option, Ok, Err, refl, subst}
-use Rattle.c_parts.specs.declared.status.Failure.TheVariants.{Absent}
-use Rattle.c_pass.specs.declared.held.Stepped.{Stepped}
+use Rattle.{c_parts.specs.declared.status.Failure.TheVariants.Absent, c_pass.specs.declared.held.Stepped.Stepped}
 use Rattle.c_handles.specs.Passes.{ShowsFields}
 use Rattle.c_handles.proofs.passing.write_in.Goals as goal
 

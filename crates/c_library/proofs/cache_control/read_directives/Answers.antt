@@ -1,8 +1,6 @@
 use Rattle.std.{proofs.Common.{◌≡◌, ◌∙◌, ◌<◌, List, Some, ap, arith, length, rules, subst, sym}, specs.Prelude.codes}
-use Rattle.headers.{specs.CacheControl.{directives_of, is_set}, specs.Lines.{Line, lines_of}}
-use Rattle.headers_items.specs.Entries.{entries}
-use Rattle.c_parts.specs.FieldText.{field_lines}
-use Rattle.c_parts.proofs.WrittenLemmas.{has_values}
+use Rattle.headers.specs.{CacheControl.{directives_of, is_set}, Lines.{Line, lines_of}}
+use Rattle.{headers_items.specs.Entries.entries, c_parts.{specs.FieldText.field_lines, proofs.WrittenLemmas.has_values}}
 use Rattle.c_library.proofs.DirectiveLemmas.{proxy_of}
 use Rattle.c_library.proofs.cache_control.read_directives.Goals as goal
 

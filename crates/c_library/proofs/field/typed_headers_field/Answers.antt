@@ -1,5 +1,4 @@
-use Rattle.std.proofs.Common.{Err, inr, refl}
-use Rattle.c_parts.specs.declared.status.Failure.TheVariants.{Memory}
+use Rattle.{std.proofs.Common.{Err, inr, refl}, c_parts.specs.declared.status.Failure.TheVariants.Memory}
 use Rattle.c_library.proofs.field.typed_headers_field.Goals as goal
 
 pub returns-in-Ok : goal.returns-in-Ok

@@ -1,7 +1,5 @@
-use Rattle.std.proofs.Common.{Ok, Err, refl}
-use Rattle.headers.specs.ContentLength.{content_length_reads}
-use Rattle.c_library.specs.Fields.{reads_length}
-use Rattle.c_parts.proofs.DecodeLemmas.{FieldDecodes-fails}
+use Rattle.{std.proofs.Common.{Ok, Err, refl}, headers.specs.ContentLength.content_length_reads}
+use Rattle.{c_library.specs.Fields.reads_length, c_parts.proofs.DecodeLemmas.FieldDecodes-fails}
 use Rattle.c_library.proofs.fields.typed_headers_content_length.Goals as goal
 
 pub returns-in-Ok : goal.returns-in-Ok

@@ -1,6 +1,5 @@
-use Rattle.std.{proofs.Common.{◌∙◌, ap, arith, length, sym, take}, proofs.lemmas.Bool.false_from_ne_true}
-use Rattle.std.{proofs.lemmas.List.take_all, proofs.lemmas.List.Sums.position_or_len_is}
-use Rattle.memchr.specs.Find.{is_byte}
+use Rattle.std.proofs.{Common.{◌∙◌, ap, arith, length, sym, take}, lemmas.{Bool.false_from_ne_true, List.take_all}}
+use Rattle.{std.proofs.lemmas.List.Sums.position_or_len_is, memchr.specs.Find.is_byte}
 use Rattle.c_library.proofs.media_type.essence.Goals as goal
 
 pub returns-in-Some : goal.returns-in-Some

@@ -1,9 +1,7 @@
 use Rattle.std.{proofs.Common.{◌∙◌, List, Ok, Err, ap, refl, subst}, specs.List.filter_map}
-use Rattle.http_header.specs.FieldValue.{plain_value}
-use Rattle.headers.{specs.HeaderLaws.ReadsBy, specs.Range.range_grammar}
-use Rattle.c_parts.{specs.Endings.{IsWritten, done}, specs.declared.status.Failure.TheVariants.Memory}
-use Rattle.c_parts.proofs.DecodeLemmas.{FieldDecodes-fails}
-use Rattle.c_library.specs.Ranges.{bytes_range, reads_ranges}
+use Rattle.{http_header.specs.FieldValue.plain_value, headers.specs.{HeaderLaws.ReadsBy, Range.range_grammar}}
+use Rattle.c_parts.specs.{Endings.{IsWritten, done}, declared.status.Failure.TheVariants.Memory}
+use Rattle.{c_parts.proofs.DecodeLemmas.FieldDecodes-fails, c_library.specs.Ranges.{bytes_range, reads_ranges}}
 use Rattle.c_decisions.specs.declared.selection.BytesRange.{BytesRange}
 use Rattle.c_library.proofs.ranges.typed_headers_ranges.Goals as goal
 

@@ -1,7 +1,6 @@
-use Rattle.std.proofs.Common.{Option, Some, None, Ok, Err, inr, refl}
-use Rattle.http_header.{specs.FieldValue.FieldValue, specs.HeaderMap.Entries}
-use Rattle.c_parts.specs.declared.status.Failure.TheVariants.{Memory}
-use Rattle.c_handles.{specs.Handles.{OnHeld, section_in}, specs.Sections.IsWrittenOf}
+use Rattle.{std.proofs.Common.{Option, Some, None, Ok, Err, inr, refl}, http_header.specs.FieldValue.FieldValue}
+use Rattle.{http_header.specs.HeaderMap.Entries, c_parts.specs.declared.status.Failure.TheVariants.Memory}
+use Rattle.c_handles.specs.{Handles.{OnHeld, section_in}, Sections.IsWrittenOf}
 use Rattle.c_library.proofs.sections.typed_headers_section_field.Goals as goal
 
 pub returns-in-Ok-clause-lines : goal.returns-in-Ok-clause-lines

@@ -1,8 +1,6 @@
-use Rattle.std.{proofs.Common.{◌≡◌, Err, inl, inr, subst, sym}, proofs.lemmas.Result.err_from_is_err_and}
-use Rattle.http_header.specs.FieldValue.{plain_value}
-use Rattle.headers.specs.EntityTag.{StronglyEqual}
-use Rattle.c_library.specs.Tags.{Compares, reads_tag}
-use Rattle.c_decisions.specs.Targets.{reads_etag}
+use Rattle.std.proofs.{Common.{◌≡◌, Err, inl, inr, subst, sym}, lemmas.Result.err_from_is_err_and}
+use Rattle.{http_header.specs.FieldValue.plain_value, headers.specs.EntityTag.StronglyEqual}
+use Rattle.{c_library.specs.Tags.{Compares, reads_tag}, c_decisions.specs.Targets.reads_etag}
 use Rattle.c_parts.proofs.DecodeLemmas.{FieldDecodes-fails}
 use Rattle.c_library.proofs.tags.are_strongly_equal.Goals as goal
 

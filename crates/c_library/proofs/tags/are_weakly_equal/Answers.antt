@@ -1,7 +1,5 @@
-use Rattle.std.proofs.Common.{◌≡◌, ◌∙◌, Err, ap, inl, inr, rules, subst, sym}
-use Rattle.std.proofs.lemmas.Result.{err_from_is_err_and}
-use Rattle.http_header.specs.FieldValue.{plain_value}
-use Rattle.headers.specs.EntityTag.{WeaklyEqual}
+use Rattle.std.proofs.{Common.{◌≡◌, ◌∙◌, Err, ap, inl, inr, rules, subst, sym}, lemmas.Result.err_from_is_err_and}
+use Rattle.{http_header.specs.FieldValue.plain_value, headers.specs.EntityTag.WeaklyEqual}
 use Rattle.c_parts.{specs.FieldText.field_lines, proofs.DecodeLemmas.FieldDecodes-fails}
 use Rattle.c_library.{specs.Tags.{Compares, quoted_part, reads_tag}, proofs.TagLemmas.Tells-equal}
 use Rattle.c_decisions.specs.Targets.{reads_etag}

@@ -1,5 +1,4 @@
-use Rattle.std.{proofs.Common.{rules, ◌∙◌}, proofs.lemmas.Iterator.YieldsList-from_slice}
-use Rattle.std.proofs.lemmas.Iterator.Search.{any_from_yields_List}
+use Rattle.std.proofs.{Common.{rules, ◌∙◌}, lemmas.Iterator.{YieldsList-from_slice, Search.any_from_yields_List}}
 use Rattle.c_parts.proofs.FlagLemmas.{in_line, set_in_lines}
 use Rattle.c_parts.proofs.flags.has_flag.Goals as goal
 

@@ -1,6 +1,5 @@
-use Rattle.std.{proofs.Common.{rules, tests, List, ℕ}, proofs.lemmas.Iterator.Search.any_from_yields_List}
-use Rattle.headers.proofs.WalkRuns.{YieldsList-from_walk}
-use Rattle.headers_syntax.specs.AsciiCase.{same_name}
+use Rattle.std.proofs.{Common.{rules, tests, List, ℕ}, lemmas.Iterator.Search.any_from_yields_List}
+use Rattle.{headers.proofs.WalkRuns.YieldsList-from_walk, headers_syntax.specs.AsciiCase.same_name}
 use Rattle.c_parts.proofs.flags.is_set_in.Goals as goal
 
 pub returns : goal.returns

@@ -1,5 +1,4 @@
-use Rattle.std.{proofs.Common.{◌∙◌, ap, drop, length, arith}, proofs.lemmas.List.drop-drop}
-use Rattle.std.proofs.lemmas.Slice.{between_to_end}
+use Rattle.std.proofs.{Common.{◌∙◌, ap, drop, length, arith}, lemmas.{List.drop-drop, Slice.between_to_end}}
 use Rattle.headers_section.{specs.Section.without_return, proofs.SectionLemmas.{input_lines-none, input_lines-some}}
 use Rattle.c_parts.proofs.lines.cut_line.Goals as goal
 

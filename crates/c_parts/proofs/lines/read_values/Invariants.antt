@@ -1,7 +1,5 @@
-use Rattle.std.proofs.Common.{◌≡◌, ◌++◌, All, length}
-use Rattle.http_header.specs.FieldValue.{IsFieldValue}
-use Rattle.headers.specs.Lines.{lines_of}
-use Rattle.headers_section.specs.Section.{input_lines}
+use Rattle.{std.proofs.Common.{◌≡◌, ◌++◌, All, length}, http_header.specs.FieldValue.IsFieldValue}
+use Rattle.{headers.specs.Lines.lines_of, headers_section.specs.Section.input_lines}
 use Rattle.c_parts.specs.FieldText.{field_lines}
 use Rattle.c_parts.proofs.lines.read_values.Given as goal
 

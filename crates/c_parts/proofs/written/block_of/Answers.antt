@@ -1,8 +1,7 @@
 use Rattle.std.proofs.Common.{◌≡◌, ◌∙◌, true, Vec, Global, List, Option, option_map, IfOk, subst, sym}
-use Rattle.http_header.specs.FieldValue.{FieldValue}
-use Rattle.headers.specs.Lines.{lines_of}
-use Rattle.headers_section.specs.CanonicalText.{Block}
-use Rattle.c_parts.{specs.Written.{IsWrittenBlock, has_credentials}, proofs.WrittenLemmas.IfOk-written}
+use Rattle.{http_header.specs.FieldValue.FieldValue, headers.specs.Lines.lines_of}
+use Rattle.{headers_section.specs.CanonicalText.Block, c_parts.specs.Written.{IsWrittenBlock, has_credentials}}
+use Rattle.c_parts.proofs.WrittenLemmas.{IfOk-written}
 use Rattle.c_parts.proofs.written.block_of.Goals as goal
 
 pub returns-then-has_credentials : goal.returns-then-has_credentials

@@ -1,7 +1,5 @@
-use Rattle.std.proofs.Common.{Vec, Global, Option, option_map}
-use Rattle.http_header.specs.FieldValue.{FieldValue}
-use Rattle.headers.specs.Lines.{lines_of}
-use Rattle.headers_section.specs.CanonicalText.{Block}
+use Rattle.{std.proofs.Common.{Vec, Global, Option, option_map}, http_header.specs.FieldValue.FieldValue}
+use Rattle.{headers.specs.Lines.lines_of, headers_section.specs.CanonicalText.Block}
 use Rattle.c_parts.proofs.WrittenLemmas.{IfOk-bearer}
 use Rattle.c_parts.proofs.written.credentials_lines.Goals as goal
 

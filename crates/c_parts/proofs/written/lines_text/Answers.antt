@@ -1,7 +1,5 @@
-use Rattle.std.{proofs.Common.{◌++◌, ◌∷◌, [], arith}, proofs.lemmas.Grind.common_steps}
-use Rattle.std.proofs.lemmas.List.Folds.{flat_map-map}
-use Rattle.http_header.specs.FieldValue.{FieldValue}
-use Rattle.headers.specs.Lines.{Line}
+use Rattle.std.proofs.{Common.{◌++◌, ◌∷◌, [], arith}, lemmas.{Grind.common_steps, List.Folds.flat_map-map}}
+use Rattle.{http_header.specs.FieldValue.FieldValue, headers.specs.Lines.Line}
 use Rattle.c_parts.proofs.written.lines_text.Goals as goal
 
 pub returns : goal.returns

@@ -1,5 +1,4 @@
-use Rattle.std.proofs.Common.{◌≡◌, ◌∷◌, ◌++◌, [], flat_map, take}
-use Rattle.http_header.specs.FieldValue.{FieldValue}
+use Rattle.{std.proofs.Common.{◌≡◌, ◌∷◌, ◌++◌, [], flat_map, take}, http_header.specs.FieldValue.FieldValue}
 use Rattle.c_parts.proofs.written.lines_text.Given as goal
 
 abbrev pub invariant-loop-line : goal.invariant-loop-line

@@ -1,6 +1,5 @@
 use Rattle.std.{proofs.Common.{◌≡◌, ◌++◌, List, length}, specs.Vec.Iter.into_iter_items}
-use Rattle.http_header.specs.FieldValue.{FieldValue}
-use Rattle.c_parts.proofs.WrittenLemmas.{alone}
+use Rattle.{http_header.specs.FieldValue.FieldValue, c_parts.proofs.WrittenLemmas.alone}
 use Rattle.c_parts.proofs.written.map_of.Given as goal
 
 abbrev pub invariant-loop-value : goal.invariant-loop-value

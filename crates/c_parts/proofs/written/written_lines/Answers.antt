@@ -1,5 +1,4 @@
-use Rattle.std.proofs.Common.{◌<◌, arith, inr, length, rules, sym}
-use Rattle.c_parts.proofs.WrittenLemmas.{has_values}
+use Rattle.{std.proofs.Common.{◌<◌, arith, inr, length, rules, sym}, c_parts.proofs.WrittenLemmas.has_values}
 use Rattle.c_parts.proofs.written.written_lines.Goals as goal
 
 pub returns-in-Some-2 : goal.returns-in-Some-2

@@ -1,8 +1,7 @@
-use Rattle.std.{proofs.Common.{◌≡◌, ℕ, List, Err, sym, subst}, proofs.lemmas.Result.err_from_is_err_and}
-use Rattle.http_header.{specs.FieldName.IsFieldName, specs.Token.lowercase}
-use Rattle.headers.specs.Lines.{lines_of}
-use Rattle.c_parts.specs.FieldText.{IsNameOf}
-use Rattle.c_pass.{specs.Names.IsNamesOf, proofs.NameLemmas.{names-fails, names-more}}
+use Rattle.std.proofs.{Common.{◌≡◌, ℕ, List, Err, sym, subst}, lemmas.Result.err_from_is_err_and}
+use Rattle.{http_header.specs.{FieldName.IsFieldName, Token.lowercase}, headers.specs.Lines.lines_of}
+use Rattle.{c_parts.specs.FieldText.IsNameOf, c_pass.{specs.Names.IsNamesOf, proofs.NameLemmas.names-fails}}
+use Rattle.c_pass.proofs.NameLemmas.{names-more}
 use Rattle.c_pass.proofs.names.names_of.Goals as goal
 
 pub loop-line-preserved : goal.loop-line-preserved

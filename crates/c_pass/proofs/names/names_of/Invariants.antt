@@ -1,6 +1,4 @@
-use Rattle.std.proofs.Common.{take}
-use Rattle.headers.specs.Lines.{lines_of}
-use Rattle.c_pass.proofs.NameLemmas.{IsReadAs}
+use Rattle.{std.proofs.Common.take, headers.specs.Lines.lines_of, c_pass.proofs.NameLemmas.IsReadAs}
 use Rattle.c_pass.proofs.names.names_of.Given as goal
 
 abbrev pub invariant-loop-line : goal.invariant-loop-line

@@ -1,5 +1,4 @@
-use Rattle.std.proofs.Common.{◌≡◌, ◌++◌, filter, flat_map}
-use Rattle.headers_section.specs.CanonicalText.{line_text}
+use Rattle.{std.proofs.Common.{◌≡◌, ◌++◌, filter, flat_map}, headers_section.specs.CanonicalText.line_text}
 use Rattle.c_pass.specs.Sending.{FieldLine, is_sent, lines_kept}
 use Rattle.c_pass.proofs.sending.print_map.Given as goal
 

@@ -1,12 +1,9 @@
 use Rattle.std.proofs.Common.{rules, ◌≡◌, ◌∙◌, ℕ, List, Option, None, Result, Ok, Err, ap, subst, sym, refl, inl, inr}
-use Rattle.std.{specs.Prelude.{alloc_error, string_bytes}, specs.declared.alloc.AllocError.AllocError}
-use Rattle.std.proofs.lemmas.Result.{err_from_is_err_and}
-use Rattle.cache_store.specs.History.Call.{Looked}
-use Rattle.cache_pass.{specs.Effects.{Does, kept_of, settings_of}, specs.Passes.{IsSameRequest, key_of}}
-use Rattle.cache_pass.{specs.Queue.Enters, specs.Steps.HasBegun, specs.declared.cache.Cache.Cache}
-use Rattle.cache_pass.specs.declared.{pass.Pass.Pass, replying.First.First}
-use Rattle.c_parts.specs.declared.status.Failure.TheVariants.{Memory}
-use Rattle.c_pass.specs.{Steps.Begins, Waiting.IsAhead}
+use Rattle.std.{proofs.lemmas.Result.err_from_is_err_and, specs.Prelude.{alloc_error, string_bytes}}
+use Rattle.{std.specs.declared.alloc.AllocError.AllocError, cache_store.specs.History.Call.Looked}
+use Rattle.cache_pass.specs.{Effects.{Does, kept_of, settings_of}, Passes.{IsSameRequest, key_of}, Queue.Enters}
+use Rattle.cache_pass.specs.{Steps.HasBegun, declared.{cache.Cache.Cache, pass.Pass.Pass, replying.First.First}}
+use Rattle.{c_parts.specs.declared.status.Failure.TheVariants.Memory, c_pass.specs.{Steps.Begins, Waiting.IsAhead}}
 use Rattle.c_pass.proofs.stepping.begin.Goals as goal
 
 pub returns-in-Some : goal.returns-in-Some

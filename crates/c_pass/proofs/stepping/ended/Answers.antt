@@ -1,11 +1,10 @@
 use Rattle.std.proofs.Common.{rules, ◌≡◌, ℕ, Bool, true, false, List, [], Option, Result, Ok, Err, inl, inr, refl, subst, sym}
 use Rattle.std.specs.{Prelude.{◌&&◌, is_some, unwrap_or}, declared.alloc.AllocError.AllocError}
-use Rattle.std.proofs.lemmas.Result.{err_from_is_err_and}
-use Rattle.cache_rules.specs.declared.storing.Reception.{Reception}
+use Rattle.{std.proofs.lemmas.Result.err_from_is_err_and, cache_rules.specs.declared.storing.Reception.Reception}
 use Rattle.cache_rules.specs.declared.storing.Reception.TheVariants.{Complete, Incomplete}
-use Rattle.cache_pass.{specs.Steps.HasEnded, specs.declared.cache.Cache.Cache, specs.declared.pass.Pass.Pass}
-use Rattle.c_parts.specs.declared.status.Failure.TheVariants.{Memory}
-use Rattle.c_pass.specs.Steps.{Ends, IsContentStored, content_of, reception_of}
+use Rattle.cache_pass.specs.{Steps.HasEnded, declared.{cache.Cache.Cache, pass.Pass.Pass}}
+use Rattle.{c_parts.specs.declared.status.Failure.TheVariants.Memory, c_pass.specs.Steps.{Ends, IsContentStored}}
+use Rattle.c_pass.specs.Steps.{content_of, reception_of}
 use Rattle.c_pass.proofs.stepping.ended.Goals as goal
 
 module _ (old new : Pass) (before after : Cache) (now : ℕ) (number : Result (Option ℕ) AllocError) where

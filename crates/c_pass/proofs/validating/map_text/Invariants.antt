@@ -1,5 +1,4 @@
-use Rattle.std.proofs.Common.{◌≡◌, ◌++◌, flat_map}
-use Rattle.headers_section.specs.CanonicalText.{line_text}
+use Rattle.{std.proofs.Common.{◌≡◌, ◌++◌, flat_map}, headers_section.specs.CanonicalText.line_text}
 use Rattle.c_pass.specs.{Sending.FieldLine, Validating.map_text}
 use Rattle.c_pass.proofs.validating.map_text.Given as goal
 

@@ -1,5 +1,4 @@
-use Rattle.std.proofs.Common.{◌∙◌, ap}
-use Rattle.c_pass.specs.Validating.{map_text}
+use Rattle.{std.proofs.Common.{◌∙◌, ap}, c_pass.specs.Validating.map_text}
 use Rattle.c_pass.proofs.validating.validation_text.Goals as goal
 
 pub returns-in_ok-map_text-in-Ok : goal.returns-in_ok-map_text-in-Ok

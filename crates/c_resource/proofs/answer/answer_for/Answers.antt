@@ -1,7 +1,6 @@
-use Rattle.std.{proofs.Common.{◌≡◌, Err, inl, inr, subst, sym}, proofs.lemmas.Result.err_from_is_err_and}
-use Rattle.c_decisions.specs.Contents.{IsBoundaryOf}
-use Rattle.c_parts.specs.declared.status.Failure.{Failure}
-use Rattle.c_resource.{specs.Answers.Answers, specs.Resources.boundary_text}
+use Rattle.std.proofs.{Common.{◌≡◌, Err, inl, inr, subst, sym}, lemmas.Result.err_from_is_err_and}
+use Rattle.{c_decisions.specs.Contents.IsBoundaryOf, c_parts.specs.declared.status.Failure.Failure}
+use Rattle.c_resource.specs.{Answers.Answers, Resources.boundary_text}
 use Rattle.c_resource.proofs.answer.answer_for.Goals as goal
 
 pub returns-in_err-known : goal.returns-in_err-known

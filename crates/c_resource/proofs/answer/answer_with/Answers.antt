@@ -1,14 +1,11 @@
 use Rattle.std.proofs.Common.{◌≡◌, ℕ, List, Bor, None, Ok, Err, Option, Some, ap, inr, option_map, refl, subst, sym}
-use Rattle.std.{specs.Option.option_copied, proofs.lemmas.Result.err_from_is_err_and}
-use Rattle.http_header.{specs.FieldValue.FieldValue, specs.HeaderMap.Entries}
-use Rattle.headers.specs.LineMap.{lines_at}
-use Rattle.gateway_messages.specs.declared.protocol.Protocol.{Protocol}
-use Rattle.decide_resource.{specs.Requests.Request, specs.declared.denied.Denied.Denied}
-use Rattle.c_decisions.specs.Methods.{IsMethodOf}
-use Rattle.c_parts.specs.declared.status.Failure.TheVariants.{Memory}
-use Rattle.c_resource.specs.Answers.{AnswersBy, IsRequest}
+use Rattle.std.{proofs.lemmas.Result.err_from_is_err_and, specs.Option.option_copied}
+use Rattle.{http_header.specs.{FieldValue.FieldValue, HeaderMap.Entries}, headers.specs.LineMap.lines_at}
+use Rattle.{gateway_messages.specs.declared.protocol.Protocol.Protocol, decide_resource.specs.Requests.Request}
+use Rattle.{decide_resource.specs.declared.denied.Denied.Denied, c_decisions.specs.Methods.IsMethodOf}
+use Rattle.{c_parts.specs.declared.status.Failure.TheVariants.Memory, c_resource.specs.Answers.{AnswersBy, IsRequest}}
 use Rattle.c_resource.specs.Requests.{IsAuthorityAnswer, IsDenialAnswer, IsProtocolAnswer, authority_of, content_of}
-use Rattle.c_resource.{specs.declared.request.DenialParts.DenialParts, specs.declared.request.RequestParts.RequestParts}
+use Rattle.c_resource.specs.declared.request.{DenialParts.DenialParts, RequestParts.RequestParts}
 use Rattle.c_resource.proofs.answer.answer_with.Goals as goal
 
 lent : {X Y : Type 0} (f : X → Y) (given : Option (Bor X)) (value : Option X) → option_copied given ≡ value

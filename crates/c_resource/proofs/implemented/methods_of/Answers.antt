@@ -1,10 +1,8 @@
 use Rattle.std.proofs.Common.{◌≡◌, ◌∙◌, ℕ, ◌<◌, List, [], ◌∷◌, ◌++◌, All, Err, ap, get_or, length, subst, sym, take}
-use Rattle.std.{proofs.lemmas.List.Elements.All-push, proofs.lemmas.Result.err_from_is_err_and}
-use Rattle.http_header.{specs.FieldValue.FieldValue, specs.Token.IsToken}
-use Rattle.headers.specs.Lines.{Line, lines_of}
+use Rattle.std.proofs.lemmas.{List.Elements.All-push, Result.err_from_is_err_and}
+use Rattle.{http_header.specs.{FieldValue.FieldValue, Token.IsToken}, headers.specs.Lines.{Line, lines_of}}
 use Rattle.c_decisions.{specs.Methods.IsMethodOf, proofs.RuleLemmas.HasLine-below}
-use Rattle.c_parts.specs.declared.status.Failure.{Failure}
-use Rattle.c_parts.specs.declared.status.Failure.TheVariants.{Refused, Memory, Absent, TooLarge}
+use Rattle.c_parts.specs.declared.status.Failure.{Failure, TheVariants.{Refused, Memory, Absent, TooLarge}}
 use Rattle.c_resource.{specs.Implemented.AreMethods, proofs.ListLemmas.{All-at, line_at, lines_of-more}}
 use Rattle.c_resource.proofs.implemented.methods_of.Goals as goal
 

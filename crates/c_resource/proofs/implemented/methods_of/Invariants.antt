@@ -1,6 +1,4 @@
-use Rattle.std.proofs.Common.{◌≡◌, All, take}
-use Rattle.http_header.specs.Token.{IsToken}
-use Rattle.headers.specs.Lines.{lines_of}
+use Rattle.{std.proofs.Common.{◌≡◌, All, take}, http_header.specs.Token.IsToken, headers.specs.Lines.lines_of}
 use Rattle.c_resource.proofs.implemented.methods_of.Given as goal
 
 abbrev pub invariant-loop-line : goal.invariant-loop-line

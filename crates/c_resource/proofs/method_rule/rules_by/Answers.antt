@@ -1,6 +1,5 @@
-use Rattle.std.{proofs.Common.{◌≡◌, Err, inl, refl, subst, sym}, proofs.lemmas.Result.err_from_is_err_and}
-use Rattle.headers.specs.Lines.{lines_of}
-use Rattle.c_parts.specs.declared.status.Failure.TheVariants.{Memory}
+use Rattle.std.proofs.{Common.{◌≡◌, Err, inl, refl, subst, sym}, lemmas.Result.err_from_is_err_and}
+use Rattle.{headers.specs.Lines.lines_of, c_parts.specs.declared.status.Failure.TheVariants.Memory}
 use Rattle.c_resource.{specs.MethodRules.{AreRulesRead, IsRuleAt, lines_by}, proofs.ListLemmas.{IsEachAt-push, line_at}}
 use Rattle.c_resource.proofs.method_rule.rules_by.Goals as goal
 

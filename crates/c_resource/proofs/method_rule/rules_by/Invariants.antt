@@ -1,5 +1,4 @@
-use Rattle.headers.specs.Lines.{lines_of}
-use Rattle.c_resource.{specs.Lists.IsEachAt, specs.MethodRules.{IsRuleAt, lines_by}}
+use Rattle.{headers.specs.Lines.lines_of, c_resource.specs.{Lists.IsEachAt, MethodRules.{IsRuleAt, lines_by}}}
 use Rattle.c_resource.proofs.method_rule.rules_by.Given as goal
 
 abbrev pub invariant-loop-place : goal.invariant-loop-place

@@ -1,9 +1,7 @@
 use Rattle.std.proofs.Common.{◌≡◌, ◌⊎◌, ℕ, Bool, true, false, List, Err, inl, inr, refl, subst, sym}
-use Rattle.std.proofs.lemmas.Result.{err_from_is_err_and}
-use Rattle.c_decisions.specs.Contents.{IsBoundaryOf}
-use Rattle.c_parts.{specs.declared.status.Failure.Failure, specs.declared.status.Failure.TheVariants.Memory}
-use Rattle.c_resource.specs.Implemented.{AreImplemented, FailsAtMethods}
-use Rattle.c_resource.specs.Resources.{IsResourceAnswer, boundary_text}
+use Rattle.{std.proofs.lemmas.Result.err_from_is_err_and, c_decisions.specs.Contents.IsBoundaryOf}
+use Rattle.c_parts.specs.declared.status.Failure.{Failure, TheVariants.Memory}
+use Rattle.c_resource.specs.{Implemented.{AreImplemented, FailsAtMethods}, Resources.{IsResourceAnswer, boundary_text}}
 use Rattle.c_resource.proofs.resource.read_resource.Goals as goal
 
 -- methods that are said can't be read, or there is no memory

@@ -1,7 +1,5 @@
-use Rattle.std.proofs.Common.{◌≡◌, ◌++◌, length}
-use Rattle.headers.specs.LineMap.{fields_of}
-use Rattle.c_decisions.specs.FieldLines.{fields_text}
-use Rattle.c_resource.specs.Settled.{settled}
+use Rattle.{std.proofs.Common.{◌≡◌, ◌++◌, length}, headers.specs.LineMap.fields_of}
+use Rattle.{c_decisions.specs.FieldLines.fields_text, c_resource.specs.Settled.settled}
 use Rattle.c_resource.proofs.settled.settled_text.Given as goal
 
 abbrev pub invariant-loop-left : goal.invariant-loop-left

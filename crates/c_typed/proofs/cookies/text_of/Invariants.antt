@@ -1,6 +1,4 @@
-use Rattle.std.proofs.Common.{◌≡◌, ◌++◌}
-use Rattle.headers_items.specs.Pairs.{pairs_left}
-use Rattle.c_typed.specs.Cookies.{cookies_text}
+use Rattle.{std.proofs.Common.{◌≡◌, ◌++◌}, headers_items.specs.Pairs.pairs_left, c_typed.specs.Cookies.cookies_text}
 use Rattle.c_typed.proofs.cookies.text_of.Given as goal
 
 abbrev pub invariant-loop-name : goal.invariant-loop-name

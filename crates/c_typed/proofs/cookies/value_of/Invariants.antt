@@ -1,5 +1,4 @@
-use Rattle.std.proofs.Common.{◌≡◌}
-use Rattle.headers_items.specs.Pairs.{first_value, pairs_left}
+use Rattle.{std.proofs.Common.◌≡◌, headers_items.specs.Pairs.{first_value, pairs_left}}
 use Rattle.c_typed.proofs.cookies.value_of.Given as goal
 
 abbrev pub invariant-loop-key : goal.invariant-loop-key

@@ -1,5 +1,4 @@
-use Rattle.std.{proofs.Common.{◌≡◌, ◌++◌}, specs.Prelude.flat_map}
-use Rattle.rfc_fields.specs.Members.{field_left}
+use Rattle.{std.{proofs.Common.{◌≡◌, ◌++◌}, specs.Prelude.flat_map}, rfc_fields.specs.Members.field_left}
 use Rattle.c_typed.specs.Directives.{argument_line}
 use Rattle.c_typed.proofs.directives.text_of.Given as goal
 

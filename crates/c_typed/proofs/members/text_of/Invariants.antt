@@ -1,5 +1,4 @@
-use Rattle.std.proofs.Common.{◌≡◌, ◌++◌, filter}
-use Rattle.headers.specs.ItemsState.{is_entry, items_left}
+use Rattle.{std.proofs.Common.{◌≡◌, ◌++◌, filter}, headers.specs.ItemsState.{is_entry, items_left}}
 use Rattle.c_parts.specs.Written.{lines_text}
 use Rattle.c_typed.proofs.members.text_of.Given as goal
 

@@ -1,5 +1,4 @@
-use Rattle.std.{proofs.Common.{◌≡◌, Some, sym}, specs.List.slice_get}
-use Rattle.c_typed.proofs.RetryLemmas.{retry_shows}
+use Rattle.{std.{proofs.Common.{◌≡◌, Some, sym}, specs.List.slice_get}, c_typed.proofs.RetryLemmas.retry_shows}
 use Rattle.c_typed.proofs.policies.read_retry_after.Goals as goal
 
 pub returns-in-Some-retry_time : goal.returns-in-Some-retry_time

@@ -1,7 +1,6 @@
-use Rattle.std.proofs.Common.{◌≡◌, ◌∙◌, List, Some, ap, sym}
-use Rattle.rfc_fields.{specs.Directives.directive_parts, specs.Members.{field_left, member_of}, specs.Scan.Member}
-use Rattle.cache_fields.{specs.Directives.said_in, proofs.DirectiveLemmas.{directed-ends, directed-next}}
-use Rattle.cache_fields.proofs.DirectiveLemmas.{directed_after}
+use Rattle.{std.proofs.Common.{◌≡◌, ◌∙◌, List, Some, ap, sym}, rfc_fields.specs.Directives.directive_parts}
+use Rattle.{rfc_fields.specs.{Members.{field_left, member_of}, Scan.Member}, cache_fields.specs.Directives.said_in}
+use Rattle.cache_fields.proofs.DirectiveLemmas.{directed-ends, directed-next, directed_after}
 use Rattle.cache_fields.proofs.directives.read_directives.Goals as goal
 
 pub loop-member-preserved : goal.loop-member-preserved

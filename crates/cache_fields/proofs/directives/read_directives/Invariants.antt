@@ -1,6 +1,4 @@
-use Rattle.std.proofs.Common.{◌≡◌}
-use Rattle.headers_map.specs.LineMap.{lines_at}
-use Rattle.rfc_fields.specs.Members.{field_left}
+use Rattle.{std.proofs.Common.◌≡◌, headers_map.specs.LineMap.lines_at, rfc_fields.specs.Members.field_left}
 use Rattle.cache_fields.{specs.Directives.directed, proofs.DirectiveLemmas.directed_after}
 use Rattle.cache_fields.proofs.directives.read_directives.Given as goal
 

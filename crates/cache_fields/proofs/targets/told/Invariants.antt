@@ -1,6 +1,4 @@
-use Rattle.std.proofs.Common.{◌≡◌, drop}
-use Rattle.headers_map.specs.LineMap.{lines_at}
-use Rattle.cache_fields.specs.Targets.{told}
+use Rattle.{std.proofs.Common.{◌≡◌, drop}, headers_map.specs.LineMap.lines_at, cache_fields.specs.Targets.told}
 use Rattle.cache_fields.proofs.targets.told.Given as goal
 
 abbrev pub invariant-loop-name : goal.invariant-loop-name

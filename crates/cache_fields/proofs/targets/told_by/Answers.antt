@@ -1,7 +1,6 @@
-use Rattle.std.proofs.Common.{◌∙◌, ap, sym, option_map}
-use Rattle.headers_syntax.{specs.Lines.lines_of, specs.Text.trim}
-use Rattle.rfc_values.specs.Dictionaries.{dictionary}
-use Rattle.cache_fields.{specs.Targets.{all_members, told_after}, proofs.TargetLemmas.lines-next}
+use Rattle.{std.proofs.Common.{◌∙◌, ap, sym, option_map}, headers_syntax.specs.{Lines.lines_of, Text.trim}}
+use Rattle.{rfc_values.specs.Dictionaries.dictionary, cache_fields.specs.Targets.{all_members, told_after}}
+use Rattle.cache_fields.proofs.TargetLemmas.{lines-next}
 use Rattle.cache_fields.proofs.targets.told_by.Goals as goal
 
 pub loop-line-preserved : goal.loop-line-preserved

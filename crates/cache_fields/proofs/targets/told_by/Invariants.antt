@@ -1,6 +1,5 @@
-use Rattle.std.proofs.Common.{◌≡◌, option_map}
-use Rattle.headers_syntax.specs.Lines.{lines_of}
-use Rattle.cache_fields.{specs.Directives.nothing, specs.Targets.{all_members, told_after}}
+use Rattle.{std.proofs.Common.{◌≡◌, option_map}, headers_syntax.specs.Lines.lines_of}
+use Rattle.cache_fields.specs.{Directives.nothing, Targets.{all_members, told_after}}
 use Rattle.cache_fields.proofs.targets.told_by.Given as goal
 
 abbrev pub invariant-loop-line : goal.invariant-loop-line

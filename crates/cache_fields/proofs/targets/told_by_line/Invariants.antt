@@ -1,5 +1,4 @@
-use Rattle.std.proofs.Common.{◌≡◌, option_copied, option_map}
-use Rattle.rfc_values.specs.Dictionaries.{length_of, members_in}
+use Rattle.{std.proofs.Common.{◌≡◌, option_copied, option_map}, rfc_values.specs.Dictionaries.{length_of, members_in}}
 use Rattle.cache_fields.specs.Targets.{told_after}
 use Rattle.cache_fields.proofs.targets.told_by_line.Given as goal
 

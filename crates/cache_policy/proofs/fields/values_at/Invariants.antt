@@ -1,5 +1,4 @@
-use Rattle.std.proofs.Common.{◌≡◌, ◌++◌}
-use Rattle.http_header.specs.HeaderMap.{get_all}
+use Rattle.{std.proofs.Common.{◌≡◌, ◌++◌}, http_header.specs.HeaderMap.get_all}
 use Rattle.cache_policy.proofs.fields.values_at.Given as goal
 
 abbrev pub invariant-loop-value : goal.invariant-loop-value

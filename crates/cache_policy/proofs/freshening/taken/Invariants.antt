@@ -1,5 +1,4 @@
-use Rattle.std.proofs.Common.{◌≡◌, ◌++◌}
-use Rattle.headers.specs.LineMap.{fields_of, lines_at}
+use Rattle.{std.proofs.Common.{◌≡◌, ◌++◌}, headers.specs.LineMap.{fields_of, lines_at}}
 use Rattle.cache_policy.specs.Freshening.{freshening_fields, taken}
 use Rattle.cache_policy.proofs.freshening.taken.Given as goal
 

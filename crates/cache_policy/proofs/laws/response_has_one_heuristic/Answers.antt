@@ -1,5 +1,4 @@
-use Rattle.cache_policy.proofs.ExistenceLemmas.{some_heuristic}
-use Rattle.cache_fields.proofs.FreshnessLemmas.{one_heuristic}
+use Rattle.{cache_policy.proofs.ExistenceLemmas.some_heuristic, cache_fields.proofs.FreshnessLemmas.one_heuristic}
 use Rattle.cache_policy.proofs.laws.response_has_one_heuristic.Goals as goal
 
 pub returns-clause-some : goal.returns-clause-some

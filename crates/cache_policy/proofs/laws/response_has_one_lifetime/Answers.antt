@@ -1,5 +1,4 @@
-use Rattle.cache_policy.proofs.ExistenceLemmas.{some_lifetime}
-use Rattle.cache_fields.proofs.FreshnessLemmas.{one_lifetime}
+use Rattle.{cache_policy.proofs.ExistenceLemmas.some_lifetime, cache_fields.proofs.FreshnessLemmas.one_lifetime}
 use Rattle.cache_policy.proofs.laws.response_has_one_lifetime.Goals as goal
 
 pub returns-clause-some : goal.returns-clause-some

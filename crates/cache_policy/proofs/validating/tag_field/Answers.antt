@@ -1,7 +1,5 @@
-use Rattle.std.proofs.Common.{refl, ap, List, codes}
-use Rattle.http_header.specs.FieldValue.{FieldValue, plain_value}
-use Rattle.headers.specs.{Lines.Line, Shapes.only_tag}
-use Rattle.cache_policy.proofs.ValidatingLemmas.{canonical-lines}
+use Rattle.{std.proofs.Common.{refl, ap, List, codes}, http_header.specs.FieldValue.{FieldValue, plain_value}}
+use Rattle.{headers.specs.{Lines.Line, Shapes.only_tag}, cache_policy.proofs.ValidatingLemmas.canonical-lines}
 use Rattle.cache_policy.proofs.validating.tag_field.Goals as goal
 
 pub returns : goal.returns

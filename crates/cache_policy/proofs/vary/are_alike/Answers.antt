@@ -1,6 +1,5 @@
-use Rattle.headers.specs.LineMap.{lines_at}
-use Rattle.rfc_fields.specs.Members.{member_of}
-use Rattle.cache_policy.{specs.Varying.Agree, proofs.VaryLemmas.all_but_first}
+use Rattle.{headers.specs.LineMap.lines_at, rfc_fields.specs.Members.member_of, cache_policy.specs.Varying.Agree}
+use Rattle.cache_policy.proofs.VaryLemmas.{all_but_first}
 use Rattle.cache_policy.proofs.vary.are_alike.Goals as goal
 
 pub loop-member-preserved : goal.loop-member-preserved

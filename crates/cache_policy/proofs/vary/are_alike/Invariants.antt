@@ -1,6 +1,4 @@
-use Rattle.std.specs.Prelude.{◌↔◌, All}
-use Rattle.headers.specs.LineMap.{lines_at}
-use Rattle.rfc_fields.specs.Members.{field_left}
+use Rattle.{std.specs.Prelude.{◌↔◌, All}, headers.specs.LineMap.lines_at, rfc_fields.specs.Members.field_left}
 use Rattle.cache_policy.specs.Varying.{Agree, AreAlike}
 use Rattle.cache_policy.proofs.vary.are_alike.Given as goal
 

@@ -1,6 +1,4 @@
-use Rattle.std.specs.Prelude.{◌↔◌}
-use Rattle.rfc_fields.specs.Members.{field_left}
-use Rattle.cache_policy.specs.Varying.{AreSame}
+use Rattle.{std.specs.Prelude.◌↔◌, rfc_fields.specs.Members.field_left, cache_policy.specs.Varying.AreSame}
 use Rattle.cache_policy.proofs.vary.are_same.Given as goal
 
 -- the lists are the same exactly if what is left of them is

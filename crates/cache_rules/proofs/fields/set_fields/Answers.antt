@@ -1,5 +1,4 @@
-use Rattle.std.proofs.Common.{◌≡◌, refl}
-use Rattle.headers_map.specs.declared.insert.InsertError.TheVariants.{Full}
+use Rattle.{std.proofs.Common.{◌≡◌, refl}, headers_map.specs.declared.insert.InsertError.TheVariants.Full}
 use Rattle.cache_rules.proofs.fields.set_fields.Goals as goal
 
 pub returns-in-Err-clause-full : goal.returns-in-Err-clause-full

@@ -1,5 +1,4 @@
-use Rattle.std.proofs.Common.{Err, ap}
-use Rattle.cache_rules.proofs.{FresheningLemmas.freshened_by, FullLemmas.passed_full}
+use Rattle.{std.proofs.Common.{Err, ap}, cache_rules.proofs.{FresheningLemmas.freshened_by, FullLemmas.passed_full}}
 use Rattle.cache_rules.proofs.freshening.freshen.Goals as goal
 
 pub returns-then-is_reusable-clause-freshened : goal.returns-then-is_reusable-clause-freshened

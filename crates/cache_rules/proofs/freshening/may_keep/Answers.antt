@@ -1,6 +1,5 @@
-use Rattle.std.{proofs.Common.subst, specs.Bool.MatchBool}
-use Rattle.cache_policy.{specs.Policies.{MayStoreUnder, policy_of}, specs.Requests.Request}
-use Rattle.cache_rules.specs.Stored.{fields_of_stored}
+use Rattle.{std.{proofs.Common.subst, specs.Bool.MatchBool}, cache_policy.specs.Policies.{MayStoreUnder, policy_of}}
+use Rattle.{cache_policy.specs.Requests.Request, cache_rules.specs.Stored.fields_of_stored}
 use Rattle.cache_rules.proofs.freshening.may_keep.Goals as goal
 
 pub returns : goal.returns

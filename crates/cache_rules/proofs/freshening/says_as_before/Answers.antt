@@ -1,5 +1,4 @@
-use Rattle.cache_policy.proofs.VaryLemmas.{equal_lines}
-use Rattle.cache_rules.proofs.FresheningLemmas.{as_before}
+use Rattle.{cache_policy.proofs.VaryLemmas.equal_lines, cache_rules.proofs.FresheningLemmas.as_before}
 use Rattle.cache_rules.proofs.freshening.says_as_before.Goals as goal
 
 pub returns-then-has_line : goal.returns-then-has_line

@@ -1,6 +1,5 @@
-use Rattle.std.proofs.Common.{Err, ap, refl, subst}
-use Rattle.cache_rules.specs.Fields.{IsTooSmallFor}
-use Rattle.cache_rules.proofs.{FresheningLemmas.aging_first, FresheningLemmas.set_renewing, FullLemmas.passed_full}
+use Rattle.{std.proofs.Common.{Err, ap, refl, subst}, cache_rules.specs.Fields.IsTooSmallFor}
+use Rattle.cache_rules.proofs.{FresheningLemmas.{aging_first, set_renewing}, FullLemmas.passed_full}
 use Rattle.cache_rules.proofs.freshening.updated.Goals as goal
 
 pub returns-clause-renewed : goal.returns-clause-renewed

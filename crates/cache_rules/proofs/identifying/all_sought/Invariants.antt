@@ -1,6 +1,4 @@
-use Rattle.std.specs.Prelude.{Some}
-use Rattle.headers.specs.LineMap.{lines_at}
-use Rattle.cache_policy.specs.Requests.{request_of}
+use Rattle.{std.specs.Prelude.Some, headers.specs.LineMap.lines_at, cache_policy.specs.Requests.request_of}
 use Rattle.cache_rules.{specs.Selection.IsSought, proofs.IdentifyingLemmas.AreBelow}
 use Rattle.cache_rules.proofs.identifying.all_sought.Given as goal
 

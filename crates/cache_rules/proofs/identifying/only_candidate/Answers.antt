@@ -1,5 +1,4 @@
-use Rattle.std.proofs.Common.{◌∙◌}
-use Rattle.cache_rules.proofs.IdentifyingLemmas.{end_one, found_in, found_out}
+use Rattle.{std.proofs.Common.◌∙◌, cache_rules.proofs.IdentifyingLemmas.{end_one, found_in, found_out}}
 use Rattle.cache_rules.proofs.identifying.only_candidate.Goals as goal
 use Rattle.cache_rules.proofs.identifying.only_candidate.Goals.{then-is_sought, else-is_sought}
 

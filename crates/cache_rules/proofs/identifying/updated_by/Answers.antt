@@ -1,7 +1,6 @@
-use Rattle.std.proofs.{Common.Some, Common.None, lemmas.Result.IfOk-weaker}
-use Rattle.headers.specs.LineMap.{lines_at}
-use Rattle.cache_policy.specs.Requests.{request_of}
-use Rattle.cache_rules.proofs.IdentifyingLemmas.{all_identified, answer_alone, no_place, one_place}
+use Rattle.{std.proofs.{Common.{Some, None}, lemmas.Result.IfOk-weaker}, headers.specs.LineMap.lines_at}
+use Rattle.{cache_policy.specs.Requests.request_of, cache_rules.proofs.IdentifyingLemmas.{all_identified, answer_alone}}
+use Rattle.cache_rules.proofs.IdentifyingLemmas.{no_place, one_place}
 use Rattle.cache_rules.proofs.identifying.updated_by.Goals as goal
 
 pub returns-then-has_strong_tag-clause-places : goal.returns-then-has_strong_tag-clause-places

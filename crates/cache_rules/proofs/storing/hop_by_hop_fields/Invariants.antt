@@ -1,8 +1,6 @@
-use Rattle.std.specs.{Prelude.◌≡◌, Prelude.◌++◌, Prelude.true, List.list_any}
-use Rattle.http_header.specs.HeaderMap.{keys}
-use Rattle.headers.specs.LineMap.{fields_of, lines_at}
-use Rattle.gateway_messages.specs.HopByHop.{connection_options, is_hop_by_hop}
-use Rattle.cache_rules.specs.Storing.{removals}
+use Rattle.{std.specs.{Prelude.{◌≡◌, ◌++◌, true}, List.list_any}, http_header.specs.HeaderMap.keys}
+use Rattle.{headers.specs.LineMap.{fields_of, lines_at}, gateway_messages.specs.HopByHop.connection_options}
+use Rattle.{gateway_messages.specs.HopByHop.is_hop_by_hop, cache_rules.specs.Storing.removals}
 use Rattle.cache_rules.proofs.storing.hop_by_hop_fields.Given as goal
 
 -- what was removed so far, and what is removed of the names that are left; and if one of these is hop-by-hop, one of

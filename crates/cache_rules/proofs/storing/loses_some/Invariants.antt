@@ -1,5 +1,4 @@
-use Rattle.std.{proofs.Common.{◌≡◌, drop}, specs.List.list_any}
-use Rattle.headers.specs.LineMap.{lines_at}
+use Rattle.{std.{proofs.Common.{◌≡◌, drop}, specs.List.list_any}, headers.specs.LineMap.lines_at}
 use Rattle.cache_rules.specs.Storing.{is_lost}
 use Rattle.cache_rules.proofs.storing.loses_some.Given as goal
 

@@ -1,7 +1,5 @@
 use Rattle.std.{proofs.Common.{◌≡◌, ◌∙◌, ◌++◌, sym, List, [], inl, ap, codes}, specs.Prelude.{string_bytes, unwrap_or}}
-use Rattle.headers.specs.Lines.{Line, only_line}
-use Rattle.chain.specs.Caches.{key_of}
-use Rattle.decide_resource.specs.Requests.{request_of}
+use Rattle.{headers.specs.Lines.{Line, only_line}, chain.specs.Caches.key_of, decide_resource.specs.Requests.request_of}
 use Rattle.chain.proofs.cache.answer_from_store.Goals as goal
 
 pub returns-clause-ok : goal.returns-clause-ok

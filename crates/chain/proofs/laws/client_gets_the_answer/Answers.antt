@@ -1,6 +1,5 @@
-use Rattle.std.proofs.Common.{◌∙◌, ap}
-use Rattle.headers.specs.LineMap.{LineMap}
-use Rattle.chain.proofs.{ResponseLemmas.unchanged, WayLemmas.invisible}
+use Rattle.{std.proofs.Common.{◌∙◌, ap}, headers.specs.LineMap.LineMap, chain.proofs.ResponseLemmas.unchanged}
+use Rattle.chain.proofs.WayLemmas.{invisible}
 use Rattle.chain.proofs.laws.client_gets_the_answer.Goals as goal
 
 pub returns-clause-own : goal.returns-clause-own

@@ -1,5 +1,4 @@
-use Rattle.std.proofs.Common.{subst}
-use Rattle.cache_policy.{specs.Policies.tells, specs.Storing.IsShareable, specs.declared.Kind.Kind}
+use Rattle.{std.proofs.Common.subst, cache_policy.specs.{Policies.tells, Storing.IsShareable, declared.Kind.Kind}}
 use Rattle.chain.proofs.StoreLemmas.{StoreLaws, come, content_is, from, shareable}
 use Rattle.chain.proofs.laws.shared_caches_serve_nothing_private.Goals as goal
 

@@ -1,6 +1,5 @@
 use Rattle.std.{proofs.Common.{rules, true, false, sym, ◌∙◌}, specs.Prelude.{codes, option_map}}
-use Rattle.headers.{specs.LineMap.lines_at, specs.Lines.{lines_of, only_line}}
-use Rattle.decide_cors.proofs.GrantLemmas.{granted_by}
+use Rattle.{headers.specs.{LineMap.lines_at, Lines.{lines_of, only_line}}, decide_cors.proofs.GrantLemmas.granted_by}
 use Rattle.decide_cors.proofs.origin.granted.Goals as goal
 
 pub returns-in_ok-clone : goal.returns-in_ok-clone

@@ -1,5 +1,4 @@
-use Rattle.std.proofs.Common.{arith, rules}
-use Rattle.decide_cors.proofs.SentLemmas.{unsent_at, unsent_nowhere}
+use Rattle.{std.proofs.Common.{arith, rules}, decide_cors.proofs.SentLemmas.{unsent_at, unsent_nowhere}}
 use Rattle.decide_cors.proofs.sent.check_origins.Goals as goal
 
 pub returns-then-place-listed-clause-err : goal.returns-then-place-listed-clause-err

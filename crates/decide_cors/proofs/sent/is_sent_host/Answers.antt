@@ -1,5 +1,4 @@
-use Rattle.std.proofs.Common.{sym}
-use Rattle.decide_cors.proofs.SentLemmas.{IsUtf8-host}
+use Rattle.{std.proofs.Common.sym, decide_cors.proofs.SentLemmas.IsUtf8-host}
 use Rattle.decide_cors.proofs.sent.is_sent_host.Goals as goal
 
 pub unreachable-requires : goal.unreachable-requires

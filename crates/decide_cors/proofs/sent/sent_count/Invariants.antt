@@ -1,5 +1,4 @@
-use Rattle.std.{proofs.Common.{◌≡◌, ◌+◌, drop}, specs.List.prefix_len}
-use Rattle.http_header.specs.FieldValue.{FieldValue}
+use Rattle.{std.{proofs.Common.{◌≡◌, ◌+◌, drop}, specs.List.prefix_len}, http_header.specs.FieldValue.FieldValue}
 use Rattle.decide_cors.specs.SentOrigins.{is_sent}
 use Rattle.decide_cors.proofs.sent.sent_count.Given as goal
 

@@ -1,5 +1,4 @@
-use Rattle.std.proofs.Common.{◌≡◌, ◌++◌, codes}
-use Rattle.headers.specs.{LineMap.lines_at, Lines.lines_of}
+use Rattle.{std.proofs.Common.{◌≡◌, ◌++◌, codes}, headers.specs.{LineMap.lines_at, Lines.lines_of}}
 use Rattle.decide_cors.proofs.vary.lines_with_origin.Given as goal
 
 abbrev pub invariant-loop-line : goal.invariant-loop-line

@@ -1,5 +1,4 @@
-use Rattle.std.proofs.{Common.rules, lemmas.Result.IfOk-weaker}
-use Rattle.headers.specs.ListItem.{method_of}
+use Rattle.{std.proofs.{Common.rules, lemmas.Result.IfOk-weaker}, headers.specs.ListItem.method_of}
 use Rattle.decide_cors.proofs.WrittenLemmas.{listed_values_by}
 use Rattle.decide_cors.proofs.written.line_of_listed_methods.Goals as goal
 

@@ -1,5 +1,4 @@
-use Rattle.std.proofs.{Common.rules, lemmas.Result.IfOk-weaker}
-use Rattle.headers.specs.ListItem.{name_of}
+use Rattle.{std.proofs.{Common.rules, lemmas.Result.IfOk-weaker}, headers.specs.ListItem.name_of}
 use Rattle.decide_cors.proofs.WrittenLemmas.{listed_by}
 use Rattle.decide_cors.proofs.written.line_of_listed_names.Goals as goal
 

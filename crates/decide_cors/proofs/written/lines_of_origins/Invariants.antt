@@ -1,5 +1,4 @@
-use Rattle.std.proofs.Common.{◌≡◌, map, take}
-use Rattle.headers.specs.{Lines.lines_of, Origin.origin_text}
+use Rattle.{std.proofs.Common.{◌≡◌, map, take}, headers.specs.{Lines.lines_of, Origin.origin_text}}
 use Rattle.decide_cors.proofs.written.lines_of_origins.Given as goal
 
 abbrev pub invariant-loop-origin : goal.invariant-loop-origin

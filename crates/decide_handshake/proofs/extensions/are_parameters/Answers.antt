@@ -1,7 +1,6 @@
-use Rattle.std.{proofs.Common.{rules, tests, ◌==◌, List, ℕ}, proofs.lemmas.Iterator.cases_from_all}
+use Rattle.std.proofs.{Common.{rules, tests, ◌==◌, List, ℕ}, lemmas.Iterator.cases_from_all}
 use Rattle.std.{proofs.lemmas.Iterator.Splits.YieldsList-from_slice_split, specs.List.slice_split}
-use Rattle.headers.specs.Text.{trim}
-use Rattle.decide_handshake.{specs.Extensions.IsParameter, proofs.ExtensionLemmas.iff_all}
+use Rattle.{headers.specs.Text.trim, decide_handshake.{specs.Extensions.IsParameter, proofs.ExtensionLemmas.iff_all}}
 use Rattle.decide_handshake.proofs.extensions.are_parameters.Goals as goal
 
 pub returns : goal.returns

@@ -1,6 +1,5 @@
-use Rattle.std.proofs.Common.{true, rules}
-use Rattle.std.proofs.{lemmas.Iterator.Consumers.YieldsList-from_first, lemmas.Iterator.Search.any_from_yields_List}
-use Rattle.headers.specs.Lines.{lines_of}
+use Rattle.std.proofs.{Common.{true, rules}, lemmas.Iterator.Consumers.YieldsList-from_first}
+use Rattle.{std.proofs.lemmas.Iterator.Search.any_from_yields_List, headers.specs.Lines.lines_of}
 use Rattle.rfc_fields.specs.Members.{field_left, field_members, member_of}
 use Rattle.decide_handshake.specs.Extensions.{extension_name, is_named}
 use Rattle.decide_handshake.proofs.extensions.is_among.Goals as goal

@@ -1,7 +1,5 @@
-use Rattle.std.proofs.{Common.rules, lemmas.Iterator.Consumers.YieldsList-from_first}
-use Rattle.std.proofs.{lemmas.Iterator.Search.all_from_yields_List}
-use Rattle.rfc_fields.specs.Members.{field_left, member_of}
-use Rattle.decide_handshake.proofs.ExtensionLemmas.{uses_listed_by}
+use Rattle.std.proofs.{Common.rules, lemmas.Iterator.{Consumers.YieldsList-from_first, Search.all_from_yields_List}}
+use Rattle.{rfc_fields.specs.Members.{field_left, member_of}, decide_handshake.proofs.ExtensionLemmas.uses_listed_by}
 use Rattle.decide_handshake.proofs.extensions.uses_listed.Goals as goal
 
 pub returns-then-is_extension_list : goal.returns-then-is_extension_list

@@ -1,7 +1,5 @@
-use Rattle.std.proofs.{Common.rules, lemmas.Iterator.Consumers.YieldsList-from_first}
-use Rattle.std.proofs.{lemmas.Iterator.Search.all_from_yields_List}
-use Rattle.rfc_fields.specs.Members.{field_left, member_of}
-use Rattle.decide_handshake.specs.Fields.{is_protocol}
+use Rattle.std.proofs.{Common.rules, lemmas.Iterator.{Consumers.YieldsList-from_first, Search.all_from_yields_List}}
+use Rattle.{rfc_fields.specs.Members.{field_left, member_of}, decide_handshake.specs.Fields.is_protocol}
 use Rattle.decide_handshake.proofs.fields.are_protocols.Goals as goal
 
 pub returns : goal.returns

@@ -1,8 +1,6 @@
-use Rattle.std.proofs.Common.{rules, tests, ◌∙◌, bytes_eq}
-use Rattle.std.proofs.{lemmas.Iterator.YieldsList-from_slice, lemmas.Iterator.Search.any_from_yields_List}
-use Rattle.http_header.specs.{FieldValue.FieldValue, Token.lowercase}
-use Rattle.headers.specs.Lines.{Line}
-use Rattle.decide_cors.proofs.GrantLemmas.{any_lines}
+use Rattle.std.proofs.{Common.{rules, tests, ◌∙◌, bytes_eq}, lemmas.Iterator.YieldsList-from_slice}
+use Rattle.{std.proofs.lemmas.Iterator.Search.any_from_yields_List, http_header.specs.FieldValue.FieldValue}
+use Rattle.{http_header.specs.Token.lowercase, headers.specs.Lines.Line, decide_cors.proofs.GrantLemmas.any_lines}
 use Rattle.decide_handshake.proofs.origins.lists_origin.Goals as goal
 
 pub returns : goal.returns

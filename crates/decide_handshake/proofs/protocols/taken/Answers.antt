@@ -1,7 +1,5 @@
-use Rattle.std.proofs.{Common.rules, lemmas.Iterator.YieldsList-from_slice}
-use Rattle.std.proofs.{lemmas.Iterator.Search.find_from_yields_List}
-use Rattle.http_header.specs.FieldValue.{FieldValue}
-use Rattle.headers.specs.LineMap.{lines_at}
+use Rattle.std.proofs.{Common.rules, lemmas.Iterator.{YieldsList-from_slice, Search.find_from_yields_List}}
+use Rattle.{http_header.specs.FieldValue.FieldValue, headers.specs.LineMap.lines_at}
 use Rattle.decide_handshake.specs.Protocols.{lists_protocol}
 use Rattle.decide_handshake.proofs.protocols.taken.Goals as goal
 

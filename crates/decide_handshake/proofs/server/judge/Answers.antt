@@ -1,10 +1,8 @@
-use Rattle.std.proofs.Common.{rules}
-use Rattle.headers.specs.{LineMap.lines_at, Lines.Line}
-use Rattle.decide_handshake.specs.Server.{HasKey}
+use Rattle.{std.proofs.Common.rules, headers.specs.{LineMap.lines_at, Lines.Line}, decide_handshake.specs.Server.HasKey}
 use Rattle.decide_handshake.specs.declared.server.Fault.TheVariants.{NotGet, OldHttp, NotHttp11, NoHost, NoUpgrade}
 use Rattle.decide_handshake.specs.declared.server.Fault.TheVariants.{NoConnection, NoKey, MalformedProtocols}
-use Rattle.decide_handshake.specs.declared.server.Fault.TheVariants.{MalformedExtensions}
-use Rattle.decide_handshake.specs.declared.server.Refusal.TheVariants.{Faulty, OtherVersion, OtherOrigin}
+use Rattle.decide_handshake.specs.declared.server.{Fault.TheVariants.MalformedExtensions, Refusal.TheVariants.Faulty}
+use Rattle.decide_handshake.specs.declared.server.Refusal.TheVariants.{OtherVersion, OtherOrigin}
 use Rattle.decide_handshake.proofs.ServerLemmas.{accepted, first}
 use Rattle.decide_handshake.proofs.server.judge.Goals as goal
 

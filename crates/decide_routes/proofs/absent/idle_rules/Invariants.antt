@@ -1,5 +1,4 @@
-use Rattle.std.proofs.Common.{◌≡◌, ◌∷◌, codes, false, map, take}
-use Rattle.decide_routes.specs.Routes.{idle_rule, told_of}
+use Rattle.{std.proofs.Common.{◌≡◌, ◌∷◌, codes, false, map, take}, decide_routes.specs.Routes.{idle_rule, told_of}}
 use Rattle.decide_routes.proofs.absent.idle_rules.Given as goal
 
 abbrev pub invariant-loop-method : goal.invariant-loop-method

@@ -1,6 +1,4 @@
-use Rattle.std.proofs.Common.{◌≡◌, ◌++◌, map}
-use Rattle.http_header.specs.HeaderMap.{pairs}
-use Rattle.http_server.specs.Response.{fields}
+use Rattle.{std.proofs.Common.{◌≡◌, ◌++◌, map}, http_header.specs.HeaderMap.pairs, http_server.specs.Response.fields}
 use Rattle.example_notes.proofs.service.add_lines.Given as goal
 
 abbrev pub invariant-loop-name : goal.invariant-loop-name

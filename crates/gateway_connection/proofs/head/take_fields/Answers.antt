@@ -1,6 +1,5 @@
-use Rattle.std.{proofs.Common.{◌∙◌, List, ℕ, ap, take}, proofs.lemmas.Result.{IfErr-weaker, IfOk-weaker}}
-use Rattle.http1_typed.specs.Parts.{map_at}
-use Rattle.gateway_connection.proofs.SpanLemmas.{map_at-take, map_fails}
+use Rattle.std.proofs.{Common.{◌∙◌, List, ℕ, ap, take}, lemmas.Result.{IfErr-weaker, IfOk-weaker}}
+use Rattle.{http1_typed.specs.Parts.map_at, gateway_connection.proofs.SpanLemmas.{map_at-take, map_fails}}
 use Rattle.gateway_connection.proofs.head.take_fields.Goals as goal
 
 pub returns-clause-fields : goal.returns-clause-fields

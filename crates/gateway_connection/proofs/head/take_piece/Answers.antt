@@ -1,5 +1,4 @@
-use Rattle.std.proofs.Common.{◌≡◌, ℕ, ◌+◌, ◌-◌, take, drop, ap, ◌∙◌, arith}
-use Rattle.std.proofs.lemmas.List.{drop-take}
+use Rattle.std.proofs.{Common.{◌≡◌, ℕ, ◌+◌, ◌-◌, take, drop, ap, ◌∙◌, arith}, lemmas.List.drop-take}
 use Rattle.gateway_connection.proofs.head.take_piece.Goals as goal
 
 pub returns-clause-bytes : goal.returns-clause-bytes

@@ -1,5 +1,4 @@
-use Rattle.std.proofs.lemmas.Result.{err_from_is_err_and}
-use Rattle.gateway_connection.proofs.FieldLemmas.{fails_as, fault_of}
+use Rattle.{std.proofs.lemmas.Result.err_from_is_err_and, gateway_connection.proofs.FieldLemmas.{fails_as, fault_of}}
 use Rattle.gateway_connection.proofs.head.take_response.Goals as goal
 
 pub returns-in_err-fields-clause-reason : goal.returns-in_err-fields-clause-reason

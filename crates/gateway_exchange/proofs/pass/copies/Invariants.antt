@@ -1,5 +1,4 @@
-use Rattle.std.proofs.Common.{◌≡◌, ◌++◌, drop}
-use Rattle.gateway_messages.specs.FieldLines.{fields_of}
+use Rattle.{std.proofs.Common.{◌≡◌, ◌++◌, drop}, gateway_messages.specs.FieldLines.fields_of}
 use Rattle.gateway_exchange.proofs.pass.copies.Given as goal
 
 abbrev pub invariant-loop-field : goal.invariant-loop-field

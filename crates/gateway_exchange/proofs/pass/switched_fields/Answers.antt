@@ -1,7 +1,5 @@
-use Rattle.std.proofs.Common.{rules, ◌≢◌, inl, inr, refl, subst}
-use Rattle.headers.specs.LineMap.{lines_at}
-use Rattle.decide_handshake.specs.Client.{IsOpened}
-use Rattle.gateway_messages.specs.Responses.{IsResponseOutcome}
+use Rattle.{std.proofs.Common.{rules, ◌≢◌, inl, inr, refl, subst}, headers.specs.LineMap.lines_at}
+use Rattle.{decide_handshake.specs.Client.IsOpened, gateway_messages.specs.Responses.IsResponseOutcome}
 use Rattle.gateway_exchange.specs.Passing.{answered}
 use Rattle.gateway_exchange.proofs.pass.switched_fields.Goals as goal
 

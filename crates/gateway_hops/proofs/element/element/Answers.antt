@@ -1,5 +1,4 @@
-use Rattle.std.proofs.Common.{Err, ap, subst, sym}
-use Rattle.http_header.specs.FieldValue.{IsFieldValue}
+use Rattle.{std.proofs.Common.{Err, ap, subst, sym}, http_header.specs.FieldValue.IsFieldValue}
 use Rattle.gateway_hops.proofs.element.element.Goals as goal
 
 pub unreachable-requires : goal.unreachable-requires

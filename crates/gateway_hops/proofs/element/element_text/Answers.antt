@@ -1,8 +1,7 @@
-use Rattle.std.proofs.Common.{◌++◌, codes, option_map, refl}
-use Rattle.http_header.{specs.Token.is_value_byte, proofs.TokenLemmas.AllPass-from_test}
-use Rattle.gateway_hops.{specs.Arrivals.{arrival_parts, scheme_text}, specs.Elements.{optional_pair, pair_text}}
-use Rattle.gateway_hops.{specs.Nodes.node_text, proofs.ElementLemmas.{optional_valid, pair_valid, scheme_valid}}
-use Rattle.gateway_hops.proofs.NodeLemmas.{join_valid}
+use Rattle.{std.proofs.Common.{◌++◌, codes, option_map, refl}, http_header.specs.Token.is_value_byte}
+use Rattle.{http_header.proofs.TokenLemmas.AllPass-from_test, gateway_hops.specs.Arrivals.{arrival_parts, scheme_text}}
+use Rattle.gateway_hops.specs.{Elements.{optional_pair, pair_text}, Nodes.node_text}
+use Rattle.gateway_hops.proofs.{ElementLemmas.{optional_valid, pair_valid, scheme_valid}, NodeLemmas.join_valid}
 use Rattle.gateway_hops.proofs.element.element_text.Goals as goal
 
 pub returns-clause-valid : goal.returns-clause-valid

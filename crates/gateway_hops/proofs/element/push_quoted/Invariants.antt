@@ -1,5 +1,4 @@
-use Rattle.std.{proofs.Common.{◌≡◌, ◌∷◌, [], ◌++◌, drop}, specs.List.flat_map}
-use Rattle.rfc_fields.specs.Grammar.{quote}
+use Rattle.{std.{proofs.Common.{◌≡◌, ◌∷◌, [], ◌++◌, drop}, specs.List.flat_map}, rfc_fields.specs.Grammar.quote}
 use Rattle.gateway_hops.specs.Elements.{escaped}
 use Rattle.gateway_hops.proofs.element.push_quoted.Given as goal
 

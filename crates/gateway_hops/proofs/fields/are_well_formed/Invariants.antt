@@ -1,5 +1,4 @@
-use Rattle.std.{proofs.Common.◌≡◌, specs.List.list_all}
-use Rattle.headers.specs.Lines.{lines_of}
+use Rattle.{std.{proofs.Common.◌≡◌, specs.List.list_all}, headers.specs.Lines.lines_of}
 use Rattle.rfc_fields.specs.Members.{is_well_formed}
 use Rattle.gateway_hops.proofs.fields.are_well_formed.Given as goal
 

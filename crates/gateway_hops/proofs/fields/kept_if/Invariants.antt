@@ -1,5 +1,4 @@
-use Rattle.std.proofs.Common.{◌≡◌, ◌++◌}
-use Rattle.headers.specs.Lines.{lines_of}
+use Rattle.{std.proofs.Common.{◌≡◌, ◌++◌}, headers.specs.Lines.lines_of}
 use Rattle.gateway_hops.proofs.fields.kept_if.Given as goal
 
 abbrev pub invariant-loop-line : goal.invariant-loop-line

@@ -1,10 +1,8 @@
-use Rattle.std.proofs.Common.{◌≡◌, true, List, refl, sym, ◌∙◌, ap}
-use Rattle.headers.specs.LineMap.{LineMap}
-use Rattle.gateway_messages.{specs.FieldLines.{Field, fields_of}, specs.Recipients.{accepted_by, framing_by}}
-use Rattle.gateway_messages.specs.declared.expectation.Expectation.{Expectation}
-use Rattle.gateway_messages.specs.declared.expectation.Expectation.TheVariants.{Absent, Forwarded, Answered}
-use Rattle.gateway_hops.{specs.Replaced.frame_nothing, specs.Sent.{Hop, hop_fields}}
-use Rattle.gateway_hops.proofs.ReplacedLemmas.{replaced_framing}
+use Rattle.{std.proofs.Common.{◌≡◌, true, List, refl, sym, ◌∙◌, ap}, headers.specs.LineMap.LineMap}
+use Rattle.gateway_messages.specs.{FieldLines.{Field, fields_of}, Recipients.{accepted_by, framing_by}}
+use Rattle.gateway_messages.specs.declared.expectation.Expectation.{Expectation, TheVariants.{Absent, Forwarded}}
+use Rattle.gateway_messages.specs.declared.expectation.Expectation.TheVariants.{Answered}
+use Rattle.gateway_hops.{specs.{Replaced.frame_nothing, Sent.{Hop, hop_fields}}, proofs.ReplacedLemmas.replaced_framing}
 use Rattle.gateway_hops.proofs.laws.sent_request_is_framed_alike.Goals as goal
 
 -- none of the fields for the next server frames the message

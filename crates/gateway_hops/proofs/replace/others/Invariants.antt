@@ -1,7 +1,6 @@
 use Rattle.std.{proofs.Common.{◌≡◌, ◌++◌, filter, not}, specs.Vec.Iter.into_iter_items}
 use Rattle.headers.specs.LineMap.{fields_of as encodings_of}
-use Rattle.gateway_messages.specs.FieldLines.{Field, fields_of}
-use Rattle.gateway_hops.specs.Replaced.{has_field}
+use Rattle.{gateway_messages.specs.FieldLines.{Field, fields_of}, gateway_hops.specs.Replaced.has_field}
 use Rattle.gateway_hops.proofs.replace.others.Given as goal
 
 abbrev pub invariant-loop-field : goal.invariant-loop-field

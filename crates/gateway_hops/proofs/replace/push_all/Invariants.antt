@@ -1,7 +1,6 @@
 use Rattle.std.{proofs.Common.{◌≡◌, ◌++◌}, specs.List.flat_map, specs.Vec.Iter.into_iter_items}
 use Rattle.headers.specs.LineMap.{fields_of as encodings_of}
-use Rattle.gateway_messages.specs.FieldLines.{fields_of}
-use Rattle.gateway_hops.specs.Replaced.{lines_with_name}
+use Rattle.{gateway_messages.specs.FieldLines.fields_of, gateway_hops.specs.Replaced.lines_with_name}
 use Rattle.gateway_hops.proofs.replace.push_all.Given as goal
 
 abbrev pub invariant-loop-encoded : goal.invariant-loop-encoded

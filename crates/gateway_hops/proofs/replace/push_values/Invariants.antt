@@ -1,7 +1,5 @@
-use Rattle.std.{proofs.Common.{◌≡◌, ◌++◌}, specs.Vec.Iter.into_iter_items}
-use Rattle.headers.specs.Lines.{lines_of}
-use Rattle.gateway_messages.specs.FieldLines.{fields_of}
-use Rattle.gateway_hops.specs.Replaced.{lines_with_name}
+use Rattle.{std.{proofs.Common.{◌≡◌, ◌++◌}, specs.Vec.Iter.into_iter_items}, headers.specs.Lines.lines_of}
+use Rattle.{gateway_messages.specs.FieldLines.fields_of, gateway_hops.specs.Replaced.lines_with_name}
 use Rattle.gateway_hops.proofs.replace.push_values.Given as goal
 
 abbrev pub invariant-loop-value : goal.invariant-loop-value

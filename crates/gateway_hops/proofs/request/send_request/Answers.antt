@@ -1,7 +1,6 @@
 use Rattle.std.proofs.Common.{◌∙◌, List, ap, refl, rules}
 use Rattle.headers.specs.LineMap as Encodings
-use Rattle.gateway_messages.specs.FieldLines.{fields_of}
-use Rattle.gateway_hops.specs.Replaced.{replaced_by}
+use Rattle.{gateway_messages.specs.FieldLines.fields_of, gateway_hops.specs.Replaced.replaced_by}
 use Rattle.gateway_hops.proofs.request.send_request.Goals as goal
 
 pub returns-then-lacks_length-clause-ok : goal.returns-then-lacks_length-clause-ok

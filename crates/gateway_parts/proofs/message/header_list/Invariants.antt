@@ -1,6 +1,4 @@
-use Rattle.std.proofs.Common.{◌≡◌, take}
-use Rattle.http1.specs.Head.{pairs}
-use Rattle.gateway_messages.specs.FieldLines.{fields_of}
+use Rattle.{std.proofs.Common.{◌≡◌, take}, http1.specs.Head.pairs, gateway_messages.specs.FieldLines.fields_of}
 use Rattle.gateway_parts.proofs.message.header_list.Given as goal
 
 abbrev pub invariant-loop-field : goal.invariant-loop-field

@@ -1,5 +1,4 @@
-use Rattle.std.proofs.Common.{arith}
-use Rattle.interference.proofs.Own.{always}
+use Rattle.{std.proofs.Common.arith, interference.proofs.Own.always}
 use Rattle.interference.proofs.laws.clients_get_their_own_answers.Goals as goal
 
 pub returns-clause-content : goal.returns-clause-content

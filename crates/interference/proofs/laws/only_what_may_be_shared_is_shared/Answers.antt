@@ -1,5 +1,4 @@
-use Rattle.std.proofs.Common.{arith}
-use Rattle.interference.proofs.Own.{always}
+use Rattle.{std.proofs.Common.arith, interference.proofs.Own.always}
 use Rattle.interference.proofs.laws.only_what_may_be_shared_is_shared.Goals as goal
 
 pub returns-clause-matching : goal.returns-clause-matching

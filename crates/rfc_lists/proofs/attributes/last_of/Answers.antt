@@ -1,5 +1,4 @@
-use Rattle.std.proofs.Common.{sym}
-use Rattle.rfc_lists.proofs.AttributeLemmas.{last_value, next_value}
+use Rattle.{std.proofs.Common.sym, rfc_lists.proofs.AttributeLemmas.{last_value, next_value}}
 use Rattle.rfc_lists.proofs.attributes.last_of.Goals as goal
 
 pub loop-attribute-preserved : goal.loop-attribute-preserved

@@ -1,6 +1,4 @@
-use Rattle.std.proofs.Common.{◌≡◌, length, option_map}
-use Rattle.std.specs.Option.{option_or}
-use Rattle.rfc_lists.specs.Attributes.{last_of}
+use Rattle.{std.{proofs.Common.{◌≡◌, length, option_map}, specs.Option.option_or}, rfc_lists.specs.Attributes.last_of}
 use Rattle.rfc_lists.proofs.attributes.last_of.Given as goal
 
 abbrev pub invariant-loop-attribute : goal.invariant-loop-attribute

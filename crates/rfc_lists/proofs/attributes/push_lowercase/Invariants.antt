@@ -1,5 +1,4 @@
-use Rattle.std.proofs.Common.{◌≡◌, ◌++◌, drop}
-use Rattle.http_header.specs.Token.{lowercase}
+use Rattle.{std.proofs.Common.{◌≡◌, ◌++◌, drop}, http_header.specs.Token.lowercase}
 use Rattle.rfc_lists.proofs.attributes.push_lowercase.Given as goal
 
 abbrev pub invariant-loop-byte : goal.invariant-loop-byte

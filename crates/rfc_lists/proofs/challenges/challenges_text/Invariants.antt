@@ -1,5 +1,4 @@
-use Rattle.std.{proofs.Common.{◌≡◌, ◌++◌}}
-use Rattle.rfc_fields.specs.Members.{field_left}
+use Rattle.{std.proofs.Common.{◌≡◌, ◌++◌}, rfc_fields.specs.Members.field_left}
 use Rattle.rfc_lists.specs.{Challenges.challenges_from, declared.challenges.Place.TheVariants.Before}
 use Rattle.rfc_lists.proofs.challenges.challenges_text.Given as goal
 

@@ -1,5 +1,4 @@
-use Rattle.std.{proofs.Common.{◌≡◌, ◌+◌, drop}, specs.List.prefix_len}
-use Rattle.rfc_lists.specs.Challenges.{is_token68_byte}
+use Rattle.{std.{proofs.Common.{◌≡◌, ◌+◌, drop}, specs.List.prefix_len}, rfc_lists.specs.Challenges.is_token68_byte}
 use Rattle.rfc_lists.proofs.challenges.token68_len.Given as goal
 
 abbrev pub invariant-loop-place : goal.invariant-loop-place

@@ -1,7 +1,5 @@
-use Rattle.std.proofs.Common.{◌∙◌, ap, sym}
-use Rattle.std.specs.List.{slice_split}
-use Rattle.rfc_lists.specs.CookieDates.{found_date, is_delimiter, with_tokens}
-use Rattle.rfc_lists.specs.declared.cookie_dates.Found.{Found}
+use Rattle.{std.{proofs.Common.{◌∙◌, ap, sym}, specs.List.slice_split}, rfc_lists.specs.CookieDates.found_date}
+use Rattle.rfc_lists.specs.{CookieDates.{is_delimiter, with_tokens}, declared.cookie_dates.Found.Found}
 use Rattle.rfc_lists.proofs.DateLemmas.{last_token, next_token}
 use Rattle.rfc_lists.proofs.cookie_dates.cookie_date.Goals as goal
 

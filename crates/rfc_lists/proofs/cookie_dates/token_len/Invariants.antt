@@ -1,5 +1,4 @@
-use Rattle.std.{proofs.Common.{◌≡◌, ◌+◌, drop}, specs.List.position_or_len}
-use Rattle.rfc_lists.specs.CookieDates.{is_delimiter}
+use Rattle.{std.{proofs.Common.{◌≡◌, ◌+◌, drop}, specs.List.position_or_len}, rfc_lists.specs.CookieDates.is_delimiter}
 use Rattle.rfc_lists.proofs.cookie_dates.token_len.Given as goal
 
 abbrev pub invariant-loop-place : goal.invariant-loop-place

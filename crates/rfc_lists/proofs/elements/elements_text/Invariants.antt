@@ -1,5 +1,4 @@
-use Rattle.std.{proofs.Common.{◌≡◌, ◌++◌}, specs.Prelude.flat_map}
-use Rattle.rfc_fields.specs.Members.{field_left}
+use Rattle.{std.{proofs.Common.{◌≡◌, ◌++◌}, specs.Prelude.flat_map}, rfc_fields.specs.Members.field_left}
 use Rattle.rfc_lists.specs.Elements.{shown_element}
 use Rattle.rfc_lists.proofs.elements.elements_text.Given as goal
 

@@ -1,5 +1,4 @@
-use Rattle.std.proofs.Common.{ap, map}
-use Rattle.rfc_fields.specs.Members.{members_left}
+use Rattle.{std.proofs.Common.{ap, map}, rfc_fields.specs.Members.members_left}
 use Rattle.rfc_lists.proofs.ElementLemmas.{after_first, no_pairs_left, not_first, text_of}
 use Rattle.rfc_lists.proofs.elements.is_hop.Goals as goal
 

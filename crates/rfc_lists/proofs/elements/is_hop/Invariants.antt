@@ -1,6 +1,4 @@
-use Rattle.std.proofs.Common.{◌≡◌, map}
-use Rattle.rfc_fields.specs.Members.{members_left}
-use Rattle.rfc_lists.specs.Elements.{are_pairs}
+use Rattle.{std.proofs.Common.{◌≡◌, map}, rfc_fields.specs.Members.members_left, rfc_lists.specs.Elements.are_pairs}
 use Rattle.rfc_lists.proofs.elements.is_hop.Given as goal
 
 abbrev pub invariant-loop-parameter : goal.invariant-loop-parameter

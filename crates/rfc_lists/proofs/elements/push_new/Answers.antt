@@ -1,6 +1,4 @@
-use Rattle.std.proofs.Common.{◌∙◌, ap, map, sym}
-use Rattle.rfc_fields.specs.Members.{member_of}
-use Rattle.rfc_lists.specs.Elements.{is_new}
+use Rattle.{std.proofs.Common.{◌∙◌, ap, map, sym}, rfc_fields.specs.Members.member_of, rfc_lists.specs.Elements.is_new}
 use Rattle.rfc_lists.proofs.ElementLemmas.{known_pair, new_pair, no_pair, text_of}
 use Rattle.rfc_lists.proofs.elements.push_new.Goals as goal
 

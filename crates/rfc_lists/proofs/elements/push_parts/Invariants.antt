@@ -1,5 +1,4 @@
-use Rattle.std.{proofs.Common.{◌≡◌, ◌++◌}, specs.Prelude.flat_map}
-use Rattle.rfc_fields.specs.Members.{members_left}
+use Rattle.{std.{proofs.Common.{◌≡◌, ◌++◌}, specs.Prelude.flat_map}, rfc_fields.specs.Members.members_left}
 use Rattle.rfc_lists.specs.Elements.{part_line}
 use Rattle.rfc_lists.proofs.elements.push_parts.Given as goal
 

@@ -1,6 +1,4 @@
-use Rattle.std.{proofs.Common.{◌≡◌, ◌++◌}}
-use Rattle.headers_syntax.specs.Lines.{lines_of}
-use Rattle.rfc_lists.specs.Elements.{values_text}
+use Rattle.{std.proofs.Common.{◌≡◌, ◌++◌}, headers_syntax.specs.Lines.lines_of, rfc_lists.specs.Elements.values_text}
 use Rattle.rfc_lists.proofs.elements.values_text.Given as goal
 
 abbrev pub invariant-loop-value : goal.invariant-loop-value

@@ -1,5 +1,4 @@
-use Rattle.std.proofs.Common.{◌∙◌, sym}
-use Rattle.rfc_lists.proofs.ExtendedLemmas.{subtags-last, subtags-next, subtags-wrong}
+use Rattle.{std.proofs.Common.{◌∙◌, sym}, rfc_lists.proofs.ExtendedLemmas.{subtags-last, subtags-next, subtags-wrong}}
 use Rattle.rfc_lists.proofs.extended.are_subtags.Goals as goal
 
 pub returns-then-not-is_subtag : goal.returns-then-not-is_subtag

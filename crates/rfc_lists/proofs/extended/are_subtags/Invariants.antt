@@ -1,5 +1,4 @@
-use Rattle.std.proofs.Common.{◌≡◌, length}
-use Rattle.rfc_lists.specs.Extended.{are_subtags}
+use Rattle.{std.proofs.Common.{◌≡◌, length}, rfc_lists.specs.Extended.are_subtags}
 use Rattle.rfc_lists.proofs.extended.are_subtags.Given as goal
 
 abbrev pub invariant-loop-subtag : goal.invariant-loop-subtag

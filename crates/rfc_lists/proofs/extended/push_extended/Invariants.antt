@@ -1,5 +1,4 @@
-use Rattle.std.{proofs.Common.{◌≡◌, ◌++◌, drop}, specs.List.flat_map}
-use Rattle.rfc_lists.specs.Extended.{encoded}
+use Rattle.{std.{proofs.Common.{◌≡◌, ◌++◌, drop}, specs.List.flat_map}, rfc_lists.specs.Extended.encoded}
 use Rattle.rfc_lists.proofs.extended.push_extended.Given as goal
 
 abbrev pub invariant-loop-byte : goal.invariant-loop-byte

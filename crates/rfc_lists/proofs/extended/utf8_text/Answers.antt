@@ -1,8 +1,5 @@
-use Rattle.std.proofs.Common.{◌∙◌, ℕ, ap, sym}
-use Rattle.std.specs.Global.{Vec}
-use Rattle.std.proofs.lemmas.Str.{IsUtf8-string_bytes}
-use Rattle.rfc_lists.specs.Extended.{utf8_text}
-use Rattle.rfc_lists.proofs.ExtendedLemmas.{utf8_yes}
+use Rattle.std.{proofs.{Common.{◌∙◌, ℕ, ap, sym}, lemmas.Str.IsUtf8-string_bytes}, specs.Global.Vec}
+use Rattle.rfc_lists.{specs.Extended.utf8_text, proofs.ExtendedLemmas.utf8_yes}
 use Rattle.rfc_lists.proofs.extended.utf8_text.Goals as goal
 
 pub returns-in-Ok : goal.returns-in-Ok

@@ -1,5 +1,4 @@
-use Rattle.std.proofs.Common.{◌≡◌, ◌++◌}
-use Rattle.rfc_fields.specs.Values.{octets_left}
+use Rattle.{std.proofs.Common.{◌≡◌, ◌++◌}, rfc_fields.specs.Values.octets_left}
 use Rattle.rfc_lists.proofs.lines.push_octets.Given as goal
 
 abbrev pub invariant-loop-octet : goal.invariant-loop-octet

@@ -1,5 +1,4 @@
-use Rattle.std.proofs.Common.{◌≡◌, ◌∙◌, length, sym, arith}
-use Rattle.rfc_lists.proofs.LinkLemmas.{at_end, here, next}
+use Rattle.{std.proofs.Common.{◌≡◌, ◌∙◌, length, sym, arith}, rfc_lists.proofs.LinkLemmas.{at_end, here, next}}
 use Rattle.rfc_lists.proofs.links.link_len.Goals as goal
 
 pub returns-then-separates-clause-len : goal.returns-then-separates-clause-len

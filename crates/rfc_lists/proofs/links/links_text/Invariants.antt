@@ -1,5 +1,4 @@
-use Rattle.std.{proofs.Common.{◌≡◌, ◌++◌}, specs.Prelude.{flat_map}}
-use Rattle.headers_syntax.specs.Lines.{lines_of}
+use Rattle.{std.{proofs.Common.{◌≡◌, ◌++◌}, specs.Prelude.flat_map}, headers_syntax.specs.Lines.lines_of}
 use Rattle.rfc_lists.specs.Links.{line_text}
 use Rattle.rfc_lists.proofs.links.links_text.Given as goal
 

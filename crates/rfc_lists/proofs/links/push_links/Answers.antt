@@ -1,8 +1,6 @@
-use Rattle.std.proofs.lemmas.Result.{on_ok_weaker}
-use Rattle.std.proofs.Common.{◌∙◌, ◌++◌, append_assoc, ap, sym}
-use Rattle.headers_syntax.specs.Text.{trim}
-use Rattle.rfc_lists.specs.Links.{line_text, link_text}
-use Rattle.rfc_lists.proofs.LinkLemmas.{last_link, next_link}
+use Rattle.std.proofs.{lemmas.Result.on_ok_weaker, Common.{◌∙◌, ◌++◌, append_assoc, ap, sym}}
+use Rattle.{headers_syntax.specs.Text.trim, rfc_lists.{specs.Links.{line_text, link_text}, proofs.LinkLemmas.last_link}}
+use Rattle.rfc_lists.proofs.LinkLemmas.{next_link}
 use Rattle.rfc_lists.proofs.links.push_links.Goals as goal
 
 pub loop-link-preserved : goal.loop-link-preserved

@@ -1,5 +1,4 @@
-use Rattle.std.proofs.Common.{◌≡◌, ◌++◌, length}
-use Rattle.rfc_lists.specs.Links.{line_text}
+use Rattle.{std.proofs.Common.{◌≡◌, ◌++◌, length}, rfc_lists.specs.Links.line_text}
 use Rattle.rfc_lists.proofs.links.push_links.Given as goal
 
 abbrev pub invariant-loop-link : goal.invariant-loop-link

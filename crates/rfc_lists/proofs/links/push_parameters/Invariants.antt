@@ -1,7 +1,5 @@
-use Rattle.std.proofs.Common.{◌≡◌, ◌++◌, option_map}
-use Rattle.std.specs.{Prelude.flat_map, Option.option_or}
-use Rattle.rfc_fields.specs.Members.{members_left}
-use Rattle.rfc_lists.specs.{Lines.parameter_line, Links.relations_of}
+use Rattle.std.{proofs.Common.{◌≡◌, ◌++◌, option_map}, specs.{Prelude.flat_map, Option.option_or}}
+use Rattle.{rfc_fields.specs.Members.members_left, rfc_lists.specs.{Lines.parameter_line, Links.relations_of}}
 use Rattle.rfc_lists.proofs.links.push_parameters.Given as goal
 
 abbrev pub invariant-loop-parameter : goal.invariant-loop-parameter

@@ -1,8 +1,6 @@
-use Rattle.std.proofs.lemmas.Result.{on_ok_weaker}
-use Rattle.std.proofs.Common.{◌∙◌, ◌++◌, append_assoc, ap, sym}
-use Rattle.rfc_lists.specs.Links.{relation_lines, relation_line}
+use Rattle.std.proofs.{lemmas.Result.on_ok_weaker, Common.{◌∙◌, ◌++◌, append_assoc, ap, sym}}
+use Rattle.rfc_lists.{specs.Links.{relation_lines, relation_line}, proofs.SplitLemmas.{last_line, next_line}}
 use Rattle.rfc_fields.specs.Grammar.{space}
-use Rattle.rfc_lists.proofs.SplitLemmas.{last_line, next_line}
 use Rattle.rfc_lists.proofs.links.push_relations.Goals as goal
 
 pub loop-relation-preserved : goal.loop-relation-preserved

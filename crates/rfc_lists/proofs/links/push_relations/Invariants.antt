@@ -1,5 +1,4 @@
-use Rattle.std.proofs.Common.{◌≡◌, ◌++◌, length}
-use Rattle.rfc_lists.specs.Links.{relation_lines}
+use Rattle.{std.proofs.Common.{◌≡◌, ◌++◌, length}, rfc_lists.specs.Links.relation_lines}
 use Rattle.rfc_lists.proofs.links.push_relations.Given as goal
 
 abbrev pub invariant-loop-relation : goal.invariant-loop-relation

@@ -1,5 +1,4 @@
-use Rattle.std.{proofs.Common.{◌≡◌, ◌++◌, drop}, specs.List.flat_map}
-use Rattle.rfc_lists.specs.Parameters.{quoted_octet}
+use Rattle.{std.{proofs.Common.{◌≡◌, ◌++◌, drop}, specs.List.flat_map}, rfc_lists.specs.Parameters.quoted_octet}
 use Rattle.rfc_lists.proofs.parameters.push_quoted.Given as goal
 
 abbrev pub invariant-loop-byte : goal.invariant-loop-byte

@@ -1,8 +1,6 @@
-use Rattle.std.proofs.lemmas.Result.{on_ok_weaker}
-use Rattle.std.proofs.Common.{◌∙◌, ◌++◌, append_assoc, ap, sym}
-use Rattle.rfc_lists.specs.SetCookies.{other_lines, other_line}
+use Rattle.std.proofs.{lemmas.Result.on_ok_weaker, Common.{◌∙◌, ◌++◌, append_assoc, ap, sym}}
+use Rattle.rfc_lists.{specs.SetCookies.{other_lines, other_line}, proofs.SplitLemmas.{last_line, next_line}}
 use Rattle.rfc_fields.specs.Grammar.{semicolon}
-use Rattle.rfc_lists.proofs.SplitLemmas.{last_line, next_line}
 use Rattle.rfc_lists.proofs.set_cookies.push_others.Goals as goal
 
 pub loop-attribute-preserved : goal.loop-attribute-preserved

@@ -1,5 +1,4 @@
-use Rattle.std.proofs.Common.{◌≡◌, ◌++◌, length}
-use Rattle.rfc_lists.specs.SetCookies.{other_lines}
+use Rattle.{std.proofs.Common.{◌≡◌, ◌++◌, length}, rfc_lists.specs.SetCookies.other_lines}
 use Rattle.rfc_lists.proofs.set_cookies.push_others.Given as goal
 
 abbrev pub invariant-loop-attribute : goal.invariant-loop-attribute

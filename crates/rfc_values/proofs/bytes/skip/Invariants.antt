@@ -1,5 +1,4 @@
-use Rattle.std.proofs.Common.{◌≡◌, ◌≤◌, length}
-use Rattle.rfc_values.specs.Bytes.{after_run}
+use Rattle.{std.proofs.Common.{◌≡◌, ◌≤◌, length}, rfc_values.specs.Bytes.after_run}
 use Rattle.rfc_values.proofs.bytes.skip.Given as goal
 
 abbrev pub invariant-loop-rest : goal.invariant-loop-rest

@@ -1,5 +1,4 @@
-use Rattle.std.proofs.Common.{◌≡◌, ◌≤◌, length, false}
-use Rattle.rfc_values.specs.Items.{after_string}
+use Rattle.{std.proofs.Common.{◌≡◌, ◌≤◌, length, false}, rfc_values.specs.Items.after_string}
 use Rattle.rfc_values.proofs.items.after_string.Given as goal
 
 abbrev pub invariant-loop-rest : goal.invariant-loop-rest

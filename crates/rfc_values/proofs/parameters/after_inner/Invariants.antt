@@ -1,5 +1,4 @@
-use Rattle.std.proofs.Common.{◌≡◌, length}
-use Rattle.rfc_values.specs.Items.{after_inner}
+use Rattle.{std.proofs.Common.{◌≡◌, length}, rfc_values.specs.Items.after_inner}
 use Rattle.rfc_values.proofs.parameters.after_inner.Given as goal
 
 abbrev pub invariant-loop-after : goal.invariant-loop-after

@@ -1,5 +1,4 @@
-use Rattle.std.proofs.Common.{◌≡◌, ◌-◌, ◌≤◌}
-use Rattle.httpdate.{specs.Text.day_name, specs.Reader.read_name}
+use Rattle.{std.proofs.Common.{◌≡◌, ◌-◌, ◌≤◌}, httpdate.specs.{Text.day_name, Reader.read_name}}
 use Rattle.rfc_values.proofs.parser.read_day_name.Given as goal
 
 abbrev pub invariant-loop-weekday : goal.invariant-loop-weekday

@@ -1,5 +1,4 @@
-use Rattle.std.proofs.Common.{◌≡◌, ◌-◌, ◌≤◌}
-use Rattle.httpdate.{specs.Text.month_name, specs.Reader.read_name}
+use Rattle.{std.proofs.Common.{◌≡◌, ◌-◌, ◌≤◌}, httpdate.specs.{Text.month_name, Reader.read_name}}
 use Rattle.rfc_values.proofs.parser.read_month_name.Given as goal
 
 abbrev pub invariant-loop-month : goal.invariant-loop-month

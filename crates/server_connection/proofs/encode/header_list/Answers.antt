@@ -1,6 +1,5 @@
-use Rattle.std.{proofs.Common.{[], ◌∷◌, ◌++◌, take, sym, ap, ◌∙◌}, proofs.lemmas.List.{map_push, map_more}}
-use Rattle.http1.specs.Head.{header_parts, pairs}
-use Rattle.http_server.specs.Response.{fields}
+use Rattle.std.proofs.{Common.{[], ◌∷◌, ◌++◌, take, sym, ap, ◌∙◌}, lemmas.List.{map_push, map_more}}
+use Rattle.{http1.specs.Head.{header_parts, pairs}, http_server.specs.Response.fields}
 use Rattle.server_connection.proofs.encode.header_list.Goals as goal
 
 pub loop-header-preserved : goal.loop-header-preserved

@@ -1,6 +1,4 @@
-use Rattle.std.proofs.Common.{◌≡◌, take}
-use Rattle.http1.specs.Head.{pairs}
-use Rattle.http_server.specs.Response.{fields}
+use Rattle.{std.proofs.Common.{◌≡◌, take}, http1.specs.Head.pairs, http_server.specs.Response.fields}
 use Rattle.server_connection.proofs.encode.header_list.Given as goal
 
 abbrev pub invariant-loop-header : goal.invariant-loop-header

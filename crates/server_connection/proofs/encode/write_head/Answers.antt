@@ -1,11 +1,9 @@
 use Rattle.std.proofs.Common.{◌≡◌, ◌≢◌, ℕ, ◌^◌, ◌<◌, List, ◌++◌, Result, Ok, Err, OnOk, ap, subst, ◌∙◌}
-use Rattle.http1.{specs.declared.error.WriteError.WriteError, specs.declared.server.Server.Server, specs.Head.pairs}
-use Rattle.http1.{specs.Output.GivesOrRefuses, specs.Server.response_refusal}
-use Rattle.http1_typed.specs.Parts.{reason_of}
-use Rattle.http_server.{specs.Response.fields, proofs.AnswerLemmas.not_refused}
-use Rattle.server_connection.specs.declared.plan.ResponsePlan.{ResponsePlan}
-use Rattle.server_connection.specs.Encoding.{WritesHead, content_len, head_text}
-use Rattle.server_connection.specs.Encoding.{after_head, plan_fields, plan_size}
+use Rattle.http1.specs.{declared.{error.WriteError.WriteError, server.Server.Server}, Head.pairs, Output.GivesOrRefuses}
+use Rattle.{http1.specs.Server.response_refusal, http1_typed.specs.Parts.reason_of, http_server.specs.Response.fields}
+use Rattle.http_server.proofs.AnswerLemmas.{not_refused}
+use Rattle.server_connection.specs.{declared.plan.ResponsePlan.ResponsePlan, Encoding.{WritesHead, content_len}}
+use Rattle.server_connection.specs.Encoding.{head_text, after_head, plan_fields, plan_size}
 use Rattle.server_connection.proofs.encode.write_head.Goals as goal
 
 module _ (plan : ResponsePlan) (old new : Server) (before after : List ℕ) (spare len : ℕ) (late : plan.status ≢ 101)

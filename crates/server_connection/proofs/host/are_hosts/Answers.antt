@@ -1,8 +1,7 @@
 use Rattle.std.proofs.Common.{◌≤◌, List, [], ◌∷◌, map, length, All, take_all, sym, refl, ap, ◌∙◌, subst, arith}
-use Rattle.std.{specs.Prelude.codes, proofs.lemmas.Bool.false≢true, proofs.lemmas.List.Elements.{All-nil, All-cons}}
-use Rattle.std.proofs.lemmas.List.Elements.{All-head, All-tail, All-map, All-get_or, All-more}
-use Rattle.httparse.{specs.Spans.header_bytes, specs.declared.spans.HeaderSpan.HeaderSpan}
-use Rattle.http1.specs.Text.{eq_ignore_case}
+use Rattle.std.proofs.lemmas.{Bool.false≢true, List.Elements.{All-nil, All-cons, All-head, All-tail, All-map}}
+use Rattle.std.{proofs.lemmas.List.Elements.{All-get_or, All-more}, specs.Prelude.codes}
+use Rattle.{httparse.specs.{Spans.header_bytes, declared.spans.HeaderSpan.HeaderSpan}, http1.specs.Text.eq_ignore_case}
 use Rattle.http_server.specs.Host.{IsHostValid, IsHostText}
 use Rattle.server_connection.proofs.host.are_hosts.Goals.{else-eq_ignore_case-via-then-eq_ignore_case+else-not-is_host}
 use Rattle.server_connection.proofs.host.are_hosts.Goals.{else-eq_ignore_case-via-else-eq_ignore_case}

@@ -1,6 +1,4 @@
-use Rattle.std.proofs.Common.{All, take}
-use Rattle.httparse.specs.Spans.{header_bytes}
-use Rattle.http_server.specs.Host.{IsHostValid}
+use Rattle.{std.proofs.Common.{All, take}, httparse.specs.Spans.header_bytes, http_server.specs.Host.IsHostValid}
 use Rattle.server_connection.proofs.host.are_hosts.Given as goal
 
 abbrev pub invariant-loop-span : goal.invariant-loop-span

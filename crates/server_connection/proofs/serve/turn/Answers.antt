@@ -1,9 +1,7 @@
-use Rattle.std.proofs.Common.{[], ◌∙◌, inl, inr, subst, sym}
-use Rattle.std.specs.Io.KnownBytes.{IsAtEnd}
-use Rattle.server_connection.{specs.Connection.IsSaid, proofs.TurnLemmas.{Appends-none, Consumes-none, is_reached}}
-use Rattle.server_connection.specs.Connection.IsTurned.{by_read}
-use Rattle.server_connection.proofs.TurnLemmas.{moves_in, moves_steps, moves_then, rests_open, stays_known, turned_drop}
-use Rattle.server_connection.proofs.TurnLemmas.{turns_by, turns_read}
+use Rattle.std.{proofs.Common.{[], ◌∙◌, inl, inr, subst, sym}, specs.Io.KnownBytes.IsAtEnd}
+use Rattle.server_connection.{specs.Connection.{IsSaid, IsTurned.by_read}, proofs.TurnLemmas.Appends-none}
+use Rattle.server_connection.proofs.TurnLemmas.{Consumes-none, is_reached, moves_in, moves_steps, moves_then}
+use Rattle.server_connection.proofs.TurnLemmas.{rests_open, stays_known, turned_drop, turns_by, turns_read}
 use Rattle.server_connection.proofs.serve.turn.Goals as goal
 
 pub returns-in-Request : goal.returns-in-Request

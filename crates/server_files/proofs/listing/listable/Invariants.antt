@@ -1,5 +1,4 @@
-use Rattle.std.proofs.Common.{◌≡◌}
-use Rattle.server_files.specs.Listings.{listable}
+use Rattle.{std.proofs.Common.◌≡◌, server_files.specs.Listings.listable}
 use Rattle.server_files.proofs.listing.listable.Given as goal
 
 abbrev pub invariant-loop-name : goal.invariant-loop-name

@@ -1,5 +1,4 @@
-use Rattle.std.proofs.Common.{◌≡◌, ◌++◌, take}
-use Rattle.server_files.specs.Listings.{link}
+use Rattle.{std.proofs.Common.{◌≡◌, ◌++◌, take}, server_files.specs.Listings.link}
 use Rattle.server_files.proofs.listing.push_link.Given as goal
 
 abbrev pub invariant-loop-byte : goal.invariant-loop-byte

@@ -1,5 +1,4 @@
-use Rattle.std.proofs.Common.{◌≡◌, ◌++◌, take}
-use Rattle.server_files.specs.Listings.{shown}
+use Rattle.{std.proofs.Common.{◌≡◌, ◌++◌, take}, server_files.specs.Listings.shown}
 use Rattle.server_files.proofs.listing.push_shown.Given as goal
 
 abbrev pub invariant-loop-byte : goal.invariant-loop-byte

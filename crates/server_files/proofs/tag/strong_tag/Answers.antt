@@ -1,7 +1,6 @@
-use Rattle.std.proofs.Common.{◌≡◌, subst, sym, ◌∙◌}
-use Rattle.http_header.specs.FieldValue.{IsFieldValue}
-use Rattle.headers.specs.EntityTag.{IsSomeTag}
-use Rattle.server_files.{specs.Tags.strong_tag, proofs.DigestLemmas.{tag_is_tag, tag_is_value}}
+use Rattle.{std.proofs.Common.{◌≡◌, subst, sym, ◌∙◌}, http_header.specs.FieldValue.IsFieldValue}
+use Rattle.{headers.specs.EntityTag.IsSomeTag, server_files.{specs.Tags.strong_tag, proofs.DigestLemmas.tag_is_tag}}
+use Rattle.server_files.proofs.DigestLemmas.{tag_is_value}
 use Rattle.server_files.proofs.tag.strong_tag.Goals as goal
 
 pub unreachable-requires : goal.unreachable-requires

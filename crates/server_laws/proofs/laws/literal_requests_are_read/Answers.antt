@@ -1,5 +1,4 @@
-use Rattle.server_laws.proofs.Served.{asked_by, get_reads, get_verb, head_verb, message_with}
-use Rattle.std.specs.Prelude.{codes}
+use Rattle.{server_laws.proofs.Served.{asked_by, get_reads, get_verb, head_verb, message_with}, std.specs.Prelude.codes}
 use Rattle.server_laws.proofs.laws.literal_requests_are_read.Goals as goal
 
 pub returns-clause-get : goal.returns-clause-get

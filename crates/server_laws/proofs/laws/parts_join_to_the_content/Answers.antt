@@ -1,5 +1,4 @@
-use Rattle.std.proofs.Common.{◌++◌, ◌∙◌}
-use Rattle.server_laws.proofs.Served.{halves, sent_part}
+use Rattle.{std.proofs.Common.{◌++◌, ◌∙◌}, server_laws.proofs.Served.{halves, sent_part}}
 use Rattle.server_laws.proofs.laws.parts_join_to_the_content.Goals as goal
 
 pub returns : goal.returns

@@ -1,7 +1,6 @@
-use Rattle.std.proofs.Common.{◌≡◌, ◌⊎◌, ap, inl, inr, ◌∙◌, arith}
-use Rattle.std.specs.Prelude.{string_bytes}
+use Rattle.std.{proofs.Common.{◌≡◌, ◌⊎◌, ap, inl, inr, ◌∙◌, arith}, specs.Prelude.string_bytes}
 use Rattle.{decide_cors.specs.Browser.IsPreflightFor, decide_resource.specs.Reasons.{Before, stage}}
-use Rattle.{headers.specs.LineMap.set_all, decide_resource.specs.declared.reason.Reason.TheVariants.Preflight}
+use Rattle.{decide_resource.specs.declared.reason.Reason.TheVariants.Preflight, headers.specs.LineMap.set_all}
 use Rattle.server_service.{proofs.OneResponseLemmas.asked_once, specs.{Answer.status_for, Response.fields_of}}
 use Rattle.server_laws.{specs.Answered.lines_in, proofs.Served.{decided, given, nothing, passes_alike, present}}
 use Rattle.server_laws.proofs.Served.{read_as_set, resource}

@@ -1,5 +1,4 @@
-use Rattle.http.specs.Request.{head_of}
-use Rattle.server_laws.proofs.Served.{answered_as, leads}
+use Rattle.{http.specs.Request.head_of, server_laws.proofs.Served.{answered_as, leads}}
 use Rattle.server_laws.proofs.laws.response_depends_on_the_path.Goals as goal
 
 pub returns : goal.returns

@@ -1,7 +1,6 @@
-use Rattle.std.proofs.Common.{◌≡◌, ◌∷◌, [], codes}
-use Rattle.{headers.specs.LineMap.set_all, server_service.specs.Response.fields_of}
-use Rattle.server_laws.{specs.Answered.lines_in, proofs.Served.{answered, check_alike, given, nothing, present}}
-use Rattle.server_laws.proofs.Served.{read_as_set, resource}
+use Rattle.{std.proofs.Common.{◌≡◌, ◌∷◌, [], codes}, headers.specs.LineMap.set_all}
+use Rattle.{server_service.specs.Response.fields_of, server_laws.{specs.Answered.lines_in, proofs.Served.answered}}
+use Rattle.server_laws.proofs.Served.{check_alike, given, nothing, present, read_as_set, resource}
 use Rattle.server_laws.proofs.laws.response_is_shared_by_the_policy.Goals as goal
 
 pub returns : goal.returns

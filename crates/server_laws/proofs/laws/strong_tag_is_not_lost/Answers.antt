@@ -1,5 +1,4 @@
-use Rattle.std.proofs.Common.{refl}
-use Rattle.server_laws.proofs.Served.{by_match}
+use Rattle.{std.proofs.Common.refl, server_laws.proofs.Served.by_match}
 use Rattle.server_laws.proofs.laws.strong_tag_is_not_lost.Goals as goal
 
 pub returns : goal.returns

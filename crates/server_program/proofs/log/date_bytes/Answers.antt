@@ -1,6 +1,4 @@
-use Rattle.std.proofs.Common.{sym, ◌∙◌, ap}
-use Rattle.httpdate.specs.Valid.{IsValid}
-use Rattle.headers.specs.Date.{fixdate}
+use Rattle.{std.proofs.Common.{sym, ◌∙◌, ap}, httpdate.specs.Valid.IsValid, headers.specs.Date.fixdate}
 use Rattle.headers_syntax.proofs.DateLemmas.{fixdate-is}
 use Rattle.server_program.proofs.log.date_bytes.Goals as goal
 

@@ -1,5 +1,4 @@
-use Rattle.std.proofs.Common.{◌≡◌, ◌++◌, take}
-use Rattle.server_program.specs.Log.{logged}
+use Rattle.{std.proofs.Common.{◌≡◌, ◌++◌, take}, server_program.specs.Log.logged}
 use Rattle.server_program.proofs.log.push_logged.Given as goal
 
 abbrev pub invariant-loop-byte : goal.invariant-loop-byte

@@ -1,6 +1,5 @@
-use Rattle.std.proofs.Common.{◌≡◌, ◌++◌, take}
-use Rattle.headers.specs.Lines.{lines_of}
-use Rattle.server_service.specs.Response.{fields_of, lines_under}
+use Rattle.{std.proofs.Common.{◌≡◌, ◌++◌, take}, headers.specs.Lines.lines_of, server_service.specs.Response.fields_of}
+use Rattle.server_service.specs.Response.{lines_under}
 use Rattle.server_service.proofs.fields.add_copy.Given as goal
 
 abbrev pub invariant-loop-line : goal.invariant-loop-line

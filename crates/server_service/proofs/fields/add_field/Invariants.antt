@@ -1,6 +1,5 @@
-use Rattle.std.proofs.Common.{◌≡◌, ◌++◌}
-use Rattle.headers.specs.Lines.{lines_of}
-use Rattle.server_service.specs.Response.{fields_of, lines_under}
+use Rattle.{std.proofs.Common.{◌≡◌, ◌++◌}, headers.specs.Lines.lines_of, server_service.specs.Response.fields_of}
+use Rattle.server_service.specs.Response.{lines_under}
 use Rattle.server_service.proofs.fields.add_field.Given as goal
 
 abbrev pub invariant-loop-line : goal.invariant-loop-line

@@ -1,6 +1,5 @@
-use Rattle.std.{proofs.Common.{List, ℕ, sym, ◌∙◌}, proofs.lemmas.List.Folds.list_all-map}
-use Rattle.http_header.specs.FieldValue.{FieldValue}
-use Rattle.server_service.specs.Response.{is_bare_line}
+use Rattle.std.proofs.{Common.{List, ℕ, sym, ◌∙◌}, lemmas.List.Folds.list_all-map}
+use Rattle.{http_header.specs.FieldValue.FieldValue, server_service.specs.Response.is_bare_line}
 use Rattle.server_service.proofs.fields.are_bare_lines.Goals as goal
 
 pub returns : goal.returns

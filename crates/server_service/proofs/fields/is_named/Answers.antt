@@ -1,5 +1,4 @@
-use Rattle.std.proofs.Common.{◌∙◌}
-use Rattle.server_service.proofs.FieldLemmas.{list_any-named}
+use Rattle.{std.proofs.Common.◌∙◌, server_service.proofs.FieldLemmas.list_any-named}
 use Rattle.server_service.proofs.fields.is_named.Goals as goal
 
 pub returns : goal.returns

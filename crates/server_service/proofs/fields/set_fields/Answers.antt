@@ -1,9 +1,8 @@
 use Rattle.std.proofs.Common.{List, ◌++◌, ◌-◌, ap, append-nil, append_assoc, drop, length, sym, take, ◌∙◌}
 use Rattle.headers.specs.LineMap.{field_of, fields_of as encoded_fields}
-use Rattle.headers.specs.declared.Encoded.{Encoded}
-use Rattle.http1.specs.Fields.{Header}
-use Rattle.server_service.specs.Response.{fields_of, headers_set, is_named, lines_unless}
-use Rattle.server_service.proofs.FieldLemmas.{headers_set-next, headers_set-none}
+use Rattle.{headers.specs.declared.Encoded.Encoded, http1.specs.Fields.Header, server_service.specs.Response.fields_of}
+use Rattle.server_service.{specs.Response.{headers_set, is_named, lines_unless}, proofs.FieldLemmas.headers_set-next}
+use Rattle.server_service.proofs.FieldLemmas.{headers_set-none}
 use Rattle.server_service.proofs.fields.set_fields.Goals as goal
 
 pub loop-rest-preserved : goal.loop-rest-preserved

@@ -1,5 +1,4 @@
-use Rattle.std.{proofs.Common.{◌≡◌, true}, specs.List.list_all}
-use Rattle.http_server.specs.Response.{fields}
+use Rattle.{std.{proofs.Common.{◌≡◌, true}, specs.List.list_all}, http_server.specs.Response.fields}
 use Rattle.server_service.specs.Response.{fields_of, is_line, trimmed_lines}
 use Rattle.server_service.proofs.fields.trim_lines.Given as goal
 

@@ -1,6 +1,4 @@
-use Rattle.std.proofs.Common.{◌≡◌, ◌++◌}
-use Rattle.headers.specs.Lines.{lines_of}
-use Rattle.server_service.specs.Multipart.{header_text}
+use Rattle.{std.proofs.Common.{◌≡◌, ◌++◌}, headers.specs.Lines.lines_of, server_service.specs.Multipart.header_text}
 use Rattle.server_service.proofs.multipart.push_header.Given as goal
 
 abbrev pub invariant-loop-line : goal.invariant-loop-line

@@ -1,5 +1,4 @@
-use Rattle.std.{proofs.Common.{◌≡◌, ◌++◌, take}, specs.List.flat_map}
-use Rattle.server_service.specs.Multipart.{part_pieces}
+use Rattle.{std.{proofs.Common.{◌≡◌, ◌++◌, take}, specs.List.flat_map}, server_service.specs.Multipart.part_pieces}
 use Rattle.server_service.proofs.multipart.push_parts.Given as goal
 
 abbrev pub invariant-loop-part : goal.invariant-loop-part

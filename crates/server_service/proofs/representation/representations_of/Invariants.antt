@@ -1,5 +1,4 @@
-use Rattle.std.proofs.Common.{◌≡◌, map, take}
-use Rattle.server_service.specs.File.{representation_of}
+use Rattle.{std.proofs.Common.{◌≡◌, map, take}, server_service.specs.File.representation_of}
 use Rattle.server_service.proofs.representation.representations_of.Given as goal
 
 abbrev pub invariant-loop-file : goal.invariant-loop-file

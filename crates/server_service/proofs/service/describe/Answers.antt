@@ -1,5 +1,4 @@
-use Rattle.std.proofs.Common.{ap, map, ◌∙◌}
-use Rattle.decide_resource.specs.declared.resource.State.{State}
+use Rattle.{std.proofs.Common.{ap, map, ◌∙◌}, decide_resource.specs.declared.resource.State.State}
 use Rattle.server_service.specs.File.{representation_of}
 use Rattle.server_service.proofs.service.describe.Goals as goal
 

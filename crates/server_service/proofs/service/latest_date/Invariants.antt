@@ -1,5 +1,4 @@
-use Rattle.std.{proofs.Common.{◌≡◌, drop}, specs.List.fold}
-use Rattle.server_service.specs.Answer.{later}
+use Rattle.{std.{proofs.Common.{◌≡◌, drop}, specs.List.fold}, server_service.specs.Answer.later}
 use Rattle.server_service.proofs.service.latest_date.Given as goal
 
 abbrev pub invariant-loop-file : goal.invariant-loop-file

@@ -1,5 +1,4 @@
-use Rattle.std.proofs.Common.{◌≡◌, ◌+◌, length, filter, take, map}
-use Rattle.test_rows.specs.Row.{is_row_line}
+use Rattle.{std.proofs.Common.{◌≡◌, ◌+◌, length, filter, take, map}, test_rows.specs.Row.is_row_line}
 use Rattle.test_rows.proofs.replay.replay_text.Given as goal
 
 abbrev pub invariant-loop-index : goal.invariant-loop-index

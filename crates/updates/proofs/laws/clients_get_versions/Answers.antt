@@ -1,5 +1,4 @@
-use Rattle.std.proofs.Common.{arith}
-use Rattle.updates.proofs.Steps.{holds}
+use Rattle.{std.proofs.Common.arith, updates.proofs.Steps.holds}
 use Rattle.updates.proofs.laws.clients_get_versions.Goals as goal
 
 pub returns : goal.returns

@@ -1,5 +1,4 @@
-use Rattle.std.proofs.Common.{sym, ◌∙◌}
-use Rattle.updates.{proofs.Lists.Has_slice_get, proofs.Steps.holds, proofs.Updates.{once, swaps}}
+use Rattle.{std.proofs.Common.{sym, ◌∙◌}, updates.proofs.{Lists.Has_slice_get, Steps.holds, Updates.{once, swaps}}}
 use Rattle.updates.proofs.laws.no_update_is_lost.Goals as goal
 
 pub returns : goal.returns

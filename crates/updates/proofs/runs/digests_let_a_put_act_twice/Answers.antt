@@ -1,5 +1,4 @@
-use Rattle.std.proofs.Common.{refl, arith}
-use Rattle.updates.proofs.Examples.{loses}
+use Rattle.{std.proofs.Common.{refl, arith}, updates.proofs.Examples.loses}
 use Rattle.updates.proofs.runs.digests_let_a_put_act_twice.Goals as goal
 
 pub returns-clause-lost : goal.returns-clause-lost

@@ -1,5 +1,4 @@
-use Rattle.std.proofs.Common.{inl, refl}
-use Rattle.updates.proofs.Examples.{reads_milk}
+use Rattle.{std.proofs.Common.{inl, refl}, updates.proofs.Examples.reads_milk}
 use Rattle.updates.proofs.runs.storing_late_older_is_read.Goals as goal
 
 pub returns-clause-older : goal.returns-clause-older

@@ -1,5 +1,4 @@
-use Rattle.std.proofs.Common.{refl, arith}
-use Rattle.updates.proofs.Examples.{loses}
+use Rattle.{std.proofs.Common.{refl, arith}, updates.proofs.Examples.loses}
 use Rattle.updates.proofs.runs.unguarded_updates_are_lost.Goals as goal
 
 pub returns : goal.returns

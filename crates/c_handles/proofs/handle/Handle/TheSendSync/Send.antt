@@ -1,9 +1,7 @@
 -- A handle may go to another thread.
-use denote.Struct.Struct.{exits_of}
-use denote.Struct.Owning.{shape, fields, to}
-use denote.Param.Send.{IsSend, AllSend, owning_send, struct_send, sendable}
-use Rattle.std_alloc.proofs.SendSync.{quiet}
-use Rattle.c_parts.proofs.Crossing.{handle_keyless}
+use denote.{Struct.{Struct.exits_of, Owning.{shape, fields, to}}, Param.Send.{IsSend, AllSend, owning_send}}
+use denote.Param.Send.{struct_send, sendable}
+use Rattle.{std_alloc.proofs.SendSync.quiet, c_parts.proofs.Crossing.handle_keyless}
 use Rattle.c_handles.specs.contracts.held.Held as Held
 use Rattle.c_handles.proofs.held.Held.TheSendSync.{the_send as held}
 use Rattle.c_handles.specs.contracts.handle.Handle.{the_row, the_type}

@@ -1,23 +1,13 @@
 -- `closed` makes a handle that owns nothing. Assumes `Logic`.
-use Rattle.std.{proofs.Common.{◌≡◌, [], ◌∷◌, refl}, specs.Prelude.{None, false}}
-use mir.Syntax.{Fn}
-use mir.Val.{Val}
-use base.Logic.{SProp, emp}
-use base.Fml.{ftrue}
-use contract.Monad.{fact, fact_i}
-use contract.Running.{tables}
-use types.Kit.{‵, raw, ◌⊛◌, ◌$◌, ◌∵◌, !, qed, by, move, drop, use0, split, fjoin}
-use types.Part.{agg}
-use types.Run.{lit, false_lit, no_more, and_then, returns, enter}
-use types.ByLocal.{alloc_all, pass_all, free_all, look_at, sets}
-use denote.RattleType.{owns}
-use denote.RawPtr.{null_ptr}
-use denote.Signature.{types_at}
-use denote.Steps.{nothing}
-use denote.Triple.Entry.{alive}
-use denote.Triple.Walked.{Stays, walk_of}
-use Rattle.std.proofs.raw_atomic.Walks.{proved_at, leaves}
+use Rattle.std.{proofs.{Common.{◌≡◌, [], ◌∷◌, refl}, raw_atomic.Walks.{proved_at, leaves}}, specs.Prelude.{None, false}}
 use Rattle.c_parts.proofs.HandleValues.{flagged_val, flagged_own, flagged_made, flagged_typed}
+use mir.{Syntax.Fn, Val.Val}
+use base.{Logic.{SProp, emp}, Fml.ftrue}
+use contract.{Monad.{fact, fact_i}, Running.tables}
+use types.{Kit.{‵, raw, ◌⊛◌, ◌$◌, ◌∵◌, !, qed, by, move, drop, use0, split, fjoin}, Part.agg, Run.{lit, false_lit}}
+use types.{Run.{no_more, and_then, returns, enter}, ByLocal.{alloc_all, pass_all, free_all, look_at, sets}}
+use denote.{RattleType.owns, RawPtr.null_ptr, Signature.types_at, Steps.nothing, Triple.{Entry.alive, Walked.Stays}}
+use denote.Triple.Walked.{walk_of}
 use Rattle.c_handles.specs.contracts.handle.Handle as handle
 use Rattle.c_handles.specs.contracts.handle.Handle.closed.{ended, clauses}
 use Rattle.c_handles.specs.contracts.handle.Handle.closed.Key.{name as #self}

@@ -1,28 +1,17 @@
 -- `into_loose` moves the two fields, and what the handle owns goes with the pointer. Assumes `Logic`.
-use Rattle.std.proofs.Common.{◌≡◌, List, [], ◌∷◌, ◌++◌, refl}
-use mir.Syntax.{Fn, ty_bool, ty_ptr, ty_struct, tcons, tnil}
-use mir.Val.{Val, vbool}
-use base.Logic.{SProp, emp}
-use base.Fml.{ftrue}
+use Rattle.std.proofs.{Common.{◌≡◌, List, [], ◌∷◌, ◌++◌, refl}, raw_atomic.Walks.{proved_at, leaves}}
+use Rattle.{std.specs.Prelude.is_some, core.proofs.alloc.Calls.Goes-blank, std_alloc.proofs.Pairs.{pair_of, pair_val}}
+use Rattle.{std_alloc.proofs.Pairs.pair_Typed, c_parts.proofs.HandleValues.{flagged_val, flagged_told, flagged_typed}}
+use Rattle.c_parts.proofs.HandleValues.{lone_val, lone_own, lone_made, lone_typed, ptr_typed}
+use mir.{Syntax.{Fn, ty_bool, ty_ptr, ty_struct, tcons, tnil}, Val.{Val, vbool}}
+use base.{Logic.{SProp, emp}, Fml.ftrue}
 use prog.Wp.{WpFn}
-use contract.Monad.{fact, fact_i}
-use contract.Running.{tables}
+use contract.{Monad.{fact, fact_i}, Running.tables}
 use types.Kit.{‵, raw, ◌⊛◌, prop, ◌$◌, ◌∵◌, !, qed, by, move, drop, use0, use2, split, regoal, fsplit, fjoin, feq_i}
-use types.Part.{whole, sub, agg}
-use types.Run.{stop, fld, of_opd, no_more, and_then, returns, enter}
-use types.ByLocal.{alloc_all, pass_all, free_all, look_at, get, get_in, sets}
-use denote.RattleType.{owns}
-use denote.Builtin.{bool}
-use denote.Signature.{types_at, plain}
-use denote.Steps.{nothing}
-use denote.Triple.Entry.{alive}
-use denote.Triple.Walked.{Stays, stay_dropped, walk_of}
-use Rattle.core.proofs.alloc.Calls.{Goes-blank}
-use Rattle.std.{proofs.raw_atomic.Walks.{proved_at, leaves}, specs.Prelude.is_some}
-use Rattle.std_alloc.proofs.Pairs.{pair_of, pair_val, pair_Typed}
-use denote.Struct.Tuple.{Tuple}
-use Rattle.c_parts.proofs.HandleValues.{flagged_val, flagged_told, flagged_typed, lone_val, lone_own}
-use Rattle.c_parts.proofs.HandleValues.{lone_made, lone_typed, ptr_typed}
+use types.{Part.{whole, sub, agg}, Run.{stop, fld, of_opd, no_more, and_then, returns, enter}, ByLocal.alloc_all}
+use types.ByLocal.{pass_all, free_all, look_at, get, get_in, sets}
+use denote.{RattleType.owns, Builtin.bool, Signature.{types_at, plain}, Steps.nothing, Triple.Entry.alive}
+use denote.{Triple.Walked.{Stays, stay_dropped, walk_of}, Struct.Tuple.Tuple}
 use Rattle.c_handles.specs.contracts.handle.Handle as handle
 use Rattle.c_parts.specs.contracts.loose.Loose as loose
 use Rattle.c_handles.specs.contracts.held.Held as Stored

@@ -1,24 +1,15 @@
 -- `of_raw_box` moves the pointer, and what it owns goes with it. Assumes `Logic`.
-use Rattle.std.{proofs.Common.{◌≡◌, List, [], ◌∷◌, ◌++◌, refl}, specs.Prelude.{Some, true}}
-use mir.Syntax.{Fn}
-use mir.Val.{Val, vptr}
-use base.Logic.{SProp, emp}
-use base.Fml.{ftrue}
+use Rattle.std.proofs.{Common.{◌≡◌, List, [], ◌∷◌, ◌++◌, refl}, raw_atomic.Walks.{proved_at, leaves}}
+use Rattle.{std.specs.Prelude.{Some, true}, core.proofs.alloc.Calls.Goes-blank}
+use mir.{Syntax.Fn, Val.{Val, vptr}}
+use base.{Logic.{SProp, emp}, Fml.ftrue}
 use prog.Wp.{WpFn}
-use contract.Monad.{fact, fact_i}
-use contract.Running.{tables}
-use types.Kit.{‵, raw, ◌⊛◌, prop, ◌$◌, ◌∵◌, !, qed, by, move, drop, use0, split, regoal, fsplit, fjoin}
-use types.Part.{whole, sub, agg}
-use types.Run.{stop, fld, of_opd, true_lit, no_more, and_then, returns, enter}
-use types.ByLocal.{alloc_all, pass_all, free_all, look_at, get, get_in, sets}
-use denote.RattleType.{owns}
-use denote.RawPtr.{block_ptr}
-use denote.Signature.{types_at, plain}
-use denote.Steps.{nothing}
-use denote.Triple.Entry.{alive}
+use contract.{Monad.{fact, fact_i}, Running.tables}
+use types.{Kit.{‵, raw, ◌⊛◌, prop, ◌$◌, ◌∵◌, !, qed, by, move, drop, use0, split, regoal, fsplit, fjoin}, Part.whole}
+use types.{Part.{sub, agg}, Run.{stop, fld, of_opd, true_lit, no_more, and_then, returns, enter}, ByLocal.alloc_all}
+use types.ByLocal.{pass_all, free_all, look_at, get, get_in, sets}
+use denote.{RattleType.owns, RawPtr.block_ptr, Signature.{types_at, plain}, Steps.nothing, Triple.Entry.alive}
 use denote.Triple.Walked.{Stays, stay_dropped, walk_of}
-use Rattle.core.proofs.alloc.Calls.{Goes-blank}
-use Rattle.std.proofs.raw_atomic.Walks.{proved_at, leaves}
 use Rattle.std_heap.specs.contracts.Global as Heap
 use Rattle.std_heap.specs.contracts.GlobalAllocator.TheImpl.{ghosts}
 use Rattle.std_heap.proofs.Global.TheLaws as heap

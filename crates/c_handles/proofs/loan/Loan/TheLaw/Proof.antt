@@ -1,8 +1,5 @@
 -- A `&` to a loan is made where one to what is lent is. Assumes `Logic`.
-use denote.Param.Shared.{copy_shared}
-use denote.Struct.Field.{RawPtr-field}
-use denote.Struct.Laws.{RawPtr-copy}
-use denote.Struct.Lending.{of_Lends}
+use denote.{Param.Shared.copy_shared, Struct.{Field.RawPtr-field, Laws.RawPtr-copy, Lending.of_Lends}}
 use Rattle.c_handles.proofs.Lending.{loan_laws, Lends-loan}
 use Rattle.c_handles.proofs.held.Held.TheLaws as stored
 use Rattle.c_handles.specs.contracts.loan.Loan as C

@@ -1,34 +1,19 @@
 -- `get` shows what is lent for as long as the loan is borrowed. Assumes `Logic`.
-use Rattle.std.proofs.Common.{◌≡◌, List, [], ◌∷◌, refl, sym, ap, ◌∙◌}
-use Rattle.std.specs.Prelude.{◌≢◌, Option, Some, None}
-use mir.Syntax.{Fn, named}
-use mir.Val.{Val, vptr}
-use base.Logic.{SProp, emp}
-use base.Fml.{Lft, ftrue, flft, fhide}
-use contract.Monad.{fact, fact_i}
-use contract.Running.{tables}
+use Rattle.std.proofs.{Common.{◌≡◌, List, [], ◌∷◌, refl, sym, ap, ◌∙◌}, raw_atomic.Walks.{proved, leaves}}
+use Rattle.{std.specs.Prelude.{◌≢◌, Option, Some, None}, core.proofs.atomic.Steps.tail}
+use Rattle.{c_parts.proofs.HandleValues.{lone_val, some_of}, c_handles.specs.Ownership.loan_shares}
+use Rattle.{c_handles.proofs.Lending.{Data, opened, told}, left_right.proofs.PartSteps.part_sees}
+use mir.{Syntax.{Fn, named}, Val.{Val, vptr}}
+use base.{Logic.{SProp, emp}, Fml.{Lft, ftrue, flft, fhide}}
+use contract.{Monad.{fact, fact_i}, Running.tables}
 use types.Kit.{‵, raw, ◌⊛◌, at_ret, ◌$◌, ◌∵◌, !, qed, by, move, keep, split, join, fsplit, fjoin, use0, use1, rewrite}
-use types.Kit.{feq_i}
-use types.Part.{sub, whole, look_in}
-use types.Run.{stop, fld, load, addr, of_opd, first, blocks, exec, returns, enter}
-use types.ByLocal.{alloc_all, pass_all, free_all, look_at, get, through, sets, sets_last, env}
-use denote.Builtin.{RefOf}
-use denote.Exit.{yes}
-use denote.Laws.{Is, shows}
-use denote.Memory.{cell_at, hidden_shr}
-use denote.Opens.{unhide, hide}
-use denote.RattleType.{RattleType, owns}
-use denote.RawPtr.{Ptr, InBlock, block_ptr, block_of, count_of, at_block}
-use denote.Ref.{shr_vals, shr_Tells}
-use denote.Signature.{types_at, plain}
-use denote.Steps.{nothing, peeks, heard, looks, shuts}
-use denote.Struct.Lending.{lent_at, lent_at_shr_laws, lent_out, in_block_says}
-use denote.Triple.Walked.{Stays, stay_dropped, walk_of, Goes-dropped}
-use Rattle.core.proofs.atomic.Steps.{tail}
-use Rattle.std.proofs.raw_atomic.Walks.{proved, leaves}
-use Rattle.c_parts.proofs.HandleValues.{lone_val, some_of}
-use Rattle.c_handles.{specs.Ownership.loan_shares, proofs.Lending.{Data, opened, told}}
-use Rattle.left_right.proofs.PartSteps.{part_sees}
+use types.{Kit.feq_i, Part.{sub, whole, look_in}, Run.{stop, fld, load, addr, of_opd, first, blocks, exec, returns}}
+use types.{Run.enter, ByLocal.{alloc_all, pass_all, free_all, look_at, get, through, sets, sets_last, env}}
+use denote.{Builtin.RefOf, Exit.yes, Laws.{Is, shows}, Memory.{cell_at, hidden_shr}, Opens.{unhide, hide}}
+use denote.{RattleType.{RattleType, owns}, RawPtr.{Ptr, InBlock, block_ptr, block_of, count_of, at_block}, Ref.shr_vals}
+use denote.{Ref.shr_Tells, Signature.{types_at, plain}, Steps.{nothing, peeks, heard, looks, shuts}}
+use denote.{Struct.Lending.{lent_at, lent_at_shr_laws, lent_out, in_block_says}, Triple.Walked.{Stays, stay_dropped}}
+use denote.Triple.Walked.{walk_of, Goes-dropped}
 use Rattle.c_handles.specs.contracts.held.Held as Stored
 use Rattle.c_handles.proofs.held.Held.TheLaws as stored
 use Rattle.c_handles.specs.contracts.loan.Loan as loan

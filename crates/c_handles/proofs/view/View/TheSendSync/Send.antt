@@ -1,15 +1,11 @@
 -- A view may go to another thread.
-use Rattle.std.specs.Prelude.{ℕ, [], ◌∷◌, Option, Some, None}
-use base.Shift.{Keyless}
-use denote.Param.Send.{IsSend, IsSync, AllSend, owning_send, struct_send, sendable}
-use denote.RawPtr.{Ptr}
-use denote.Struct.Struct.{exits_of}
-use denote.Struct.Owning.{shape, fields, to}
-use Rattle.std_alloc.proofs.SendSync.{quiet, seen}
+use Rattle.{std.specs.Prelude.{ℕ, [], ◌∷◌, Option, Some, None}, std_alloc.proofs.SendSync.{quiet, seen}}
 use Rattle.c_handles.specs.Ownership.{loan_owns}
+use base.Shift.{Keyless}
+use denote.{Param.Send.{IsSend, IsSync, AllSend, owning_send, struct_send, sendable}, RawPtr.Ptr}
+use denote.Struct.{Struct.exits_of, Owning.{shape, fields, to}}
 use Rattle.c_handles.specs.contracts.held.Held as Held
-use Rattle.c_handles.proofs.held.Held.TheSendSync.{the_sync}
-use Rattle.c_handles.specs.contracts.view.View.{the_row, the_type}
+use Rattle.c_handles.{proofs.held.Held.TheSendSync.the_sync, specs.contracts.view.View.{the_row, the_type}}
 
 loan_keyless : (at : Ptr) (has : Option Held.the_row.Denot) (life parts : ℕ) → Keyless (loan_owns at has life parts)
 loan_keyless at None life parts = tt

@@ -1,26 +1,17 @@
 -- `of_loan` moves the pointer beside the flag, and the right to read goes with it. Assumes `Logic`.
-use Rattle.std.{proofs.Common.{◌≡◌, List, [], ◌∷◌, ◌++◌, refl}, specs.Prelude.is_some}
-use mir.Syntax.{Fn}
-use mir.Val.{Val, vbool}
-use base.Logic.{SProp, emp}
-use base.Fml.{ftrue}
+use Rattle.std.proofs.{Common.{◌≡◌, List, [], ◌∷◌, ◌++◌, refl}, raw_atomic.Walks.{proved_at, leaves}}
+use Rattle.{std.specs.Prelude.is_some, core.proofs.alloc.Calls.Goes-blank, c_parts.proofs.HandleValues.flagged_val}
+use Rattle.c_parts.proofs.HandleValues.{flagged_own, flagged_made, flagged_typed, lone_val, lone_told, lone_typed}
+use Rattle.c_parts.proofs.HandleValues.{ptr_typed}
+use mir.{Syntax.Fn, Val.{Val, vbool}}
+use base.{Logic.{SProp, emp}, Fml.ftrue}
 use prog.Wp.{WpFn}
-use contract.Monad.{fact, fact_i}
-use contract.Running.{tables}
+use contract.{Monad.{fact, fact_i}, Running.tables}
 use types.Kit.{‵, raw, ◌⊛◌, prop, ◌$◌, ◌∵◌, !, qed, by, keep, move, drop, use0, split, regoal, fsplit, fjoin}
-use types.Part.{whole, sub, agg}
-use types.Run.{stop, fld, of_opd, no_more, and_then, returns, enter}
-use types.ByLocal.{alloc_all, pass_all, free_all, look_at, get, get_in, sets}
-use denote.RattleType.{owns}
-use denote.Builtin.{bool}
-use denote.Signature.{types_at, plain}
-use denote.Steps.{nothing, heard}
-use denote.Triple.Entry.{alive}
+use types.{Part.{whole, sub, agg}, Run.{stop, fld, of_opd, no_more, and_then, returns, enter}, ByLocal.alloc_all}
+use types.ByLocal.{pass_all, free_all, look_at, get, get_in, sets}
+use denote.{RattleType.owns, Builtin.bool, Signature.{types_at, plain}, Steps.{nothing, heard}, Triple.Entry.alive}
 use denote.Triple.Walked.{Stays, stay_dropped, walk_of, Goes-dropped}
-use Rattle.core.proofs.alloc.Calls.{Goes-blank}
-use Rattle.std.proofs.raw_atomic.Walks.{proved_at, leaves}
-use Rattle.c_parts.proofs.HandleValues.{flagged_val, flagged_own, flagged_made, flagged_typed, lone_val, lone_told}
-use Rattle.c_parts.proofs.HandleValues.{lone_typed, ptr_typed}
 use Rattle.c_handles.specs.contracts.loan.Loan as loan
 use Rattle.c_handles.specs.contracts.view.View as view
 use Rattle.c_handles.specs.contracts.view.View.of_loan.{ended, clauses}

@@ -2,28 +2,17 @@
 use Rattle.std.{proofs.Common.{◌≡◌, List, [], ◌∷◌, ◌++◌, refl}, specs.Prelude.{◌≢◌, Option, Some, None}}
 use mir.Syntax.{Fn, a_type}
 use mir.Raw.{raw as bare}
-use mir.Val.{Val, vptr}
-use mir.MapTy.{inst_fn}
+use mir.{Val.{Val, vptr}, MapTy.inst_fn}
 use base.Logic.{SProp, emp, never, fst∗}
 use prog.Wp.{WpFn}
-use contract.BorrowLft.{◌⊑◌}
-use contract.Monad.{fact, fact_i}
-use contract.Running.{tables}
-use types.Logic.{sem}
-use types.Kit.{rewrite, ‵, raw, ◌⊛◌, prop, ◌$◌, ◌∵◌, !, qed, by, move, keep, drop, use0, split, regoal, fsplit, fjoin}
-use types.Part.{whole, sub, agg}
-use types.Run.{stop, fld, of_opd, no_more, and_then, returns, enter}
+use contract.{BorrowLft.◌⊑◌, Monad.{fact, fact_i}, Running.tables}
+use types.{Logic.sem, Kit.{rewrite, ‵, raw, ◌⊛◌, prop, ◌$◌, ◌∵◌, !, qed, by, move, keep, drop, use0, split, regoal}}
+use types.{Kit.{fsplit, fjoin}, Part.{whole, sub, agg}, Run.{stop, fld, of_opd, no_more, and_then, returns, enter}}
 use types.ByLocal.{alloc_all, pass_all, free_all, look_at, get, get_in, sets}
-use denote.RattleType.{RattleType, owns}
-use denote.RawPtr.{Ptr, block_ptr, null_ptr, in_a_block}
-use denote.Memory.{lone}
-use denote.Param.{param, layouts}
-use denote.Signature.{types_at, plain}
-use denote.Steps.{nothing, heard}
-use denote.Triple.Entry.{alive}
-use denote.Triple.Walked.{Stays, stay_dropped, walk_of}
-use Rattle.core.proofs.alloc.Calls.{Goes-blank, handle_tells}
-use Rattle.std.proofs.raw_atomic.Walks.{proved_at, leaves}
+use denote.{RattleType.{RattleType, owns}, RawPtr.{Ptr, block_ptr, null_ptr, in_a_block}, Memory.lone, Param.param}
+use denote.{Param.layouts, Signature.{types_at, plain}, Steps.{nothing, heard}, Triple.{Entry.alive, Walked.Stays}}
+use denote.Triple.Walked.{stay_dropped, walk_of}
+use Rattle.{core.proofs.alloc.Calls.{Goes-blank, handle_tells}, std.proofs.raw_atomic.Walks.{proved_at, leaves}}
 use Rattle.std_alloc.specs.Box.Ownership.{box_owns}
 use Rattle.std_heap.specs.contracts.Global as Heap
 use Rattle.std_heap.specs.contracts.GlobalAllocator.TheImpl.{ghosts}

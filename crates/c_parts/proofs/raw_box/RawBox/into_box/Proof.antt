@@ -1,35 +1,19 @@
 -- `into_box` makes the box again.
-use Rattle.std.proofs.Common.{◌≡◌, List, [], ◌∷◌, ◌++◌, refl, sym, ap, subst}
-use mir.Syntax.{a_type, dcons, dnil}
-use mir.Val.{Val, vptr}
-use mir.MapTy.{inst_fn}
-use base.Logic.{SProp, ent, id⊢}
-use base.Fml.{ftrue, flft}
+use Rattle.{std.proofs.Common.{◌≡◌, List, [], ◌∷◌, ◌++◌, refl, sym, ap, subst}, core.proofs.alloc.Calls.Goes-blank}
+use Rattle.core.proofs.{alloc.Shapes.after, atomic.Steps.fm, cell.Inside.Good}
+use mir.{Syntax.{a_type, dcons, dnil}, Val.{Val, vptr}, MapTy.inst_fn}
+use base.{Logic.{SProp, ent, id⊢}, Fml.{ftrue, flft}}
 use prog.Wp.{WpFn}
 use types.Kit.{‵, raw, ◌⊛◌, some, later, at_ret, ◌$◌, ◌∵◌, !, qed, by, move, keep, drop, split, split3, join, fsplit}
-use types.Kit.{fjoin, pick, suffices, use1, await, rewrite, feq_i}
-use types.Run.{stop, fld, of_opd, no_more, and_then, first, blocks, exec, returns, enter}
-use types.ByLocal.{alloc_all, pass_all, free_all, look_at, get, get_in, sets, lands_last, env}
-use types.Part.{sub, whole}
-use contract.Monad.{fact}
-use contract.BorrowLft.{◌⊑◌}
-use contract.Running.{tables}
-use denote.Exit.{no}
-use denote.RattleType.{RattleType, owns}
-use denote.Signature.{types_at, plain}
-use denote.RawPtr.{block_ptr}
-use denote.Steps.{nothing, only}
-use denote.Param.{param, layout, bounded}
-use denote.Param.Laws.{param_laws}
-use denote.Triple.Clauses.{Lasts, lasts}
-use denote.Triple.Spec.{triple_of}
-use denote.Triple.Call.{calls_at_last}
-use denote.Triple.Walked.{Stays, stay_dropped, walk_of}
-use Rattle.core.{proofs.alloc.Calls.Goes-blank, proofs.alloc.Shapes.after, proofs.atomic.Steps.fm}
-use Rattle.core.proofs.cell.Inside.{Good}
+use types.{Kit.{fjoin, pick, suffices, use1, await, rewrite, feq_i}, Run.{stop, fld, of_opd, no_more, and_then, first}}
+use types.{Run.{blocks, exec, returns, enter}, ByLocal.{alloc_all, pass_all, free_all, look_at, get, get_in, sets}}
+use types.{ByLocal.{lands_last, env}, Part.{sub, whole}}
+use contract.{Monad.fact, BorrowLft.◌⊑◌, Running.tables}
+use denote.{Exit.no, RattleType.{RattleType, owns}, Signature.{types_at, plain}, RawPtr.block_ptr, Steps.nothing}
+use denote.{Steps.only, Param.{param, layout, bounded, Laws.param_laws}, Triple.Clauses.{Lasts, lasts}}
+use denote.Triple.{Spec.triple_of, Call.calls_at_last, Walked.{Stays, stay_dropped, walk_of}}
 use Rattle.std_alloc.proofs.BoxSteps.Form as box
-use Rattle.std_alloc.proofs.BoxSteps.Steps.{box_out, box_in}
-use Rattle.std.proofs.raw_atomic.Walks.{proved_at, leaves}
+use Rattle.{std_alloc.proofs.BoxSteps.Steps.{box_out, box_in}, std.proofs.raw_atomic.Walks.{proved_at, leaves}}
 use Rattle.c_parts.proofs.HandleValues.{both, Loose, loose_good, loose_out}
 use Rattle.std_alloc.specs.contracts.boxed.Box.from_raw as callee
 use Rattle.std_alloc.proofs.boxed.Box.from_raw.Met.{met}

@@ -1,5 +1,4 @@
-use Rattle.std.proofs.Common.{◌∙◌, ap, refl}
-use Rattle.cache_policy.{specs.Decisions.counted, proofs.DecisionLemmas.Answers-at}
+use Rattle.{std.proofs.Common.{◌∙◌, ap, refl}, cache_policy.{specs.Decisions.counted, proofs.DecisionLemmas.Answers-at}}
 use Rattle.cache_fields.specs.declared.directives.Directives.{Directives}
 use Rattle.cache_policy.proofs.policy.Policy.decide_by_directives.Goals as goal
 

@@ -1,6 +1,5 @@
-use Rattle.std.proofs.Common.{◌∙◌, arith, inl, inr, refl}
-use Rattle.cache_store.proofs.{GoOnLemmas.goes-front, GoOnLemmas.goes-inserted, StoringLemmas.same_number}
-use Rattle.cache_store.specs.{Changes.FitsAlone, Contents.size_at}
+use Rattle.{std.proofs.Common.{◌∙◌, arith, inl, inr, refl}, cache_store.proofs.GoOnLemmas.{goes-front, goes-inserted}}
+use Rattle.cache_store.{proofs.StoringLemmas.same_number, specs.{Changes.FitsAlone, Contents.size_at}}
 use Rattle.cache_store.proofs.store.Store.store.Goals as goal
 use Rattle.cache_store.proofs.store.Store.store.Goals.{then-not-is_stored-via-then-not-is_stored}
 use Rattle.cache_store.proofs.store.Store.store.Goals.{

@@ -1,5 +1,4 @@
-use Rattle.std.proofs.Common.{List, ◌++◌, ap, codes, ◌∙◌}
-use Rattle.headers.specs.LineMap.{Field, lines_at}
+use Rattle.{std.proofs.Common.{List, ◌++◌, ap, codes, ◌∙◌}, headers.specs.LineMap.{Field, lines_at}}
 use Rattle.decide_cors.specs.{Answer.allows, Fields.vary_sent}
 use Rattle.decide_cors.proofs.policy.CorsPolicy.answer.Goals as goal
 

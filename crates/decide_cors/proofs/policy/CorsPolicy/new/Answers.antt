@@ -1,5 +1,4 @@
-use Rattle.std.proofs.Common.{rules, None}
-use Rattle.decide_cors.{specs.Rules.RefusesReading, proofs.RefusalLemmas.lawful_by}
+use Rattle.{std.proofs.Common.{rules, None}, decide_cors.{specs.Rules.RefusesReading, proofs.RefusalLemmas.lawful_by}}
 use Rattle.decide_cors.proofs.policy.CorsPolicy.new.Goals as goal
 
 pub returns-clause-ok : goal.returns-clause-ok

@@ -1,8 +1,7 @@
-use Rattle.std.{proofs.Common.{ℕ, List, Option, refl, ◌++◌, ◌∙◌, ap, subst}, proofs.lemmas.List.map-append}
-use Rattle.http_uri.{specs.Uri.uri_path, specs.declared.uri.Uri.Uri}
-use Rattle.headers.{specs.LineMap.{Field, field_of, fields_of}, specs.declared.Encoded.Encoded}
-use Rattle.example_notes.{specs.Plans.{Carries, IsAnswerAt, date_fields}, specs.Targets.IsTarget}
-use Rattle.example_notes.specs.declared.notes.Note.{Note}
+use Rattle.std.proofs.{Common.{ℕ, List, Option, refl, ◌++◌, ◌∙◌, ap, subst}, lemmas.List.map-append}
+use Rattle.{http_uri.specs.{Uri.uri_path, declared.uri.Uri.Uri}, headers.specs.LineMap.{Field, field_of, fields_of}}
+use Rattle.{headers.specs.declared.Encoded.Encoded, example_notes.specs.Plans.{Carries, IsAnswerAt, date_fields}}
+use Rattle.example_notes.specs.{Targets.IsTarget, declared.notes.Note.Note}
 use Rattle.example_notes.proofs.service.ServiceHandler.plan.Goals as goal
 
 pub returns : goal.returns

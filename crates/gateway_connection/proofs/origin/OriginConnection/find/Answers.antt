@@ -1,9 +1,7 @@
-use Rattle.std.proofs.Common.{refl}
-use Rattle.std.proofs.lemmas.Result.{err_from_is_err_and}
+use Rattle.std.proofs.{Common.refl, lemmas.Result.err_from_is_err_and}
 use Rattle.http1.specs.declared.conn.Event.TheVariants as Found
-use Rattle.gateway_connection.proofs.FieldLemmas.{fails_as, fault_of}
-use Rattle.gateway_connection.proofs.FindLemmas.{breaks, head_fault, head_found, interim_of, tells}
-use Rattle.gateway_connection.proofs.FindLemmas.{still, takes_piece, takes_response, trailers_fault}
+use Rattle.gateway_connection.proofs.{FieldLemmas.{fails_as, fault_of}, FindLemmas.{breaks, head_fault, head_found}}
+use Rattle.gateway_connection.proofs.FindLemmas.{interim_of, tells, still, takes_piece, takes_response, trailers_fault}
 use Rattle.gateway_connection.proofs.origin.OriginConnection.find.Goals as goal
 
 pub returns-in_err-response-in-Head-clause-err : goal.returns-in_err-response-in-Head-clause-err

@@ -1,7 +1,6 @@
-use Rattle.std.proofs.Common.{subst, sym}
-use Rattle.gateway_exchange.proofs.EventLemmas.{closes}
-use Rattle.gateway_exchange.specs.Steps.{Answers, EndsIdleAs, with_client}
-use Rattle.gateway_exchange.specs.declared.{connection.GatewayConnection.GatewayConnection}
+use Rattle.{std.proofs.Common.{subst, sym}, gateway_exchange.{proofs.EventLemmas.closes, specs.Steps.Answers}}
+use Rattle.gateway_exchange.specs.Steps.{EndsIdleAs, with_client}
+use Rattle.gateway_exchange.specs.declared.connection.GatewayConnection.{GatewayConnection}
 use Rattle.gateway_exchange.specs.declared.own.Own.TheVariants as Because
 use Rattle.server_stream.specs.declared.event.StreamEvent.{StreamEvent}
 use Rattle.gateway_exchange.proofs.connection.GatewayConnection.end_idle.Goals.{in-Rejected, in_default}

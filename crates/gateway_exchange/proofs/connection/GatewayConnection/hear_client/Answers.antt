@@ -1,5 +1,4 @@
-use Rattle.std.proofs.Common.{rules, inr, subst, sym}
-use Rattle.server_stream.specs.declared.event.StreamEvent.{StreamEvent}
+use Rattle.{std.proofs.Common.{rules, inr, subst, sym}, server_stream.specs.declared.event.StreamEvent.StreamEvent}
 use Rattle.gateway_exchange.specs.Steps.{PassesUp, RefusesContent, with_client}
 use Rattle.gateway_exchange.proofs.connection.GatewayConnection.hear_client.Goals as goal
 

@@ -1,7 +1,5 @@
-use Rattle.std.proofs.Common.{rules, ◌≡◌, inl, inr, List, Some, subst}
-use Rattle.gateway_messages.specs.FieldLines.{fields_of}
-use Rattle.gateway_messages.specs.declared.field_line.FieldLine.{FieldLine}
-use Rattle.gateway_exchange.specs.Steps.{SwitchesTo}
+use Rattle.{std.proofs.Common.{rules, ◌≡◌, inl, inr, List, Some, subst}, gateway_messages.specs.FieldLines.fields_of}
+use Rattle.{gateway_messages.specs.declared.field_line.FieldLine.FieldLine, gateway_exchange.specs.Steps.SwitchesTo}
 use Rattle.gateway_exchange.proofs.connection.GatewayConnection.hear_switch.Goals as goal
 
 pub returns-in-Ok : goal.returns-in-Ok

@@ -1,9 +1,7 @@
 use Rattle.std.proofs.Common.{rules, ◌≡◌, arith, inr, refl, ap, Some, Bool, true, false, ◌||◌, not, List, [], ◌∷◌}
-use Rattle.std.proofs.Common.{length}
-use Rattle.std.specs.Prelude.{◌==◌}
-use Rattle.std.proofs.lemmas.Result.{err_from_is_err_and}
-use Rattle.gateway_exchange.specs.Steps.{is_empty}
-use Rattle.gateway_exchange.proofs.connection.GatewayConnection.pass_request_end.Goals.{then-self, else-self}
+use Rattle.std.{proofs.{Common.length, lemmas.Result.err_from_is_err_and}, specs.Prelude.◌==◌}
+use Rattle.gateway_exchange.{specs.Steps.is_empty, proofs.connection.GatewayConnection.pass_request_end.Goals.then-self}
+use Rattle.gateway_exchange.proofs.connection.GatewayConnection.pass_request_end.Goals.{else-self}
 use Rattle.gateway_exchange.proofs.connection.GatewayConnection.pass_request_end.Goals as goal
 
 is_empty-length : {A : Type 0} (xs : List A) → (length xs == 0) ≡ is_empty xs

@@ -1,5 +1,4 @@
-use Rattle.std.proofs.Common.{Err, ap, rules}
-use Rattle.gateway_hops.proofs.NodeLemmas.{obfuscated_valid}
+use Rattle.{std.proofs.Common.{Err, ap, rules}, gateway_hops.proofs.NodeLemmas.obfuscated_valid}
 use Rattle.gateway_hops.proofs.obfuscated.Obfuscated.new.Goals as goal
 
 pub unreachable-requires : goal.unreachable-requires

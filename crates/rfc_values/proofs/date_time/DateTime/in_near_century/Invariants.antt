@@ -1,5 +1,4 @@
-use Rattle.std.proofs.Common.{◌≡◌, ◌-◌}
-use Rattle.rfc_values.specs.Reader.{in_near_century}
+use Rattle.{std.proofs.Common.{◌≡◌, ◌-◌}, rfc_values.specs.Reader.in_near_century}
 use Rattle.rfc_values.proofs.date_time.DateTime.in_near_century.Given as goal
 
 abbrev pub invariant-loop-century : goal.invariant-loop-century

@@ -1,5 +1,4 @@
-use Rattle.std.proofs.Common.{[]}
-use Rattle.server_connection.proofs.TurnLemmas.{moves_in}
+use Rattle.{std.proofs.Common.[], server_connection.proofs.TurnLemmas.moves_in}
 use Rattle.server_connection.proofs.connection.ServerConnection.finish_input.Goals as goal
 
 pub returns-clause-moves : goal.returns-clause-moves

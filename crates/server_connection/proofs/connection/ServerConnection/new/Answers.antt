@@ -1,6 +1,5 @@
-use Rattle.std.proofs.Common.{refl}
-use Rattle.server_connection.{specs.Connection.IsReached.begun, specs.Machine.new_past, proofs.TurnLemmas.laid_first}
-use Rattle.server_connection.proofs.TurnLemmas.{runs_by}
+use Rattle.{std.proofs.Common.refl, server_connection.specs.{Connection.IsReached.begun, Machine.new_past}}
+use Rattle.server_connection.proofs.TurnLemmas.{laid_first, runs_by}
 use Rattle.server_connection.proofs.connection.ServerConnection.new.Goals as goal
 
 pub returns-clause-begins : goal.returns-clause-begins

@@ -1,6 +1,5 @@
-use Rattle.std.proofs.Common.{subst}
-use Rattle.server_connection.{specs.Connection.IsSaid, specs.Machine.with_calls, proofs.TurnLemmas.leads_then}
-use Rattle.server_connection.proofs.TurnLemmas.{moves_steps, reached, step_none}
+use Rattle.{std.proofs.Common.subst, server_connection.specs.{Connection.IsSaid, Machine.with_calls}}
+use Rattle.server_connection.proofs.TurnLemmas.{leads_then, moves_steps, reached, step_none}
 use Rattle.server_connection.proofs.connection.ServerConnection.next.Goals as goal
 
 pub loop-spans-init : goal.loop-spans-init

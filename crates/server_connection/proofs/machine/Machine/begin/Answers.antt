@@ -1,12 +1,11 @@
 use Rattle.std.proofs.Common.{◌≡◌, ℕ, ◌≤◌, List, ◌++◌, length, map, take, refl, sym, ap, ◌∙◌, subst, arith}
-use Rattle.std.{proofs.Common.{append_assoc, append-nil, inl, inr}, proofs.lemmas.Bool.false≢true}
-use Rattle.httparse.{specs.declared.spans.HeaderSpan.HeaderSpan, specs.Spans.header_bytes}
-use Rattle.http_server.{specs.Host.AreHostsValid, specs.Exchange.{ExpectsContinue, continue_text}}
+use Rattle.std.proofs.{Common.{append_assoc, append-nil, inl, inr}, lemmas.Bool.false≢true}
+use Rattle.httparse.specs.{declared.spans.HeaderSpan.HeaderSpan, Spans.header_bytes}
+use Rattle.http_server.specs.{Host.AreHostsValid, Exchange.{ExpectsContinue, continue_text}}
 use Rattle.http_server.proofs.MachineLemmas.{holds, running_at, moved, busy, may_abort, accepted, head_accepted}
 use Rattle.http_server.proofs.MachineLemmas.{coded_head, uncoded_head, head_hosts, invalid_host, invalid_part, opened}
-use Rattle.http_server.proofs.MachineLemmas.{expecting, long_by_size}
-use Rattle.server_connection.{specs.Machine.core, proofs.TurnLemmas.refused_on}
-use Rattle.server_connection.proofs.machine.Machine.begin.Goals.{in-OutOfMemory, in_default-e}
+use Rattle.{http_server.proofs.MachineLemmas.{expecting, long_by_size}, server_connection.specs.Machine.core}
+use Rattle.server_connection.proofs.{TurnLemmas.refused_on, machine.Machine.begin.Goals.{in-OutOfMemory, in_default-e}}
 use Rattle.server_connection.proofs.machine.Machine.begin.Goals as goal
 
 abbrev Hosts : ℕ → List HeaderSpan → List ℕ → Type 0

@@ -1,5 +1,4 @@
-use Rattle.std.proofs.Common.{[], inr, arith}
-use Rattle.server_connection.proofs.TurnLemmas.{Consumes-none}
+use Rattle.{std.proofs.Common.{[], inr, arith}, server_connection.proofs.TurnLemmas.Consumes-none}
 use Rattle.server_connection.proofs.machine.Machine.drop_content.Goals as goal
 
 pub returns-in-Ok-clause-drops : goal.returns-in-Ok-clause-drops

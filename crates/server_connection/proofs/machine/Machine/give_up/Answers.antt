@@ -1,5 +1,4 @@
-use Rattle.std.proofs.Common.{inl}
-use Rattle.http_server.proofs.MachineLemmas.{busy, may_abort}
+use Rattle.{std.proofs.Common.inl, http_server.proofs.MachineLemmas.{busy, may_abort}}
 use Rattle.server_connection.{specs.Machine.core_asking, proofs.TurnLemmas.{runs_aborted, step_answers}}
 use Rattle.server_connection.proofs.machine.Machine.give_up.Goals as goal
 

@@ -1,5 +1,4 @@
-use Rattle.std.proofs.Common.{sym, arith}
-use Rattle.server_connection.specs.Machine.{core}
+use Rattle.{std.proofs.Common.{sym, arith}, server_connection.specs.Machine.core}
 use Rattle.http_server.proofs.MachineLemmas.{starved_by_size}
 use Rattle.server_connection.proofs.machine.Machine.missing.Goals as goal
 

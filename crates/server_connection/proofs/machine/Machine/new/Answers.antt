@@ -1,5 +1,4 @@
-use Rattle.std.proofs.Common.{[], None, refl, inl}
-use Rattle.http_server.proofs.MachineLemmas.{running_at}
+use Rattle.{std.proofs.Common.{[], None, refl, inl}, http_server.proofs.MachineLemmas.running_at}
 use Rattle.server_connection.proofs.machine.Machine.new.Goals as goal
 
 pub returns-clause-holds : goal.returns-clause-holds

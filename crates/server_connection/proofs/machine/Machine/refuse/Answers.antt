@@ -1,5 +1,4 @@
-use Rattle.server_connection.specs.Machine.{core}
-use Rattle.http_server.proofs.MachineLemmas.{may_abort, refusal_calls, closing}
+use Rattle.{server_connection.specs.Machine.core, http_server.proofs.MachineLemmas.{may_abort, refusal_calls, closing}}
 use Rattle.server_connection.proofs.machine.Machine.refuse.Goals as goal
 
 pub returns-in_default-clause-reaches : goal.returns-in_default-clause-reaches

@@ -1,10 +1,8 @@
-use Rattle.std.proofs.Common.{◌≡◌, ℕ, false, List, refl, sym, ap, ◌∙◌, subst, inl, inr}
-use Rattle.http.specs.Request.{head_of}
-use Rattle.http1.{specs.Framing.method_kind, specs.Server.is_head}
-use Rattle.http_server.{specs.Exchange.ArePartsOf, proofs.MachineLemmas.{busy, may_abort}}
-use Rattle.server_connection.specs.declared.machine.Machine.{Machine}
-use Rattle.server_connection.{specs.declared.machine.Phase.TheVariants.Receiving, specs.Machine.IsSending}
-use Rattle.server_connection.{specs.Machine.core_asking, proofs.SendLemmas.begins, proofs.TurnLemmas.{aborted, headed}}
+use Rattle.{std.proofs.Common.{◌≡◌, ℕ, false, List, refl, sym, ap, ◌∙◌, subst, inl, inr}, http.specs.Request.head_of}
+use Rattle.{http1.specs.{Framing.method_kind, Server.is_head}, http_server.specs.Exchange.ArePartsOf}
+use Rattle.http_server.proofs.MachineLemmas.{busy, may_abort}
+use Rattle.server_connection.specs.{declared.machine.{Machine.Machine, Phase.TheVariants.Receiving}, Machine.IsSending}
+use Rattle.server_connection.{specs.Machine.core_asking, proofs.{SendLemmas.begins, TurnLemmas.{aborted, headed}}}
 use Rattle.server_connection.proofs.TurnLemmas.{runs_aborted, runs_by, step_answers, view_begun}
 use Rattle.server_connection.proofs.machine.Machine.respond.Goals as goal
 

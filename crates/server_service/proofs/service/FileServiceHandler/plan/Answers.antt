@@ -1,14 +1,12 @@
 use Rattle.std.proofs.Common.{◌≡◌, ℕ, List, [], ◌∷◌, ◌++◌, Option, ap, refl, subst, sym, ◌∙◌}
-use Rattle.std.specs.Prelude.{option_map, string_bytes}
-use Rattle.http_header.specs.FieldValue.{FieldValue}
+use Rattle.{std.specs.Prelude.{option_map, string_bytes}, http_header.specs.FieldValue.FieldValue}
 use Rattle.http1.specs.Fields.{Header}
 use Rattle.headers.specs.LineMap.{fields_of as encoded_fields}
-use Rattle.headers.specs.Lines.{Line}
-use Rattle.decide_resource.{specs.Requests.request_of, specs.declared.resource.Resource.Resource}
+use Rattle.{headers.specs.Lines.Line, decide_resource.specs.{Requests.request_of, declared.resource.Resource.Resource}}
 use Rattle.server_service.specs.Answer.{Carries, Decides, IsAnswerAt, IsDescribed, clock, closing_fields, first_fields}
-use Rattle.server_service.{specs.Answer.{sniff_field, source_sent, status_for}, specs.Asked.IsAsked}
-use Rattle.server_service.{specs.Response.fields_of, specs.declared.file.File.File, specs.declared.settings.Site.Site}
-use Rattle.server_service.proofs.AnswerLemmas.{Carries-at, bytes_copied}
+use Rattle.server_service.specs.{Answer.{sniff_field, source_sent, status_for}, Asked.IsAsked, Response.fields_of}
+use Rattle.server_service.{specs.declared.{file.File.File, settings.Site.Site}, proofs.AnswerLemmas.Carries-at}
+use Rattle.server_service.proofs.AnswerLemmas.{bytes_copied}
 use Rattle.server_service.proofs.service.FileServiceHandler.plan.Goals as goal
 
 pub returns : goal.returns

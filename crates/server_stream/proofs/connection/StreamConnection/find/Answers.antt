@@ -1,8 +1,6 @@
-use Rattle.std.proofs.Common.{inr, refl}
-use Rattle.std.proofs.lemmas.Result.{IfErr-weaker, IfOk-weaker, err_from_is_err_and}
+use Rattle.std.proofs.{Common.{inr, refl}, lemmas.Result.{IfErr-weaker, IfOk-weaker, err_from_is_err_and}}
 use Rattle.http1.specs.declared.conn.Event.TheVariants as Found
-use Rattle.gateway_connection.proofs.FieldLemmas.{fails_as}
-use Rattle.server_stream.proofs.FieldLemmas.{rejection_of}
+use Rattle.{gateway_connection.proofs.FieldLemmas.fails_as, server_stream.proofs.FieldLemmas.rejection_of}
 use Rattle.server_stream.proofs.FindLemmas.{rejects_end, rejects_head, starved, still, takes_head, takes_piece, tells}
 use Rattle.server_stream.proofs.connection.StreamConnection.find.Goals as goal
 
