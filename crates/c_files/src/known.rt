@@ -80,8 +80,8 @@ impl KnownFile {
     }
 }
 
-/// The tags and the media types of the files that were asked for last. To make them takes most of the time of a request,
-/// and they are the same until the file changes.
+/// The tags and the media types of the files that were asked for last. To make them takes most of the time of a
+/// request, and they are the same until the file changes.
 #[derive(Drop)]
 pub struct KnownFiles {
     // Each at the place that its number on its device gives.

@@ -42,9 +42,9 @@ pub record HasFairOptions (targets : List (List ℕ)) (message : LineMap) : Type
 
 -- ---- which responses
 
--- A cache with this policy stores the response: section 3 allows it; it doesn't answer the conditions (RFC 9110, section
--- 15.5.13) or the range (section 15.5.17) of one request alone; all of it came (section 3.3); and it is known which of
--- its fields are those of the connection.
+-- A cache with this policy stores the response: section 3 allows it; it doesn't answer the conditions (RFC 9110,
+-- section 15.5.13) or the range (section 15.5.17) of one request alone; all of it came (section 3.3); and it is known
+-- which of its fields are those of the connection.
 pub record IsStored (policy : Policy) (request : Request) (status : ℕ) (response : LineMap) (reception : Reception)
     : Type 0 where
   pub allowed : MayStoreUnder policy request status response

@@ -1,13 +1,14 @@
 -- The representation at the place that a request selects is the first that its client prefers.
-use Rattle.std.proofs.Common.{◌≡◌, ℕ, suc, ◌<◌, ◌≤◌, Bool, true, false, List, [], ◌∷◌, length, get_or, Option, Some, None}
-use Rattle.std.proofs.{Common.{refl, sym, ◌∙◌, ap, inl, inr, arith}, lemmas.{List.Folds.{find_at, list_all_at}}}
-use Rattle.std.proofs.lemmas.{List.Sums.position_or_len_is, Option.slice_get_cases}
-use Rattle.std.specs.{Prelude.{◌&&◌, find, if◌then◌else◌, nat_le, nat_lt, option_and_then, slice_get}, List.list_all}
-use Rattle.{std.specs.Option.option_or, headers.specs.LineMap.LineMap, decide_negotiation.proofs.ChoiceLemmas.picks_some}
+use Rattle.std.proofs.Common.{◌≡◌, ℕ, suc, ◌<◌, ◌≤◌, Bool, true, false, List, [], ◌∷◌, length, get_or, Option, Some}
+use Rattle.std.proofs.{Common.{None, refl, sym, ◌∙◌, ap, inl, inr, arith}, lemmas.List.Folds.{find_at, list_all_at}}
+use Rattle.std.{proofs.lemmas.{List.Sums.position_or_len_is, Option.slice_get_cases}, specs.Prelude.{◌&&◌, find}}
+use Rattle.std.specs.{Prelude.{if◌then◌else◌, nat_le, nat_lt, option_and_then, slice_get}, List.list_all}
+use Rattle.{std.specs.Option.option_or, headers.specs.LineMap.LineMap}
+use Rattle.decide_negotiation.proofs.ChoiceLemmas.{picks_some}
 use Rattle.decide_negotiation.{specs.Choice.{IsFirstOfGreatest, Picks}, proofs.ChoiceLemmas.at_place as same_at}
-use Rattle.decide_resource.specs.{Answers.{IsSelected, at_place, place_in, place_of}, Applies.{date_selected, is_current}}
-use Rattle.decide_resource.specs.Applies.{is_guarded, selected_of}
-use Rattle.decide_resource.specs.{Representations.{first_preferred, is_preferred, score}, Vary.AskAlike}
+use Rattle.decide_resource.specs.{Answers.{IsSelected, at_place, place_in, place_of}, Applies.date_selected}
+use Rattle.decide_resource.specs.{Applies.{is_current, is_guarded, selected_of}, Representations.first_preferred}
+use Rattle.decide_resource.specs.{Representations.{is_preferred, score}, Vary.AskAlike}
 use Rattle.decide_resource.specs.declared.{representation.Representation.Representation, resource.Resource.Resource}
 use Rattle.decide_resource.{specs.declared.resource.State.State, proofs.PickLemmas.picks_alike}
 use Rattle.decide_resource.specs.declared.resource.State.TheVariants as state
@@ -54,7 +55,8 @@ module _ (scored : Representation → ℕ) (xs : List Representation) where
       ∙ ap (slice_get xs) (position_or_len_is (is_preferred scored xs) xs place x (omega (arith, h.within))
       (λ k low. lesser (get_or xs k x) x place h.within (h.first k x low)) (λ low. greatest place x h)) ∙ is
 
-  picked_at : (choice : Option ℕ) → Picks scored xs choice → at_place xs (place_of xs choice) ≡ first_preferred scored xs
+  picked_at : (choice : Option ℕ) → Picks scored xs choice
+      → at_place xs (place_of xs choice) ≡ first_preferred scored xs
   picked_at None h =
       first_or xs ∙ ap (λ (found : Option Representation). option_or found (slice_get xs 0))
       (sym (none_found (is_preferred scored xs) xs (λ k other low. unscored _ _ (h k other low))))

@@ -139,7 +139,8 @@ module _ (present : ℕ) (request : Request) (there : State) (representation : O
     parted current reads [] sends = absurd (omega (arith, sends.asks.asked.some))
     parted current reads (part ∷ []) sends = (plans.Single part, (current, reads, sends))
     parted current reads (part ∷ other ∷ parts) sends =
-        let few_here = few_parts (limits_of content).parts (length (part ∷ other ∷ parts)) _ sends.few (omega arith) in (
+        let few_here =
+            few_parts (limits_of content).parts (length (part ∷ other ∷ parts)) _ sends.few (omega arith) in (
           plans.Multiple (vec (part ∷ other ∷ parts) (omega (arith, few_here, few))),
           (current, reads, sends, omega arith),
         )

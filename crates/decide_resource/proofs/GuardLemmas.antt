@@ -1,12 +1,12 @@
 -- A method that is performed replaces what its request names, and conditions decide last.
 use Rattle.std.proofs.Common.{◌≡◌, ◌≢◌, ◌⊎◌, ◌<◌, ℕ, Bool, true, false, List, [], ◌∷◌, Option, Some, None, refl, sym}
 use Rattle.std.proofs.{Common.{◌∙◌, subst, inl, inr, arith, bytes_eq, lit<}, lemmas.Bool.{and_parts, both_ways}}
-use Rattle.std.{proofs.lemmas.{Bool.{leb-true, ltb-false, ltb-true, or_cases}, Slice.Eq.bytes_eq-Decides}}
-use Rattle.std.specs.{Prelude.{◌+◌, ◌≤◌, ◌&&◌, ◌||◌, IfSome, IsSomeAnd, codes, if◌then◌else◌, nat_le, not, option_and_then}}
-use Rattle.{std.specs.Option.option_map_or, rfc_values.specs.Calendar.unix_epoch}
+use Rattle.std.proofs.lemmas.{Bool.{leb-true, ltb-false, ltb-true, or_cases}, Slice.Eq.bytes_eq-Decides}
+use Rattle.std.specs.Prelude.{◌+◌, ◌≤◌, ◌&&◌, ◌||◌, IfSome, IsSomeAnd, codes, if◌then◌else◌, nat_le, not}
+use Rattle.{std.specs.{Prelude.option_and_then, Option.option_map_or}, rfc_values.specs.Calendar.unix_epoch}
 use Rattle.headers.specs.{LineMap.{Field, LineMap}, Lines.Line, Typed.HasLine}
-use Rattle.decide_preconditions.specs.{Conditions.{dates, modified_of}, Preconditions.{Answers, AreIgnored}}
-use Rattle.decide_preconditions.specs.Preconditions.{HasIfMatch, IsGetOrHead, IsUnconditional, StepsAnswer}
+use Rattle.decide_preconditions.specs.{Conditions.{dates, modified_of}, Preconditions.{Answers, AreIgnored, HasIfMatch}}
+use Rattle.decide_preconditions.specs.Preconditions.{IsGetOrHead, IsUnconditional, StepsAnswer}
 use Rattle.decide_preconditions.specs.{Tags.is_star, declared.resource.TargetState.TargetState as Target}
 use Rattle.decide_preconditions.specs.{declared.response.Response.Response, Responses.IsAnswered}
 use Rattle.decide_resource.specs.Answers.{GivesIf, IsAnswer, IsSelected, at_place, content_of, is_admitted, is_sent}
@@ -17,9 +17,9 @@ use Rattle.decide_resource.specs.{Guards.{ReplacesNamed, ReplacesNothing}, Reaso
 use Rattle.decide_resource.specs.{Representations.score, Requests.{Request, unconditional}}
 use Rattle.decide_resource.specs.declared.{answer.{Answer.Answer, Sends.Sends}, reason.Reason.Reason}
 use Rattle.decide_resource.specs.declared.reason.Reason.TheVariants.{NotAcceptable, PreconditionRequired, Admitted}
-use Rattle.decide_resource.specs.declared.representation.Representation.{Representation}
-use Rattle.decide_resource.specs.declared.resource.{Resource.Resource, State.State}
-use Rattle.decide_resource.proofs.{ChosenLemmas.date_at, OneReasonLemmas.one_reason}
+use Rattle.decide_resource.specs.declared.{representation.Representation.Representation, resource.Resource.Resource}
+use Rattle.decide_resource.{specs.declared.resource.State.State, proofs.ChosenLemmas.date_at}
+use Rattle.decide_resource.proofs.OneReasonLemmas.{one_reason}
 use Rattle.decide_preconditions.specs.declared.precondition.Precondition.TheVariants as precondition
 use Rattle.decide_preconditions.specs.declared.resource.TargetState.TheVariants as target
 use Rattle.decide_resource.specs.declared.answer.Sends.TheVariants as sends
@@ -188,7 +188,8 @@ module _ (present : ℕ) (resource : Resource) (request : Request) where
   early reason a p = lit< tt
 
   first_without : (reason : Reason) → reason ≢ Admitted → reason ≢ PreconditionRequired
-      → IsFirst (applies present resource (unconditional request)) reason → IsFirst (applies present resource request) reason
+      → IsFirst (applies present resource (unconditional request)) reason
+      → IsFirst (applies present resource request) reason
   first_without reason a p first = grind (arith, same_without, reason, early)
 
   pub conditions_last : (a b : Answer) → IsAnswer present resource request a

@@ -1,7 +1,8 @@
 -- What a resource answers depends on the members of Accept, Accept-Language and Accept-Encoding, and not on the field
 -- lines in which they are.
 use Rattle.std.proofs.Common.{◌≡◌, ◌↔◌, ℕ, Bool, true, false, List, [], ◌∷◌, Option, Some, None, refl, sym, ◌∙◌, ap}
-use Rattle.std.{proofs.Common.{inl, inr, arith, bytes_eq}, specs.Prelude.{◌&&◌, codes, if◌then◌else◌, length, nat_lt, not}}
+use Rattle.std.{proofs.Common.{inl, inr, arith, bytes_eq}, specs.Prelude.{◌&&◌, codes, if◌then◌else◌, length, nat_lt}}
+use Rattle.std.specs.Prelude.{not}
 use Rattle.{headers.specs.{LineMap.{Field, LineMap}, Lines.Line}, decide_cors.specs.Answer.IsAnswer as IsPolicyAnswer}
 use Rattle.decide_cors.specs.{Kinds.IsKindOf, Policy.Policy, declared.kind.CorsKind.CorsKind}
 use Rattle.{decide_cors.specs.declared.policy.CorsAnswer.CorsAnswer, rfc_fields.specs.Scan.Member}
@@ -15,7 +16,7 @@ use Rattle.decide_resource.specs.{Vary.{AskAlike, ChooseAlike, ListAlike, Select
 use Rattle.decide_resource.specs.declared.{answer.Sends.Sends, reason.Reason.Reason}
 use Rattle.decide_resource.specs.declared.representation.{Negotiation.Negotiation, Representation.Representation}
 use Rattle.decide_resource.{specs.declared.resource.Resource.Resource, proofs.OtherFieldLemmas.alike_back}
-use Rattle.decide_resource.proofs.{ChosenLemmas.{same_guard, same_selected}, OtherFieldLemmas.other_fields}
+use Rattle.decide_resource.proofs.{OtherFieldLemmas.other_fields, ChosenLemmas.{same_guard, same_selected}}
 use Rattle.decide_resource.proofs.{PickLemmas.first_alike, SamePlanLemmas.answered}
 
 rank_same : (gives : List Member → List ℕ → Quality) (used : Bool) (lines others : List Line) (offer : Option Line)

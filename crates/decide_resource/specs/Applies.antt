@@ -204,8 +204,8 @@ names_current present resource fields =
     && is_dated present (fields (codes "if-unmodified-since")) (date_selected resource fields)
 
 -- The request names what it may replace: a representation, or by `*` in If-None-Match, nothing. No other precondition
--- does: `*` in If-Match is true of each representation, tags in If-None-Match of each but theirs, and a weak date of two
--- states within a second (RFC 9110, sections 13.1 and 8.8.2.2).
+-- does: `*` in If-Match is true of each representation, tags in If-None-Match of each but theirs, and a weak date of
+-- two states within a second (RFC 9110, sections 13.1 and 8.8.2.2).
 abbrev pub is_guarded : ℕ → Resource → LineMap → Bool
 is_guarded present resource fields =
     names_current present resource fields || is_star (fields (codes "if-none-match"))

@@ -41,7 +41,8 @@ module _ (now named : ℕ) (d : DateTime) (is_day : IsInRange 1 7 named) (valid 
 
   read_rfc850 : IsNear now d → read_form now named (day_name_rest named ++ rfc850_rest d) ≡ Some d
   unfolding read_form
-  read_rfc850 near = grind (arith, letter, rfc850_rest, read_tag_complete, rfc850_complete, Fits_valid, near_century_complete)
+  read_rfc850 near =
+      grind (arith, letter, rfc850_rest, read_tag_complete, rfc850_complete, Fits_valid, near_century_complete)
 
   read_asctime : (day : List ℕ) → ((rest : List ℕ) → read_padded_day (day ++ rest) ≡ Some (d.day, rest))
       → read_form now named (asctime_rest day d) ≡ Some d

@@ -92,7 +92,9 @@ unfolding after_string
 string-within n [] true h = within-none n
 string-within n [] false h = within-none n
 string-within n (b ∷ s) true h = grind (arith, within-cond, within-none, string-within n s false (omega (arith, h)))
-string-within n (b ∷ s) false h = grind (arith, within-cond, within-some, within-none, string-within n s true (omega (arith, h)), string-within n s false (omega (arith, h)))
+string-within n (b ∷ s) false h =
+    let smaller = λ (is_escaped : Bool). string-within n s is_escaped (omega (arith, h)) in
+    grind (arith, within-cond, within-some, within-none, smaller true, smaller false)
 
 text-within : (n : ℕ) (s : List ℕ) (o : Option (List ℕ)) → Within n o
     → ReadsWithin n (option_map (λ rest. record { value = Text (inside s rest); rest = rest }) o)

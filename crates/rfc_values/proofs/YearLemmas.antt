@@ -51,7 +51,8 @@ valid_day d h = let short = short_month d.year d.month in (omega arith, omega ar
 -- a date before 1950 lies before 1970
 seconds_early : (d : DateTime) (y : ℕ) → IsDateTime d → y ≤ 1949 → seconds (in_year d y) < unix_epoch
 unfolding seconds day_number
-seconds_early d y valid h = grind (arith, valid_day, days_before_year_later, days_before_year_closed, days_of_months_bound)
+seconds_early d y valid h =
+    grind (arith, valid_day, days_before_year_later, days_before_year_closed, days_of_months_bound)
 
 -- of the years that end with the same digits, a date is near now in one at most
 far_before : (now : ℕ) (d : DateTime) (y z : ℕ) → IsNear now (in_year d z) → y + 100 ≤ z
@@ -93,4 +94,5 @@ pub near_century_sound : (now : ℕ) (short d : DateTime) (n century : ℕ) → 
     → IsNearBy now short d
 unfolding in_near_century
 near_century_sound now short d zero century e = absurd (none-some _ e)
-near_century_sound now short d (suc n) century e = grind (arith, same_Some, is_near_sound, near_century_sound now short d n (century + 1))
+near_century_sound now short d (suc n) century e =
+    grind (arith, same_Some, is_near_sound, near_century_sound now short d n (century + 1))

@@ -1,6 +1,6 @@
 -- What holds of a connection between its steps.
-use Rattle.std.specs.Prelude.{◌≡◌, ◌≢◌, ℕ, ◌+◌, ◌<◌, ◌≤◌, ◌⊎◌, Bool, true, false, List, [], ◌∷◌, ◌++◌, length, drop, Option, Some}
-use Rattle.std.specs.Prelude.{None, if◌then◌else◌, ◌==◌}
+use Rattle.std.specs.Prelude.{◌≡◌, ◌≢◌, ℕ, ◌+◌, ◌<◌, ◌≤◌, ◌⊎◌, Bool, true, false, List, [], ◌∷◌, ◌++◌, length, drop}
+use Rattle.std.specs.Prelude.{Option, Some, None, if◌then◌else◌, ◌==◌}
 use Rattle.http.specs.{declared.request.{Parts.Parts, Request.Request}, Request.{body_of, head_of, with_body}}
 use Rattle.http1.specs.Framing.{method_kind}
 use Rattle.http1.specs.Message as Wire

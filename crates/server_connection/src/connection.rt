@@ -1,5 +1,6 @@
 //! A connection, as its host has it.
-ghost use Rattle.std.specs.Prelude.{◌≡◌, ◌↔◌, ◌≤◌, ℕ, [], List, length, false, true, IfNone, IfSome, OnErr, OnOk, IsTrue};
+ghost use Rattle.std.specs.Prelude.{◌≡◌, ◌↔◌, ◌≤◌, ℕ, [], List, length, false, true};
+ghost use Rattle.std.specs.Prelude.{IfNone, IfSome, OnErr, OnOk, IsTrue};
 ghost use Rattle.http_server.specs.declared.state.Config.{Config};
 ghost use Rattle.server_connection.specs.Connection.{Exchanged, HasRested, IsClosing, IsReached, IsSaid};
 ghost use Rattle.server_connection.specs.Machine.{HandsOut, HandsOutRange, HasAborted, HasNoRange, HasStopped};
@@ -139,8 +140,8 @@ impl ServerConnection {
         self.machine.range()
     }
 
-    /// Says that so many of the bytes that it offers were written: of the output, or, if there is none, of the range. It
-    /// is aborted if it offers fewer, or if they are of a range and end at 2^64 or later.
+    /// Says that so many of the bytes that it offers were written: of the output, or, if there is none, of the range.
+    /// It is aborted if it offers fewer, or if they are of a range and end at 2^64 or later.
     pub fn sent<A: Application>(&mut self, count: usize)
         ensures moves { (now : A) (bytes : List ℕ) → length bytes ≡ count → Offers (A.gives now) self.old.machine bytes
             → Moves A.plans A.gives self.old.machine now [] bytes self.new.machine now }

@@ -550,7 +550,8 @@ impl Machine {
     // Sends the first of the pieces that are left, or what follows them. It is no range, or an empty one.
     fn send<A: Application>(&mut self)
         ensures sends { (now : A) → SendsOn (A.gives now) self.old self.new }
-        ensures works { self.old.state ≡ State.Open → self.old.phase ≡ Phase.Responding → work self.new < work self.old }
+        ensures works { self.old.state ≡ State.Open → self.old.phase ≡ Phase.Responding
+            → work self.new < work self.old }
     {
         match self.left.pop_front() {
             None => self.finish(),
@@ -595,8 +596,8 @@ impl Machine {
     }
 }
 
-// Takes so many bytes off the range at the front. Returns false if there is none, or none that is so long, or if they end
-// at 2^64 or later.
+// Takes so many bytes off the range at the front. Returns false if there is none, or none that is so long, or if they
+// end at 2^64 or later.
 fn shorten(left: &mut VecDeque<Piece>, count: usize) -> bool
     ensures shortens { IsTrue result → Shortens left.old.items left.new.items count }
     ensures fails { IsFalse result → ¬ (CanShorten left.old.items count) }

@@ -201,7 +201,8 @@ module _ (site : Resource) (divider : List ℕ) (is_site : IsSite divider site) 
   admitted present Preflight t = never _ Preflight t (no_options (is_some site.cors))
   admitted present Denied t = never _ Denied t refl
   admitted present UnknownMethod t = never _ UnknownMethod t refl
-  admitted present MethodNotAllowed t = never _ MethodNotAllowed t (ap (λ (r : Option MethodRule). not (is_some r)) rule)
+  admitted present MethodNotAllowed t =
+      never _ MethodNotAllowed t (ap (λ (r : Option MethodRule). not (is_some r)) rule)
   admitted present Options t = never _ Options t refl
   admitted present UnmetExpectation t = never _ UnmetExpectation t (ap not expects)
   admitted present PartialContent t = never _ PartialContent t refl

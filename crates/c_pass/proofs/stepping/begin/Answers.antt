@@ -96,7 +96,8 @@ returns-in_err-facts c =
               | inr unplaced ↦ inr (
                 Err alloc_error,
                 subst (λ (target : List ℕ). Enters target c.args.now c.args.shared.now.queue
-                    c.tell_first.new.shared.queue (Err alloc_error)) (ap key_of made ∙ ap string_bytes begun.same.key ∙ key)
+                    c.tell_first.new.shared.queue (Err alloc_error))
+                    (ap key_of made ∙ ap string_bytes begun.same.key ∙ key)
                     unplaced.1,
               )
             ];

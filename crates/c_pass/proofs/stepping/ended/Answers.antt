@@ -1,7 +1,7 @@
-use Rattle.std.proofs.Common.{rules, ◌≡◌, ℕ, Bool, true, false, List, [], Option, Result, Ok, Err, inl, inr, refl, subst, sym}
-use Rattle.std.specs.{Prelude.{◌&&◌, is_some, unwrap_or}, declared.alloc.AllocError.AllocError}
-use Rattle.{std.proofs.lemmas.Result.err_from_is_err_and, cache_rules.specs.declared.storing.Reception.Reception}
-use Rattle.cache_rules.specs.declared.storing.Reception.TheVariants.{Complete, Incomplete}
+use Rattle.std.proofs.Common.{rules, ◌≡◌, ℕ, Bool, true, false, List, [], Option, Result, Ok, Err, inl, inr, refl}
+use Rattle.std.{proofs.{Common.{subst, sym}, lemmas.Result.err_from_is_err_and}, specs.Prelude.{◌&&◌, is_some}}
+use Rattle.std.specs.{Prelude.unwrap_or, declared.alloc.AllocError.AllocError}
+use Rattle.cache_rules.specs.declared.storing.Reception.{Reception, TheVariants.{Complete, Incomplete}}
 use Rattle.cache_pass.specs.{Steps.HasEnded, declared.{cache.Cache.Cache, pass.Pass.Pass}}
 use Rattle.{c_parts.specs.declared.status.Failure.TheVariants.Memory, c_pass.specs.Steps.{Ends, IsContentStored}}
 use Rattle.c_pass.specs.Steps.{content_of, reception_of}

@@ -35,9 +35,11 @@ returns-then-branch g c =
     let w = g.W.Write.contents c.args.writer.now in
     let run = runs_on r w c.turn.ensures c.loop.invariant in
     run_ends r (g.R.Read.remaining c.turn.new.reader) w (g.W.Write.contents c.turn.new.writer) _ c.ending.ensures run
-    (c.is_done.ensures.exchanged c.args.config c.args.handler.now c.turn.new.handler run.0 run.1 (is_reached run.4.turned))
+    (c.is_done.ensures.exchanged c.args.config c.args.handler.now c.turn.new.handler run.0 run.1
+    (is_reached run.4.turned))
 
 pub returns : goal.returns
 returns g c =
     let run = c.loop.invariant in
-    run_ends _ (g.R.Read.remaining c.loop.reader) _ (g.W.Write.contents c.loop.writer) _ refl run (cut_short (is_reached run.4.turned))
+    run_ends _ (g.R.Read.remaining c.loop.reader) _ (g.W.Write.contents c.loop.writer) _ refl run
+    (cut_short (is_reached run.4.turned))

@@ -37,7 +37,8 @@ returns-in_ok-read_from-in-NeedsInput g c =
     λ config first r s h y.
     let rests = c.next.ensures.rests c.in-NeedsInput.is config first r s (is_reached h.turned) in
     record {
-      turned = by_read _ _ c.args.handler.now r s came.0 y (inl rests) (moves_in c.args.handler.now came.0 wants.1 came.1);
+      turned =
+          by_read _ _ c.args.handler.now r s came.0 y (inl rests) (moves_in c.args.handler.now came.0 wants.1 came.1);
       ends = c.in_ok-read_from-in-NeedsInput.ensures.end (rests_open rests wants.0);
     }
     )

@@ -1,5 +1,5 @@
-use Rattle.std.proofs.Common.{refl, sym, subst, inl, inr}
-use Rattle.server_connection.{specs.Pieces.Advances, proofs.PieceLemmas.sends_short, proofs.PopLemmas.{cuts_on, puts_on}}
+use Rattle.{std.proofs.Common.{refl, sym, subst, inl, inr}, server_connection.specs.Pieces.Advances}
+use Rattle.server_connection.proofs.{PieceLemmas.sends_short, PopLemmas.{cuts_on, puts_on}}
 use Rattle.server_connection.proofs.machine.Machine.fill.Goals as goal
 
 pub returns-then-not-shorten : goal.returns-then-not-shorten
