@@ -18,7 +18,7 @@ use Rattle.decide_preconditions.{specs.declared.selection.Selection.TheVariants.
 use Rattle.decide_preconditions.proofs.PreconditionLemmas.{unconditional}
 use Rattle.decide_resource.specs.Answers.{GivesIf, Goes, GoesOn, IsAnswer, IsSelected, at_place, is_admitted, is_sent}
 use Rattle.decide_resource.{specs.Answers.{place_of, status_sent}, specs.Applies.{applies, exceeds, is_misdirected}}
-use Rattle.decide_resource.specs.Applies.{is_unacceptable, is_unsized, rule_for}
+use Rattle.decide_resource.specs.Applies.{is_unacceptable, rule_for}
 use Rattle.decide_resource.specs.Representations.{are_unacceptable, coding_of, joined, rank_by, score}
 use Rattle.decide_resource.specs.Requests.{Request as Asked}
 use Rattle.decide_resource.specs.declared.denied.Denied.{Denied as Denial}
@@ -43,11 +43,25 @@ use Rattle.server_service.specs.declared.{settings.Site.Site, source.Source.Sour
 use Rattle.server_files.specs.{Listings.listing_page, Path.{Names, ends_in_slash}, declared.kept.Kept.Kept}
 use Rattle.server_files.specs.declared.listing.Listing.{Listing}
 use Rattle.server_service.specs.declared.source.Source.TheVariants.{Kept as InMemory}
-use Rattle.server_service.{proofs.ContentLemmas.sent_whole, proofs.OneResponseLemmas.asked_once}
-use Rattle.server_service.{proofs.PlanLemmas.same_by_plan, proofs.RepresentationLemmas.contents_own}
+use Rattle.server_service.proofs.{ContentLemmas.sent_whole, OneResponseLemmas.asked_once, PlanLemmas.same_by_plan}
+use Rattle.server_service.{proofs.RepresentationLemmas.contents_own, specs.Answer.{Carries, IsSendable, first_fields}}
+use Rattle.{server_service.specs.Whole.{GetsWhole, whole_fields}, std.proofs.Common.{◌++◌, ◌^◌, drop}}
+use Rattle.std.specs.Option.{option_map_or}
+use Rattle.{headers.specs.{LineMap.fields_of, declared.Encoded.Encoded}, decide_cors.specs.Policy.Policy}
+use Rattle.{decide_cors.proofs.MadeLemmas.{fit-more, fit-none, made, vec}, decide_preconditions.specs.Fields.lines_sent}
+use Rattle.decide_resource.specs.{Answers.IsShared, Applies.{host_named, is_own}, Fields.{line_if, lines_of_value}}
+use Rattle.decide_resource.specs.{Fields.{metadata_fields, vary_fields, vary_lines}, Reasons.Before}
 
 abbrev get : List ℕ
 get = codes "GET"
+
+lines_few : {V : Type 0} (text : V → Line) (value : Option V) → length (lines_sent text value) < 2 ^ 63
+lines_few text None = omega arith
+lines_few text (Some value) = omega arith
+
+value_few : (value : Option FieldValue) → length (lines_of_value value) < 2 ^ 63
+value_few None = omega arith
+value_few (Some value) = omega arith
 
 -- one piece, which is all of the source
 abbrev pub all_of : Source → List Piece
@@ -167,7 +181,60 @@ reading protocol authority fields =
       denied = None;
     }
 
-module _ (site : Resource) (divider : List ℕ) (is_site : IsSite divider site) (v : Vec Representation)
+as_reading : (asked : Asked) → asked.method ≡ get → asked.content ≡ Absent → asked.denied ≡ None
+    → asked ≡ reading asked.protocol asked.authority asked.fields
+as_reading asked method content admitted =
+    ap
+    (λ (m : List ℕ).
+    record {
+      protocol = asked.protocol;
+      method = m;
+      authority = asked.authority;
+      content = asked.content;
+      fields = asked.fields;
+      denied = asked.denied;
+    }) method
+    ∙ ap
+    (λ (c : RequestContent).
+    record {
+      protocol = asked.protocol;
+      method = get;
+      authority = asked.authority;
+      content = c;
+      fields = asked.fields;
+      denied = asked.denied;
+    }) content
+    ∙ ap
+    (λ (d : Option Denial).
+    record {
+      protocol = asked.protocol;
+      method = get;
+      authority = asked.authority;
+      content = Absent;
+      fields = asked.fields;
+      denied = d;
+    }) admitted
+
+-- what a read asks of the resource of a file
+record IsReadable (site : Resource) : Type 0 where
+  has_rule : is_some (rule_for site.rules.items get) ≡ true
+  media_type : site.negotiation.media_type ≡ false
+  language : site.negotiation.language ≡ false
+  lenient : site.negotiation.is_strict ≡ false
+
+readable : (divider : List ℕ) (site : Resource) → IsSite divider site → IsReadable site
+readable divider site is_site = record {
+  has_rule = ap is_some (rule_found site.rules.items is_site.rule is_site.rules is_site.is_read.method);
+  media_type = is_site.media_type;
+  language = is_site.language;
+  lenient = is_site.lenient;
+}
+
+fits_none : (limit : Option ℕ) → exceeds limit Absent ≡ false
+fits_none None = refl
+fits_none (Some limit) = refl
+
+module _ (site : Resource) (is_site : IsReadable site) (v : Vec Representation)
     (protocol : Protocol) (authority : Option Line) (fields : LineMap)
     (host : has_host protocol (fields (codes "host")) ≡ true)
     (own_host : is_misdirected site (reading protocol authority fields) ≡ false)
@@ -177,9 +244,6 @@ module _ (site : Resource) (divider : List ℕ) (is_site : IsSite divider site) 
 
   abbrev asked : Asked
   asked = reading protocol authority fields
-
-  rule : rule_for site.rules.items get ≡ Some is_site.rule
-  rule = rule_found site.rules.items is_site.rule is_site.rules is_site.is_read.method
 
   acceptable : is_unacceptable file asked ≡ false
   unfolding is_unacceptable
@@ -201,17 +265,15 @@ module _ (site : Resource) (divider : List ℕ) (is_site : IsSite divider site) 
   admitted present Preflight t = never _ Preflight t (no_options (is_some site.cors))
   admitted present Denied t = never _ Denied t refl
   admitted present UnknownMethod t = never _ UnknownMethod t refl
-  admitted present MethodNotAllowed t =
-      never _ MethodNotAllowed t (ap (λ (r : Option MethodRule). not (is_some r)) rule)
+  admitted present MethodNotAllowed t = never _ MethodNotAllowed t (ap not is_site.has_rule)
   admitted present Options t = never _ Options t refl
   admitted present UnmetExpectation t = never _ UnmetExpectation t (ap not expects)
   admitted present PartialContent t = never _ PartialContent t refl
   admitted present Moved t = never _ Moved t refl
   admitted present Gone t = never _ Gone t refl
   admitted present NotFound t = never _ NotFound t refl
-  admitted present LengthRequired t =
-      never _ LengthRequired t (ap (λ (b : Bool). b && is_unsized Absent) is_site.needs_length)
-  admitted present ContentTooLarge t = never _ ContentTooLarge t (ap (λ (l : Option ℕ). exceeds l Absent) is_site.limit)
+  admitted present LengthRequired t = never _ LengthRequired t (no_options site.needs_length)
+  admitted present ContentTooLarge t = never _ ContentTooLarge t (fits_none site.limit)
   admitted present UnsupportedMediaType t = never _ UnsupportedMediaType t refl
   admitted present UnsupportedCoding t = never _ UnsupportedCoding t refl
   admitted present NotAcceptable t = never _ NotAcceptable t acceptable
@@ -298,6 +360,82 @@ module _ (site : Resource) (divider : List ℕ) (is_site : IsSite divider site) 
               absurd (h.1 (λ several. absurd (cc (one, several))))
         ]
 
+    -- ---- an answer that does
+
+    chosen : IsSelected file fields (Some 0)
+    chosen = record {
+      choice = first_place v.items;
+      picks =
+          picks_alike (λ (x : Representation). top) (score site.negotiation fields)
+          (λ x. sym (score_top site.negotiation fields x is_site.media_type is_site.language all.accept_encoding))
+          v.items (first_place v.items) (picks_first top v.items (lit< tt));
+      is = sym (ap (λ (xs : List Representation). place_of xs (first_place xs)) items);
+    }
+
+    none_before : (other : Reason) → Before other Admitted → (b : Bool) → applies present file asked other ≡ b
+        → applies present file asked other ≡ false
+    none_before other before false e = e
+    none_before other before true e =
+        absurd (omega (arith, subst (λ (r : Reason). Before r Admitted) (admitted present other e) before))
+
+    module _ (cors : site.cors ≡ None) (coding : site.negotiation.coding ≡ false) where
+      no_vary : vary_lines file Admitted ≡ []
+      no_vary =
+          ap
+          (λ (b : Bool). line_if b (codes "accept") ++ line_if site.negotiation.language (codes "accept-language")
+          ++ line_if site.negotiation.coding (codes "accept-encoding")) is_site.media_type
+          ∙ ap
+          (λ (b : Bool). line_if b (codes "accept-language")
+          ++ line_if site.negotiation.coding (codes "accept-encoding")) is_site.language
+          ∙ ap (λ (b : Bool). line_if b (codes "accept-encoding")) coding
+
+      given : (sent : Vec Encoded) × (fields_of sent.items ≡ whole_fields present own)
+      given =
+          made (whole_fields present own)
+          (fit-more _ (value_few _) (fit-more _ (omega arith) (fit-more _ (lines_few _ _) (fit-more _ (lines_few _ _)
+          (fit-more _ (omega arith) (fit-more _ (omega arith) (fit-more _ (omega arith) (fit-more _ (omega arith)
+          (fit-none 0))))))))) (omega arith)
+
+      planned_fields : (sent : Vec Encoded) × (fields_of sent.items ≡ drop 2 (whole_fields present own))
+      planned_fields =
+          made (drop 2 (whole_fields present own))
+          (fit-more _ (lines_few _ _) (fit-more _ (lines_few _ _) (fit-more _ (omega arith) (fit-more _ (omega arith)
+          (fit-more _ (omega arith) (fit-more _ (omega arith) (fit-none 0))))))) (omega arith)
+
+      abbrev all_answer : Answer
+      all_answer =
+          record { reason = Admitted; status = Some 200; sends = Planned (Some 0) Full; fields = given.0 }
+
+      all_answers : IsAnswer present file asked all_answer
+      all_answers = record {
+        first = record { is = refl; none_before = λ other before. none_before other before _ refl };
+        own = whole_fields present own;
+        gives = record {
+          place = Some 0;
+          selected = chosen;
+          goes =
+              subst
+              (λ (xs : List Representation).
+              GoesOn present file asked (Some 0) (slice_get xs 0) (Some 200) (Planned (Some 0) Full)
+              (whole_fields present own)) (sym items)
+              (record {
+                response = Some (record { plan = Full; status = 200; fields = planned_fields.0 });
+                answered = record {
+                  plan = full site.negotiation.coding present fields own all;
+                  status = refl;
+                  fields = planned_fields.1;
+                };
+                has_status = refl;
+                sends = refl;
+                has_fields = ap (λ (l : List Field). metadata_fields true mine ++ l) (sym planned_fields.1);
+              });
+        };
+        shared = [];
+        is_shared = subst (λ (p : Option Policy). IsShared p asked (vary_lines file Admitted) []) (sym cors) refl;
+        fields =
+            given.1 ∙ sym (ap (λ (l : List Line). (whole_fields present own ++ vary_fields l) ++ []) no_vary);
+      }
+
 -- ---- the response
 
 -- 200, with all of the source
@@ -348,36 +486,7 @@ module _ (now : Option ℕ) (left : ℕ) (site : Site) (divider : List ℕ) (loo
       let by : List ℕ = string_bytes site.divider in
       let reads : x.asked ≡ reading asked.protocol asked.authority asked.fields =
       sym (asked_once request asked x.asked asks x.asks)
-      ∙ ap
-      (λ (m : List ℕ).
-      record {
-        protocol = asked.protocol;
-        method = m;
-        authority = asked.authority;
-        content = asked.content;
-        fields = asked.fields;
-        denied = asked.denied;
-      }) (asks.2.method ∙ method)
-      ∙ ap
-      (λ (c : RequestContent).
-      record {
-        protocol = asked.protocol;
-        method = get;
-        authority = asked.authority;
-        content = c;
-        fields = asked.fields;
-        denied = asked.denied;
-      }) asks.2.content
-      ∙ ap
-      (λ (d : Option Denial).
-      record {
-        protocol = asked.protocol;
-        method = get;
-        authority = asked.authority;
-        content = Absent;
-        fields = asked.fields;
-        denied = d;
-      }) asks.2.admitted in
+      ∙ as_reading asked (asks.2.method ∙ method) asks.2.content asks.2.admitted in
       let described = x.described in
       let resource : x.resource ≡ record site.resource {
         state = Current;
@@ -390,8 +499,8 @@ module _ (now : Option ℕ) (left : ℕ) (site : Site) (divider : List ℕ) (loo
       let items =
       described.are ∙ ap (map (representation_of present)) contents in
       let whole =
-      decided_whole site.resource divider is_site described.representations asked.protocol asked.authority
-      asked.fields host own_host expects present own others
+      decided_whole site.resource (readable divider site.resource is_site) described.representations asked.protocol
+      asked.authority asked.fields host own_host expects present own others
       (subst (λ (f : LineMap). AsksForAll site.resource.negotiation.coding f) (sym asks.2.fields) all) items by
       x.found.files.items x.answer
       (subst
@@ -474,3 +583,73 @@ get_listing now left site divider look request named listing response source ask
       has.status,
       λ sent h. all_sent (InMemory listing.page) source response listing.page sent has refl h ∙ listing.is_page,
     )
+
+-- ---- the response that is made at once
+
+sendable : (by : List ℕ) (files : List File) → IsSendable by files (Planned (Some 0) Full)
+sendable by files = λ several. absurd (cc several)
+
+module _ (now : Option ℕ) (left present : ℕ) (site : Site) (has : List ℕ → Entry → Type 0)
+    (request : Request (List ℕ)) (response : Response) (source : Option Source) (found : Found) (own : File)
+    (asked : Asked) where
+  abbrev Sent : List File → List Field → Type 0
+  Sent files given = Carries (first_fields now left) site files 200 (Planned (Some 0) Full) given response
+
+  pub whole_is_answer : present ≡ clock now found.files.items
+      → LeadsTo site.resource.negotiation.coding has (head_of request).uri found → Asks request asked
+      → GetsWhole site.resource asked found own → Sent (own ∷ []) (whole_fields present own)
+      → source ≡ source_sent found.files.items (Planned (Some 0) Full)
+      → IsAnswerAt now left site has request response source
+  whole_is_answer time leads asks gets carries opens =
+      let plain = gets.site in
+      let v : Vec Representation = vec (representation_of present own ∷ []) (omega arith) in
+      let is_read : IsReadable site.resource = record {
+        has_rule = plain.has_rule;
+        media_type = plain.media_type;
+        language = plain.language;
+        lenient = plain.lenient;
+      } in
+      let all : AsksForAll site.resource.negotiation.coding asked.fields =
+      subst (λ (b : Bool). AsksForAll b asked.fields) (sym plain.coding) gets.asks.all in
+      let own_host =
+      ap
+      (λ (hosts : Option (Vec FieldValue)).
+      option_map_or
+      (λ (own : Vec FieldValue). not (is_own own.items (host_named asked.authority (asked.fields (codes "host")))))
+      hosts false) plain.hosts in
+      let answer : Answer =
+      all_answer site.resource is_read v asked.protocol asked.authority asked.fields gets.asks.host own_host
+      gets.asks.expects present own [] all refl plain.cors plain.coding in
+      let answers =
+      all_answers site.resource is_read v asked.protocol asked.authority asked.fields gets.asks.host own_host
+      gets.asks.expects present own [] all refl plain.cors plain.coding in
+      let fields =
+      given site.resource is_read v asked.protocol asked.authority asked.fields gets.asks.host own_host
+      gets.asks.expects present own [] all refl plain.cors plain.coding in
+      let resource : Resource = record site.resource { state = Current; representations = v } in
+      let by : List ℕ = string_bytes site.divider in
+      record {
+        found = found;
+        leads = leads;
+        resource = resource;
+        described = record {
+          representations = v;
+          are =
+              ap (λ (t : ℕ). representation_of t own ∷ []) time
+              ∙ sym (ap (map (representation_of (clock now found.files.items))) gets.files);
+          is =
+              ap (λ (s : State). record site.resource { state = s; representations = v }) (sym gets.state);
+        };
+        asked = asked;
+        asks = asks;
+        answer = answer;
+        decides =
+            subst (λ (t : ℕ). Decides t by found.files.items resource asked answer) time
+            (subst (λ (q : Asked). Decides present by found.files.items resource q answer)
+            (sym (as_reading asked gets.asks.method asks.2.content asks.2.admitted))
+            (inl (sendable by found.files.items, answers)));
+        carries =
+            subst (Sent found.files.items) (sym fields.1)
+            (subst (λ (l : List File). Sent l (whole_fields present own)) (sym gets.files) carries);
+        opens = opens;
+      }

@@ -10,3 +10,4 @@ pub mod Response
 pub mod SiteSettings
 pub mod Sites
 pub mod Stores
+pub mod Whole

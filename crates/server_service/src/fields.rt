@@ -37,8 +37,8 @@ pub(crate) fn put_closing(response: &mut Response, left: u64) -> Result<(), Allo
     response.add_header(CONNECTION, HeaderValue::from_static("close"))
 }
 
-// Adds the field lines of a field.
-fn add_field(response: &mut Response, field: Encoded) -> Result<(), AllocError>
+/// Adds the field lines of a field.
+pub(crate) fn add_field(response: &mut Response, field: Encoded) -> Result<(), AllocError>
     ensures headers { OnOk result
         (fields_of response.new ≡ fields_of response.old ++ lines_under (field_of field)) }
     ensures status { response.new.status ≡ response.old.status }

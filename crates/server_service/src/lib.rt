@@ -20,6 +20,7 @@ mod settings;
 mod site;
 mod source;
 mod store;
+mod whole;
 
 pub use crate::connection::serve_store;
 pub use crate::date::KnownDate;

@@ -191,8 +191,8 @@ fn content_of(file: &File) -> Result<Content, AllocError>
     })
 }
 
-// The value of Content-Encoding, if the coding changes a content.
-fn coding_value(coding: Coding) -> Option<HeaderValue>
+/// The value of Content-Encoding, if the coding changes a content.
+pub(crate) fn coding_value(coding: Coding) -> Option<HeaderValue>
     ensures { result ≡ coding_value coding }
 {
     if coding.is_encoded() {

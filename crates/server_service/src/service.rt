@@ -20,6 +20,7 @@ use crate::representation::representations_of;
 use crate::settings::{Page, Site};
 use crate::source::Source;
 use crate::store::FileStore;
+use crate::whole::{all_sent, carry_whole, whole_file};
 use bytes::Bytes;
 use decide_preconditions::Plan;
 use decide_resource::{Answer, Reason, Resource, Sends, State};
@@ -238,6 +239,12 @@ impl<S: FileStore> Handler for FileService<S> {
         let present = clock(&date, &found.files);
         let authority = authority_of(alloc, request)?;
         let head = asked(request, authority.as_ref());
+        if let Some(file) = whole_file(&self.site.resource, &head, &found) {
+            carry_whole(alloc, &self.site, present, file, plan)?;
+            self.store.note(request, plan);
+            self.source = source_sent(found.files, &all_sent());
+            return Ok(());
+        }
         describe(alloc, &mut self.site.resource, present, &mut found)?;
         let Answer {
             reason,

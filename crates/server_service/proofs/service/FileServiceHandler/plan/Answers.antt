@@ -8,6 +8,51 @@ use Rattle.server_service.specs.{Answer.{sniff_field, source_sent, status_for}, 
 use Rattle.server_service.{specs.declared.{file.File.File, settings.Site.Site}, proofs.AnswerLemmas.Carries-at}
 use Rattle.server_service.proofs.AnswerLemmas.{bytes_copied}
 use Rattle.server_service.proofs.service.FileServiceHandler.plan.Goals as goal
+use Rattle.{std.specs.Prelude.Some, decide_preconditions.specs.declared.plan.Plan.TheVariants.Full}
+use Rattle.{decide_resource.specs.declared.answer.Sends.TheVariants.Planned, server_service.specs.Whole.whole_fields}
+use Rattle.server_service.proofs.WholeLemmas.{whole_is_answer}
+
+pub returns-in-Some : goal.returns-in-Some
+returns-in-Some g c =
+    let site = c.args.self.now.site in
+    let left = c.args.self.now.left in
+    let now = c.date_of-date.result in
+    let found = c.in_ok-found.found in
+    let file = c.in-Some.file.now in
+    let asked = request_of c.asked-head.result in
+    let response = c.carry_whole.new.response in
+    let date = c.in_ok-put_date.ensures.headers in
+    let sniff = c.in_ok-put_sniff.ensures.headers ∙ ap (λ (l : List Header). l ++ sniff_field ∷ []) date in
+    let first = c.in_ok-put_closing.ensures.headers ∙ ap (λ (l : List Header). l ++ closing_fields left) sniff in
+    let time : c.clock-present.result ≡ clock now found.files.items =
+    c.clock-present.ensures ∙ ap (clock now) c.deref.ensures.value in
+    let Answered : Option ℕ → Type 0 =
+    λ time.
+    IsAnswerAt time left site (g.S.FileStore.has c.args.self.now.store) c.args.request.now response
+    c.source_sent.result in (
+      (
+        c.now.result,
+        subst Answered c.date_of-date.ensures
+            (whole_is_answer now left c.clock-present.result site (g.S.FileStore.has c.args.self.now.store)
+            c.args.request.now response c.source_sent.result found file asked time c.in_ok-found.ensures (
+              option_map (λ (it : FieldValue). it.bytes) c.in_ok-authority.authority,
+              c.in_ok-authority.ensures,
+              subst (λ (a : Option Line). IsAsked c.args.request.now a asked)
+                  (bytes_copied c.as_ref.result c.in_ok-authority.authority c.as_ref.ensures.value)
+                  c.asked-head.ensures,
+            )
+            c.in-Some.ensures
+            (subst
+            (λ (h : List Header).
+            Carries h site (file ∷ []) 200 (Planned (Some 0) Full) (whole_fields c.clock-present.result file) response)
+            first c.in_ok-carry_whole.ensures)
+            (c.source_sent.ensures ∙ ap (source_sent found.files.items) c.all_sent.ensures)),
+        c.now.ensures,
+      ),
+      record { cache_control = refl; divider = refl; pages = refl; resource = refl },
+      refl,
+      c.saturating_sub-self.ensures,
+    )
 
 pub returns : goal.returns
 returns g c =
@@ -60,7 +105,7 @@ returns g c =
     let Answered : Option ℕ → Type 0 =
     λ time.
     IsAnswerAt time left site (g.S.FileStore.has c.args.self.now.store) c.args.request.now c.carry.new.response
-    c.source_sent.result in (
+    c.source_sent-2.result in (
       (
         told,
         subst Answered c.date_of-date.ensures
@@ -81,7 +126,7 @@ returns g c =
               answer = answer;
               decides = decides;
               carries = carries;
-              opens = c.source_sent.ensures ∙ ap (λ (l : List File). source_sent l answer.sends) files;
+              opens = c.source_sent-2.ensures ∙ ap (λ (l : List File). source_sent l answer.sends) files;
             }),
         c.now.ensures,
       ),
