@@ -875,7 +875,7 @@ enum typed_headers_form {
     TYPED_HEADERS_SET_COOKIES = 3,
     /*
      * As of `content-disposition` (RFC 6266, section 4.1): no comma separates two, and the type is in lower case. It is
-     * malformed if it is no token.
+     * malformed if it is no token. Behind the other parameters is the name of the file (section 4.3).
      */
     TYPED_HEADERS_DISPOSITIONS = 4,
     /*
@@ -884,9 +884,9 @@ enum typed_headers_form {
      */
     TYPED_HEADERS_HOPS = 5,
     /*
-     * As of `cache-status` (RFC 9211, section 2): the name of a cache, which is a string or a token, and parameters by
-     * their types (RFC 8941, section 3.3): `i` an integer, `n` what is true, `f` what is false, `p` a string, `t` a
-     * token, `o` another value. Of two of a name the last counts.
+     * As of `cache-status` (RFC 9211, section 2): the name of a cache, which is a string or a token, and its parameters
+     * that sections 2.1 to 2.8 define, each once and by its type: `i` an integer, `n` what is true, `p` a string, `t` a
+     * token. Of two of a name the last counts (RFC 8941, section 4.2.3.2), and one of another type is ignored.
      */
     TYPED_HEADERS_CACHES = 6
 };
@@ -1662,8 +1662,10 @@ uint8_t typed_headers_has_member(const uint8_t *lines, size_t lines_length, cons
  * may follow it; `!` is what is malformed. Parameters are those of RFC 9110, section 5.6.6. A cookie has its name and
  * value, what its attributes mean (RFC 6265, section 5.2), its other attributes, and `r` for what browsers reject it
  * by. Behind the parameters of a link are the relation types of its first `rel`, each in lower case as `l` (RFC 8288,
- * section 3.3). An empty line ends each element, challenge, link, cookie, disposition, hop and cache. Refused: `form`
- * is none, or a line can't be one.
+ * section 3.3), and its title. That, and the name of a file, is `e` and the value of the first `title*` or `filename*`,
+ * if `typed_headers_extended_text` has a text for it, or else `o` and the octets of the first `title` or `filename`. An
+ * empty line ends each element, challenge, link, cookie, disposition, hop and cache. Refused: `form` is none, or a line
+ * can't be one.
  */
 uint8_t typed_headers_field_parts(uint8_t form, const uint8_t *lines, size_t lines_length, uint8_t *room,
                                   size_t room_length, size_t *written);

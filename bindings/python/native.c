@@ -1061,7 +1061,7 @@ PARSES(content_length, &content_length_call, NULL, number_value)
 
 /* A part of a field: its letter, its name or its text, and its value, which parts of some letters have, or None. */
 static PyObject *part_of(const char *at, const char *end) {
-    const char *sign = memchr("pito", *at, 4) ? memchr(at, '=', (size_t)(end - at)) : NULL;
+    const char *sign = memchr("pit", *at, 3) ? memchr(at, '=', (size_t)(end - at)) : NULL;
     PyObject *kind = latin_1(at, 1), *name = latin_1(at + 1, (sign ? sign : end) - at - 1);
     PyObject *value = sign ? latin_1(sign + 1, end - sign - 1) : none();
     PyObject *part = kind && name && value ? PyTuple_Pack(3, kind, name, value) : NULL;
@@ -1102,19 +1102,22 @@ static PyObject *groups(PyObject *module, PyObject *arguments) {
     return value_or_status(&field_parts_call, arguments, groups_value);
 }
 
+/* A parameter: its name, and its value if it has one. */
+static PyObject *parameter_of(const char *at, const char *end) {
+    const char *sign = *at == 'p' ? memchr(at, '=', (size_t)(end - at)) : NULL, *name = at + 1;
+    return pair_of(latin_1(name, (sign ? sign : end) - name), sign ? latin_1(sign + 1, end - sign - 1) : none());
+}
+
 /* The parameters up to an empty line, whose end is the next line. NULL also if a part is none, but for the relation
-   types of a link, which are left out. */
+   types and the title of a link, which are left out. */
 static PyObject *parameters_before(const char **next, const char *end) {
     PyObject *list = PyList_New(0);
     for (const char *behind; list && **next != '\n'; *next = behind + 1) {
         const char *at = *next;
         behind = memchr(at, '\n', (size_t)(end - at));
-        const char *sign = *at == 'p' ? memchr(at, '=', (size_t)(behind - at)) : NULL;
-        if (sign) {
-            append(&list, pair_of(latin_1(at + 1, sign - at - 1), latin_1(sign + 1, behind - sign - 1)));
-        } else if (*at == 'n') {
-            append(&list, pair_of(latin_1(at + 1, behind - at - 1), none()));
-        } else if (*at != 'l') {
+        if (*at == 'p' || *at == 'n') {
+            append(&list, parameter_of(at, behind));
+        } else if (!memchr("leo", *at, 3)) {
             Py_CLEAR(list);
         }
     }
@@ -1156,7 +1159,7 @@ static PyObject *elements_as(PyObject *module, PyObject *arguments) {
     return value_or_status(&field_parts_call, arguments, elements_value);
 }
 
-/* What the value of a parameter means whose name ends in `*`, or None. */
+/* What an extended value means. */
 static PyObject *extended(const char *at, Py_ssize_t length) {
     uint8_t few[SHORT_TEXT], *room = few;
     size_t written;
@@ -1167,73 +1170,41 @@ static PyObject *extended(const char *at, Py_ssize_t length) {
                       : TYPED_HEADERS_NO_MEMORY;
     }
     PyObject *text = status == TYPED_HEADERS_DONE ? PyUnicode_DecodeUTF8((const char *)room, (Py_ssize_t)written, NULL)
-                     : status == TYPED_HEADERS_NO_MEMORY ? PyErr_NoMemory()
-                                                         : none();
+                                                    : PyErr_NoMemory();
     if (room != few) {
         PyMem_Free(room);
     }
     return text;
 }
 
-static bool is_same_name(const char *at, Py_ssize_t length, const char *name) {
-    bool is_same = length == (Py_ssize_t)strlen(name);
-    for (Py_ssize_t place = 0; is_same && place < length; place++) {
-        is_same = is_same_letter((uint8_t)at[place], name[place]);
-    }
-    return is_same;
-}
-
-/* The names of a file in a disposition: the first `filename*`, as far as it means a text, and the first `filename`. */
-struct file_names {
-    PyObject *extended, *plain;
-};
-
-/* Adds a parameter, which ends at a line end, to the names of a file, or else to a list. */
-static void add_parameter(const char *at, const char *end, struct file_names *names, PyObject **list) {
-    const char *sign = *at == 'p' ? memchr(at, '=', (size_t)(end - at)) : NULL, *name = at + 1;
-    const Py_ssize_t length = (sign ? sign : end) - name;
-    const bool is_extended = is_same_name(name, length, "filename*");
-    PyObject **place = is_extended ? &names->extended : &names->plain;
-    if (!is_extended && !is_same_name(name, length, "filename")) {
-        append(list, pair_of(latin_1(name, length), sign ? latin_1(sign + 1, end - sign - 1) : none()));
-    } else if (!*place) {
-        *place = !sign ? none() : is_extended ? extended(sign + 1, end - sign - 1) : latin_1(sign + 1, end - sign - 1);
-        if (!*place) {
-            Py_CLEAR(*list);
-        }
-    }
-}
-
 /* The only disposition of the lines. No value if there are several, or if a part is malformed. */
 static PyObject *disposition_value(PyObject *type, union slot *at) {
     const struct text text = written_in(&at[2]);
     const char *next = (const char *)text.bytes, *end = next + text.length;
-    struct file_names names = {NULL, NULL};
     const char *behind = memchr(next, '\n', (size_t)(end - next)), *kind = next + 1;
     const Py_ssize_t length = behind - kind;
-    PyObject *list = *next == 'n' ? PyList_New(0) : NULL;
-    for (next = behind + 1; list && *next != '\n'; next = behind + 1) {
+    PyObject *list = *next == 'n' ? PyList_New(0) : NULL, *name = NULL;
+    bool is_made = true;
+    for (next = behind + 1; list && is_made && *next != '\n'; next = behind + 1) {
         behind = memchr(next, '\n', (size_t)(end - next));
         if (*next == 'p' || *next == 'n') {
-            add_parameter(next, behind, &names, &list);
+            append(&list, parameter_of(next, behind));
+        } else if (*next == 'e' || *next == 'o') {
+            name = (*next == 'e' ? extended : latin_1)(next + 1, behind - next - 1);
+            is_made = name != NULL;
         } else {
             Py_CLEAR(list);
         }
     }
-    PyObject *value = list && next + 1 == end ? new_value(type) : NULL, *found = names.extended;
-    if (!found || found == Py_None) {
-        found = names.plain ? names.plain : Py_None;
-    }
+    PyObject *value = list && is_made && next + 1 == end ? new_value(type) : NULL;
     if (value) {
-        Py_INCREF(found);
         set_member(&value, TYPE, latin_1(kind, length));
-        set_member(&value, FILENAME, found);
+        set_member(&value, FILENAME, name ? name : none());
         set_member(&value, PARAMETERS, tuple_of(list));
     } else {
         Py_XDECREF(list);
+        Py_XDECREF(name);
     }
-    Py_XDECREF(names.extended);
-    Py_XDECREF(names.plain);
     return value;
 }
 

@@ -239,22 +239,6 @@ class AcceptLanguage(_Preferences):
         return language_quality({self._NAME: str(self)}, offer)
 
 
-def _extended(value: Optional[str]) -> Optional[str]:
-    """What the value of a parameter whose name ends in `*` means (RFC 8187, section 3.2), or `None`."""
-    if value is None:
-        return None
-    status, text = _library.calls.extended_text(_library.to_bytes(value, "parameter"))
-    if status == _library.Status.NO_MEMORY:
-        raise MemoryError
-    return None if status else text.decode()
-
-
-def _text_of(parameters: Parameters, name: str) -> Optional[str]:
-    """The text of a parameter: as RFC 8187 has it if that decodes, else as it is."""
-    extended = _extended(_first(parameters, name + "*"))
-    return _first(parameters, name) if extended is None else extended
-
-
 @dataclass(frozen=True)
 class ContentDisposition(Parsed):
     """How content is to be presented, and under which name it is to be stored (RFC 6266).
@@ -392,7 +376,14 @@ class Link:
     @property
     def title(self) -> Optional[str]:
         """The text of `title*`, or else of `title` (RFC 8288, section 3.4.1)."""
-        return _text_of(self.parameters, "title")
+        for kind, text, _ in _groups(_LINKS, "link", str(self), ())[0]:
+            if kind == "o":
+                return text
+            if kind == "e":
+                status, decoded = _library.calls.extended_text(_library.to_bytes(text, "parameter"))
+                _library.check(status, lambda: HeaderError(f"link: {text!r} means no text"))
+                return decoded.decode()
+        return None
 
     def parameter(self, name: str) -> Optional[str]:
         """The value of the first parameter of a name, without quotes. The case of the name doesn't count."""
@@ -494,13 +485,11 @@ class CacheStatus:
         for parts in _groups(_CACHES, "cache-status", line, more):
             if "!" in [kind for kind, _, _ in parts]:
                 _reject("cache-status", (line, *more), "a list of caches (RFC 9211, section 2)")
-            last = {name: (kind, value) for kind, name, value in parts[1:]}
-            members = {"cache": parts[0][1]}
-            for name, (kind, value) in last.items():
-                if (kind, name) in _STATUS:
-                    member, shown = _STATUS[kind, name]
-                    members[member] = shown(value)
-            found.append(_made(cls, **{**_NO_STATUS, **members}))
+            members = {**_NO_STATUS, "cache": parts[0][1]}
+            for _, name, value in parts[1:]:
+                member, shown = _STATUS[name]
+                members[member] = shown(value)
+            found.append(_made(cls, **members))
         return found
 
     def __str__(self) -> str:
@@ -520,17 +509,16 @@ def _is_there(value: Optional[str]) -> bool:
     return True
 
 
-#: The member that each parameter of a type is, and what shows its value.
-_STATUS: Dict[Tuple[str, str], Tuple[str, Callable[[Any], Any]]] = {
-    ("n", "hit"): ("is_hit", _is_there),
-    ("t", "fwd"): ("forwarded", str),
-    ("i", "fwd-status"): ("forwarded_status", int),
-    ("i", "ttl"): ("ttl", int),
-    ("n", "stored"): ("is_stored", _is_there),
-    ("n", "collapsed"): ("is_collapsed", _is_there),
-    ("p", "key"): ("key", str),
-    ("p", "detail"): ("detail", str),
-    ("t", "detail"): ("detail", str),
+#: The member that each parameter is, and what shows its value.
+_STATUS: Dict[str, Tuple[str, Callable[[Any], Any]]] = {
+    "hit": ("is_hit", _is_there),
+    "fwd": ("forwarded", str),
+    "fwd-status": ("forwarded_status", int),
+    "ttl": ("ttl", int),
+    "stored": ("is_stored", _is_there),
+    "collapsed": ("is_collapsed", _is_there),
+    "key": ("key", str),
+    "detail": ("detail", str),
 }
 _NO_STATUS: Dict[str, Any] = {it.name: it.default for it in fields(CacheStatus)}
 

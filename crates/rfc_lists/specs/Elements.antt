@@ -1,12 +1,13 @@
 -- Elements with parameters: of lists (RFC 9110, sections 5.6.1 and 5.6.6), and those that are a line each.
 use Rattle.std.specs.Prelude.{ℕ, Bool, true, false, not, ◌&&◌, ◌==◌, List, [], ◌∷◌, ◌++◌, length, nat_lt, Option, None}
-use Rattle.std.specs.{Prelude.{option_map, option_and_then, if◌then◌else◌}, List.{flat_map, list_any}}
+use Rattle.std.specs.{Prelude.{codes, is_some, option_map, option_and_then, if◌then◌else◌}, List.{flat_map, list_any}}
 use Rattle.{std.specs.Option.option_map_or, http_header.specs.Token.lowercase, headers_syntax.specs.AsciiCase.same_name}
 use Rattle.{headers_syntax.specs.{Lines.Line, Text.trim}, rfc_fields.specs.Directives.{DirectiveParts, directive_in}}
 use Rattle.rfc_fields.specs.{Members.{field_members, members_of}, Scan.{Member, Member.{Whole, Malformed}}}
-use Rattle.{rfc_fields.specs.Values.is_token, rfc_lists.specs.{Caches.{item_line, name_line}, Lines.between_semicolons}}
-use Rattle.rfc_lists.specs.Lines.{line, malformed_line, member_line, parameter_line, text_line, with_argument}
-use Rattle.rfc_lists.specs.declared.elements.Form.{Form, TheVariants.{Element, Disposition, Hop, Cache}}
+use Rattle.{rfc_fields.specs.Values.is_token, rfc_lists.specs.{Named.{named_line, with_name}, Caches.malformed_item}}
+use Rattle.rfc_lists.specs.{Caches.{name_line, status_lines}, Lines.{between_semicolons, line, malformed_line}}
+use Rattle.rfc_lists.specs.{Lines.{member_line, parameter_line, text_line, with_argument}, declared.elements.Form.Form}
+use Rattle.rfc_lists.specs.declared.elements.Form.TheVariants.{Element, Disposition, Hop, Cache}
 
 -- the type of a disposition, in lower case (RFC 6266, section 4.1)
 abbrev pub type_line : List ℕ → List ℕ
@@ -19,17 +20,30 @@ first_line Disposition text = type_line text
 first_line Hop text = text_line text
 first_line Cache text = name_line text
 
+-- a parameter with another name than that of a file
+abbrev pub is_other : Member → Bool
+is_other member =
+    not (is_some (with_name (codes "filename") member)) && not (is_some (with_name (codes "filename*") member))
+
 -- each parameter after it; blanks may be beside the `=` of a disposition's
 abbrev pub part_line : Form → Member → List ℕ
 part_line Element member = member_line member
-part_line Disposition member = parameter_line member
+part_line Disposition member = parameter_line (is_other member) member
 part_line Hop member = member_line member
-part_line Cache member = item_line member
+part_line Cache member = malformed_item member
+
+-- what the parameters mean: the name of a file, and what a cache did
+abbrev pub decided_lines : Form → List Member → List ℕ
+decided_lines Element members = []
+decided_lines Disposition members = named_line (codes "filename") (codes "filename*") members
+decided_lines Hop members = []
+decided_lines Cache members = status_lines members
 
 abbrev pub piece_lines : Form → List Member → List ℕ
 piece_lines form [] = malformed_line
 piece_lines form (Whole first ∷ others) =
     first_line form (trim first) ++ flat_map (part_line form) (members_of others)
+    ++ decided_lines form (members_of others)
 piece_lines form (Malformed ∷ others) = malformed_line
 
 -- ---- hops (RFC 7239, section 4): pairs, and each name once

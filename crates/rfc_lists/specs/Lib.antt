@@ -7,5 +7,6 @@ pub mod Extended
 pub mod Laws
 pub mod Lines
 pub mod Links
+pub mod Named
 pub mod Parameters
 pub mod SetCookies

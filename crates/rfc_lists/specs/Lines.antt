@@ -1,5 +1,5 @@
 -- Lines of text.
-use Rattle.std.specs.Prelude.{ℕ, true, false, List, [], ◌∷◌, ◌++◌, Option, None, Some, if◌then◌else◌, is_some}
+use Rattle.std.specs.Prelude.{ℕ, Bool, true, false, List, [], ◌∷◌, ◌++◌, Option, None, Some, if◌then◌else◌, is_some}
 use Rattle.{std.specs.Option.{option_and_then, option_map_or}, headers_syntax.specs.Text.trim}
 use Rattle.rfc_fields.specs.{Cuts.cut, Directives.{DirectiveParts, directive_in, equals}, Values.octets_of}
 use Rattle.rfc_fields.specs.{Grammar.semicolon, Members.pieces_left, Scan.{Member, Member.{Whole, Malformed}}}
@@ -46,7 +46,8 @@ abbrev pub between_semicolons : List ℕ → List Member
 between_semicolons text =
     pieces_left (record { separator = semicolon; pairs = true; rest = text; is_done = false })
 
--- a parameter, without the blanks beside its `=`
-abbrev pub parameter_line : Member → List ℕ
-parameter_line (Whole text) = option_map_or directive_line (directive_in (squeezed text)) (line 118 text)
-parameter_line Malformed = malformed_line
+-- a parameter, without the blanks beside its `=`, if it is to be shown, or a text that is none
+abbrev pub parameter_line : Bool → Member → List ℕ
+parameter_line shown (Whole text) =
+    option_map_or (λ d. if shown then directive_line d else []) (directive_in (squeezed text)) (line 118 text)
+parameter_line shown Malformed = malformed_line

@@ -1,12 +1,12 @@
 -- Links (RFC 8288, section 3): a target between angle brackets, and parameters.
 use Rattle.std.specs.Prelude.{ℕ, ◌+◌, Bool, true, false, ◌&&◌, ◌==◌, List, [], ◌∷◌, ◌++◌, length, take, drop, Option}
-use Rattle.std.specs.{Prelude.{Some, None, codes, nat_lt, option_and_then, if◌then◌else◌}, List.{flat_map, slice_split}}
-use Rattle.{std.specs.Option.{option_map_or, option_or}, http_header.specs.Token.lowercase}
-use Rattle.{headers_syntax.specs.{Lines.Line, Text.trim}, rfc_fields.specs.{Cuts.cut, Directives.DirectiveParts}}
-use Rattle.rfc_fields.specs.{Directives.{directive_in, is_named}, Values.octets_of, Grammar.{backslash, comma, quote}}
-use Rattle.rfc_fields.specs.{Grammar.space, Members.members_of, Scan.{Member, Member.{Whole, Malformed}}}
-use Rattle.rfc_lists.specs.Lines.{between_semicolons, line, malformed_line, parameter_line, squeezed}
-use Rattle.rfc_lists.specs.declared.links.Place.{Place, TheVariants.{Outside, Bracketed, Quoted, Escaped}}
+use Rattle.std.specs.{Prelude.{Some, None, codes, nat_lt, if◌then◌else◌}, List.{flat_map, slice_split}}
+use Rattle.{std.specs.Option.option_map_or, http_header.specs.Token.lowercase, headers_syntax.specs.Lines.Line}
+use Rattle.{headers_syntax.specs.Text.trim, rfc_fields.specs.{Cuts.cut, Grammar.{backslash, comma, quote, space}}}
+use Rattle.rfc_fields.specs.{Members.members_of, Scan.{Member, Member.{Whole, Malformed}}}
+use Rattle.rfc_lists.specs.{Lines.{between_semicolons, line, malformed_line, parameter_line}, Named.first_octets}
+use Rattle.rfc_lists.specs.{Named.named_line, declared.links.Place.{Place, TheVariants.{Outside, Bracketed, Quoted}}}
+use Rattle.rfc_lists.specs.declared.links.Place.TheVariants.{Escaped}
 
 -- where the byte after this one is
 abbrev pub after : Place → ℕ → Place
@@ -50,19 +50,6 @@ cut_link text =
 
 -- ---- relation types (section 3.3)
 
--- what the value of a parameter means, if that is a `rel`
-abbrev pub relations_by : DirectiveParts → Option (List ℕ)
-relations_by d = if is_named (codes "rel") d then Some (option_map_or octets_of d.argument []) else None
-
-abbrev pub relations_in : Member → Option (List ℕ)
-relations_in (Whole text) = option_and_then relations_by (directive_in (squeezed text))
-relations_in Malformed = None
-
--- that of the first `rel`: later ones are ignored
-unfoldable pub relations_of : List Member → Option (List ℕ)
-relations_of [] = None
-relations_of (member ∷ members) = option_or (relations_in member) (relations_of members)
-
 -- `l` and a relation type, whose case doesn't count
 abbrev pub relation_line : List ℕ → List ℕ
 relation_line text = if length text == 0 then [] else line 108 (lowercase text)
@@ -73,9 +60,11 @@ relation_lines text = flat_map relation_line (slice_split (λ b. b == space) tex
 
 -- ---- links
 
+-- each parameter, the relation types of the first `rel` (later ones are ignored), and the title (section 3.4.1)
 abbrev pub parameter_lines : List Member → List ℕ
 parameter_lines members =
-    flat_map parameter_line members ++ option_map_or relation_lines (relations_of members) []
+    flat_map (parameter_line true) members ++ option_map_or relation_lines (first_octets (codes "rel") members) []
+    ++ named_line (codes "title") (codes "title*") members
 
 -- what follows a target: nothing before the first semicolon, and parameters after it
 abbrev pub piece_lines : List Member → List ℕ

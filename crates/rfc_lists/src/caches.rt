@@ -1,11 +1,13 @@
 //! Names and parameters of `cache-status`.
 ghost use Rattle.std.specs.Prelude.{◌≡◌, ◌++◌, ◌∷◌, [], false, option_map, OnOk};
 ghost use Rattle.rfc_fields.specs.{Members.member_of, Values.octets_from};
-ghost use Rattle.rfc_lists.specs.Caches.{is_token_text, item_line, item_text, member_in, name_line};
-ghost use Rattle.rfc_lists.specs.Caches.{shown_name, value_line, written_in};
+ghost use Rattle.rfc_lists.specs.Caches.{detail_line, is_token_text, last_line, malformed_item, member_in};
+ghost use Rattle.rfc_lists.specs.Caches.{name_line, shown_name, status_lines, value_line, written_in};
+ghost use Rattle.rfc_lists.specs.Named.{parameters_in};
 ghost use Rattle.rfc_values.specs.{Values.{member_of as parts_of, value_of}};
 
 use crate::lines::{push_line, push_malformed, push_octets, push_valued};
+use crate::named::{Counts, named};
 use rfc_fields::{Malformed, Value, cut};
 use rfc_values::{ItemValue, Member, read_entry};
 use std::alloc::{AllocError, Global};
@@ -60,26 +62,30 @@ pub(crate) fn push_name(alloc: Global, text: &mut Vec<u8>, name: &[u8]) -> Resul
     }
 }
 
+// Appends the line of a value, if its type has this letter.
 fn push_value(
     text: &mut Vec<u8>,
+    letter: u8,
     key: &[u8],
     written: &[u8],
     value: &ItemValue<'_>,
 ) -> Result<(), AllocError>
-    ensures { OnOk result (text.new.items ≡ text.old.items ++ value_line key.now written.now (value_of value.now)) }
+    ensures { OnOk result (text.new.items
+        ≡ text.old.items ++ value_line letter key.now written.now (value_of value.now)) }
 {
     match *value {
-        ItemValue::Integer(digits) => push_valued(text, b'i', key, digits),
-        ItemValue::Boolean(true) => push_line(text, b'n', key),
-        ItemValue::Boolean(false) => push_line(text, b'f', key),
-        ItemValue::String(inside) => {
+        ItemValue::Integer(digits) if letter == b'i' => push_valued(text, b'i', key, digits),
+        ItemValue::Boolean(true) if letter == b'n' => push_line(text, b'n', key),
+        ItemValue::String(inside) if letter == b'p' => {
             text.push(b'p')?;
             text.extend_from_slice(key)?;
             text.push(b'=')?;
             push_string(text, inside)
         }
-        ItemValue::Other if is_token_text(written) => push_valued(text, b't', key, written),
-        ItemValue::Other => push_valued(text, b'o', key, written),
+        ItemValue::Other if letter == b't' && is_token_text(written) => {
+            push_valued(text, b't', key, written)
+        }
+        _ => Ok(()),
     }
 }
 
@@ -92,24 +98,49 @@ fn written_in(text: &[u8]) -> &[u8]
     }
 }
 
-fn push_item(text: &mut Vec<u8>, item: &[u8]) -> Result<(), AllocError>
-    ensures { OnOk result (text.new.items ≡ text.old.items ++ item_text item.now) }
+// Appends the line of the last parameter of a key, if its type has this letter.
+fn push_last(text: &mut Vec<u8>, letter: u8, key: &[u8], element: &[u8]) -> Result<(), AllocError>
+    ensures { OnOk result (text.new.items ≡ text.old.items ++ last_line letter key.now (parameters_in element.now)) }
 {
+    let Some(item) = named(Counts::Last, key, element) else {
+        return Ok(());
+    };
     match member_in(item) {
-        Some(found) => push_value(text, found.key, written_in(item), &found.value),
-        None => push_malformed(text),
+        Some(found) => push_value(text, letter, key, written_in(item), &found.value),
+        None => Ok(()),
     }
 }
 
-/// Appends the line of a parameter.
-pub(crate) fn push_parameter(
+/// Appends the lines of what a cache did.
+pub(crate) fn push_status(text: &mut Vec<u8>, element: &[u8]) -> Result<(), AllocError>
+    ensures { OnOk result (text.new.items ≡ text.old.items ++ status_lines (parameters_in element.now)) }
+{
+    push_last(text, b'n', b"hit", element)?;
+    push_last(text, b't', b"fwd", element)?;
+    push_last(text, b'i', b"fwd-status", element)?;
+    push_last(text, b'i', b"ttl", element)?;
+    push_last(text, b'n', b"stored", element)?;
+    push_last(text, b'n', b"collapsed", element)?;
+    push_last(text, b'p', b"key", element)?;
+    push_detail(text, element)
+}
+
+fn push_detail(text: &mut Vec<u8>, element: &[u8]) -> Result<(), AllocError>
+    ensures { OnOk result (text.new.items ≡ text.old.items ++ detail_line (parameters_in element.now)) }
+{
+    push_last(text, b'p', b"detail", element)?;
+    push_last(text, b't', b"detail", element)
+}
+
+/// Appends the line of a parameter that isn't by the grammar.
+pub(crate) fn push_malformed_item(
     text: &mut Vec<u8>,
     parameter: Result<&[u8], Malformed>,
 ) -> Result<(), AllocError>
-    ensures { OnOk result (text.new.items ≡ text.old.items ++ item_line (member_of parameter.entry)) }
+    ensures { OnOk result (text.new.items ≡ text.old.items ++ malformed_item (member_of parameter.entry)) }
 {
     match parameter {
-        Ok(item) => push_item(text, item),
-        Err(Malformed) => push_malformed(text),
+        Ok(item) if member_in(item).is_some() => Ok(()),
+        _ => push_malformed(text),
     }
 }

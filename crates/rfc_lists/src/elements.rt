@@ -3,13 +3,15 @@ ghost use Rattle.std.specs.Prelude.{◌≡◌, ◌++◌, ◌∷◌, [], ◌&&◌
 ghost use Rattle.std.specs.List.{list_any};
 ghost use Rattle.headers_syntax.specs.{AsciiCase.same_name, Lines.lines_of};
 ghost use Rattle.rfc_fields.specs.{Members.member_of, Scan.Member};
-ghost use Rattle.rfc_lists.specs.Elements.{are_pairs, element_text, elements_text, first_line, is_hop, is_new};
+ghost use Rattle.rfc_lists.specs.Elements.{are_pairs, element_text, elements_text, first_line};
+ghost use Rattle.rfc_lists.specs.Elements.{is_hop, is_new, is_other};
 ghost use Rattle.rfc_lists.specs.Elements.{pair_name, part_line, parts_text, shown_element, type_line, values_text};
 ghost use Rattle.rfc_lists.specs.Elements.{with_first};
 
 use crate::attributes::push_lowercase;
 use crate::caches;
 use crate::lines::{push_malformed, push_member, push_spaced_member, push_text};
+use crate::named::{push_named, with_name};
 use http_header::{GetAll, HeaderValue};
 use rfc_fields::{FieldMembers, Malformed, Parameterized, directive_in, is_token};
 use std::alloc::{AllocError, Global};
@@ -29,7 +31,8 @@ pub enum Form {
 
 /// Returns the elements of all field lines in order (RFC 9110, sections 5.6.1 and 5.6.6): for each the line of what is
 /// before its first semicolon, that of each parameter after it, and an empty line. A hop is malformed unless it has
-/// pairs alone, each name once, in any case, and 100 pairs at most. Fails only if an allocation fails.
+/// pairs alone, each name once, in any case, and 100 pairs at most. A cache has only parameters that RFC 9211, section
+/// 2, defines, each once and with its type. Fails only if an allocation fails.
 pub fn elements_text(
     alloc: Global,
     form: Form,
@@ -44,8 +47,8 @@ pub fn elements_text(
     Ok(text)
 }
 
-/// Returns the values of all field lines in order, each as an element: a comma separates nothing. Fails only if an
-/// allocation fails.
+/// Returns the values of all field lines in order, each as an element: a comma separates nothing. A disposition has the
+/// name of its file behind its other parameters (RFC 6266, section 4.3). Fails only if an allocation fails.
 pub fn values_text(
     alloc: Global,
     form: Form,
@@ -108,7 +111,11 @@ fn push_parts(
     for parameter in parts.parameters {
         push_part(alloc, form, text, parameter)?;
     }
-    Ok(())
+    match form {
+        Form::Element | Form::Hop => Ok(()),
+        Form::Disposition => push_named(alloc, text, b"filename", b"filename*", element),
+        Form::Cache => caches::push_status(text, element),
+    }
 }
 
 fn push_first(alloc: Global, form: Form, text: &mut Vec<u8>, first: &[u8]) -> Result<(), AllocError>
@@ -143,9 +150,16 @@ fn push_part(
 {
     match form {
         Form::Element | Form::Hop => push_member(text, parameter),
-        Form::Disposition => push_spaced_member(alloc, text, parameter),
-        Form::Cache => caches::push_parameter(text, parameter),
+        Form::Disposition => push_spaced_member(alloc, text, is_other(parameter), parameter),
+        Form::Cache => caches::push_malformed_item(text, parameter),
     }
+}
+
+// Whether a parameter has another name than that of a file.
+fn is_other(parameter: Result<&[u8], Malformed>) -> bool
+    ensures { result ≡ is_other (member_of parameter.entry) }
+{
+    with_name(b"filename", parameter).is_none() && with_name(b"filename*", parameter).is_none()
 }
 
 // Whether an element has pairs alone, each name once.

@@ -5,6 +5,7 @@
 //! - `v`: a text.
 //! - `n`: a name without a value.
 //! - `p`: a name, `=`, and the octets that its value means.
+//! - `e`, `o`: the text of the name of a file, or of a title: an extended value (RFC 8187), or octets.
 //! - `s`: the scheme of a challenge. `k`: the token68 that may follow it.
 //! - `r`: what browsers reject a cookie by.
 //! - `!`, without a text: what is here is malformed.
@@ -21,6 +22,7 @@ mod extended;
 pub mod laws;
 mod lines;
 mod links;
+mod named;
 mod parameters;
 mod set_cookies;
 

@@ -100,7 +100,8 @@ pub(crate) fn squeezed(alloc: Global, piece: &[u8]) -> Result<Vec<u8>, AllocErro
     let Some((name, value)) = cut(b'=', piece) else {
         return Vec::from_slice(alloc, piece);
     };
-    let mut text = Vec::from_slice(alloc, trim(name))?;
+    let mut text = Vec::with_capacity(alloc, piece.len())?;
+    text.extend_from_slice(trim(name))?;
     text.push(b'=')?;
     text.extend_from_slice(trim(value))?;
     Ok(text)
@@ -125,20 +126,23 @@ pub(crate) fn push_parameter(
     }
 }
 
-/// Appends the line of a parameter, which may have blanks beside its `=`.
+/// Appends the line of a parameter, which may have blanks beside its `=`, if it is to be shown, or of a text that is
+/// none.
 pub(crate) fn push_spaced_member(
     alloc: Global,
     text: &mut Vec<u8>,
+    shown: bool,
     parameter: Result<&[u8], Malformed>,
 ) -> Result<(), AllocError>
-    ensures { OnOk result (text.new.items ≡ text.old.items ++ parameter_line (member_of parameter.entry)) }
+    ensures { OnOk result (text.new.items ≡ text.old.items ++ parameter_line shown (member_of parameter.entry)) }
 {
     let Ok(piece) = parameter else {
         return push_malformed(text);
     };
     let plain = squeezed(alloc, piece)?;
     match directive_in(plain.as_slice()) {
-        Some(directive) => push_directive(text, &directive),
+        Some(directive) if shown => push_directive(text, &directive),
+        Some(_) => Ok(()),
         None => push_line(text, b'v', piece),
     }
 }

@@ -1,16 +1,16 @@
 //! Links.
 ghost use Rattle.std.specs.Prelude.{◌≡◌, ◌≤◌, ◌++◌, length, option_map, IfOk, OnOk};
 ghost use Rattle.headers_syntax.specs.Lines.{lines_of};
-ghost use Rattle.rfc_fields.specs.Members.{member_of};
 ghost use Rattle.rfc_lists.specs.declared.links.Place.TheVariants.{Outside};
 ghost use Rattle.rfc_lists.specs.Links.{after, cut_link, link_len, link_text, line_text, links_text};
-ghost use Rattle.rfc_lists.specs.Links.{parameters_text, relation_line, relation_lines, relations_in, separates};
+ghost use Rattle.rfc_lists.specs.Links.{parameters_text, relation_line, relation_lines, separates};
 
 use crate::attributes::push_lowercase;
-use crate::lines::{push_line, push_malformed, push_spaced_member, squeezed};
+use crate::lines::{push_line, push_malformed, push_spaced_member};
+use crate::named::{first_octets, push_named};
 use headers_syntax::trim;
 use http_header::{GetAll, HeaderValue};
-use rfc_fields::{Malformed, Parameterized, cut, directive_in};
+use rfc_fields::{Parameterized, cut};
 use std::alloc::{AllocError, Global};
 
 /// Where a byte of a line is.
@@ -28,7 +28,7 @@ pub(crate) enum Place {
 
 /// Returns the links of all field lines in order (RFC 8288, section 3), as of `link`: for each the line of its
 /// target, as it is in the field line, that of each parameter, `l` and each relation type of the first `rel` in lower
-/// case (section 3.3), and an empty line. Fails only if an allocation fails.
+/// case (section 3.3), its title (section 3.4.1), and an empty line. Fails only if an allocation fails.
 pub fn links_text(alloc: Global, field: &GetAll<'_, HeaderValue>) -> Result<Vec<u8>, AllocError>
     ensures { IfOk result (λ text. text.items ≡ links_text (lines_of field.now)) }
 {
@@ -118,7 +118,6 @@ fn push_link(alloc: Global, text: &mut Vec<u8>, link: &[u8]) -> Result<(), Alloc
 }
 
 // Appends the lines of what follows a target.
-#[tactic(auto, unfolding(crate::specs::Links::relations_of))]
 fn push_parameters(alloc: Global, text: &mut Vec<u8>, rest: &[u8]) -> Result<(), AllocError>
     ensures { OnOk result (text.new.items ≡ text.old.items ++ parameters_text rest.now) }
 {
@@ -126,43 +125,13 @@ fn push_parameters(alloc: Global, text: &mut Vec<u8>, rest: &[u8]) -> Result<(),
         Ok(parts) if parts.value.is_empty() => parts,
         _ => return push_malformed(text),
     };
-    let mut relations = None;
     for parameter in parts.parameters {
-        push_spaced_member(alloc, text, parameter)?;
-        if relations.is_none() {
-            relations = relations_in(alloc, parameter)?;
-        }
+        push_spaced_member(alloc, text, true, parameter)?;
     }
-    match relations {
-        Some(relations) => push_relations(text, relations.as_slice()),
-        None => Ok(()),
+    if let Some(relations) = first_octets(alloc, b"rel", rest)? {
+        push_relations(text, relations.as_slice())?;
     }
-}
-
-// What the value of a parameter means, if that is a `rel`.
-fn relations_in(
-    alloc: Global,
-    parameter: Result<&[u8], Malformed>,
-) -> Result<Option<Vec<u8>>, AllocError>
-    ensures { IfOk result (λ found. option_map (λ text. text.items) found ≡ relations_in (member_of parameter.entry)) }
-{
-    let Ok(piece) = parameter else {
-        return Ok(None);
-    };
-    let plain = squeezed(alloc, piece)?;
-    let Some(directive) = directive_in(plain.as_slice()) else {
-        return Ok(None);
-    };
-    if !directive.is(b"rel") {
-        return Ok(None);
-    }
-    let mut text = Vec::new(alloc);
-    if let Some(value) = directive.argument {
-        for octet in value.octets() {
-            text.push(octet)?;
-        }
-    }
-    Ok(Some(text))
+    push_named(alloc, text, b"title", b"title*", rest)
 }
 
 fn push_relations(text: &mut Vec<u8>, relations: &[u8]) -> Result<(), AllocError>

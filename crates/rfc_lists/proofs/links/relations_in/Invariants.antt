@@ -1,5 +1,0 @@
-use Rattle.{std.proofs.Common.{◌≡◌, ◌++◌}, rfc_fields.specs.Values.octets_left}
-use Rattle.rfc_lists.proofs.links.relations_in.Given as goal
-
-abbrev pub invariant-loop-octet : goal.invariant-loop-octet
-invariant-loop-octet l = octets_left l.initial.octet-iterator ≡ l.text.items ++ octets_left l.octet-iterator
