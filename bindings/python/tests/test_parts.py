@@ -64,6 +64,10 @@ class Parts(unittest.TestCase):
             ("attachment; filename=\"EURO rates\"; filename*=utf-8'en'%e2%82%ac%20rates", "attachment", "€ rates"),
             ("attachment; filename*=iso-8859-1'en'%A3%20rates", "attachment", "£ rates"),
             ("attachment; filename=a; filename*=UTF-8''%ff", "attachment", "a"),
+            ("attachment; filename*=UTF-8''%ff; filename=a", "attachment", "a"),
+            ("attachment; filename=a; FILENAME*=UTF-8''b", "attachment", "b"),
+            ("attachment; filename*=UTF-8''a; filename*=UTF-8''b", "attachment", "a"),
+            ("attachment; filename*=a; filename*=UTF-8''b", "attachment", None),
             ("attachment; filename*=UTF-8%ff", "attachment", None),
             ("attachment; filename=a; filename*=UTF-8''%e2%8", "attachment", "a"),
             ("attachment; filename=a; filename*=UTF-8'en_US'b", "attachment", "a"),
@@ -147,6 +151,8 @@ class Parts(unittest.TestCase):
         with self.assertRaises(HeaderError):
             Link("/a>b")
         # RFC 8288, section 3.3: the first `rel` counts, and relation types are between spaces.
+        titled, = Link.parse_all("</a>; title*=UTF-8''%ff; title=b; TITLE*=UTF-8''c; title=d")
+        self.assertEqual((titled.title, Link("/a").title), ("b", None))
         several, none = Link.parse_all('</a>; REL="Next  x\xa0y"; rel=prev, </b>; title=c')
         self.assertEqual((several.relations, none.relations), (["next", "x\xa0y"], []))
 
@@ -183,7 +189,8 @@ class Parts(unittest.TestCase):
         for value in (status, origin, company):
             self.assert_same(value, lambda text: CacheStatus.parse_all(text)[0])
         # A parameter counts by its type, and of two of a name the last counts.
-        for text in ("hit=?0", "hit=1", 'hit="a"', "hit; hit=?0", 'ttl="1"', "key=a", "fwd=1", "x=y"):
+        ignored = ("hit=?0", "hit=1", 'hit="a"', "hit; hit=?0", 'ttl="1"', 'ttl=1; ttl="2"', "key=a", "fwd=1", "x=y")
+        for text in ignored:
             self.assertEqual(CacheStatus.parse_all(f"A; {text}"), [CacheStatus("A")], text)
         self.assertEqual(CacheStatus.parse_all("A; hit=?1; ttl=1; ttl=2"), [CacheStatus("A", True, ttl=2)])
         for text in ("1; hit", "a b", "A; Hit", "A; ttl=1234567890123456", 'A; key="b', "?1"):
