@@ -8,6 +8,7 @@ mod NameLemmas
 mod ResponseLemmas
 mod ServerLemmas
 mod ServingLemmas
+mod SharingLemmas
 mod StoreLemmas
 mod SuitLemmas
 mod WayLemmas

@@ -1,5 +1,5 @@
 -- Which version a request names, and which one is there.
-use Rattle.std.proofs.Common.{◌≡◌, ◌⊎◌, ℕ, ◌<◌, Bool, true, false, List, [], ◌∷◌, length, Option, Some, None, refl, sym}
+use Rattle.std.proofs.Common.{◌≡◌, ℕ, ◌<◌, Bool, true, false, List, [], ◌∷◌, length, Option, Some, None, refl, sym}
 use Rattle.std.proofs.{Common.{ap, subst, ◌∙◌, arith, inl, inr, bytes_eq}, lemmas.Bool.{and_parts, both_ways, or_cases}}
 use Rattle.std.{proofs.lemmas.Slice.Eq.bytes_eq-Decides, specs.{Prelude.{◌&&◌, ◌||◌, codes}, List.list_any}}
 use Rattle.{http_header.specs.FieldValue.FieldValue, headers.specs.EntityTag.{AreTags, StronglyEqual, tag_text}}

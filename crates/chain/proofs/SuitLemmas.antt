@@ -35,7 +35,7 @@ module _ (r s : LineMap) where
             (sym (ap (λ (b : Bool). b || list_any (is_same_token name) ms) f) ∙ e)
       ]
 
-  no_star : (ms : List Member) → All (Agree r s) ms → list_any (is_same_token (codes "*")) ms ≡ true → ⊥
+  pub no_star : (ms : List Member) → All (Agree r s) ms → list_any (is_same_token (codes "*")) ms ≡ true → ⊥
   no_star [] all e = cc e
   no_star (Malformed ∷ ms) all e = All-head (Agree r s) Malformed ms all
   no_star (Whole text ∷ ms) all e =

@@ -5,4 +5,5 @@ pub mod Naming
 pub mod Responses
 pub mod Servers
 pub mod Serving
+pub mod Sharing
 pub mod Ways

@@ -5,6 +5,7 @@
 
 mod cache;
 pub mod laws;
+pub mod sharing;
 pub mod updating;
 
 pub use crate::cache::{Action, ArrivedResponse, Pending, answer_from_store, take_response};

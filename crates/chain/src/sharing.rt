@@ -1,0 +1,101 @@
+//! What a shared store stores, selects, serves and freshens, caches of `interference` do. A proof cites a law by
+//! calling it.
+ghost use Rattle.std.specs.Prelude.{◌≡◌, ◌⊎◌, ◌++◌, ◌∷◌, [], ℕ, List, Some, codes, length, true};
+ghost use Rattle.{std.specs.List.list_any, headers.specs.LineMap.{Field, LineMap}};
+ghost use Rattle.rfc_fields.specs.Directives.{is_same_token};
+ghost use Rattle.cache_policy.specs.{Policies.{MayStoreUnder, Policy}, Requests.Request, Varying.Suits};
+ghost use Rattle.cache_policy.specs.{Updating.{HasStrongTag, IsUpdated, tag_in}, declared.Kind.TheVariants.Shared};
+ghost use Rattle.cache_rules.specs.{Freshening.{IsFreshened, IsReusable}, Selection.IsCandidate};
+ghost use Rattle.cache_rules.specs.Stored.{fields_of_stored, request_of_stored};
+ghost use Rattle.cache_rules.specs.declared.{freshening.Exchange.Exchange, stored.StoredResponse.StoredResponse};
+ghost use Rattle.cache_store.specs.{Contents.{Contents, responses_at}, History.{HasUnder, History, Run}};
+ghost use Rattle.cache_store.specs.{Lookups.IsAnswer, Numbers.numbered, Served.Serves, declared.limits.Limits.Limits};
+ghost use Rattle.{cache_store.specs.declared.lookup.Lookup.Lookup, interference.specs.Events.{happens, message_at}};
+ghost use Rattle.interference.specs.Events.{pass_at, run_from, with_number, with_stored, Event.{Begins, Freshens}};
+ghost use Rattle.interference.specs.{Events.Event.{Looks, Replies, Stores}, Worlds.{Asked, Clients, Dated}};
+ghost use Rattle.interference.specs.Worlds.{Doing.{Completes, Gives}, Head, Hop, Origin};
+ghost use Rattle.interference.specs.Worlds.{Message.{Coming, Going}, Pass.At, Place, Reply.Whole as Full};
+ghost use Rattle.interference.specs.Worlds.{Stored, World, is_fresh, matches, may_store};
+ghost use Rattle.chain.specs.Sharing.{IsOf, right, sent, storing_of, tag_of, updated, varies};
+
+use cache_store::laws::{lookups_serve_what_calls_justify, what_is_stored_may_be_stored};
+
+/// Theorem: each response to GET that a shared cache may store, `interference` lets it store for that
+/// request, unless no request selects the response. So it isn't `private`, nor `no-store` without
+/// `must-understand`. If the request has Authorization, a directive lets others get the response (RFC
+/// 9111, section 3.5). An event stores each such response that is stored after any calls, if a pass
+/// gives it.
+pub fn what_is_stored_may_be_shared()
+    ensures allowed { (policy : Policy) (request : Request) (status : ℕ) (response : LineMap) (target : ℕ)
+        (head : Head) → policy.kind ≡ Shared → request.method ≡ codes "GET"
+        → MayStoreUnder policy request status response → head.storing ≡ storing_of policy response
+        → (may_store (sent target request) head ≡ true)
+        ⊎ ((other : Request) → ¬ (Suits request other response)) }
+    ensures event { (policy : Policy) (limits : Limits) (calls : History) (contents : Contents)
+        → Run policy limits calls contents → policy.kind ≡ Shared → (key : List ℕ) (stored : StoredResponse)
+        → HasUnder contents key stored → stored.method ≡ codes "GET"
+        → (origin : Origin) (clients : Clients) (world : World) (pass target : ℕ) (place : Place) (given : Dated)
+        → pass_at world pass ≡ At place (Gives given) → IsOf policy target stored place.asked.request given
+        → ((happens (right origin clients) world (Stores pass)).nodes place.cache
+        ≡ with_stored place.asked.request given (world.nodes place.cache))
+        ⊎ ((other : Request) → ¬ (IsCandidate other stored)) }
+{
+    what_is_stored_may_be_stored();
+}
+
+/// Theorem: if a request selects a stored response by method and Vary (RFC 9111, sections 4 and 4.1), and
+/// a shared cache may store that, it matches the request in `interference`, too. No request selects one
+/// with `*` in Vary.
+pub fn what_is_selected_matches()
+    ensures matching { (policy : Policy) (request : Request) (stored : StoredResponse) (target : ℕ) (head : Head)
+        → policy.kind ≡ Shared
+        → MayStoreUnder policy (request_of_stored stored) stored.status (fields_of_stored stored)
+        → IsCandidate request stored → head.storing ≡ storing_of policy (fields_of_stored stored)
+        → matches head (sent target (request_of_stored stored)) (sent target request) ≡ true }
+    ensures star { (request : Request) (stored : StoredResponse)
+        → list_any (is_same_token (codes "*")) (varies (fields_of_stored stored)) ≡ true
+        → ¬ (IsCandidate request stored) }
+{}
+
+/// Theorem: if a lookup in a shared store serves a response to a GET, after any calls, a cache of
+/// `interference` that has stored the same serves it in two events, if it is fresh there. A pass begins,
+/// which remembers it by its number, and replies with it.
+pub fn what_is_served_is_sent()
+    ensures { (policy : Policy) (limits : Limits) (calls : History) (contents : Contents)
+        → Run policy limits calls contents → policy.kind ≡ Shared
+        → (key : List ℕ) (most : ℕ) (request : Request) (now : ℕ) (lookup : Lookup)
+        → IsAnswer policy most request now (responses_at key contents) lookup → (number : ℕ) (age : Field)
+        → Serves lookup number age → (stored : StoredResponse)
+        → numbered number (responses_at key contents) ≡ Some stored → request.method ≡ codes "GET"
+        → (origin : Origin) (clients : Clients) (world : World) (message cache which target : ℕ) (passed : List Hop)
+        (asked : Asked) (one : Stored)
+        → message_at world message ≡ Going passed asked → asked.request ≡ sent target request
+        → with_number which (world.nodes cache).stored ≡ Some one → IsOf policy target stored one.request one.given
+        → is_fresh world.now one.given ≡ true
+        → (run_from (right origin clients) (Begins message cache which ∷ Replies (length world.passes) true ∷ [])
+        world).messages ≡ world.messages ++ Coming passed asked (Full one.given) ∷ [] }
+{
+    lookups_serve_what_calls_justify();
+    what_is_stored_may_be_stored();
+}
+
+/// Theorem: if a 304 with a strong tag to a GET updates a stored response to GET, and a shared cache may
+/// reuse that then, it had this tag. A cache of `interference` that has stored the same freshens it in two
+/// events, if the 304 says there what the updated response says. A pass looks up what it remembers, and
+/// stores that under a new number, for the request that it answered first.
+pub fn what_is_freshened_is_stored_anew()
+    ensures { (policy : Policy) (request : Request) (update : LineMap) (exchange : Exchange)
+        (old new : StoredResponse) → policy.kind ≡ Shared → request.method ≡ codes "GET"
+        → old.method ≡ codes "GET" → HasStrongTag update → IsUpdated (fields_of_stored old) update
+        → IsFreshened old update exchange new → IsReusable policy (fields_of_stored old) request update new
+        → (origin : Origin) (clients : Clients) (world : World) (pass target version date : ℕ) (place : Place)
+        (head : Head) (one : Stored)
+        → pass_at world pass ≡ At place (Completes version date head) → place.asked.request ≡ sent target request
+        → with_number place.which (world.nodes place.cache).stored ≡ Some one
+        → IsOf policy target old one.request one.given
+        → head.storing ≡ storing_of policy (fields_of_stored new) → head.etag ≡ tag_of update
+        → (tag_in (fields_of_stored old) ≡ tag_in update)
+        × IsOf policy target new one.request (updated version date head one)
+        × ((run_from (right origin clients) (Looks pass ∷ Freshens (length world.passes) place.which ∷ []) world).nodes
+        place.cache ≡ with_stored one.request (updated version date head one) (world.nodes place.cache)) }
+{}
