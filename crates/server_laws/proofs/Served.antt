@@ -4,8 +4,6 @@ unfoldable pub use Tags.*
 
 -- ==== The request that a literal text is.
 
--- ---- the target
-
 root_text : IsUriText (codes "/") None None (codes "/")
 root_text = (
   omega arith,
@@ -15,8 +13,6 @@ root_text = (
 root_form : (scheme authority : Option (List ℕ)) (kept : List ℕ) → IsForm (codes "/") scheme authority kept
     → (scheme ≡ None) × (authority ≡ None) × (kept ≡ codes "/")
 root_form scheme authority kept h = grind (arith, scheme, authority, cut_first)
-
--- ---- the message
 
 abbrev pub message_with : List ℕ → Message.Request
 message_with method = record { head = root_head method; body = whole_body [] [] }
@@ -42,9 +38,7 @@ module _ (method : List ℕ) (verb : IsVerb method) where
   verb_reads : (limits : Limits) → length (print_request (root_head method)) ≤ limits.max_head_len
       → ReadsRequestMessage limits (request_text method) (message_with method) []
   unfolding known_fields eq_ignore_case
-  verb_reads limits room =
-      let framed = verb.unframed in
-      record { framing = NoBody; after_head = []; head = grind arith; body = grind arith }
+  verb_reads limits room = grind arith
 
   -- no other request is
   one_message : (limits : Limits) (m : Message.Request) (rest : List ℕ)
@@ -53,8 +47,7 @@ module _ (method : List ℕ) (verb : IsVerb method) where
       let head =
       request_unique (request_text method) m.head (root_head method) h.after_head [] h.head.reads verb.reads in
       let room = h.head.strict.0 in
-      request_message_unique limits (request_text method) m (message_with method) rest [] h
-      (verb_reads limits (grind arith))
+      request_message_unique limits (request_text method) m (message_with method) rest [] h (verb_reads _ (grind arith))
 
   -- the request that a handler is given
   pub asked_by : (config : Config) (m : Message.Request) (r : Request (List ℕ)) (rest : List ℕ)
@@ -75,8 +68,6 @@ get_reads = verb_reads (codes "GET") get_verb
 
 -- ==== The response to a GET of the root.
 
--- ---- a 200
-
 full_by : (plan : Plan) → status_of plan ≡ 200 → plan ≡ Full
 full_by plan is = grind (arith, plan)
 
@@ -94,16 +85,11 @@ whole_sent : (present : ℕ) (file : File) (method : List ℕ) (fields : LineMap
     (status : Option ℕ) (sends : Sends) (own : List Field) (response : Option Planning)
     → IsAnswered present method fields (current_of present file) (file_content file) boundary response
     → IsGetOrHead method → status ≡ status_sent response → (absent : ℕ) → status_for absent Admitted status ≡ 200
-    → sends ≡ is_sent (Some 0) response
-    → own ≡ response_fields fields (Some (representation_of present file)) response
-    → (sends ≡ Planned (Some 0) Full)
-    × (own
-    ≡ metadata_fields true (representation_of present file)
+    → sends ≡ is_sent (Some 0) response → own ≡ response_fields fields (Some (representation_of present file)) response
+    → (sends ≡ Planned (Some 0) Full) × (own ≡ metadata_fields true (representation_of present file)
     ++ fields_sent present Full (is_known_by fields) (current_of present file) (file_content file) boundary)
 whole_sent present file method fields boundary status sends own response h read is absent ok sent has =
     grind (arith, response, full_by)
-
--- ---- the file
 
 -- what was found is that file
 record HasFile (file : File) (found : State) (absent : ℕ) (all : List File) : Type 0 where
@@ -113,16 +99,13 @@ record HasFile (file : File) (found : State) (absent : ℕ) (all : List File) : 
 
 file_found : (store : Memory) (negotiates : Bool) (uri : Uri) (named : List ℕ) (entry : Entry) (found : _)
     → negotiates ≡ false → named ≡ string_bytes store.path → HasOne store named entry
-    → FindsEntry negotiates (HasOne store) uri named entry found
-    → (file : File) × HasOne store named (Readable file)
+    → FindsEntry negotiates (HasOne store) uri named entry found → (file : File) × HasOne store named (Readable file)
     × HasFile file found.state found.status found.files.items
 file_found store negotiates uri named entry found off same has finds = grind (arith, entry)
 
 index_named : IsStorePath (codes "/") (codes "index.html")
 unfolding percent_decode
 index_named = record { rooted = refl; utf8 = ([], (refl, refl)); is_named = refl; plain = refl }
-
--- ---- what is asked
 
 abbrev host_map : Entries FieldValue
 host_map = (codes "host", record { bytes = codes "a.example"; is_sensitive = false } ∷ []) ∷ []
@@ -132,10 +115,7 @@ unfolding is_reg_name
 host_valid protocol = grind (arith, protocol)
 
 asks_for_all : (negotiates : Bool) (m : Entries FieldValue) → m ≡ host_map → AsksForAll negotiates (lines_at m)
-asks_for_all negotiates m is =
-    rw is assumption
-
--- ---- the response
+asks_for_all negotiates m is = rw is assumption
 
 module _ {now : Option ℕ} {left : ℕ} {settings : Settings} {site : Site} {request : Request (List ℕ)}
     {response : Response} {source : Option Source} (store : Memory) (of : IsSiteOf settings site)
@@ -153,42 +133,33 @@ module _ {now : Option ℕ} {left : ℕ} {settings : Settings} {site : Site} {re
 
     there : (file : File) × HasOne store (codes "index.html") (Readable file)
         × HasFile file x.found.state x.found.status x.found.files.items
-    there =
-        elim x.leads [
-          | inl h ↦
-              let same : h.0 ≡ codes "index.html" = h.1.is_named ∙ sym names_index.is_named in
-              let file =
-              file_found store site.resource.negotiation.coding (head_of request).uri h.0 h.2.0 x.found negotiates
-              (same ∙ sym index) h.2.1 h.2.2 in
-              (file.0, subst (λ (p : List ℕ). HasOne store p (Readable file.0)) same file.1, file.2)
-          | inr h ↦ absurd (h.0 (codes "index.html") names_index)
-        ]
+    there = elim x.leads [
+      | inl h ↦
+          let same : h.0 ≡ codes "index.html" = h.1.is_named ∙ sym names_index.is_named in
+          let file = file_found store site.resource.negotiation.coding (head_of request).uri h.0 h.2.0 x.found
+          negotiates (same ∙ sym index) h.2.1 h.2.2 in
+          (file.0, subst (λ (p : List ℕ). HasOne store p (Readable file.0)) same file.1, file.2)
+      | inr h ↦ absurd (h.0 (codes "index.html") names_index)
+    ]
 
     abbrev file : File
     file = there.0
 
-    abbrev Look : List ℕ → Entry → Type 0
-    Look path entry = entry ≡ Readable file
-
-    looked : IsAnswerAt now left site Look request response source
+    looked : IsAnswerAt now left site (λ path entry. entry ≡ Readable file) request response source
     looked =
         let e = there in
         let off = negotiates in
-        answered_as x (inl (codes "index.html", names_index, (Readable file, refl, grind arith))) x.asked x.asks
-        x.decides
+        answered_as x (inl (codes "index.html", names_index, (Readable file, refl, grind arith))) _ x.asks x.decides
 
     fields_at : (name : List ℕ) (lines : List Line) → lines_at host_map name ≡ lines → x.asked.fields name ≡ lines
     fields_at name lines is = rw (x.asks.2.fields, asks.headers) is
 
     all_sent : (response.status ≡ 200) × SendsContent file response source
     all_sent =
-        get_whole now left site (string_bytes site.divider) (λ _. Readable file) request (codes "index.html") file
-        response source x.asked of.is_site x.asks
-        (ap (has_host x.asked.protocol) (fields_at (codes "host") (codes "a.example" ∷ []) refl)
-        ∙ host_valid x.asked.protocol)
-        (rw (of.hosts ∙ ap (λ l. hosts_in l settings.hosts) bare.hosts))
-        (ap has_known_expectation (fields_at (codes "expect") [] refl)) asks.method names_index refl
-        (asks_for_all site.resource.negotiation.coding (head_of request).headers asks.headers) looked
+        get_whole _ _ _ _ _ _ _ _ _ _ _ of.is_site x.asks (ap (has_host x.asked.protocol) (fields_at (codes "host")
+        (codes "a.example" ∷ []) refl) ∙ host_valid x.asked.protocol) (rw (of.hosts ∙ ap (λ l. hosts_in l
+        settings.hosts) bare.hosts)) (ap has_known_expectation (fields_at (codes "expect") [] refl)) asks.method
+        names_index refl (asks_for_all site.resource.negotiation.coding (head_of request).headers asks.headers) looked
 
     abbrev asked : Asked
     asked = (answered x).0
@@ -197,11 +168,7 @@ module _ {now : Option ℕ} {left : ℕ} {settings : Settings} {site : Site} {re
     h = (answered x).4
 
     admitted : x.answer.reason ≡ Admitted
-    admitted =
-        ok_admitted (present x) (resource x) asked x.answer.reason x.answer.status x.answer.sends h.own there.2.state
-        (answered x).2 h.first.is h.gives
-        (ap (λ (n : ℕ). status_for n x.answer.reason x.answer.status) (sym there.2.status) ∙ sym x.carries.status
-        ∙ all_sent.0)
+    admitted = grind (arith, ok_admitted, there, answered, all_sent)
 
     goes : GoesOn (present x) (resource x) asked (Some 0) (Some (representation_of (present x) file)) x.answer.status
         x.answer.sends h.own
@@ -214,11 +181,10 @@ module _ {now : Option ℕ} {left : ℕ} {settings : Settings} {site : Site} {re
     pub get_root : (file : File) × HasOne store (codes "index.html") (Readable file)
         × IsWhole now left site file response source × SendsContent file response source
     get_root =
-        let full =
-        whole_sent (present x) file asked.method asked.fields site.resource.boundary x.answer.status x.answer.sends
-        h.own
-        goes.response goes.answered ((answered x).3 (inl (x.asks.2.method ∙ asks.method))) goes.has_status
-        x.found.status (rw admitted at (sym x.carries.status ∙ all_sent.0)) goes.sends goes.has_fields in
+        let full = whole_sent (present x) file asked.method asked.fields site.resource.boundary x.answer.status
+        x.answer.sends h.own goes.response goes.answered ((answered x).3 (inl (x.asks.2.method ∙ asks.method)))
+        goes.has_status x.found.status (rw admitted at (sym x.carries.status ∙ all_sent.0)) goes.sends goes.has_fields
+        in
         let alone : h.shared ≡ [] = simp cors at h.is_shared in
         let vary : vary_fields (vary_lines (resource x) x.answer.reason) ≡ [] =
         rw admitted (simp (of.is_site.media_type, of.is_site.language, negotiates)) in
@@ -231,10 +197,8 @@ module _ {now : Option ℕ} {left : ℕ} {settings : Settings} {site : Site} {re
           record {
             status = all_sent.0;
             fields = x.carries.headers ∙ simp (full.0, append-nil, shown);
-            pieces =
-                x.carries.pieces
-                ∙ (λ i. pieces_for (string_bytes site.divider) site.pages.items (there.2.files i) (code x) (full.0 i));
-            opens = x.opens ∙ (λ i. source_sent (there.2.files i) (full.0 i));
+            pieces = x.carries.pieces ∙ simp (full.0, there.2.files);
+            opens = x.opens ∙ simp (full.0, there.2.files);
           },
           all_sent.1,
         )
@@ -246,8 +210,6 @@ stream = request_text (codes "GET")
 
 abbrev message : Message.Request
 message = message_with (codes "GET")
-
--- ---- the request alone
 
 one_get : (limits : Limits) (m : Message.Request) (rest : List ℕ) → ReadsRequestMessage limits stream m rest
     → m.head ≡ root_head (codes "GET")
@@ -283,8 +245,6 @@ waits_for_nothing limits why =
     let same = request_unique stream why.0 (root_head (codes "GET")) why.2 [] why.3.reads get_verb.reads in
     let asked = why.4 in cc
 
--- ---- the parts of the request are valid
-
 any_one : {X : Type 0} (P : X → Type 0) (h : X) → Any P (h ∷ []) → P h
 any_one P h why = grind arith
 
@@ -292,36 +252,22 @@ no_room : (name : List ℕ) (m : Entries FieldValue) → length m ≤ 1 → valu
 no_room name m few small why = grind arith
 
 no_room_at : (count : ℕ) (name : List ℕ) → ¬ (RefusesAppend (map_of (take count host_header)) name)
-no_room_at zero name = no_room name [] (omega arith) (omega arith)
-no_room_at (suc n) name =
-    rw (take_all {A = Header} n [] (omega arith)) (no_room name (map_of host_header) (omega arith) (omega arith))
+no_room_at count name = grind (arith, count, no_room, take_all)
 
 no_part_error : (e : Error) → ¬ (IsPartError e (codes "GET") host_header)
 unfolding is_name_byte
 no_part_error Invalid.MaxSizeReached why = no_room_at why.0 why.1 why.2
-no_part_error e why =
-    grind (
-      arith,
-      any_one,
-      AllPass-from_list_all is_name_byte (codes "GET") refl,
-      AllPass-from_list_all is_name_byte (codes "Host") refl,
-      AllPass-from_list_all is_value_byte (codes "a.example") refl,
-    )
+no_part_error e why = grind (arith, any_one, AllPass-from_list_all)
 
 parts_are_valid : (e : Error) → ¬ (HasInvalidPart e message)
 unfolding trim_ows
 parts_are_valid e why =
     elim why [ inl target ↦ target None None (codes "/") root_text | inr other ↦ no_part_error e other ]
 
--- ---- the connection
-
 module _ {H : Type 0} {plans : Plans H} {gives : H → Gives} {config : Config} {first now : H} {sent : List ℕ}
     (room : 35 ≤ config.limits.max_head_len) (e : Exchanged plans gives config first now stream sent true) where
-  -- ---- what was read
-
   abbrev Progress : List Call → List ℕ → Type 0
-  Progress answered rest =
-      ((answered ≡ []) × (rest ≡ stream)) ⊎ ((c : Call) × (answered ≡ c ∷ []) × (rest ≡ []))
+  Progress answered rest = ((answered ≡ []) × (rest ≡ stream)) ⊎ ((c : Call) × (answered ≡ c ∷ []) × (rest ≡ []))
 
   ends : (stays : Bool) (c : Call) (text after : List ℕ) → Exchanges config stays stream c text after → after ≡ []
   ends stays c text after e = (asked_by (codes "GET") get_verb config e.message c.0 after e.request).1
@@ -333,8 +279,7 @@ module _ {H : Type 0} {plans : Plans H} {gives : H → Gives} {config : Config} 
       → Progress answered rest
   progress [] text rest h = inl (refl, sym h.0)
   progress (c ∷ []) text rest h = inr (c, refl, sym h.5.0 ∙ ends true c h.0 h.1 h.4)
-  progress (c ∷ d ∷ more) text rest h =
-      absurd (not_on_empty true d h.5.0 h.5.1 (rw (ends true c h.0 h.1 h.4) at h.5.4))
+  progress (c ∷ d ∷ more) text rest h = absurd (not_on_empty true d h.5.0 h.5.1 (rw (ends true c h.0 h.1 h.4) at h.5.4))
 
   abbrev past : IsServed config e.history
   past = e.ended.0
@@ -345,8 +290,6 @@ module _ {H : Type 0} {plans : Plans H} {gives : H → Gives} {config : Config} 
   next : (P : Message.Request → Type 0) → NextIs config.limits past.rest P → P message
   next P n = next_is config.limits past.rest P room (elim read [ inl is ↦ inl is.1 | inr is ↦ inr is.2 ]) n
 
-  -- ---- what was sent
-
   abbrev IsCall : Call → List ℕ → List ℕ → Type 0
   IsCall c text after = SendsCall plans gives config first now stream c text after
 
@@ -356,10 +299,7 @@ module _ {H : Type 0} {plans : Plans H} {gives : H → Gives} {config : Config} 
 
   pub bodied : (c : Call) (text after : List ℕ) (s : IsCall c text after)
       → (s.bodiless ≡ false) × (s.content ≡ c.1.body.items)
-  bodied c text after s =
-      let head = head_sent c text after s in
-      let kind = s.kind in
-      let body = s.body in grind arith
+  bodied c text after s = let head = head_sent c text after s in grind arith
 
   -- `http1` doesn't refuse a response that is sent
   unrefused : (c : Call) (text after : List ℕ) → IsCall c text after → (framing : Framing)
@@ -370,10 +310,9 @@ module _ {H : Type 0} {plans : Plans H} {gives : H → Gives} {config : Config} 
       let len : content_len s.plan ≡ length s.content + 0 = Advances-length (gives now) (rw body.0 at s.is_content) in
       let size : length c.1.body.items ≡ content_len s.plan = omega (arith, len, ap length body.1) in
       let late : c.1.status ≢ 101 = λ is. s.frames.late (sym s.has_head.status ∙ is) in
-      cond-false _ _ _ (ne_eqb c.1.status 101 late)
-      ∙ (λ i. response_refusal (answering config.limits (sym head i) framing) (s.has_head.status i)
-      (reason_of (s.has_head.status i)) (size_for (size i)) (s.has_head.headers i))
-      ∙ s.frames.valid
+      cond-false _ _ _ (ne_eqb _ _ late) ∙ (λ i. response_refusal (answering config.limits (sym head i) framing)
+      (s.has_head.status i) (reason_of (s.has_head.status i)) (size_for (size i)) (s.has_head.headers i)) ∙
+      s.frames.valid
 
   -- what was sent is the response of one call
   one_sent : (calls : List Call) (text rest : List ℕ) → 0 < length calls
@@ -388,46 +327,33 @@ module _ {H : Type 0} {plans : Plans H} {gives : H → Gives} {config : Config} 
   l : IsLiteral plans gives config first now e.history.state stream e.history.calls sent
   l = rw (e.is_received, e.is_sent, e.ended.3) at e.literal
 
-  -- ---- how it ended
-
   -- the connection refused nothing
   refuses : (why : Refusing) → ¬ (Justifies why config e.history past.answered past.rest)
-  refuses refusal.Truncated x =
-      elim read [ inl is ↦ x.3 message [] (rw is.1 (get_reads config.limits room)) | inr is ↦ x.2 is.2 ]
+  refuses refusal.Truncated x = elim read [ inl is ↦ x.3 message [] (rw is.1 (get_reads _ room)) | inr is ↦ x.2 is.2 ]
   refuses (refusal.Unreadable e) x = few_fields (next HasTooManyFields x.1)
   refuses refusal.BodyTooLarge x =
       let large = next (λ m. config.max_body_len < length m.body.bytes) x.1 in omega (arith, large)
   refuses (refusal.InvalidPart e) x = parts_are_valid e (next (HasInvalidPart e) x.1)
   refuses refusal.InvalidHost x = host_is_valid (next HasInvalidHost x.1)
   refuses refusal.UnknownCoding x = coding_is_known (next HasUnknownCoding x.1)
-  refuses (refusal.InvalidResponse error) x =
-      elim read [
-        | inl is ↦
-            let c = x.1 in
-            let calls : e.history.calls ≡ c.call ∷ [] = c.calls ∙ ap (λ (l : List Call). l ++ c.call ∷ []) is.0 in
-            let head = one_get config.limits c.message x.0 (rw is.1 at c.request.reads) in
-            let call = simp calls at l.sends in
-            let sends =
-            subst (λ (x : H). SendsCall plans gives config first x stream c.call call.1 call.2) (sym call.6.0) call.5 in
-            let none = unrefused c.call call.1 call.2 sends c.request.reads.framing in
-            let clash : None ≡ Some error = sym none ∙ rw head at x.2 in
-            cc clash
-        | inr is ↦ empty_reads config.limits x.1.message x.0 (rw is.2 at x.1.request.reads)
-      ]
+  refuses (refusal.InvalidResponse error) x = elim read [
+    | inl is ↦
+        let c = x.1 in
+        let calls : e.history.calls ≡ c.call ∷ [] = c.calls ∙ ap (λ (l : List Call). l ++ c.call ∷ []) is.0 in
+        let head = one_get _ _ _ (rw is.1 at c.request.reads) in
+        let call = simp calls at l.sends in
+        let sends =
+        subst (λ (x : H). SendsCall plans gives config first x stream c.call call.1 call.2) (sym call.6.0) call.5 in
+        let none = unrefused _ _ _ sends c.request.reads.framing in
+        let clash : None ≡ Some error = sym none ∙ rw head at x.2 in cc clash
+    | inr is ↦ empty_reads config.limits x.1.message x.0 (rw is.2 at x.1.request.reads)
+  ]
 
   -- it was called, and sent nothing after its responses
   called : (state : Stage) (rest later : List ℕ) → IsClosing state
       → Stands state config e.history past.answered past.text past.interim past.rest
       → IsLater config.limits state rest later → (0 < length e.history.calls) × (later ≡ [])
-  called (Closing ended.Asked) rest later closing x none =
-      (omega (arith, ap length x.4, length-append past.answered (x.0 ∷ [])), none)
-  called (Closing ended.EndOfInput) rest later closing x none =
-      elim read [
-        | inl is ↦ let len : length stream ≡ 0 = ap length (sym is.1 ∙ x.2) in absurd (omega (arith, len))
-        | inr one ↦ (omega (arith, ap length (x.0 ∙ one.1)), none)
-      ]
-  called (Closing (ended.Refused why)) rest later closing x none = absurd (refuses why x.0)
-  called state rest later closing x none = absurd closing
+  called state rest later closing x none = grind (arith, state, length-append, read, refuses)
 
   pub one_call : (c : Call) × (after : List ℕ) × IsCall c sent after
   one_call =
@@ -435,8 +361,6 @@ module _ {H : Type 0} {plans : Plans H} {gives : H → Gives} {config : Config} 
       rw (l.out, is.1, append-nil) (one_sent e.history.calls l.text l.rest is.0 l.sends)
 
 -- ==== What the file server sends in answer to a literal request.
-
--- ---- the fields
 
 get_stays_open : StaysOpen (root_head (codes "GET"))
 unfolding known_fields eq_ignore_case trim_ows
@@ -456,8 +380,6 @@ memory_fields : (now : Option ℕ) (left present : ℕ) (cache_control : Option 
 memory_fields now left present cache_control file kept media_type more none memory type undated plain short =
     let going : nat_lt 1 left ≡ true = lt-ltb 1 left more in
     let len = decimal_trimmed (length kept.content) short in grind (arith, now, fixdate_trimmed)
-
--- ---- the answer
 
 module _ {config : Config} {settings : Settings} {first now : FileService Memory} {sent : List ℕ}
     (room : 35 ≤ config.limits.max_head_len) (of : IsSiteOf settings first.site) (bare : HasNoOptions settings)
@@ -486,26 +408,21 @@ module _ {config : Config} {settings : Settings} {first now : FileService Memory
 
   root : (file : File) × HasOne first.store (codes "index.html") (Readable file)
       × IsWhole time first.left first.site file s.plan now.source × SendsContent file s.plan now.source
-  root =
-      get_root first.store of bare index
+  root = get_root first.store of bare index
       (asked_by (codes "GET") get_verb config s.exchange.message c.0 after s.exchange.request).0 s.planned.0.1
 
   kept : (kept : Kept) × (root.0.source ≡ InMemory kept) × (kept.content ≡ content)
   kept = kept_in content root.0.source root.1.1
 
   len_is : content_len s.plan ≡ length content
-  len_is =
-      let len : content_len s.plan ≡ len_of root.0.source + 0 = ap total_len root.2.pieces in
-      let bytes : len_of root.0.source ≡ length content = rw (kept.1, kept.2) in omega (arith, len, bytes)
+  len_is = grind (arith, root, kept)
 
   fields_are : plan_fields s.plan ≡ ok_fields time content_tag (length content) type
   fields_are =
       let short = rw (len_is, ← kept.2) at s.planned.0.1.carries.short in
-      root.2.fields
-      ∙ memory_fields time first.left (clock time (root.0 ∷ [])) first.site.cache_control root.0 kept.0
-      first.store.media_type more (of.cache_control ∙ bare.cache_control) kept.1 root.1.2 (root.1.3 ∙ undated) root.1.4
-      short
-      ∙ ap (λ (bytes : List ℕ). ok_fields time (strong_tag (content_digest bytes)) (length bytes) type) kept.2
+      root.2.fields ∙ memory_fields time _ (clock time (root.0 ∷ [])) _ _ _ _ more (of.cache_control ∙
+      bare.cache_control) kept.1 root.1.2 (root.1.3 ∙ undated) root.1.4 short ∙ ap (λ (bytes : List ℕ). ok_fields time
+      (strong_tag (content_digest bytes)) (length bytes) type) kept.2
 
   pub served : IsServedFile first.store sent
   served =
@@ -513,20 +430,12 @@ module _ {config : Config} {settings : Settings} {first now : FileService Memory
       let body = bodied room e c sent after s in
       let quiet : s.exchange.interim ≡ [] =
       elim s.exchange.is_interim [ inl none ↦ none | inr waits ↦ absurd (waits_for_nothing config.limits waits.1) ] in
-      let same : s.content ≡ content =
-      root.3 kept.0 s.content kept.1
-      (simp body.0 at s.is_content)
-      ∙ kept.2 in
+      let same : s.content ≡ content = root.3 kept.0 s.content kept.1 (simp body.0 at s.is_content) ∙ kept.2 in
       let answer : IsAnswerOf (root_head (codes "GET")) c.1 sent =
       simp (s.exchange.joined, quiet) (simp head at s.exchange.is_answer) in
-      let ok : IsOk time content_tag type s.plan =
-      record {
-        status = root.2.status;
-        fields = fields_are ∙ ap (λ (n : ℕ). ok_fields time content_tag n type) (sym len_is);
-      } in
+      let ok : IsOk time content_tag type s.plan = record { status = root.2.status; fields = rw len_is fields_are } in
       let framing = s.exchange.request.reads.framing in
-      let frames =
-      subst
+      let frames = subst
       (λ (head : RequestHead). Frames s.bodiless s.plan (answering config.limits head framing) [] [] s.server s.head
       s.tail) head s.frames in
       let framed =
@@ -538,11 +447,10 @@ module _ {config : Config} {settings : Settings} {first now : FileService Memory
         minor = answer.version;
         status = answer.status ∙ s.has_head.status ∙ root.2.status;
         added = answer.added;
-        fields = answer.headers.0 ∙ ap (λ (l : List Header). l ++ answer.added) (s.has_head.headers ∙ fields_are);
-        own = subst (λ (n : ℕ). All (IsAdded n) answer.added) (ap length (sym body.1 ∙ same)) answer.headers.1;
+        fields = rw (s.has_head.headers, fields_are) at answer.headers.0;
+        own = rw (ap length (sym body.1 ∙ same)) at answer.headers.1;
         body = answer.body ∙ sym body.1 ∙ same;
-        literal =
-            s.exchange.joined ∙ (λ i. quiet i ++ s.literal i)
+        literal = s.exchange.joined ∙ (λ i. quiet i ++ s.literal i)
             ∙ (λ i. framed.0 i ++ (same i ++ framed.1 i))
             ∙ (λ i. ok_text time content_tag (len_is i) type ++ append-nil content i);
       }

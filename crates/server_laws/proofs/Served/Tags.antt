@@ -4,18 +4,15 @@ unfoldable pub use Fields.*
 
 -- ==== What a request that is sent again has in common with the first, at another time.
 
--- ---- a read by HEAD is decided as one by GET
-
 abbrev reading : Protocol → Option Line → List ℕ → LineMap → Asked
-reading protocol authority method fields =
-    record {
-      protocol = protocol;
-      method = method;
-      authority = authority;
-      content = Absent;
-      fields = fields;
-      denied = None;
-    }
+reading protocol authority method fields = record {
+  protocol = protocol;
+  method = method;
+  authority = authority;
+  content = Absent;
+  fields = fields;
+  denied = None;
+}
 
 missing_as_get : (s : State) (rules : List MethodRule)
     → is_missing s rules (rule_for rules (codes "HEAD")) (codes "HEAD")
@@ -31,13 +28,10 @@ unfolding rule_for is_unacceptable
 read_as_get present resource protocol authority fields method read reason =
     let missing = missing_as_get resource.state resource.rules.items in grind (arith, reason)
 
--- ---- things that are scored alike are chosen alike
-
 module _ {A B : Type 0} (f : A → ℕ) (g : B → ℕ) where
   score_at : (xs : List A) (ys : List B) → map f xs ≡ map g ys → length xs ≡ length ys → (k : ℕ) (a : A) (b : B)
       → k < length xs → f (get_or xs k a) ≡ g (get_or ys k b)
-  score_at xs ys e len k a b low =
-      sym (get_or-map f xs k a 0 low) ∙ ap (λ (l : List ℕ). get_or l k 0) e
+  score_at xs ys e len k a b low = sym (get_or-map f xs k a 0 low) ∙ ap (λ (l : List ℕ). get_or l k 0) e
       ∙ get_or-map g ys k b 0 (omega (arith, low, len))
 
   picks_across : (xs : List A) (ys : List B) → map f xs ≡ map g ys → length xs ≡ length ys → (choice : Option ℕ)
@@ -53,19 +47,13 @@ place_alike : (s : State) (xs ys : List Representation) → length xs ≡ length
     → place_in s xs choice ≡ place_in s ys choice
 place_alike s xs ys len choice = grind (arith, s, xs, ys, choice)
 
--- ---- what a label says
-
--- by the field lines of Accept, Accept-Language and Accept-Encoding
-abbrev label_score : Negotiation → List Line → List Line → List Line → Label → ℕ
-label_score negotiation accept languages codings label =
-    joined (rank_by (quality_by media_type_says) negotiation.media_type accept (Some label.media_type.bytes))
-    (rank_by (quality_by language_says) negotiation.language languages None)
-    (rank_by encoding_quality negotiation.coding codings
-    (Some (option_map_or (λ (value : FieldValue). value.bytes) (coding_value label.coding) (codes "identity"))))
-
+-- what a label is worth
 abbrev by_label : Negotiation → LineMap → Label → ℕ
-by_label n fields =
-    label_score n (fields (codes "accept")) (fields (codes "accept-language")) (fields (codes "accept-encoding"))
+by_label n fields label =
+    joined (rank_by (quality_by media_type_says) n.media_type (fields (codes "accept")) (Some label.media_type.bytes))
+    (rank_by (quality_by language_says) n.language (fields (codes "accept-language")) None)
+    (rank_by encoding_quality n.coding (fields (codes "accept-encoding"))
+    (Some (option_map_or (λ (value : FieldValue). value.bytes) (coding_value label.coding) (codes "identity"))))
 
 scores_are : (n : Negotiation) (fields : LineMap) (present : ℕ) (fs : List File)
     → map (score n fields) (map (representation_of present) fs) ≡ map (by_label n fields) (map label_of fs)
@@ -73,18 +61,9 @@ unfolding score
 scores_are n fields present [] = refl
 scores_are n fields present (x ∷ fs) = λ i. by_label n fields (label_of x) ∷ scores_are n fields present fs i
 
--- ---- the fields of a request
-
 -- the fields by which a read is decided before its conditions
 abbrev pub deciding : List (List ℕ)
-deciding =
-    codes "host" ∷ codes "expect" ∷ codes "accept" ∷ codes "accept-language" ∷ codes "accept-encoding" ∷ []
-
--- both name the same host, and expect and accept the same
-abbrev AskAlike : LineMap → LineMap → Type 0
-AskAlike f g = (name : List ℕ) → list_any (bytes_eq name) deciding ≡ true → f name ≡ g name
-
--- ---- files at a place
+deciding = codes "host" ∷ codes "expect" ∷ codes "accept" ∷ codes "accept-language" ∷ codes "accept-encoding" ∷ []
 
 abbrev pub tag_lines : Target → List Line
 tag_lines target = lines_sent (λ (tag : FieldValue). tag.bytes) (etag_of target)
@@ -109,8 +88,7 @@ octets_text bytes = simp (flat_map-map, flat_map_single, map-id)
 octet_valid : (b : ℕ) → is_tag_byte b ≡ true → is_octet false (Plain b) ≡ true
 octet_valid b e = grind (arith, nat_tests)
 
-octets_valid : (bytes : List ℕ) → list_all is_tag_byte bytes ≡ true
-    → list_all (is_octet false) (map Plain bytes) ≡ true
+octets_valid : (bytes : List ℕ) → list_all is_tag_byte bytes ≡ true → list_all (is_octet false) (map Plain bytes) ≡ true
 octets_valid [] all = refl
 octets_valid (b ∷ bytes) all = grind (arith, octet_valid b, octets_valid bytes)
 
@@ -120,11 +98,9 @@ element_of true opaque = Byte 87 ∷ Byte 47 ∷ Quoted (map Plain opaque) ∷ [
 element_of false opaque = Quoted (map Plain opaque) ∷ []
 
 element_is : (is_weak : Bool) (opaque : List ℕ) (tag : Line) → list_all is_tag_byte opaque ≡ true
-    → tag ≡ weak_prefix is_weak ++ quote ∷ (opaque ++ quote ∷ [])
-    → (element_text (element_of is_weak opaque) ≡ tag)
+    → tag ≡ weak_prefix is_weak ++ quote ∷ (opaque ++ quote ∷ []) → (element_text (element_of is_weak opaque) ≡ tag)
     × (list_all (is_element comma false) (element_of is_weak opaque ∷ []) ≡ true) × (0 < length tag)
-element_is is_weak opaque tag all e =
-    grind (arith, is_weak, append_assoc, octets_text opaque, octets_valid opaque all)
+element_is is_weak opaque tag all e = grind (arith, is_weak, append_assoc, octets_text opaque, octets_valid opaque all)
 
 module _ (parse : ParsesOneWay) (tag : Line) (parts : TagParts) (is : IsTag tag parts) where
   one_member : field_members false (tag ∷ []) ≡ Whole tag ∷ []
@@ -152,8 +128,6 @@ module _ (parse : ParsesOneWay) (tag : Line) (parts : TagParts) (is : IsTag tag 
 
 -- ==== The tag of a response, and a request that names it.
 
--- ---- an answer with a tag
-
 module _ (present : ℕ) (resource : Resource) (asked : Asked) (read : IsGetOrHead asked.method) (tag : Line) where
   -- the answer sends the tag of what is selected, which is as the request would have it
   record IsTagged (reason : Reason) : Type 0 where
@@ -176,24 +150,20 @@ module _ (present : ℕ) (resource : Resource) (asked : Asked) (read : IsGetOrHe
   tagged_by : (admitted : Bool) (reason : Reason) (status : Option ℕ) (sent : Sends) (own : List Field)
       → is_admitted reason ≡ admitted → GivesIf admitted present resource asked reason status sent own
       → given_under true resource sent ≡ tag ∷ [] → IsTagged reason
-  tagged_by true reason status sent own is g told =
-      record {
-        admits = admitted_is reason is;
-        place = g.place;
-        selected = g.selected;
-        kept = both.0;
-        tagged = both.1;
-      }
+  tagged_by true reason status sent own is g told = record {
+    admits = admitted_is reason is;
+    place = g.place;
+    selected = g.selected;
+    kept = both.0;
+    tagged = both.1;
+  }
     where
       both : StateIsKept present asked.fields (seen_at resource g.place)
           × (tag_lines (seen_at resource g.place) ≡ tag ∷ [])
       both =
           let answered = g.goes.answered in
           let sends = g.goes.sends in grind (arith, g.goes.response, tag_of_plan)
-  tagged_by false reason status sent own is g told =
-      let clash : [] ≡ tag ∷ [] =
-      sym (ap (given_under true resource) g.sends ∙ none_stopped true resource reason) ∙ told in
-      absurd (cc clash)
+  tagged_by false reason status sent own is g told = grind (arith, none_stopped)
 
 -- at another time the state is kept for the same fields
 kept_again : (now later : ℕ) (f g : LineMap) (v w : Validators) → v.etag ≡ w.etag
@@ -203,8 +173,6 @@ kept_again now later f g v w tag same none h = grind arith
 
 has_line : (lines : List Line) (tag : Line) → lines ≡ tag ∷ [] → HasLine lines
 has_line lines tag are = rw are (omega arith)
-
--- ---- what a field line with a representation's own tag alone gives
 
 not_modified_by : (present : ℕ) (g : LineMap) (v : Validators) (method : List ℕ) (tag : Line) → IsGetOrHead method
     → StateIsKept present g (Current v) → g (codes "if-none-match") ≡ tag ∷ []
@@ -231,9 +199,8 @@ module _ (present : ℕ) (method : List ℕ) (g : LineMap) (v : Validators) (con
       absurd (one_plan present method g (Current v) (divisible_len content) (limits_of content) None (Some NotModified)
       h decided)
   not_modified (Some r) decided h =
-      let same =
-      one_plan present method g (Current v) (divisible_len content) (limits_of content) (Some r.plan) (Some NotModified)
-      h.plan decided in
+      let same = one_plan present method g (Current v) (divisible_len content) (limits_of content) (Some r.plan)
+      (Some NotModified) h.plan decided in
       (r, refl, h.status ∙ same.0, (code_plan r.plan).0 same.0)
 
   not_failed : (response : Option Planning) → ¬ (Answers present g (Current v) method precondition.Failed)
@@ -282,26 +249,21 @@ module _ (look other : List ℕ → Entry) where
         → AreSeenAlike f.state g.state f.files.items g.files.items
     leads_similar f g h k = grind (arith, files_similar, similar)
 
--- ---- bytes in memory
-
 module _ (content : List ℕ) (tag : Line) where
   -- the tag is their digest
   abbrev IsDigest : Type 0
-  IsDigest =
-      (tag ≡ strong_tag (content_digest content))
+  IsDigest = (tag ≡ strong_tag (content_digest content))
       × IsTag tag (record { is_weak = false; opaque = content_digest content })
 
   digest_tag : strong_tag (content_digest content) ≡ tag → IsDigest
   digest_tag same =
       let digits = content_digest content in
-      let passes =
-      passes_from_text (strong_tag digits) (record { is_weak = false; opaque = digits }) refl
+      let passes = passes_from_text (strong_tag digits) (record { is_weak = false; opaque = digits }) refl
       (tag_is_tag digits (digest_is_boundary content)) in
       grind arith
 
 kept_tag_of : (s : State) (present : ℕ) (kept : Kept) (tag : Line) (plan : Plan) (file : Option File)
-    → Some (InMemory kept) ≡ source_of file
-    → lines_sent (λ (t : FieldValue). t.bytes)
+    → Some (InMemory kept) ≡ source_of file → lines_sent (λ (t : FieldValue). t.bytes)
     (etag_sent plan (etag_of (target_of s (option_map (representation_of present) file)))) ≡ tag ∷ []
     → IsDigest kept.content tag
 kept_tag_of s present kept tag plan file e told = grind (arith, file, plan, digest_tag kept.content tag)
@@ -315,12 +277,8 @@ module _ {now : Option ℕ} {left : ℕ} {site : Site} {has : List ℕ → Entry
     where
       by : (sent : Sends) → Some (InMemory kept) ≡ source_sent x.found.files.items sent
           → given_under true (resource x) sent ≡ tag ∷ [] → IsDigest kept.content tag
-      by (Planned place plan) e told =
-          kept_tag_of x.found.state (present x) kept tag plan (file_at x.found.files.items place) e
-          (rw (at_file x place) at told)
+      by (Planned place plan) e told = kept_tag_of _ _ _ _ _ _ e (rw (at_file x place) at told)
       by sent e told = absurd (cc e)
-
--- ---- a request and the one before it
 
 no_pieces : (divider : List ℕ) (file : Option File) → pieces_of divider file NotModified ≡ []
 no_pieces divider file = grind (arith, file)
@@ -334,8 +292,7 @@ asks_so request x asked asks named protocol = grind (arith, asked_once request x
 
 -- an answer to a read
 abbrev IsReadBy : ℕ → Resource → Protocol → Option Line → LineMap → Answer → Type 0
-IsReadBy present resource protocol authority fields answer =
-    (method : List ℕ) × IsGetOrHead method
+IsReadBy present resource protocol authority fields answer = (method : List ℕ) × IsGetOrHead method
     × IsAnswer present resource (reading protocol authority method fields) answer
 
 read_answer : {now : Option ℕ} {left : ℕ} {site : Site} {has : List ℕ → Entry → Type 0} {request : Request (List ℕ)}
@@ -343,11 +300,10 @@ read_answer : {now : Option ℕ} {left : ℕ} {site : Site} {has : List ℕ → 
     → IsGetOrHead (head_of request).method → (protocol : Protocol) (authority : Option Line)
     → x.asked ≡ reading protocol authority (head_of request).method (lines_at (head_of request).headers)
     → IsReadBy (present x) (resource x) protocol authority (lines_at (head_of request).headers) x.answer
-read_answer {request = request} x read protocol authority is =
-    elim (rw (is, x.described.is) at x.decides) [
-      | inl h ↦ ((head_of request).method, read, h.1)
-      | inr h ↦ (codes "HEAD", inr refl, h.3)
-    ]
+read_answer {request = request} x read protocol authority is = elim (rw (is, x.described.is) at x.decides) [
+  | inl h ↦ ((head_of request).method, read, h.1)
+  | inr h ↦ (codes "HEAD", inr refl, h.3)
+]
 
 module _ {now later : Option ℕ} {left more : ℕ} {site : Site} {look other : List ℕ → Entry}
     {first second : Request (List ℕ)} {r s : Response} {a b : Option Source} {name : List ℕ} {tag : Line}
@@ -363,12 +319,6 @@ module _ {now later : Option ℕ} {left more : ℕ} {site : Site} {look other : 
   abbrev g : LineMap
   g = lines_at (head_of second).headers
 
-  abbrev fs : List File
-  fs = x.found.files.items
-
-  abbrev gs : List File
-  gs = y.found.files.items
-
   abbrev before : Resource
   before = record site.resource { state = y.found.state; representations = x.described.representations }
 
@@ -378,33 +328,25 @@ module _ {now later : Option ℕ} {left more : ℕ} {site : Site} {look other : 
   abbrev asks : List ℕ → LineMap → Asked
   asks method fields = reading y.asked.protocol y.asked.authority method fields
 
-  alike : AreSeenAlike x.found.state y.found.state fs gs
-  alike =
-      leads_similar look other site.resource.negotiation.coding (head_of first).uri similar x.found y.found x.leads
+  alike : AreSeenAlike x.found.state y.found.state x.found.files.items y.found.files.items
+  alike = leads_similar look other site.resource.negotiation.coding (head_of first).uri similar x.found y.found x.leads
       (rw again.uri at y.leads)
 
-  same : AskAlike f g
+  same : (name : List ℕ) → list_any (bytes_eq name) deciding ≡ true → f name ≡ g name
   same = grind arith
 
   first_read : IsReadBy (present x) before y.asked.protocol y.asked.authority f x.answer
-  first_read =
-      rw (← alike.state)
-      (read_answer x again.read y.asked.protocol y.asked.authority
+  first_read = rw (← alike.state) (read_answer x again.read y.asked.protocol y.asked.authority
       (asks_so first x.asked y.asked x.asks (rw (again.uri, ← y.asks.2.has_authority) at y.asks.1)
       (rw again.version at y.asks.2.protocol)))
 
   second_read : IsReadBy (present y) after y.asked.protocol y.asked.authority g y.answer
-  second_read =
-      read_answer y again.read_again y.asked.protocol y.asked.authority
+  second_read = read_answer y again.read_again y.asked.protocol y.asked.authority
       (asks_so second y.asked y.asked y.asks (rw (← y.asks.2.has_authority) at y.asks.1) y.asks.2.protocol)
 
   t : IsTagged (present x) before (asks first_read.0 f) first_read.1 tag x.answer.reason
-  t =
-      tagged_by (present x) before (asks first_read.0 f) first_read.1 tag (is_admitted x.answer.reason) x.answer.reason
-      x.answer.status x.answer.sends first_read.2.own refl first_read.2.gives
-      (rw alike.state at (sym (tags_carried x) ∙ told))
-
-  -- ---- the reason
+  t = tagged_by _ _ _ _ _ (is_admitted x.answer.reason) x.answer.reason x.answer.status x.answer.sends first_read.2.own
+      refl first_read.2.gives (rw alike.state at (sym (tags_carried x) ∙ told))
 
   scores : map (score site.resource.negotiation f) before.representations.items
       ≡ map (score site.resource.negotiation g) after.representations.items
@@ -414,20 +356,14 @@ module _ {now later : Option ℕ} {left more : ℕ} {site : Site} {look other : 
       let labels = alike.labels in grind (arith, scores_are, same)
 
   same_length : length before.representations.items ≡ length after.representations.items
-  same_length =
-      sym (length-map before.representations.items (score site.resource.negotiation f)) ∙ ap length scores
+  same_length = sym (length-map before.representations.items (score site.resource.negotiation f)) ∙ ap length scores
       ∙ length-map after.representations.items (score site.resource.negotiation g)
 
   unacceptable_same : is_unacceptable before (asks (codes "GET") f) ≡ is_unacceptable after (asks (codes "GET") g)
   unfolding is_unacceptable
   unacceptable_same =
-      let is_zero : ℕ → Bool = λ k. k == 0 in
-      let none : are_unacceptable site.resource.negotiation f before.representations.items
-      ≡ are_unacceptable site.resource.negotiation g after.representations.items =
-      sym (list_all-map is_zero (score site.resource.negotiation f) before.representations.items)
-      ∙ ap (list_all is_zero) scores
-      ∙ list_all-map is_zero (score site.resource.negotiation g) after.representations.items in
-      rw (same_length, none)
+      let none = ap (list_all (λ k. k == 0)) scores in
+      grind (arith, list_all-map, same_length, none)
 
   -- what doesn't keep the first from being performed doesn't keep the second from it
   still : (reason : Reason) → applies (present x) before (asks (codes "GET") f) reason ≡ false
@@ -437,45 +373,23 @@ module _ {now later : Option ℕ} {left more : ℕ} {site : Site} {look other : 
 
   reason_is : y.answer.reason ≡ Admitted
   reason_is =
-      only_admitted (applies (present y) after (asks second_read.0 g)) y.answer.reason
-      (λ other low.
-      read_as_get (present y) after y.asked.protocol y.asked.authority g second_read.0 second_read.1 other
-      ∙ still other
-      (sym (read_as_get (present x) before y.asked.protocol y.asked.authority f first_read.0 first_read.1 other)
-      ∙ first_read.2.first.none_before other (rw t.admits low))) second_read.2.first
-
-  -- ---- what is selected
+      only_admitted _ _ (λ other low. read_as_get (present y) after y.asked.protocol y.asked.authority g second_read.0
+      second_read.1 other ∙ still other (sym (read_as_get (present x) before y.asked.protocol y.asked.authority f
+      first_read.0 first_read.1 other) ∙ first_read.2.first.none_before other (rw t.admits low))) second_read.2.first
 
   selected : IsSelected after g t.place
-  selected = record {
-    choice = t.selected.choice;
-    picks =
-        picks_across (score site.resource.negotiation f) (score site.resource.negotiation g)
-        before.representations.items after.representations.items scores same_length t.selected.choice t.selected.picks;
-    is =
-        t.selected.is
-        ∙ place_alike y.found.state before.representations.items after.representations.items same_length
-        t.selected.choice;
-  }
+  selected = grind (arith, t, picks_across, scores, same_length, place_alike)
 
   -- the answer by the preconditions on it
   goes_on : GoesOn (present y) after (asks second_read.0 g) t.place (at_place after.representations.items t.place)
       y.answer.status y.answer.sends second_read.2.own
   goes_on =
-      let goes =
-      subst
-      (λ (reason : Reason). AnswerGives (present y) after (asks second_read.0 g) reason y.answer.status y.answer.sends
-      second_read.2.own) reason_is second_read.2.gives in
-      subst
-      (λ (place : Option ℕ). GoesOn (present y) after (asks second_read.0 g) place
-      (at_place after.representations.items place) y.answer.status y.answer.sends second_read.2.own)
-      (one_place after g goes.place t.place goes.selected selected) goes.goes
+      let gives = simp reason_is at second_read.2.gives in
+      simp (one_place after g gives.place t.place gives.selected selected) at gives.goes
 
-  pair : (f : File) × (g : File) × (file_at fs t.place ≡ Some f) × (file_at gs t.place ≡ Some g)
-      × (label_of f ≡ label_of g)
-  pair =
-      two_files y.found.state (present x) tag (file_at fs t.place) (file_at gs t.place)
-      (labels_at fs gs t.place alike.labels) (rw (at_file x t.place) at t.tagged)
+  pair : (f : File) × (g : File) × (file_at x.found.files.items t.place ≡ Some f)
+      × (file_at y.found.files.items t.place ≡ Some g) × (label_of f ≡ label_of g)
+  pair = two_files _ _ _ _ _ (labels_at _ _ t.place alike.labels) (rw (at_file x t.place) at t.tagged)
 
   then_seen : seen_at before t.place ≡ current_of (present x) pair.0
   then_seen = rw (at_file x t.place, pair.2)
@@ -484,11 +398,8 @@ module _ {now later : Option ℕ} {left more : ℕ} {site : Site} {look other : 
   now_seen = rw (at_file y t.place, pair.3)
 
   own_tag : lines_sent (λ (value : FieldValue). value.bytes) (tag_of pair.1.source) ≡ tag ∷ []
-  own_tag =
-      ap (λ (l : Label). lines_sent (λ (value : FieldValue). value.bytes) l.tag) (sym pair.4)
+  own_tag = ap (λ (l : Label). lines_sent (λ (value : FieldValue). value.bytes) l.tag) (sym pair.4)
       ∙ (rw then_seen at t.tagged)
-
-  -- ---- the two conditions
 
   abbrev content : Content
   content = content_of (at_place after.representations.items t.place)
@@ -498,31 +409,25 @@ module _ {now later : Option ℕ} {left more : ℕ} {site : Site} {look other : 
       → (s.status ≡ 304) × (lines_in (fields_of s) (codes "etag") ≡ tag ∷ []) × (s.pieces.items ≡ [])
   by_none_match parse matching undated names some =
       let v = validators_of (present y) pair.1 in
-      let kept =
-      kept_again (present x) (present y) f g (validators_of (present x) pair.0) v (ap (λ (l : Label). l.tag) pair.4)
-      matching undated (rw then_seen at t.kept) in
-      let r =
-      not_modified (present y) second_read.0 g v content site.resource.boundary goes_on.response
-      (not_modified_by (present y) g v second_read.0 tag second_read.1 kept names
-      (weakly_named parse tag some.0 some.1 v own_tag)) (rw now_seen at goes_on.answered) in
+      let kept = kept_again (present x) (present y) f g (validators_of (present x) pair.0) v (ap (λ (l : Label). l.tag)
+      pair.4) matching undated (rw then_seen at t.kept) in
+      let r = not_modified _ second_read.0 g v content site.resource.boundary goes_on.response (not_modified_by _ g v _
+      _ second_read.1 kept names (weakly_named parse tag some.0 some.1 v own_tag)) (rw now_seen at goes_on.answered) in
       let sends : y.answer.sends ≡ Planned t.place NotModified = goes_on.sends ∙ rw (r.1, r.3) in (
         y.carries.status ∙ rw (reason_is, goes_on.has_status, r.1) r.2,
         tags_carried y ∙ ap (given_under true after) sends ∙ ap tag_lines now_seen ∙ own_tag,
-        y.carries.pieces ∙ rw sends (no_pieces (string_bytes site.divider) (file_at gs t.place)),
+        y.carries.pieces ∙ rw sends (no_pieces (string_bytes site.divider) (file_at y.found.files.items t.place)),
       )
 
   pub by_match : ParsesOneWay → g (codes "if-match") ≡ tag ∷ [] → (parts : TagParts) → IsTag tag parts
       → parts.is_weak ≡ false → s.status ≢ 412
   by_match parse names parts is strong refused =
       let v = validators_of (present y) pair.1 in
-      not_failed (present y) second_read.0 g v content site.resource.boundary goes_on.response
-      (never_failed (present y) g v second_read.0 tag second_read.1 names
-      (strongly_named parse tag parts is v own_tag strong)) (rw now_seen at goes_on.answered) y.found.status
-      (rw (reason_is, goes_on.has_status) at (sym y.carries.status ∙ refused))
+      not_failed _ second_read.0 g v content site.resource.boundary goes_on.response (never_failed (present y) g v _ _
+      second_read.1 names (strongly_named parse tag parts is v own_tag strong)) (rw now_seen at goes_on.answered)
+      y.found.status (rw (reason_is, goes_on.has_status) at (sym y.carries.status ∙ refused))
 
 -- ==== The answer to a request is that to another one, or of another store.
-
--- ---- a HEAD gets the response of a GET
 
 pub get_is : (asked : Asked) → asked.method ≡ codes "GET" → asked.fields (codes "range") ≡ [] → get_of asked ≡ asked
 get_is asked is none = grind arith
@@ -547,8 +452,6 @@ answered_as x leads asked asks decides = record {
   opens = x.opens;
 }
 
--- ---- a store that has the same where the request looks
-
 module _ (look other : List ℕ → Entry) where
   contents : (negotiates : Bool) (named : List ℕ) (file : File) (files : List File)
       → ((coding : Coding) → negotiates ≡ true
@@ -562,8 +465,6 @@ module _ (look other : List ℕ → Entry) where
 
 -- ==== The response to a preflight, as a browser reads it.
 
--- ---- fields that are set in their order
-
 abbrev pub nothing : LineMap
 nothing name = []
 
@@ -573,21 +474,13 @@ module _ (name : List ℕ) where
       → set_all m fields name ≡ cond (is_named name fields) (lines_in (headers_set fields) name) (m name)
   set_all-sent m [] = refl
   set_all-sent m (field ∷ fields) =
-      set_all-sent (set m field) fields
-      ∙ grind (
-        arith,
-        bytes_eq-Decides field.0 name,
-        lines_unless-other name (is_named field.0 fields) field.0 field.1,
-        lines_of_same name field.0 field.1,
-        sent-none name true fields,
-        append-nil,
-        lines_in-append name,
-      )
+      let decides = bytes_eq-Decides field.0 name in
+      let other = lines_unless-other name (is_named field.0 fields) field.0 field.1 in
+      let same = lines_of_same name field.0 field.1 in
+      set_all-sent (set m field) fields ∙ grind (arith, other, same, sent-none name true fields, append-nil, lines_in-append name)
 
   sent_as_set : (fields : List Field) → lines_in (headers_set fields) name ≡ set_all nothing fields name
   sent_as_set fields = grind (arith, set_all-sent nothing fields, sent-none name true fields)
-
--- ---- what a browser reads of a response to a preflight
 
 -- both have the same field lines under the names whose values stay as they are
 abbrev IsReadAlike : LineMap → LineMap → Type 0
@@ -599,8 +492,6 @@ check_alike m n sent same = grind arith
 pub passes_alike : (status : ℕ) (m n : LineMap) (sent : Sent) → IsReadAlike m n
     → PreflightPasses status m sent ↔ PreflightPasses status n sent
 passes_alike status m n sent same = let check = check_alike m n sent same in grind arith
-
--- ---- the reason
 
 module _ (present : ℕ) (resource : Resource) (asked : Asked) (policy : Policy) (has : resource.cors ≡ Some policy)
     (sent : Sent) (asks : IsPreflightFor sent asked.method asked.fields)
@@ -624,8 +515,7 @@ pub read_as_set : {now : Option ℕ} {left : ℕ} {site : Site} {has : List ℕ 
     {request : Request (List ℕ)} {response : Response} {source : Option Source} {policy : Policy}
     (x : IsAnswerAt now left site has request response source) → site.resource.cors ≡ Some policy
     → IsReadAlike (lines_in (fields_of response)) (set_all nothing (given x))
-read_as_set x cors name kept =
-    lines_carried x name kept
+read_as_set x cors name kept = lines_carried x name kept
     ∙ ap (λ (cors : Option Policy). lines_in (headers_sent (is_some cors) (given x)) name) cors
     ∙ sent_as_set name (given x)
 

@@ -13,8 +13,6 @@ abbrev pub name_of : Bool → List ℕ
 name_of true = etag
 name_of false = length_name
 
--- ---- fields that say nothing of where the message ends
-
 -- nor do values of this name stay as they are
 abbrev is_side : List ℕ → Bool
 is_side name = not (is_framing_field (name, [])) && not (is_kept name)
@@ -25,8 +23,7 @@ are_side hs = list_all (λ (h : Header). is_side h.0) hs
 -- The field is Content-Length; or it says nothing of where the message ends, and if its values stay as they are, they
 -- have no white space at their ends.
 abbrev is_sound : Field → Bool
-is_sound field =
-    bytes_eq field.0 length_name
+is_sound field = bytes_eq field.0 length_name
     || (not (is_framing_field (field.0, [])) && (not (is_kept field.0) || list_all is_bare field.1))
 
 abbrev is_sound_line : Header → Bool
@@ -60,8 +57,6 @@ side_lines (h ∷ hs) e =
       unnamed = λ name marked. simp (not_side name h.0 both.0 marked, rest.unnamed name marked);
     }
 
--- ---- the field lines of fields
-
 sent-cons : (b : Bool) (field : Field) (fields : List Field)
     → headers_sent b (field ∷ fields) ≡ lines_unless (b && is_named field.0 fields) field ++ headers_sent b fields
 sent-cons b field fields = grind arith
@@ -86,16 +81,13 @@ sent_sound b (field ∷ fields) t =
     rw (sent-cons b field fields, list_all-append)
     (and_from _ _ (sound_unless _ field.0 field.1 both.0) (sent_sound b fields both.1))
 
--- ---- what sound field lines state, once white space at the ends of values is gone
-
 header_by : (h : Header) → is_line h ≡ true → is_bare h.1 ≡ true → is_header h ≡ true
 header_by h line bare = grind arith
 
 module _ (n : ℕ) (short : n < 2 ^ 64) where
   length_line : (h : Header) → bytes_eq h.0 length_name ≡ true → h.1 ≡ decimal n
       → StatesLength n true (trimmed_line h ∷ [])
-  length_line h same is =
-      grind (arith, bytes_eq-Decides, decimal_trimmed, decimal_is_numeral, states_length n short)
+  length_line h same is = grind (arith, bytes_eq-Decides, decimal_trimmed, decimal_is_numeral, states_length n short)
 
   other_line : (h : Header) (kept : Bool)
       → (not (is_framing_field (h.0, [])) && (not kept || (is_bare h.1 && true))) ≡ true
@@ -119,10 +111,7 @@ module _ (n : ℕ) (short : n < 2 ^ 64) where
           → cond same (h.1 ∷ []) [] ++ lines_in hs length_name ≡ cond stated (decimal n ∷ []) []
           → ((b : Bool) → lines_in hs length_name ≡ cond b (decimal n ∷ []) [] → StatesLength n b (trimmed_lines hs))
           → StatesLength n stated (sent ∷ trimmed_lines hs)
-      by same stated sent is one other lines rest =
-          grind (arith, same, stated, states_both n, rest true, rest false)
-
--- ---- the field lines under a name
+      by same stated sent is one other lines rest = grind (arith, same, stated, states_both n, rest true, rest false)
 
 module _ (name : List ℕ) where
   pub lines_in-append : (xs ys : List Header) → lines_in (xs ++ ys) name ≡ lines_in xs name ++ lines_in ys name
@@ -154,32 +143,22 @@ module _ (name : List ℕ) where
   pub sent-none : (has_policy : Bool) (fields : List Field) → is_named name fields ≡ false
       → lines_in (headers_sent has_policy fields) name ≡ []
   sent-none has_policy [] e = grind (arith, has_policy)
-  sent-none has_policy (field ∷ fields) e =
-      rw (sent-cons has_policy field fields, lines_in-append)
-      (grind (
-        arith,
-        lines_unless-other (has_policy && is_named field.0 fields) field.0 field.1,
-        sent-none has_policy fields,
-      ))
+  sent-none has_policy (field ∷ fields) e = rw (sent-cons has_policy field fields, lines_in-append) (grind (
+    arith,
+    lines_unless-other (has_policy && is_named field.0 fields) field.0 field.1,
+    sent-none has_policy fields,
+  ))
 
   sent-one : (has_policy : Bool) (lines : List Line) (fields : List Field) → named fields ≡ lines ∷ []
       → lines_in (headers_sent has_policy fields) name ≡ lines
   sent-one has_policy lines [] e = absurd (cc e)
   sent-one has_policy lines (field ∷ fields) e =
-      rw (sent-cons has_policy field fields, lines_in-append)
-      (grind (
-        arith,
-        sent-one has_policy lines fields,
-        none_named fields,
-        lines_unless-other (has_policy && is_named field.0 fields) field.0 field.1,
-        lines_of_same field.0 field.1,
-        sent-none has_policy fields,
-        append-nil,
-        bytes_eq-Decides field.0 name,
-        and-false,
-      ))
-
-  -- ---- white space at the ends of values
+      let other = lines_unless-other (has_policy && is_named field.0 fields) field.0 field.1 in
+      let same = lines_of_same field.0 field.1 in
+      let named = bytes_eq-Decides field.0 name in
+      let one = sent-one has_policy lines fields in
+      let none = sent-none has_policy fields in
+      rw (sent-cons has_policy field fields, lines_in-append) (grind (arith, none_named fields, append-nil, and-false))
 
   -- a field line keeps its value if the name is one whose values stay as they are
   one_kept : (h : Header) → is_kept name ≡ true → line_named name (trimmed_line h) ≡ line_named name h
@@ -193,8 +172,6 @@ module _ (name : List ℕ) where
   lines_in-trimmed kept [] = refl
   lines_in-trimmed kept (h ∷ hs) = λ i. one_kept h kept i ++ lines_in-trimmed kept hs i
 
--- ---- fields that have neither name
-
 record AreQuiet (fields : List Field) : Type 0 where
   unnamed : (b : Bool) → named (name_of b) fields ≡ []
   sound : list_all is_sound fields ≡ true
@@ -207,8 +184,6 @@ reason_quiet resource request reason = grind (arith, reason, resource, request)
 vary_quiet : (lines : List Line) → AreQuiet (vary_fields lines)
 unfolding eq_ignore_case
 vary_quiet lines = grind (arith, lines)
-
--- ---- the fields of a policy
 
 abbrev is_bare_if_any : Option Line → Bool
 is_bare_if_any line = option_map_or is_bare line true
@@ -236,17 +211,11 @@ varied b c lines = grind (arith, b, c)
 policy_sound : (policy : Policy) (leave : Bool) (sent varying : List Line) → IsBarePolicy policy
     → list_all is_sound (policy_fields policy leave sent varying) ≡ true
 unfolding eq_ignore_case
-policy_sound policy leave sent varying bare =
-    let line : Option Line = grant policy.origins (only_line sent) in
-    let granted = grant_bare policy.origins (only_line sent) bare.origins in
-    let vary = varied (is_some policy.origins) (covers_origin varying) (varying ++ codes "origin" ∷ []) in
-    grind (arith, lines_bare, bare_if)
+policy_sound policy leave sent varying bare = grind (arith, grant_bare, varied, lines_bare, bare_if)
 
 shared_sound : (cors : Option Policy) (request : Asked) (lines : List Line) (shared : List Field) → IsBareIfAny cors
     → IsShared cors request lines shared → list_all is_sound shared ≡ true
 shared_sound cors request lines shared bare shares = grind (arith, policy_sound)
-
--- ---- the field lines of ETag and of Content-Length in an answer
 
 -- those of a plan
 abbrev pub sent_under : Bool → Plan → Target → Content → List Line
@@ -290,21 +259,12 @@ shared_unnamed : (b : Bool) (cors : Option Policy) (request : Asked) (lines : Li
 shared_unnamed b cors request lines fields shares = grind (arith, b, cors, flat_map-append)
 
 module _ (present : ℕ) (resource : Resource) (asked : Asked) where
-  abbrev pub IsGivenAt : Option ℕ → Option Planning → Type 0
-  IsGivenAt place response =
-      IsAnswered present asked.method asked.fields (seen_at resource place)
-      (content_of (at_place resource.representations.items place)) resource.boundary response
-
   -- the fields have these field lines, or have none of the name
-  abbrev Tells : List ℕ → List Field → List Line → Type 0
-  Tells name fields lines = (named name fields ≡ lines ∷ []) ⊎ ((named name fields ≡ []) × (lines ≡ []))
-
   own_tells : (b admitted : Bool) (reason : Reason) (status : Option ℕ) (sent : Sends) (own : List Field)
       → GivesIf admitted present resource asked reason status sent own
-      → Tells (name_of b) own (given_under b resource sent)
-  own_tells b true reason status sent own g =
-      let answered = g.goes.answered in
-      rw (g.goes.has_fields, g.goes.sends) (grind (arith, g.goes.response, plan_named))
+      → (named (name_of b) own ≡ given_under b resource sent ∷ [])
+      ⊎ ((named (name_of b) own ≡ []) × (given_under b resource sent ≡ []))
+  own_tells b true reason status sent own g = grind (arith, plan_named)
   own_tells b false reason status sent own g =
       rw (g.has_fields, g.sends) (inr ((reason_quiet resource asked reason).unnamed b, none_stopped b resource reason))
 
@@ -316,15 +276,12 @@ module _ (present : ℕ) (resource : Resource) (asked : Asked) where
       let shared = shared_unnamed b resource.cors asked (vary_lines resource answer.reason) a.shared a.is_shared in
       let own : named (name_of b) (encoded_fields answer.fields.items) ≡ named (name_of b) a.own =
       rw (a.fields, flat_map-append, flat_map-append) (simp (vary.unnamed b, shared, append-nil)) in
-      let tells =
-      own_tells b (is_admitted answer.reason) answer.reason answer.status answer.sends a.own a.gives in
+      let tells = own_tells b (is_admitted answer.reason) answer.reason answer.status answer.sends a.own a.gives in
       let one =
       sent-one (name_of b) has_policy (given_under b resource answer.sends) (encoded_fields answer.fields.items) in
       let none = sent-none (name_of b) has_policy (encoded_fields answer.fields.items) in
       let unnamed = none_named (name_of b) (encoded_fields answer.fields.items) in
       grind arith
-
-  -- ---- of contents that are files
 
   module _ (files : List File) (represented : resource.representations.items ≡ map (representation_of present) files)
     where
@@ -332,9 +289,6 @@ module _ (present : ℕ) (resource : Resource) (asked : Asked) where
           → GivesIf admitted present resource asked reason status sent own → is_bare_tag (tag_sent files sent) ≡ true
           → list_all is_sound own ≡ true
       own_sound true reason status sent own g bare =
-          let answered = g.goes.answered in
-          let sends = g.goes.sends in
-          let fields = g.goes.has_fields in
           let at = represented_at present resource.representations.items files represented g.place in
           grind (arith, g.goes.response, plan_sound, file_at files g.place)
       own_sound false reason status sent own g bare = rw g.has_fields (reason_quiet resource asked reason).sound
@@ -342,15 +296,7 @@ module _ (present : ℕ) (resource : Resource) (asked : Asked) where
       pub answer_sound : (answer : Answer) → IsAnswer present resource asked answer → IsBareIfAny resource.cors
           → is_bare_tag (tag_sent files answer.sends) ≡ true
           → list_all is_sound (encoded_fields answer.fields.items) ≡ true
-      answer_sound answer h bare tagged =
-          let vary : List Line = vary_lines resource answer.reason in
-          rw h.fields
-          (simp (
-            list_all-append,
-            own_sound (is_admitted answer.reason) answer.reason answer.status answer.sends h.own h.gives tagged,
-            (vary_quiet vary).sound,
-            shared_sound resource.cors asked vary h.shared bare h.is_shared,
-          ))
+      answer_sound answer h bare tagged = grind (arith, list_all-append, own_sound, vary_quiet, shared_sound)
 
 -- ==== The status and the length of an answer.
 
@@ -363,8 +309,7 @@ record IsAccepted (method : MethodKind) (code n : ℕ) (lines : List Line) : Typ
 
 -- a status that a page may explain
 abbrev is_explained : ℕ → Bool
-is_explained code =
-    nat_le 300 code && (nat_le code 999 && (not (code == 304) && is_field_value (reason_of code)))
+is_explained code = nat_le 300 code && (nat_le code 999 && (not (code == 304) && is_field_value (reason_of code)))
 
 page_final : (method : MethodKind) (code n : ℕ) (text : Bool)
     → (nat_le 300 code && (nat_le code 999 && (not (code == 304) && text))) ≡ true
@@ -404,8 +349,6 @@ no_connect : (rules : List MethodRule) (own : MethodRule) → rules ≡ own ∷ 
     → has_method rules (codes "CONNECT") ≡ false
 unfolding rule_for
 no_connect rules own alone get = grind arith
-
--- ---- the content of a plan
 
 plan_accepted : (divider : List ℕ) (present : ℕ) (file : Option File) (found : Option Representation) (plan : Plan)
     (method : MethodKind) → found ≡ option_map (representation_of present) file → is_connect method ≡ false
@@ -470,24 +413,20 @@ module _ {now : Option ℕ} {left : ℕ} {site : Site} {has : List ℕ → Entry
   after = side_lines page (page_side code x.answer.sends)
 
   own_alone : (name : List ℕ) → is_side name ≡ false → lines_in ((front ++ own) ++ page) name ≡ lines_in own name
-  own_alone name e =
-      rw (lines_in-append name (front ++ own) page, after.unnamed name e, append-nil)
+  own_alone name e = rw (lines_in-append name (front ++ own) page, after.unnamed name e, append-nil)
       (lines_in-other name front own (before.unnamed name e))
 
   -- under a name whose values stay as they are, the response has the field lines of the answer
   pub lines_carried : (name : List ℕ) → is_kept name ≡ true → lines_in (fields_of response) name ≡ lines_in own name
-  lines_carried name kept =
-      ap (λ (hs : List Header). lines_in hs name) x.carries.headers
-      ∙ lines_in-trimmed name kept ((front ++ own) ++ page) ∙ own_alone name (rw kept (and-false _))
+  lines_carried name kept = grind (arith, lines_in-trimmed, own_alone, and-false)
 
   -- what the answer answers
   pub answered : (asked : Asked) × (asked.fields ≡ x.asked.fields) × (asked.denied ≡ None)
       × (IsGetOrHead x.asked.method → IsGetOrHead asked.method) × IsAnswer present resource asked x.answer
-  answered =
-      elim (rw x.described.is at x.decides) [
-        | inl h ↦ (x.asked, refl, x.asks.2.admitted, λ read. read, h.1)
-        | inr h ↦ (as_head x.asked, refl, x.asks.2.admitted, λ read. inr refl, h.3)
-      ]
+  answered = elim (rw x.described.is at x.decides) [
+    | inl h ↦ (x.asked, refl, x.asks.2.admitted, λ read. read, h.1)
+    | inr h ↦ (as_head x.asked, refl, x.asks.2.admitted, λ read. inr refl, h.3)
+  ]
 
   own_given : (b : Bool) → lines_in own (name_of b) ≡ given_under b resource x.answer.sends
   own_given b = lines_given present resource answered.0 x.answer answered.4 b (is_some site.resource.cors)
@@ -498,8 +437,6 @@ module _ {now : Option ℕ} {left : ℕ} {site : Site} {has : List ℕ → Entry
   pub at_file : (place : Option ℕ) → at_place resource.representations.items place
       ≡ option_map (representation_of present) (file_at x.found.files.items place)
   at_file = represented_at present resource.representations.items x.found.files.items x.described.are
-
-  -- ---- what `http1` makes of it
 
   module _ (is_site : IsSite (string_bytes site.divider) site.resource) (head : RequestHead)
       (same : head.method ≡ (head_of request).method) where
@@ -514,17 +451,12 @@ module _ {now : Option ℕ} {left : ℕ} {site : Site} {has : List ℕ → Entry
     Accepts code sent = IsAccepted method code (len_of_pieces code sent) (given_under false resource sent)
 
     going : (asked : Asked) (place : Option ℕ) (response : Option Planning)
-        → IsGivenAt present resource asked place response → is_connect method ≡ false
+        → IsAnswered present asked.method asked.fields (seen_at resource place)
+        (content_of (at_place resource.representations.items place)) resource.boundary response
+        → is_connect method ≡ false
         → Accepts (status_for x.found.status Admitted (status_sent response)) (is_sent place response)
     going asked place None h free = empty method 200 (inl refl) free
-    going asked place (Some response) h free =
-        let found = at_place resource.representations.items place in
-        let fits =
-        Fits-from_plan present asked.method asked.fields (seen_at resource place) (divisible_len (content_of found))
-        (limits_of (content_of found)) response.plan h.plan in
-        rw h.status
-        (plan_accepted (string_bytes site.divider) present (file_at x.found.files.items place) found response.plan
-        method (at_file place) free fits)
+    going asked place (Some response) h free = grind (arith, Fits-from_plan, plan_accepted, at_file)
 
     by_reason : (asked : Asked) → asked.denied ≡ None → (reason : Reason) (status : Option ℕ) (sent : Sends)
         (own : List Field) → applies present resource asked reason ≡ true
@@ -539,9 +471,7 @@ module _ {now : Option ℕ} {left : ℕ} {site : Site} {has : List ℕ → Entry
         rw (g.has_status, g.sends) (empty method 204 (inr refl) (free refl))
     by_reason asked none Reason.Denied status sent own t free g =
         let no : is_some asked.denied ≡ false = ap is_some none in absurd (cc (no, t))
-    by_reason asked none Reason.NotFound status sent own t free g =
-        rw g.sends
-        (explained method x.found.status _
+    by_reason asked none Reason.NotFound status sent own t free g = rw g.sends (explained method x.found.status _
         (found_explained site.resource.negotiation.coding has (head_of request).uri x.found x.leads))
     by_reason asked none Reason.Moved status sent own t free g =
         rw (g.has_status, g.sends) (explained method _ _ (moved_explained resource.state t))
@@ -549,8 +479,7 @@ module _ {now : Option ℕ} {left : ℕ} {site : Site} {has : List ℕ → Entry
 
     frees : (reason : Reason) → IsFirst (applies present resource x.asked) reason → is_open reason ≡ true
         → is_connect method ≡ false
-    frees reason first goes =
-        ap (λ (m : List ℕ). is_connect (method_kind m)) (same ∙ sym x.asks.2.method)
+    frees reason first goes = ap (λ (m : List ℕ). is_connect (method_kind m)) (same ∙ sym x.asks.2.method)
         ∙ free_of present resource is_site.rule is_site.rules is_site.is_read.method x.asked reason first goes
 
     -- what sends several parts is admitted
@@ -559,48 +488,34 @@ module _ {now : Option ℕ} {left : ℕ} {site : Site} {has : List ℕ → Entry
     several_admitted reason status sent own g several = grind (arith, reason)
 
     free : is_open x.answer.reason ≡ true → is_connect method ≡ false
-    free goes =
-        elim (rw x.described.is at x.decides) [
-          | inl h ↦ frees x.answer.reason h.1.first goes
-          | inr h ↦
-              elim (cases_Bool (sends_several h.0.sends)) [
-                | inl several ↦
-                    frees h.0.reason h.2.first
-                    (ap is_open (several_admitted h.0.reason h.0.status h.0.sends h.2.own h.2.gives several))
-                | inr one ↦ absurd (h.1 (λ several. absurd (cc (one, several))))
-              ]
-        ]
+    free goes = elim (rw x.described.is at x.decides) [
+      | inl h ↦ frees _ h.1.first goes
+      | inr h ↦
+          let several : sends_several h.0.sends ≡ true = grind (arith, h.1) in
+          frees _ h.2.first (ap is_open (several_admitted _ _ _ _ h.2.gives several))
+    ]
 
     accepted : Accepts code x.answer.sends
-    accepted =
-        let a = answered.4 in
-        by_reason answered.0 answered.2 x.answer.reason x.answer.status x.answer.sends a.own a.first.is free a.gives
+    accepted = let a = answered.4 in by_reason _ answered.2 _ _ _ _ a.first.is free a.gives
 
     len_is : content_len response ≡ len_of_pieces code x.answer.sends
     len_is = ap total_len x.carries.pieces
 
     sound : IsBareIfAny site.resource.cors → list_all is_sound_line ((front ++ own) ++ page) ≡ true
     sound bare =
-        let fields =
-        answer_sound present resource answered.0 x.found.files.items x.described.are x.answer answered.4 bare
+        let fields = answer_sound present resource answered.0 x.found.files.items x.described.are x.answer answered.4 bare
         x.carries.tagged in
-        let both =
-        and_from _ _ before.sound (sent_sound (is_some site.resource.cors) given fields) in
-        rw (list_all-append is_sound_line (front ++ own) page, list_all-append is_sound_line front own)
-        (and_from _ _ both after.sound)
+        let sent = sent_sound (is_some site.resource.cors) given fields in
+        grind (arith, before.sound, after.sound, list_all-append)
 
-    states : IsBareIfAny site.resource.cors
-        → StatesLength (content_len response) accepted.stated (plan_fields response)
-    states bare =
-        rw (x.carries.headers, len_is)
+    states : IsBareIfAny site.resource.cors → StatesLength (content_len response) accepted.stated (plan_fields response)
+    states bare = rw (x.carries.headers, len_is)
         (states_lines (len_of_pieces code x.answer.sends) (rw len_is at x.carries.short) ((front ++ own) ++ page)
-        accepted.stated (sound bare)
-        (own_alone length_name length_marked ∙ own_given false ∙ accepted.lengths)
+        accepted.stated (sound bare) (own_alone length_name length_marked ∙ own_given false ∙ accepted.lengths)
         (rw x.carries.headers at x.carries.valid))
 
     pub answer_sent : (limits : Limits) (framing : Framing) → IsBareIfAny site.resource.cors → head.minor ≤ 1
         → response_refusal (answering limits head framing) response.status (reason_of response.status)
         (plan_size response) (plan_fields response) ≡ None
-    answer_sent limits framing bare minor =
-        plan_sent limits head framing response accepted.stated x.carries.short minor
+    answer_sent limits framing bare minor = plan_sent limits head framing response accepted.stated x.carries.short minor
         (rw x.carries.status accepted.text) (states bare) (simp (x.carries.status, len_is) accepted.final)

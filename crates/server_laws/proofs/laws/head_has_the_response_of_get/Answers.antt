@@ -7,8 +7,7 @@ use Rattle.server_laws.proofs.laws.head_has_the_response_of_get.Goals as goal
 pub returns : goal.returns
 returns c now left site look get head response source is x =
     let asks = x.asks.2 in
-    answered_as x (rw is.uri x.leads) (as_head x.asked) (x.asks.0, rw is.uri x.asks.1, grind arith)
-    (elim x.decides [
+    answered_as x (rw is.uri x.leads) (as_head x.asked) (x.asks.0, rw is.uri x.asks.1, grind arith) (elim x.decides [
       | inl h ↦ inl (h.0, answers x.answer h.1)
       | inr h ↦ inr (h.0, h.1, answers h.0 h.2, h.3)
     ])

@@ -11,11 +11,9 @@ returns c now left site look request response source asked policy rules sent x c
     preflight =
     let same : x.asked ≡ asked = asked_once request x.asked asked x.asks asks in
     let asked_so : IsPreflightFor sent asked.method asked.fields = rw (asks.2.method, asks.2.fields) preflight in
-    let d =
-    decided (present x) (resource x) asked policy cors sent asked_so host own (string_bytes site.divider)
+    let d = decided (present x) (resource x) asked policy cors sent asked_so host own (string_bytes site.divider)
     x.found.files.items x.answer (rw (x.described.is, same) at x.decides) in
-    let law =
-    passed d.1
+    let law = passed d.1
     (c.preflight_is_answered.ensures (present x) (resource x) asked x.answer rules policy nothing sent cors d.0 lawful
     made asked_so) in
     let code : status_for x.found.status x.answer.reason x.answer.status ≡ 204 = rw (d.1, law.0) in

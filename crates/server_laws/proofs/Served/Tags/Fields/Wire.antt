@@ -4,8 +4,6 @@ unfoldable pub use Words.*
 
 -- ==== A response whose length is known is sent, unless its fields state another one.
 
--- ---- numbers
-
 chars_are : (ds : List ℕ) → AllBelowBase 10 ds → map digit_char ds ≡ map (λ d. 48 + d) ds
 chars_are [] below = refl
 chars_are (d ∷ ds) below = grind (arith, nat_tests, chars_are ds)
@@ -15,8 +13,6 @@ pub decimal_is_numeral : (n : ℕ) → n < 2 ^ 64 → decimal n ≡ numeral 10 n
 unfolding numeral
 decimal_is_numeral n short =
     grind (arith, nat_tests, decimal_digit, decimal-digits_of, chars_are, all_below_base_digits_of)
-
--- ---- what fields say of the framing
 
 pub states_none : (n : ℕ) → StatesLength n false []
 states_none n = record { valid = refl; codings = refl; lengths = refl }
@@ -63,17 +59,9 @@ knows : (n : ℕ) (stated : Bool) (hs : List Header) → n < 2 ^ 64 → StatesLe
     → Knows n stated (known_fields hs)
 unfolding known_fields
 knows n stated hs short x =
-    grind (
-      arith,
-      stated,
-      counts hs x.codings,
-      decimal_is_numeral n short,
-      decimal_is_number n short,
-      decimal_is_plain n short,
-      numeral_reads_back 10 n,
-    )
-
--- ---- the plan
+    let number = decimal_is_number n short in
+    let plain = decimal_is_plain n short in
+    grind (arith, stated, counts hs x.codings, decimal_is_numeral n short, number, plain, numeral_reads_back 10 n)
 
 abbrev framing_of : ℕ → ℕ → Bool → Framing
 framing_of status n stated = cond (is_bodiless_status status) NoBody (cond stated (Sized n) UntilClose)
@@ -89,9 +77,8 @@ module _ (r : Serving) (status n : ℕ) (hs : List Header) (short : n < 2 ^ 64) 
 
     all_stated : StatesLength n stated (hs ++ (first ++ second))
     all_stated =
-        rw (← (append_assoc hs first second))
-        (states_both n stated false stated (hs ++ first) second x
-        (states_connection n r k (stays_open r k (framing_of status n stated))) (append-nil _))
+        rw (← (append_assoc hs first second)) (states_both n _ _ _ _ _ x (states_connection n r k (stays_open r k
+        (framing_of status n stated))) (append-nil _))
 
     abbrev last : WirePlan
     last = record {
@@ -105,8 +92,7 @@ module _ (r : Serving) (status n : ℕ) (hs : List Header) (short : n < 2 ^ 64) 
         → cond (eqb status 204 && states_framing k) (Err Refusal.BodySize)
         (cond (is_205_with_content r status (size_for n) k) (Err Refusal.BodySize)
         (cond (is_coded_304 r status k) (Err (Refusal.Framing UnexpectedTransferEncoding))
-        (plan_stated r status (size_for n) hs first (response_framing Method.Other status r.minor k))))
-        ≡ Ok last
+        (plan_stated r status (size_for n) hs first (response_framing Method.Other status r.minor k)))) ≡ Ok last
     plan_with other late fit =
         let told = knows n stated (hs ++ first) short x in
         let all = knows n stated (hs ++ (first ++ second)) short all_stated in
@@ -115,8 +101,7 @@ module _ (r : Serving) (status n : ℕ) (hs : List Header) (short : n < 2 ^ 64) 
   module _ (stated : Bool) (x : StatesLength n stated hs) (s : IsFinal r.method status n stated) where
     -- the connection adds the length
     abbrev adds : Bool
-    adds =
-        is_sized r (size_for n)
+    adds = is_sized r (size_for n)
         && (not (eqb status 204) && (not (eqb status 304) && not (states_framing (known_fields hs))))
 
     bare_stated : StatesLength n stated (hs ++ [])
@@ -144,20 +129,17 @@ module _ (r : Serving) (status n : ℕ) (hs : List Header) (short : n < 2 ^ 64) 
     planned : (plan : WirePlan) × (planned_for r status (size_for n) hs ≡ Ok plan)
         × (list_all is_header (hs ++ plan.extra) ≡ true)
     unfolding planned_for
-    planned =
-        elim (cases_Bool adds) [
-          | inr is ↦ (last [] stated bare_stated, stated_plan (inr is), (all_stated [] stated bare_stated).valid)
-          | inl is ↦
-              let e = silent is in
-              let added : StatesLength n true (hs ++ length_header n ∷ []) =
-              states_both n false true true hs (length_header n ∷ []) (rw e.0 at x) (states_length n short) refl in (
-                last (length_header n ∷ []) true added,
-                rw (is, e.3) (plan_with (length_header n ∷ []) true added s.other e.2 e.1),
-                (all_stated (length_header n ∷ []) true added).valid,
-              )
-        ]
-
--- ---- the response
+    planned = elim (cases_Bool adds) [
+      | inr is ↦ (last [] stated bare_stated, stated_plan (inr is), (all_stated [] stated bare_stated).valid)
+      | inl is ↦
+          let e = silent is in
+          let added : StatesLength n true (hs ++ length_header n ∷ []) =
+          states_both n false true true hs (length_header n ∷ []) (rw e.0 at x) (states_length n short) refl in (
+            last (length_header n ∷ []) true added,
+            rw (is, e.3) (plan_with (length_header n ∷ []) true added s.other e.2 e.1),
+            (all_stated (length_header n ∷ []) true added).valid,
+          )
+    ]
 
 -- a response with such a status and such fields is sent
 pub plan_sent : (limits : Limits) (h : RequestHead) (framing : Framing) (plan : Response) (stated : Bool)
@@ -183,13 +165,11 @@ decimal_trimmed n short =
 
 -- a date, from the name of its day
 abbrev date_from : List ℕ → Parts → List ℕ
-date_from day p =
-    day ++ codes ", " ++ two_digits p.day ++ codes " " ++ month_name p.mon ++ codes " "
+date_from day p = day ++ codes ", " ++ two_digits p.day ++ codes " " ++ month_name p.mon ++ codes " "
     ++ four_digits p.year ++ codes " " ++ time_of_day p ++ codes " GMT"
 
 abbrev day_at : ℕ → List ℕ
-day_at k =
-    slice_index_or
+day_at k = slice_index_or
     (codes "Mon" ∷ codes "Tue" ∷ codes "Wed" ∷ codes "Thu" ∷ codes "Fri" ∷ codes "Sat" ∷ codes "Sun" ∷ []) k []
 
 -- it begins with a letter, or with a comma where there is no such day
@@ -205,8 +185,6 @@ unfolding fixdate
 fixdate_trimmed seconds = date_trimmed (parts_at seconds)
 
 -- ==== A 200 that states its length: the head that is written, and what is around its content.
-
--- ---- the response
 
 valid_by : (planned : Result WirePlan WriteError) (line : Bool) (hs : List Header) → plan_refusal planned line hs ≡ None
     → list_all is_header hs ≡ true
@@ -249,21 +227,19 @@ module _ (limits : Limits) (h : RequestHead) (framing : Framing) (plan : Respons
   final = grind arith
 
   -- the head that is written, and that the content is written as it is, if it is not to a HEAD
-  pub ok_sent : (head_text s plan ≡ ok_text now tag n media_type)
-      × (writing (after_head s plan)
+  pub ok_sent : (head_text s plan ≡ ok_text now tag n media_type) × (writing (after_head s plan)
       ≡ Writes.Body (encoder_for (cond (has_no_body (method_kind h.method) 200) NoBody (Sized n))))
   ok_sent =
       let line = is_status_line h.minor 200 (reason_of 200) in
       let hs : List Header = ok_fields now tag n media_type in
-      let valid = valid_by (response_plan s 200 (size_for n) hs) line hs (rw (status, fields_are) at none) in
-      let states = ok_states tag n media_type now valid in
+      let valid = valid_by _ _ _ (rw (status, fields_are) at none) in
+      let states = ok_states _ n media_type now valid in
       let made = stated_plan s.request 200 n hs short true states final (inl refl) in
       let late : (false || (is_connect (method_kind h.method) && nat_lt 200 300)) ≡ false = final.connect in
       let is = (λ i. response_plan s (status i) (plan_size plan) (fields_are i)) ∙ cond-false _ _ _ late ∙ made in (
-        (λ i. response_text (minor i) (status i) (reason_of (status i)) (planned_headers (is i) (fields_are i)))
-            ∙ ap (λ (extra : List Header). response_text 1 200 (reason_of 200) (hs ++ extra))
-            (quiet tag n media_type s.request now minor keeps refl)
-            ∙ printed tag n media_type now,
+        (λ i. response_text (minor i) (status i) (reason_of (status i)) (planned_headers (is i) (fields_are i))) ∙ ap (λ
+            (extra : List Header). response_text 1 200 (reason_of 200) (hs ++ extra)) (quiet _ n media_type s.request now
+            minor keeps refl) ∙ printed tag n media_type now,
         ap (λ (q : Result WirePlan WriteError). writing (responding s q)) is,
       )
 
@@ -273,12 +249,5 @@ pub framed_literally : (limits : Limits) (h : RequestHead) (framing : Framing) {
     → Frames false plan (answering limits h framing) before tail server after rest
     → (after ≡ before ++ ok_text now tag (content_len plan) media_type) × (rest ≡ tail)
 framed_literally limits h framing {plan} {server} {now} {tag} {media_type} ok stays frames =
-    let o =
-    ok_sent limits h framing plan now tag media_type ok.status frames.short ok.fields stays.minor stays.keeps
-    (ap is_connect stays.method) frames.valid in
-    let body : writing (after_head (answering limits h framing) plan)
-    ≡ Writes.Body (Encodes.Length (content_len plan)) =
-    o.1
-    ∙ ap (λ (m : MethodKind). Writes.Body (encoder_for (cond (has_no_body m 200) NoBody (Sized (content_len plan)))))
-    stays.method in
-    (frames.head ∙ simp (o.0, body, append-nil), frames.tail ∙ simp (body, append-nil))
+    let o = ok_sent limits h framing plan now tag media_type ok.status frames.short ok.fields stays.minor stays.keeps
+    (ap is_connect stays.method) frames.valid in grind (arith, append-nil)
