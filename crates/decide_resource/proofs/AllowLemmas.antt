@@ -10,15 +10,7 @@ is_equal : (a b : List ℕ) → bytes_eq a b ≡ true → a ≡ b
 is_equal a b = (bytes_eq-Decides a b).0
 
 flip : (a b : List ℕ) → bytes_eq a b ≡ bytes_eq b a
-flip a b = by (bytes_eq a b) refl (bytes_eq b a) refl
-  where
-    by : (x : Bool) → bytes_eq a b ≡ x → (y : Bool) → bytes_eq b a ≡ y → bytes_eq a b ≡ bytes_eq b a
-    by true e true f = e ∙ sym f
-    by false e false f = e ∙ sym f
-    by true e false f =
-        let other : bytes_eq b a ≡ true = (bytes_eq-Decides b a).1 (sym (is_equal a b e)) in absurd (cc (f, other))
-    by false e true f =
-        let other : bytes_eq a b ≡ true = (bytes_eq-Decides a b).1 (sym (is_equal b a f)) in absurd (cc (e, other))
+flip a b = grind (arith, bytes_eq, bytes_eq-Decides, is_equal)
 
 or_true : (b : Bool) → (b || true) ≡ true
 or_true true = refl
@@ -76,15 +68,7 @@ rules_list (rule ∷ rules) m other =
 -- the methods list just those that the resource has
 pub methods_list : (rules : List MethodRule) (m : List ℕ) → list_any (bytes_eq m) (methods rules) ≡ has_method rules m
 unfolding rule_for
-methods_list rules m =
-    list_any-append (bytes_eq m) (flat_map methods_of rules) (codes "OPTIONS" ∷ [])
-    ∙ by (bytes_eq m (codes "OPTIONS")) refl
-  where
-    by : (b : Bool) → bytes_eq m (codes "OPTIONS") ≡ b
-        → (list_any (bytes_eq m) (flat_map methods_of rules) || (b || false))
-        ≡ (b || is_some (find (λ (rule : MethodRule). bytes_eq rule.method (ruled m)) rules))
-    by true e = or_true (list_any (bytes_eq m) (flat_map methods_of rules))
-    by false e = or_false (list_any (bytes_eq m) (flat_map methods_of rules)) ∙ rules_list rules m e
+methods_list rules m = grind (arith, list_any-append, bytes_eq, or_true, or_false, rules_list)
 
 bytes_equivalence : IsEquivalence bytes_eq
 bytes_equivalence = grind (arith, bytes_eq-Decides, flip, bytes_eq, is_equal)

@@ -32,10 +32,6 @@ pub record AreAlike (fields : LineMap) (representation : Option Representation) 
 
 module _ (present : ℕ) (method : List ℕ) (fields : LineMap) (target : Target) (content : Content)
     (multipart : FieldValue) (representation : Option Representation) where
-  all_of : Plan → List Field
-  all_of plan =
-      with_metadata fields representation plan (fields_sent present plan (is_known_by fields) target content multipart)
-
   several_alike : (rep : Option Representation) (xs ys : _) → with_metadata fields rep (Plan.Multiple xs)
       (fields_sent present (Plan.Multiple xs) (is_known_by fields) target content multipart)
       ≡ with_metadata fields rep (Plan.Multiple ys)

@@ -57,9 +57,7 @@ module _ (scored : Representation → ℕ) (xs : List Representation) where
 
   picked_at : (choice : Option ℕ) → Picks scored xs choice
       → at_place xs (place_of xs choice) ≡ first_preferred scored xs
-  picked_at None h =
-      first_or xs ∙ ap (λ (found : Option Representation). option_or found (slice_get xs 0))
-      (sym (none_found (is_preferred scored xs) xs (λ k other low. unscored _ _ (h k other low))))
+  picked_at None h = grind (arith, first_or, none_found, unscored)
   picked_at (Some place) h =
       elim (slice_get_cases xs place).1 [
         | inl there ↦
@@ -85,9 +83,7 @@ module _ (resource : Resource) where
 
   selected_at : (fields : LineMap) (place : Option ℕ) → IsSelected resource fields place
       → at_place resource.representations.items place ≡ selected_of resource fields
-  selected_at fields place h =
-      ap (at_place resource.representations.items) h.is
-      ∙ picked_in (score resource.negotiation fields) resource.representations.items resource.state h.choice h.picks
+  selected_at fields place h = grind (arith, picked_in)
 
   pub date_at : (fields : LineMap) (place : Option ℕ) → IsSelected resource fields place
       → option_and_then (λ (r : Representation). r.validators.last_modified)
@@ -100,19 +96,10 @@ module _ (resource : Resource) where
   module _ (f g : LineMap)
       (same : (x : Representation) → score resource.negotiation f x ≡ score resource.negotiation g x) where
     pub same_selected : (place : Option ℕ) → IsSelected resource f place → IsSelected resource g place
-    same_selected place h =
-        record {
-          choice = h.choice;
-          picks =
-              picks_alike (score resource.negotiation f) (score resource.negotiation g) same
-              resource.representations.items h.choice h.picks;
-          is = h.is;
-        }
+    same_selected place h = grind (arith, picks_alike, same)
 
     same_date : date_selected resource f ≡ date_selected resource g
-    same_date =
-        let some = some_place f in
-        sym (date_at f some.0 some.1) ∙ date_at g some.0 (same_selected some.0 some.1)
+    same_date = grind (arith, some_place, date_at, same_selected)
 
     pub same_guard : (present : ℕ) → AskAlike f g → is_guarded present resource f ≡ is_guarded present resource g
     same_guard present asks =

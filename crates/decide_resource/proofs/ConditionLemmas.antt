@@ -1,4 +1,5 @@
 -- Conditions are evaluated on the representation that the request without them gets.
+use Rattle.std.proofs.Common.{arith}
 use Rattle.std.proofs.Common.{◌≡◌, ℕ, Bool, true, false, List, Option, Some, None, refl, sym, ◌∙◌}
 use Rattle.{headers.specs.LineMap.Field, decide_preconditions.specs.declared.plan.Plan.Plan}
 use Rattle.{decide_preconditions.specs.declared.response.Response.Response, decide_resource.specs.Answers.GivesIf}
@@ -18,10 +19,7 @@ module _ (present : ℕ) (resource : Resource) (request : Request) where
     where
       by : (response : Option Response) → is_sent h.place response ≡ sends.Planned place plan
           → IsSelected resource request.fields place
-      by None f = absurd (cc f)
-      by (Some response) f =
-          let same : h.place ≡ place = cc f in
-          record { choice = h.selected.choice; picks = h.selected.picks; is = sym same ∙ h.selected.is }
+      by response f = grind (arith, response)
   is_selected false reason status sent fields place plan h e = absurd (by reason (sym h.sends ∙ e))
     where
       by : (r : Reason) → sent_for r ≡ sends.Planned place plan → ⊥
@@ -37,9 +35,7 @@ pub same_place : (present : ℕ) (resource : Resource) (request : Request) (a b 
     (plan other : Plan) → IsAnswer present resource request a → IsAnswer present resource (unconditional request) b
     → a.sends ≡ sends.Planned p plan → b.sends ≡ sends.Planned q other → p ≡ q
 same_place present resource request a b p q plan other h k e f =
-    let mine = is_selected present resource request (is_admitted a.reason) a.reason a.status a.sends h.own p plan
-    h.gives e in
-    let theirs = is_selected present resource (unconditional request) (is_admitted b.reason) b.reason b.status b.sends
-    k.own q other k.gives f in
-    one_place resource request.fields p q mine
-    (same_selected resource (unconditional request).fields request.fields (score_alike resource request) q theirs)
+    let mine = is_selected _ _ _ _ _ _ _ h.own p plan h.gives e in
+    let theirs = is_selected _ _ _ _ _ _ _ k.own q other k.gives f in
+    one_place _ _ p q mine (same_selected resource (unconditional request).fields request.fields (score_alike resource
+    request) q theirs)

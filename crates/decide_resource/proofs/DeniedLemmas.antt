@@ -38,83 +38,28 @@ module _ (request : Request) (why : Denial) (denies : request.denied ≡ Some wh
   stops : (present : ℕ) (resource : Resource) (reason : Reason) (status : Option ℕ) (sent : Sends) (own : List Field)
       → Before reason UnknownMethod → GivesIf (is_admitted reason) present resource request reason status sent own
       → Stops resource request reason status sent own
-  stops present resource InvalidHost status sent own low h = h
-  stops present resource Misdirected status sent own low h = h
-  stops present resource Preflight status sent own low h = h
-  stops present resource Denied status sent own low h = h
-  stops present resource reason status sent own low h = absurd (omega (arith, low))
+  stops present resource reason status sent own low h = grind (arith, reason)
 
   pub told_why : (present : ℕ) (resource : Resource) (answer : Answer) → IsAnswer present resource request answer
       → Before answer.reason Denied ⊎ (answer.status ≡ Some (status_denied why))
-  told_why present resource answer a =
-      let low : Before answer.reason UnknownMethod = early present resource answer.reason a.first in
-      elim (cases_order (stage answer.reason) 3) [
-        | inl level ↦
-            let is : answer.reason ≡ Denied = only_denied answer.reason level in
-            let given : GivesIf false present resource request Denied answer.status answer.sends a.own =
-            subst (λ (r : Reason). GivesIf (is_admitted r) present resource request r answer.status answer.sends a.own)
-            is a.gives in
-            inr (given.has_status
-            ∙ ap (λ (denied : Option Denial). Some (status_of resource.state denied Denied)) denies)
-        | inr apart ↦
-            elim apart [
-              | inl before ↦ inl before
-              | inr high ↦ absurd (omega (arith, low, high))
-            ]
-      ]
+  told_why present resource answer a = grind (arith, early, cases_order, only_denied)
 
   module _ (present later : ℕ) (a b : Resource) (hosts : a.hosts ≡ b.hosts) (cors : a.cors ≡ b.cors) where
     same_test : (reason : Reason) → Before reason UnknownMethod
         → applies present a request reason ≡ applies later b request reason
-    same_test InvalidHost low = refl
-    same_test Misdirected low =
-        ap (λ (own : Option (Vec FieldValue)). option_map_or
-        (λ (h : Vec FieldValue). not (is_own h.items (host_named request.authority (request.fields (codes "host")))))
-        own false) hosts
-    same_test Preflight low =
-        ap (λ (policy : Option Policy). is_some policy && is_preflight_request request.method request.fields) cors
-    same_test Denied low = refl
-    same_test reason low = absurd (omega (arith, low))
+    same_test reason low = grind (arith, reason)
 
     same_first : (reason : Reason) → IsFirst (applies later b request) reason
         → IsFirst (applies present a request) reason
-    same_first reason first =
-        let low : Before reason UnknownMethod = early later b reason first in
-        record {
-          is = same_test reason low ∙ first.is;
-          none_before = λ other before.
-              let less : stage other < stage reason = before in
-              let under : stage reason < 4 = low in
-              let lower : Before other UnknownMethod = omega (arith, less, under) in
-              same_test other lower ∙ first.none_before other before;
-        }
+    same_first reason first = grind (arith, early, later, same_test)
 
     -- what a reason gives, of either resource
     same_stops : (reason : Reason) (status : Option ℕ) (sent : Sends) (own : List Field)
         → Before reason UnknownMethod → Stops b request reason status sent own → Stops a request reason status sent own
-    same_stops InvalidHost status sent own low h =
-        record { has_status = h.has_status; sends = h.sends; has_fields = h.has_fields }
-    same_stops Misdirected status sent own low h =
-        record { has_status = h.has_status; sends = h.sends; has_fields = h.has_fields }
-    same_stops Preflight status sent own low h =
-        record { has_status = h.has_status; sends = h.sends; has_fields = h.has_fields }
-    same_stops Denied status sent own low h =
-        record { has_status = h.has_status; sends = h.sends; has_fields = h.has_fields }
-    same_stops reason status sent own low h = absurd (omega (arith, low))
+    same_stops reason status sent own low h = grind (arith, reason)
 
     no_vary : (resource : Resource) (reason : Reason) → Before reason UnknownMethod → vary_lines resource reason ≡ []
-    no_vary resource InvalidHost low = refl
-    no_vary resource Misdirected low = refl
-    no_vary resource Preflight low = refl
-    no_vary resource Denied low = refl
-    no_vary resource reason low = absurd (omega (arith, low))
-
-    not_admitted : (reason : Reason) → Before reason UnknownMethod → is_admitted reason ≡ false
-    not_admitted InvalidHost low = refl
-    not_admitted Misdirected low = refl
-    not_admitted Preflight low = refl
-    not_admitted Denied low = refl
-    not_admitted reason low = absurd (omega (arith, low))
+    no_vary resource reason low = grind (arith, reason)
 
     pub tells_nothing : (x y : Answer) → IsAnswer present a request x → IsAnswer later b request y
         → AreSame x y

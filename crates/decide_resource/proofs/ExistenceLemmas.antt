@@ -33,11 +33,7 @@ use Rattle.decide_resource.specs.declared.resource.State.TheVariants as state
 
 IfSome-find : {X : Type 0} (P : X → Type 0) (test : X → Bool) (xs : List X) → All P xs → IfSome (find test xs) P
 IfSome-find P test [] all = tt
-IfSome-find P test (x ∷ xs) all = by (test x) (All-head P x xs all) (IfSome-find P test xs (All-tail P x xs all))
-  where
-    by : (b : Bool) → P x → IfSome (find test xs) P → IfSome (cond b (Some x) (find test xs)) P
-    by true now later = now
-    by false now later = later
+IfSome-find P test (x ∷ xs) all = grind (arith, All-head, All-tail, IfSome-find P test xs (All-tail P x xs all))
 
 IfSome-slice_get : {X : Type 0} (P : X → Type 0) (xs : List X) (k : ℕ) → All P xs → IfSome (slice_get xs k) P
 IfSome-slice_get P [] k all = tt
@@ -56,9 +52,7 @@ codings_fit (line ∷ lines) few = few
 
 encodings_fit : (rule : Option MethodRule) → IfSome rule TakesFew → Fit 3 (accept_encoding_fields rule)
 encodings_fit None few = fit-none 3
-encodings_fit (Some rule) few =
-    fit-more _ (codings_fit (lines_at rule.takes (codes "accept-encoding")) (few (codes "accept-encoding")))
-    (fit-none 2)
+encodings_fit (Some rule) few = fit-more _ (codings_fit _ (few (codes "accept-encoding"))) (fit-none 2)
 
 retry_fits : (seconds : Option ℕ) → Fit 3 (retry_fields seconds)
 retry_fits None = fit-none 3
@@ -117,12 +111,7 @@ module _ (present : ℕ) (request : Request) (there : State) (representation : O
   -- ---- its plan
 
   few_parts : (limit n : ℕ) (costly : Bool) → (nat_lt 1 n && (nat_lt limit n || costly)) ≡ false → 1 < n → n ≤ limit
-  few_parts limit n costly few more = by (nat_lt 1 n) (nat_lt limit n) refl refl few
-    where
-      by : (a b : Bool) → nat_lt 1 n ≡ a → nat_lt limit n ≡ b → (a && (b || costly)) ≡ false → n ≤ limit
-      by false b e f g = absurd (omega (arith, ltb-false 1 n e, more))
-      by true true e f g = absurd (cc g)
-      by true false e f g = ltb-false limit n f
+  few_parts limit n costly few more = grind (arith, ltb-false)
 
   abbrev Responds : FieldValue → Type 0
   Responds multipart =
@@ -188,20 +177,7 @@ line_few false line = omega arith
 
 vary_few : (resource : Resource) (selects : Bool)
     → length (if selects then selecting resource.negotiation else []) ≤ 3
-vary_few resource true =
-    let n = resource.negotiation in
-    let a = line_if n.media_type (codes "accept") in
-    let b = line_if n.language (codes "accept-language") in
-    let c = line_if n.coding (codes "accept-encoding") in
-    omega (
-      arith,
-      line_few n.media_type (codes "accept"),
-      line_few n.language (codes "accept-language"),
-      line_few n.coding (codes "accept-encoding"),
-      length-append (a ++ b) c,
-      length-append a b,
-    )
-vary_few resource false = omega arith
+vary_few resource selects = grind (arith, selects, line_few, length-append)
 
 vary_fits : (lines : List Line) → length lines ≤ 3 → Fit 1 (vary_fields lines)
 vary_fits [] few = fit-none 1

@@ -37,9 +37,7 @@ or_right true = refl
 or_right false = refl
 
 in_middle : (a b c : Bool) → b ≡ true → (a || (b || c)) ≡ true
-in_middle true b c e = refl
-in_middle false true c e = refl
-in_middle false false c e = absurd (cc e)
+in_middle a b c e = grind (arith, a, b)
 
 no_read : (method : List ℕ) → is_read method ≡ false → ¬ (IsGetOrHead method)
 no_read method e (inl get) = grind (arith, bytes_eq-Decides, both_ways, bytes_eq)
@@ -48,9 +46,7 @@ no_read method e (inr head) = grind (arith, bytes_eq-Decides, both_ways, bytes_e
 -- a method of preconditions, and no read, has them count
 counted : (current : Target) (method : List ℕ) → ¬ (IsUnconditional method) → ¬ (IsGetOrHead method)
     → ¬ (AreIgnored current method)
-counted current method counts other (inl is) = counts is
-counted target.Missing method counts other (inr read) = other read
-counted (target.Current validators) method counts other (inr none) = none
+counted current method counts other x4 = grind (arith, current, x4)
 
 -- a date that isn't later than that of the representation, and isn't earlier, is the same
 date_met : (both : Option (ℕ × ℕ)) → option_map_or (λ (d : ℕ × ℕ). nat_le d.0 (unix_epoch + d.1)) both false ≡ true
@@ -69,27 +65,7 @@ module _ (present : ℕ) (resource : Resource) (fields : LineMap) (method : List
   current_there : (current : Target) → modified_of current ≡ date_selected resource fields
       → names_current present resource fields ≡ true → StepsAnswer present fields current method precondition.Perform
       → ReplacesListed fields current ⊎ ReplacesDated present resource fields current
-  current_there current dated named steps = by (is_present (fields (codes "if-match"))) refl named
-    where
-      opposite : (b : Bool) → not b ≡ true → b ≡ false
-      opposite true e = absurd (cc e)
-      opposite false e = refl
-
-      by : (b : Bool) → is_present (fields (codes "if-match")) ≡ b
-          → (if b then not (is_star (fields (codes "if-match"))) else resource.has_strong_dates
-          && is_dated present (fields (codes "if-unmodified-since")) (date_selected resource fields)) ≡ true
-          → ReplacesListed fields current ⊎ ReplacesDated present resource fields current
-      by true some tags = inl (opposite (is_star (fields (codes "if-match"))) tags, steps.0.0 (ltb-true 0 _ some))
-      by false none says =
-          let parts = and_parts resource.has_strong_dates _ says in
-          let absent : ¬ (HasIfMatch fields) = λ has. omega (arith, ltb-false 0 _ none, has) in
-          inr (
-            parts.0,
-            absent,
-            date_met (dates present (codes "if-unmodified-since") fields current)
-                (subst (λ (modified : Option ℕ). is_dated present (fields (codes "if-unmodified-since")) modified
-                ≡ true) (sym dated) parts.1) (steps.0.1 absent),
-          )
+  current_there current dated named steps = grind (arith, ltb-true, and_parts, ltb-false, date_met)
 
   guarded_replaces : is_guarded present resource fields ≡ true → (current : Target)
       → modified_of current ≡ date_selected resource fields
@@ -102,9 +78,7 @@ module _ (present : ℕ) (resource : Resource) (fields : LineMap) (method : List
 
 modified_at : (there : State) (found : Option Representation) → modified_of (target_of there found)
     ≡ option_and_then (λ (r : Representation). r.validators.last_modified) found
-modified_at state.Current None = refl
-modified_at there None = refl
-modified_at there (Some found) = refl
+modified_at there found = grind (arith, there, found)
 
 -- ---- a performed method has passed its preconditions
 
@@ -143,10 +117,7 @@ module _ (present : ℕ) (resource : Resource) (request : Request) where
   -- it isn't asked for a precondition, so it has one
   guarded_by : (read needs guarded : Bool) → read ≡ false → needs ≡ true
       → (not read && (needs && not guarded)) ≡ false → guarded ≡ true
-  guarded_by true needs guarded r n e = absurd (cc r)
-  guarded_by false false guarded r n e = absurd (cc n)
-  guarded_by false true true r n e = refl
-  guarded_by false true false r n e = absurd (cc e)
+  guarded_by read needs guarded r n e = grind (arith, read, needs, guarded)
 
   has_guard : (reason : Reason) → needs_condition (rule resource request) ≡ true → is_read request.method ≡ false
       → is_admitted reason ≡ true → IsFirst (applies present resource request) reason
@@ -183,9 +154,7 @@ module _ (present : ℕ) (resource : Resource) (request : Request) where
   same_without reason other = refl
 
   early : (reason : Reason) → reason ≢ Admitted → reason ≢ PreconditionRequired → stage reason < 14
-  early PreconditionRequired a p = absurd (p refl)
-  early Admitted a p = absurd (a refl)
-  early reason a p = lit< tt
+  early reason a p = grind (arith, reason, lit<)
 
   first_without : (reason : Reason) → reason ≢ Admitted → reason ≢ PreconditionRequired
       → IsFirst (applies present resource (unconditional request)) reason

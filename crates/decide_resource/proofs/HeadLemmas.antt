@@ -56,10 +56,7 @@ module _ (present : ℕ) (resource : Resource) (request : Request) where
   fields_alike : (representation : Option Representation) (response : Option Response)
       → response_fields (get_of request).fields representation response
       ≡ response_fields (head_of request).fields representation response
-  fields_alike None None = refl
-  fields_alike None (Some response) = refl
-  fields_alike (Some representation) None = refl
-  fields_alike (Some representation) (Some response) = refl
+  fields_alike representation response = grind (arith, representation, response)
 
   gives_alike : (b : Bool) (reason : Reason) (status : Option ℕ) (sent : Sends) (fields : List Field)
       → GivesIf b present resource (get_of request) reason status sent fields
@@ -70,9 +67,7 @@ module _ (present : ℕ) (resource : Resource) (request : Request) where
 
   kind_alike : (kind : CorsKind) → IsKindOf (codes "GET") (get_of request).fields kind
       → IsKindOf (codes "HEAD") (head_of request).fields kind
-  kind_alike kinds.Preflight h = let options = h.1.0 in absurd (cc options)
-  kind_alike kinds.Plain h = (h.0, λ asks. let options = asks.0 in absurd (cc options))
-  kind_alike kinds.NoOrigin h = h
+  kind_alike kind h = grind (arith, kind)
 
   shared_alike : (policy : Option Policy) (lines : List Line) (fields : List Field)
       → IsShared policy (get_of request) lines fields → IsShared policy (head_of request) lines fields

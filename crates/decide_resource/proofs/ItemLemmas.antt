@@ -18,9 +18,7 @@ module _ (now : ℕ) (resource : Resource) (v w : Vec Representation) (e : v.ite
   unacceptable = grind (arith, resource, nat_lt)
 
   same_test : (reason : Reason) → applies now first request reason ≡ applies now second request reason
-  same_test Reason.NotAcceptable = unacceptable
-  same_test Reason.PreconditionRequired = rw e refl
-  same_test reason = refl
+  same_test reason = grind (arith, reason, unacceptable)
 
   same_fields : (reason : Reason) → reason_fields first request reason ≡ reason_fields second request reason
   same_fields Reason.NotAcceptable = refl

@@ -21,12 +21,7 @@ use Rattle.decide_resource.proofs.{PickLemmas.first_alike, SamePlanLemmas.answer
 
 rank_same : (gives : List Member → List ℕ → Quality) (used : Bool) (lines others : List Line) (offer : Option Line)
     → ListAlike lines others → rank_by gives used lines offer ≡ rank_by gives used others offer
-rank_same gives used lines others None same = refl
-rank_same gives false lines others (Some offer) same = refl
-rank_same gives true lines others (Some offer) (inl same) = grind (arith, gives)
-rank_same gives true [] others (Some offer) (inr same) = absurd (omega (arith, same.0))
-rank_same gives true (line ∷ lines) [] (Some offer) (inr same) = absurd (omega (arith, same.1))
-rank_same gives true (line ∷ lines) (other ∷ others) (Some offer) (inr same) = grind (arith, gives)
+rank_same gives used lines others offer same = grind (arith, used, lines, others, offer, same)
 
 -- the field lines with these of the fields that select a representation
 abbrev pub choosing : List Line → List Line → List Line → LineMap → LineMap
@@ -71,11 +66,7 @@ module _ (request : Request) (accept language coding : List Line)
   module _ (present : ℕ) (resource : Resource) where
     unaccepted : is_unacceptable resource request ≡ is_unacceptable resource chooser
     unfolding is_unacceptable
-    unaccepted =
-        let n = resource.negotiation in
-        let xs = resource.representations.items in
-        ap (λ (b : Bool). is_read request.method && (is_current resource.state && (n.is_strict
-        && (nat_lt 0 (length xs) && b)))) (unacceptable_same n xs)
+    unaccepted = grind (arith, unacceptable_same)
 
     same_reason : (reason : Reason) → applies present resource request reason ≡ applies present resource chooser reason
     unfolding takes_type
@@ -90,9 +81,7 @@ module _ (request : Request) (accept language coding : List Line)
 
     known : (rep : Option Representation) (response : Option Response)
         → response_fields r rep response ≡ response_fields s rep response
-    known rep None = refl
-    known None (Some response) = refl
-    known (Some rep) (Some response) = refl
+    known rep response = grind (arith, rep, response)
 
     gives : (b : Bool) (reason : Reason) (status : Option ℕ) (sent : Sends) (fields : List Field)
         → GivesIf b present resource request reason status sent fields
@@ -134,13 +123,11 @@ module _ (request : Request) (accept language coding : List Line)
     chosen : (a : Answer) → IsAnswer present resource request a → IsAnswer present resource chooser a
     chosen a h =
         record {
-          first =
-              first_alike (applies present resource request) (applies present resource chooser) same_reason a.reason
-              h.first;
+          first = first_alike _ _ same_reason _ h.first;
           own = h.own;
           gives = gives (is_admitted a.reason) a.reason a.status a.sends h.own h.gives;
           shared = h.shared;
-          is_shared = shared resource.cors (vary_lines resource a.reason) h.shared h.is_shared;
+          is_shared = shared _ _ _ h.is_shared;
           fields = h.fields;
         }
 
@@ -154,8 +141,7 @@ module _ (present : ℕ) (resource : Resource) (a : Answer) where
       let language = s.fields (codes "accept-language") in
       let coding = s.fields (codes "accept-encoding") in
       let between : Request = chooser r accept language coding same.accept same.accept_language same.accept_encoding in
-      let near : AreAlike between s =
-      record {
+      let near : AreAlike between s = record {
         protocol = alike.protocol;
         method = alike.method;
         authority = alike.authority;
@@ -166,26 +152,24 @@ module _ (present : ℕ) (resource : Resource) (a : Answer) where
         content_type = alike.content_type;
         content_encoding = alike.content_encoding;
         content_range = alike.content_range;
-        asks =
-            record {
-              if_match = alike.asks.if_match;
-              if_none_match = alike.asks.if_none_match;
-              if_modified_since = alike.asks.if_modified_since;
-              if_unmodified_since = alike.asks.if_unmodified_since;
-              range = alike.asks.range;
-              if_range = alike.asks.if_range;
-            };
+        asks = record {
+          if_match = alike.asks.if_match;
+          if_none_match = alike.asks.if_none_match;
+          if_modified_since = alike.asks.if_modified_since;
+          if_unmodified_since = alike.asks.if_unmodified_since;
+          range = alike.asks.range;
+          if_range = alike.asks.if_range;
+        };
       } in
-      let choose : ChooseAlike between.fields s.fields =
-      record {
+      let choose : ChooseAlike between.fields s.fields = record {
         accept = refl;
         accept_language = refl;
         accept_encoding = refl;
         origin = same.origin;
         requested_method = same.requested_method;
       } in
-      (other_fields present resource between s a near choose).0
-      (chosen r accept language coding same.accept same.accept_language same.accept_encoding present resource a h)
+      (other_fields present resource _ s a near choose).0 (chosen r accept language coding same.accept
+      same.accept_language same.accept_encoding present resource a h)
 
 list_back : (lines others : List Line) → ListAlike lines others → ListAlike others lines
 list_back lines others (inl same) = inl (sym same)
@@ -194,13 +178,10 @@ list_back lines others (inr same) = inr (same.1, same.0, sym same.2)
 pub members_select : (present : ℕ) (resource : Resource) (r s : Request) (a : Answer) → AreAlike r s
     → SelectTheSame r.fields s.fields → IsAnswer present resource r a ↔ IsAnswer present resource s a
 members_select present resource r s a alike same =
-    let back : SelectTheSame s.fields r.fields =
-    record {
-      accept = list_back (r.fields (codes "accept")) (s.fields (codes "accept")) same.accept;
-      accept_language =
-          list_back (r.fields (codes "accept-language")) (s.fields (codes "accept-language")) same.accept_language;
-      accept_encoding =
-          list_back (r.fields (codes "accept-encoding")) (s.fields (codes "accept-encoding")) same.accept_encoding;
+    let back : SelectTheSame s.fields r.fields = record {
+      accept = list_back _ _ same.accept;
+      accept_language = list_back _ _ same.accept_language;
+      accept_encoding = list_back _ _ same.accept_encoding;
       origin = sym same.origin;
       requested_method = sym same.requested_method;
     } in

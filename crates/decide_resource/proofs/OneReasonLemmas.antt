@@ -35,10 +35,7 @@ of_stage n =
     else (if n == 14 then PreconditionRequired ∷ [] else Admitted ∷ []))))))))))))))
 
 own : (r : Reason) → Among r (of_stage (stage r))
-own Gone = inr (inl refl)
-own NotFound = inr (inr (inl refl))
-own ContentTooLarge = inr (inl refl)
-own r = inl refl
+own r = grind (arith, r)
 
 only : (r s : Reason) → Among s (r ∷ []) → r ≡ s
 only r s (inl same) = sym same
@@ -47,45 +44,13 @@ only r s (inr none) = absurd none
 module _ (p : Reason → Bool) (exclusive : AreExclusive p) where
   -- two reasons, the second of which applies as the other does
   of_two : (r s t : Reason) → (p r ≡ true → p t ≡ true → ⊥) → p r ≡ true → p s ≡ true → Among s (r ∷ t ∷ []) → r ≡ s
-  of_two r s t apart h k (inl same) = sym same
-  of_two r s t apart h k (inr (inl same)) = absurd (apart h (subst (λ (q : Reason). p q ≡ true) same k))
-  of_two r s t apart h k (inr (inr none)) = absurd none
-
-  swapped : (r s : Reason) → (p r ≡ true → p s ≡ true → ⊥) → p s ≡ true → p r ≡ true → ⊥
-  swapped r s apart h k = apart k h
+  of_two r s t apart h k x6 = grind (arith, x6)
 
   holds : (r s : Reason) → r ≡ s → p r ≡ true → p s ≡ true
   holds r s e h = subst (λ (q : Reason). p q ≡ true) e h
 
   alike : (r s : Reason) → p r ≡ true → p s ≡ true → Among s (of_stage (stage r)) → r ≡ s
-  alike InvalidHost s h k among = only InvalidHost s among
-  alike Misdirected s h k among = only Misdirected s among
-  alike Preflight s h k among = only Preflight s among
-  alike Denied s h k among = only Denied s among
-  alike UnknownMethod s h k among = only UnknownMethod s among
-  alike MethodNotAllowed s h k among = only MethodNotAllowed s among
-  alike Options s h k among = only Options s among
-  alike UnmetExpectation s h k among = only UnmetExpectation s among
-  alike PartialContent s h k among = only PartialContent s among
-  alike Moved s h k (inl same) = sym same
-  alike Moved s h k (inr (inl same)) = absurd (exclusive.moved_gone h (holds s Gone same k))
-  alike Moved s h k (inr (inr (inl same))) = absurd (exclusive.moved_missing h (holds s NotFound same k))
-  alike Moved s h k (inr (inr (inr none))) = absurd none
-  alike Gone s h k (inl same) = absurd (exclusive.moved_gone (holds s Moved same k) h)
-  alike Gone s h k (inr (inl same)) = sym same
-  alike Gone s h k (inr (inr (inl same))) = absurd (exclusive.gone_missing h (holds s NotFound same k))
-  alike Gone s h k (inr (inr (inr none))) = absurd none
-  alike NotFound s h k (inl same) = absurd (exclusive.moved_missing (holds s Moved same k) h)
-  alike NotFound s h k (inr (inl same)) = absurd (exclusive.gone_missing (holds s Gone same k) h)
-  alike NotFound s h k (inr (inr rest)) = only NotFound s rest
-  alike LengthRequired s h k among = of_two LengthRequired s ContentTooLarge exclusive.lengths h k among
-  alike ContentTooLarge s h k (inl same) = absurd (exclusive.lengths (holds s LengthRequired same k) h)
-  alike ContentTooLarge s h k (inr rest) = only ContentTooLarge s rest
-  alike UnsupportedMediaType s h k among = only UnsupportedMediaType s among
-  alike UnsupportedCoding s h k among = only UnsupportedCoding s among
-  alike NotAcceptable s h k among = only NotAcceptable s among
-  alike PreconditionRequired s h k among = only PreconditionRequired s among
-  alike Admitted s h k among = only Admitted s among
+  alike r s h k among = grind (arith, r, among, only, exclusive, holds, of_two)
 
   not_before : (r s : Reason) → IsFirst p r → IsFirst p s → ¬ (stage r < stage s)
   not_before r s h k low = let none : p r ≡ false = k.none_before r low in cc (h.is, none)
@@ -109,11 +74,7 @@ gone_or_missing state rules rule method h k = cc h
 
 unsized_or_long : (b : Bool) (limit : Option ℕ) (content : RequestContent) → (b && is_unsized content) ≡ true
     → exceeds limit content ≡ true → ⊥
-unsized_or_long b None content h k = cc k
-unsized_or_long b (Some limit) sent.Absent h k = cc k
-unsized_or_long b (Some limit) sent.Unsized h k = cc k
-unsized_or_long true (Some limit) (sent.Sized len) h k = cc h
-unsized_or_long false (Some limit) (sent.Sized len) h k = cc h
+unsized_or_long b limit content h k = grind (arith, b, limit, content)
 
 pub exclusive : (present : ℕ) (resource : Resource) (request : Request)
     → AreExclusive (applies present resource request)

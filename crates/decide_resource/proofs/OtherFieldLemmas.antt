@@ -12,9 +12,7 @@ use Rattle.decide_resource.proofs.{SelectionLemmas.SelectAlike, VaryLemmas.{give
 kind_alike : (method : List ℕ) (r s : LineMap) (kind : CorsKind) → r (codes "origin") ≡ s (codes "origin")
     → r (codes "access-control-request-method") ≡ s (codes "access-control-request-method")
     → IsKindOf method r kind → IsKindOf method s kind
-kind_alike method r s CorsKind.Preflight e f h = (subst HasLine e h.0, (h.1.0, subst HasLine f h.1.1))
-kind_alike method r s CorsKind.Plain e f h = (subst HasLine e h.0, λ asks. h.1 (asks.0, subst HasLine (sym f) asks.1))
-kind_alike method r s CorsKind.NoOrigin e f h = λ has. h (subst HasLine (sym e) has)
+kind_alike method r s kind e f h = grind (arith, kind)
 
 shared_alike : (policy : Option Policy) (r s : Request) (lines : List Line) (fields : List Field)
     → r.method ≡ s.method → ChooseAlike r.fields s.fields → IsShared policy r lines fields
@@ -46,10 +44,9 @@ asks_alike m n r s method same = grind (arith, bytes_eq)
 transferred : (present : ℕ) (resource : Resource) (r s : Request) (a : Answer) → AreAlike r s
     → ChooseAlike r.fields s.fields → IsAnswer present resource r a → IsAnswer present resource s a
 transferred present resource r s a alike same h =
-    let leave : is_preflight_request r.method r.fields ≡ is_preflight_request s.method s.fields =
-    asks_alike r.method s.method r.fields s.fields alike.method same in
-    let select : SelectAlike resource.negotiation r.fields s.fields =
-    record {
+    let leave : is_preflight_request r.method r.fields ≡ is_preflight_request s.method s.fields = asks_alike _ _ _ _
+    alike.method same in
+    let select : SelectAlike resource.negotiation r.fields s.fields = record {
       media_type = λ e. same.accept;
       language = λ e. same.accept_language;
       coding = λ e. same.accept_encoding;
@@ -57,12 +54,10 @@ transferred present resource r s a alike same h =
     record {
       first = same_first present resource r s alike leave a.reason (λ e. select) h.first;
       own = h.own;
-      gives =
-          gives_alike present resource r s alike leave (is_admitted a.reason) a.reason a.status a.sends h.own
-          (λ e. select) h.gives;
+      gives = gives_alike present resource r s alike leave (is_admitted a.reason) a.reason a.status a.sends h.own (λ e.
+          select) h.gives;
       shared = h.shared;
-      is_shared =
-          shared_alike resource.cors r s (vary_lines resource a.reason) h.shared alike.method same h.is_shared;
+      is_shared = shared_alike resource.cors r s (vary_lines resource a.reason) h.shared alike.method same h.is_shared;
       fields = h.fields;
     }
 

@@ -37,27 +37,11 @@ own_name last_modified = codes "last-modified"
 
 vary_keeps : (which : Own) (m : LineMap) (lines : List Line)
     → set_all m (vary_fields lines) (own_name which) ≡ m (own_name which)
-vary_keeps which m [] = refl
-vary_keeps allow m (line ∷ lines) = refl
-vary_keeps etag m (line ∷ lines) = refl
-vary_keeps last_modified m (line ∷ lines) = refl
+vary_keeps which m lines = grind (arith, lines)
 
 policy_keeps : (which : Own) (m : LineMap) (policy : Policy) (pre : Bool) (line : Option Line) (lines : List Line)
     → set_all m (grant_fields policy pre line ++ vary_sent policy lines) (own_name which) ≡ m (own_name which)
-policy_keeps which m policy pre line lines = by which (is_some policy.origins) (covers_origin lines)
-  where
-    by : (w : Own) (b c : Bool) → set_all m (grant_fields policy pre line
-        ++ (if b then (if c then [] else (codes "vary", lines ++ codes "origin" ∷ []) ∷ []) else [])) (own_name w)
-        ≡ m (own_name w)
-    by allow true true = refl
-    by allow true false = refl
-    by allow false c = refl
-    by etag true true = refl
-    by etag true false = refl
-    by etag false c = refl
-    by last_modified true true = refl
-    by last_modified true false = refl
-    by last_modified false c = refl
+policy_keeps which m policy pre line lines = grind arith
 
 shared_keeps : (which : Own) (m : LineMap) (cors : Option Policy) (request : Request) (lines : List Line)
     (fields : List Field) → IsShared cors request lines fields → set_all m fields (own_name which) ≡ m (own_name which)
@@ -68,15 +52,7 @@ shared_keeps which m (Some policy) request lines fields shares = grind (arith, p
 
 offered_keep : (m : LineMap) (rules : List MethodRule)
     → set_all m (offered_fields rules) (codes "allow") ≡ m (codes "allow")
-offered_keep m rules = by (rule_for rules (codes "PATCH")) (rule_for rules (codes "POST"))
-  where
-    by : (patch post : Option MethodRule)
-        → set_all m (types_fields (codes "accept-patch") patch ++ types_fields (codes "accept-post") post)
-        (codes "allow") ≡ m (codes "allow")
-    by None None = refl
-    by None (Some post) = refl
-    by (Some patch) None = refl
-    by (Some patch) (Some post) = refl
+offered_keep m rules = grind arith
 
 module _ (present : ℕ) (resource : Resource) (request : Request) (answer : Answer)
     (a : IsAnswer present resource request answer) (before : LineMap) where
@@ -133,22 +109,13 @@ listed_applies : (present : ℕ) (resource : Resource) (request : Request) (answ
 listed_applies present resource request answer reason first same = grind (arith, applies, resource, same)
 
 not_either : (b c : Bool) → not (b || c) ≡ true → c ≡ true → ⊥
-not_either true c e f = cc e
-not_either false true e f = cc e
-not_either false false e f = cc f
+not_either b c e f = grind (arith, b, c)
 
 pub listed_is_had : (present : ℕ) (resource : Resource) (request : Request) (answer : Answer)
     → IsAnswer present resource request answer → Contains (methods resource.rules.items) request.method
     → (answer.reason ≢ MethodNotAllowed) × (answer.reason ≢ UnknownMethod)
 listed_is_had present resource request answer a listed =
-    let had : applies present resource request MethodNotAllowed ≡ false =
-    (allow_is_exact resource.rules.items request.method).0 listed in (
-      λ same.
-          let refused = listed_applies present resource request answer MethodNotAllowed a.first same in
-          cc (had, refused),
-      λ same. not_either _ _ (listed_applies present resource request answer UnknownMethod a.first same)
-          ((allow_lists resource.rules.items request.method).0 listed),
-    )
+    grind (arith, applies, allow_is_exact, listed_applies, not_either, allow_lists)
 
 pub unlisted_is_refused : (present : ℕ) (resource : Resource) (request : Request) (answer : Answer)
     → IsAnswer present resource request answer → ¬ (Contains (methods resource.rules.items) request.method)
@@ -170,11 +137,7 @@ unlisted_is_refused present resource request answer a unlisted = (
 )
   where
     refused : applies present resource request MethodNotAllowed ≡ true
-    refused = by (applies present resource request MethodNotAllowed) refl
-      where
-        by : (b : Bool) → applies present resource request MethodNotAllowed ≡ b → b ≡ true
-        by true e = refl
-        by false e = absurd (unlisted ((allow_is_exact resource.rules.items request.method).1 e))
+    refused = grind (arith, applies, allow_is_exact)
 
 -- ---- methods that the server implements
 
@@ -239,12 +202,7 @@ unmodified_date present fields (Some representation) target content multipart be
 -- without a tag, the date is that of the target
 untagged_date : (present : ℕ) (target : Target) → tag_lines target ≡ []
     → date_without_tag present target ≡ date_lines present target
-untagged_date present target none = by (etag_of target) none
-  where
-    by : (tag : Option FieldValue) → lines_sent (λ (t : FieldValue). t.bytes) tag ≡ []
-        → lines_sent fixdate (not_after present (modified_without tag (modified_of target))) ≡ date_lines present target
-    by None e = refl
-    by (Some tag) e = absurd (cc e)
+untagged_date present target none = grind arith
 
 module _ (present : ℕ) (resource : Resource) (request : Request) (before : LineMap) (which : Own)
     (lines : Target → List Line) where
@@ -267,16 +225,7 @@ module _ (present : ℕ) (resource : Resource) (request : Request) (before : Lin
           → is_sent h.place response ≡ sends.Planned place plan
           → set_all before own (own_name which) ≡ lines_at_place place
       by None is has f = absurd (cc f)
-      by (Some response) is has f =
-          let here : h.place ≡ place = cc f in
-          let planned : response.plan ≡ plan = cc f in
-          ap (λ (fields : List Field). set_all before fields (own_name which)) has ∙ ap
-          (λ (fields : List Field). set_all before (with_metadata request.fields found response.plan fields)
-          (own_name which)) is.fields ∙ ap (λ (p : Plan). set_all before (with_metadata request.fields found p
-          (fields_sent present p (is_known_by request.fields) (target_of resource.state found) (content_of found)
-          resource.boundary)) (own_name which)) planned
-          ∙ tells request.fields found (target_of resource.state found) (content_of found) resource.boundary before
-          ∙ ap lines_at_place here
+      by (Some response) is has f = grind (arith, found)
   told_by false reason status sent own place plan tells h e = absurd (by reason (sym h.sends ∙ e))
     where
       by : (r : Reason) → sent_for r ≡ sends.Planned place plan → ⊥

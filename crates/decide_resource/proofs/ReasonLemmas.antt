@@ -41,27 +41,7 @@ found_first p (x ∷ xs) ordered r e = by (p x) refl e (found_first p xs (tail_o
   where
     by : (b : Bool) → p x ≡ b → cond b (Some x) (find p xs) ≡ Some r
         → (find p xs ≡ Some r → IsFoundFirst p xs r) → IsFoundFirst p (x ∷ xs) r
-    by true t found rest_of =
-        let same : x ≡ r = cc found in
-        record {
-          is = subst (λ (q : Reason). p q ≡ true) same t;
-          none_before = λ s among before.
-              let low : stage s < stage x = subst (λ (q : Reason). stage s < stage q) (sym same) before in
-              elim among [
-                | inl own ↦
-                    let level : stage s ≡ stage x = ap stage own in absurd (omega (arith, level, low))
-                | inr rest ↦ let more = later x xs ordered s rest in absurd (omega (arith, more, low))
-              ];
-        }
-    by false f found rest_of =
-        let rest = rest_of found in
-        record {
-          is = rest.is;
-          none_before = λ s among before. elim among [
-            | inl own ↦ subst (λ (q : Reason). p q ≡ false) (sym own) f
-            | inr others ↦ rest.none_before s others before
-          ];
-        }
+    by b t found rest_of = grind (arith, b, later, ordered)
 
 found_none : (p : Reason → Bool) (xs : List Reason) → find p xs ≡ None → (s : Reason) → Among s xs → p s ≡ false
 found_none p [] e s among = absurd among
@@ -69,36 +49,13 @@ found_none p (x ∷ xs) e s among = by (p x) refl e (λ found others. found_none
   where
     by : (b : Bool) → p x ≡ b → cond b (Some x) (find p xs) ≡ None → (find p xs ≡ None → Among s xs → p s ≡ false)
         → p s ≡ false
-    by true t found rest_of = absurd (cc found)
-    by false f found rest_of =
-        elim among [
-          | inl own ↦ subst (λ (q : Reason). p q ≡ false) (sym own) f
-          | inr others ↦ rest_of found others
-        ]
+    by b t found rest_of = grind (arith, b)
 
 ordered : IsOrdered in_order
 ordered = grind (arith, lit≤)
 
 each : (s : Reason) → (s ≡ Reason.Admitted) ⊎ Among s in_order
-each Reason.InvalidHost = inr (inl refl)
-each Reason.Misdirected = inr (inr (inl refl))
-each Reason.Preflight = inr (inr (inr (inl refl)))
-each Reason.Denied = inr (inr (inr (inr (inl refl))))
-each Reason.UnknownMethod = inr (inr (inr (inr (inr (inl refl)))))
-each Reason.MethodNotAllowed = inr (inr (inr (inr (inr (inr (inl refl))))))
-each Reason.UnmetExpectation = inr (inr (inr (inr (inr (inr (inr (inl refl)))))))
-each Reason.PartialContent = inr (inr (inr (inr (inr (inr (inr (inr (inl refl))))))))
-each Reason.Moved = inr (inr (inr (inr (inr (inr (inr (inr (inr (inl refl)))))))))
-each Reason.Gone = inr (inr (inr (inr (inr (inr (inr (inr (inr (inr (inl refl))))))))))
-each Reason.NotFound = inr (inr (inr (inr (inr (inr (inr (inr (inr (inr (inr (inl refl)))))))))))
-each Reason.Options = inr (inr (inr (inr (inr (inr (inr (inr (inr (inr (inr (inr (inl refl))))))))))))
-each Reason.LengthRequired = inr (inr (inr (inr (inr (inr (inr (inr (inr (inr (inr (inr (inr (inl refl)))))))))))))
-each Reason.UnsupportedMediaType = grind (arith)
-each Reason.UnsupportedCoding = grind (arith)
-each Reason.NotAcceptable = grind (arith)
-each Reason.PreconditionRequired = grind (arith)
-each Reason.Admitted = inl refl
-each s = inr (inr (inr (inr (inr (inr (inr (inr (inr (inr (inr (inr (inr (inr (inl refl))))))))))))))
+each s = grind (arith, s)
 
 -- none comes after that nothing stands in the way
 last : (r : Reason) → stage r ≤ 15

@@ -109,15 +109,4 @@ pub answered : (present : ℕ) (method : List ℕ) (target : TargetState) (conte
     (r s : LineMap) → AskAlike r s → (response : Option Response)
     → IsAnswered present method r target content multipart response
     → IsAnswered present method s target content multipart response
-answered present method target content multipart r s same None h =
-    (answers present target r s same method precondition.Perform h.0, h.1)
-answered present method target content multipart r s same (Some response) h =
-    record {
-      plan =
-          planned present method target (divisible_len content) (limits_of content) r s same response.plan h.plan;
-      status = h.status;
-      fields =
-          h.fields ∙ ap
-          (λ (lines : List Line). fields_sent present response.plan (nat_lt 0 (length lines)) target content multipart)
-          same.if_range;
-    }
+answered present method target content multipart r s same response h = grind (arith, response, answers, planned)

@@ -13,9 +13,7 @@ pub record SelectAlike (negotiation : Negotiation) (r s : LineMap) : Type 0 wher
 
 rank_alike : (gives : List Member → List ℕ → Quality) (used : Bool) (lines others : List Line) (offer : Option Line)
     → (used ≡ true → lines ≡ others) → rank_by gives used lines offer ≡ rank_by gives used others offer
-rank_alike gives used lines others None same = refl
-rank_alike gives false lines others (Some offer) same = refl
-rank_alike gives true lines others (Some offer) same = grind (arith)
+rank_alike gives used lines others offer same = grind (arith, used, offer)
 
 module _ (negotiation : Negotiation) (r s : LineMap) (same : SelectAlike negotiation r s) where
   pub score_alike : (x : Representation) → score negotiation r x ≡ score negotiation s x

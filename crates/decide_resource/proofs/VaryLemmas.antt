@@ -40,36 +40,20 @@ of_flags a b c =
 
 accept_named : (b c : Bool) → nominates (of_flags true b c) (codes "accept") ≡ true
 unfolding pieces push
-accept_named true true = refl
-accept_named true false = refl
-accept_named false true = refl
-accept_named false false = refl
+accept_named b c = grind (arith, b, c)
 
 language_named : (a c : Bool) → nominates (of_flags a true c) (codes "accept-language") ≡ true
 unfolding pieces push
-language_named true true = refl
-language_named true false = refl
-language_named false true = refl
-language_named false false = refl
+language_named a c = grind (arith, a, c)
 
 coding_named : (a b : Bool) → nominates (of_flags a b true) (codes "accept-encoding") ≡ true
 unfolding pieces push
-coding_named true true = refl
-coding_named true false = refl
-coding_named false true = refl
-coding_named false false = refl
+coding_named a b = grind (arith, a, b)
 
 -- neither `origin` nor a star is among them
 no_origin : (a b c : Bool) → covers_origin (of_flags a b c) ≡ false
 unfolding pieces push
-no_origin true true true = refl
-no_origin true true false = refl
-no_origin true false true = refl
-no_origin true false false = refl
-no_origin false true true = refl
-no_origin false true false = refl
-no_origin false false true = refl
-no_origin false false false = refl
+no_origin a b c = grind (arith, a, b, c)
 
 no_origin_in : (negotiation : Negotiation) (b : Bool) → covers_origin (if b then selecting negotiation else []) ≡ false
 no_origin_in negotiation true = no_origin negotiation.media_type negotiation.language negotiation.coding
@@ -81,13 +65,7 @@ no_origin_in negotiation false = refl
 policy_varies : (m : LineMap) (policy : Policy) (pre : Bool) (line : Option Line) (lines : List Line)
     → covers_origin lines ≡ false → set_all m (grant_fields policy pre line ++ vary_sent policy lines) (codes "vary")
     ≡ (if is_some policy.origins then lines ++ codes "origin" ∷ [] else m (codes "vary"))
-policy_varies m policy pre line lines none = by (is_some policy.origins)
-  where
-    by : (b : Bool) → set_all m (grant_fields policy pre line
-        ++ (if b then (if covers_origin lines then [] else (codes "vary", lines ++ codes "origin" ∷ []) ∷ []) else []))
-        (codes "vary") ≡ (if b then lines ++ codes "origin" ∷ [] else m (codes "vary"))
-    by true = rw none refl
-    by false = refl
+policy_varies m policy pre line lines none = grind arith
 
 module _ (present : ℕ) (resource : Resource) (request : Request) (answer : Answer)
     (a : IsAnswer present resource request answer) (before : LineMap) where
@@ -133,9 +111,7 @@ module _ (present : ℕ) (resource : Resource) (request : Request) (answer : Ans
       within f (Some policy) c = choose f (is_some policy.origins) (final_by (Some policy) c)
 
       by : (ls : List Line) → vary_lines resource answer.reason ≡ ls → nominates final name ≡ true
-      by [] f =
-          let none : nominates [] name ≡ true = subst (λ (ls : List Line). nominates ls name ≡ true) f e in
-          absurd (cc none)
+      by [] f = grind arith
       by (line ∷ rest) f = within (first_is line rest f ∙ sym f) resource.cors refl
 
   module _ (r s : LineMap) (v : Serves final r s) where
@@ -186,15 +162,7 @@ fields_with host expect type coding name =
 -- a request of what the reasons read, but for those after the selection and for a part that PUT doesn't take
 built : Protocol → List ℕ → Option Line → RequestContent → Option Denial → List Line → List Line → List Line
     → List Line → Request
-built protocol method authority content denied host expect type coding =
-    record {
-      protocol = protocol;
-      method = method;
-      authority = authority;
-      content = content;
-      fields = fields_with host expect type coding;
-      denied = denied;
-    }
+built protocol method authority content denied host expect type coding = grind arith
 
 abbrev read_of : Request → Request
 read_of q =
@@ -205,29 +173,17 @@ same_read : (r s : Request) → AreAlike r s → read_of r ≡ read_of s
 same_read r s h = grind (arith)
 
 early : (reason : Reason) → depends_on_selection reason ≡ false → stage reason < 13
-early NotAcceptable e = absurd (cc e)
-early PreconditionRequired e = absurd (cc e)
-early Admitted e = absurd (cc e)
-early reason e = lit< tt
+early reason e = grind (arith, reason, lit<)
 
 admitted_depends : (reason : Reason) → is_admitted reason ≡ true → depends_on_selection reason ≡ true
 admitted_depends Admitted e = refl
 admitted_depends reason e = absurd (cc e)
 
 before_selection : (reason : Reason) → stage reason < 13 → depends_on_selection reason ≡ false
-before_selection NotAcceptable low = absurd (omega (arith, low))
-before_selection PreconditionRequired low = absurd (omega (arith, low))
-before_selection Admitted low = absurd (omega (arith, low))
-before_selection reason low = refl
+before_selection reason low = grind (arith, reason)
 
 no_preflight : (m : List ℕ) (fields : LineMap) → m ≢ codes "OPTIONS" → is_preflight_request m fields ≡ false
-no_preflight m fields other = by (bytes_eq m (codes "OPTIONS")) refl
-  where
-    by : (b : Bool) → bytes_eq m (codes "OPTIONS") ≡ b
-        → (b && (is_present (fields (codes "origin")) && is_present (fields (codes "access-control-request-method"))))
-        ≡ false
-    by true e = absurd (other ((bytes_eq-Decides m (codes "OPTIONS")).0 e))
-    by false e = refl
+no_preflight m fields other = grind (arith, bytes_eq, bytes_eq-Decides)
 
 module _ (present : ℕ) (resource : Resource) (r s : Request) (alike : AreAlike r s)
     (leave : is_preflight_request r.method r.fields ≡ is_preflight_request s.method s.fields) where
@@ -235,66 +191,31 @@ module _ (present : ℕ) (resource : Resource) (r s : Request) (alike : AreAlike
   same_part : (m : List ℕ) → (m ≡ codes "PUT" → r.fields (codes "content-range") ≡ s.fields (codes "content-range"))
       → is_unsupported_part (rule_for resource.rules.items m) m (r.fields (codes "content-range"))
       ≡ is_unsupported_part (rule_for resource.rules.items m) m (s.fields (codes "content-range"))
-  same_part m same = by (bytes_eq m (codes "PUT")) refl
-    where
-      rest : List Line → Bool
-      rest ranges = is_present ranges && not (takes_parts (rule_for resource.rules.items m))
-
-      by : (b : Bool) → bytes_eq m (codes "PUT") ≡ b
-          → (b && rest (r.fields (codes "content-range"))) ≡ (b && rest (s.fields (codes "content-range")))
-      by true e = ap rest (same ((bytes_eq-Decides m (codes "PUT")).0 e))
-      by false e = refl
+  same_part m same = grind (arith, bytes_eq, bytes_eq-Decides)
 
   same_reason : (reason : Reason) → depends_on_selection reason ≡ false
       → applies present resource r reason ≡ applies present resource s reason
   unfolding built rule_for takes_type
-  same_reason Preflight early = ap (λ (b : Bool). is_some resource.cors && b) leave
-  same_reason PartialContent early = grind (arith, same_part, resource)
-  same_reason Moved early = refl
-  same_reason Gone early = refl
-  same_reason NotAcceptable early = absurd (cc early)
-  same_reason PreconditionRequired early = absurd (cc early)
-  same_reason Admitted early = refl
-  same_reason reason early = ap (λ (q : Request). applies present resource q reason) (same_read r s alike)
+  same_reason reason early = grind (arith, reason, same_part, applies, same_read, alike)
 
   same_fields : (reason : Reason) → reason_fields resource r reason ≡ reason_fields resource s reason
   unfolding built rule_for
-  same_fields InvalidHost = refl
-  same_fields Denied = ap (λ (q : Request). reason_fields resource q Denied) (same_read r s alike)
-  same_fields UnsupportedMediaType = grind (arith, reason_fields, resource, same_read)
-  same_fields UnsupportedCoding = grind (arith, reason_fields, resource, same_read)
-  same_fields reason = refl
+  same_fields reason = grind (arith, reason, same_read, alike)
 
   module _ (select : SelectAlike resource.negotiation r.fields s.fields) where
     unacceptable_same : is_unacceptable resource r ≡ is_unacceptable resource s
     unfolding is_unacceptable
-    unacceptable_same =
-        let n = resource.negotiation in
-        let xs = resource.representations.items in
-        let there = λ (b : Bool). is_current resource.state && (n.is_strict && (nat_lt 0 (length xs) && b)) in
-        ap (λ (m : List ℕ). is_read m && there (are_unacceptable n r.fields xs)) alike.method
-        ∙ ap (λ (b : Bool). is_read s.method && there b) (unacceptable_alike n r.fields s.fields select xs)
+    unacceptable_same = grind (arith, alike, unacceptable_alike)
 
     scores : (x : Representation) → score resource.negotiation r.fields x ≡ score resource.negotiation s.fields x
     scores = score_alike resource.negotiation r.fields s.fields select
 
     all_reasons : (reason : Reason) → applies present resource r reason ≡ applies present resource s reason
-    all_reasons NotAcceptable = unacceptable_same
-    all_reasons PreconditionRequired =
-        ap (λ (m : List ℕ). not (is_read m) && (needs_condition (rule_for resource.rules.items m)
-        && not (is_guarded present resource r.fields))) alike.method
-        ∙ ap (λ (b : Bool). not (is_read s.method) && (needs_condition (rule resource s) && not b))
-        (same_guard resource r.fields s.fields scores present alike.asks)
-    all_reasons Admitted = refl
-    all_reasons reason = same_reason reason refl
+    all_reasons reason = grind (arith, reason, unacceptable_same, alike, same_guard, scores, same_reason)
 
     known : (rep : Option Representation) (response : Option Response)
         → response_fields r.fields rep response ≡ response_fields s.fields rep response
-    known rep None = refl
-    known None (Some response) = refl
-    known (Some rep) (Some response) =
-        ap (λ (lines : List Line). metadata_fields (describes response.plan (nat_lt 0 (length lines))) rep
-        ++ fields_of response.fields.items) alike.asks.if_range
+    known rep response = grind (arith, rep, response, alike)
 
   pub same_first : (reason : Reason)
       → (depends_on_selection reason ≡ true → SelectAlike resource.negotiation r.fields s.fields)
@@ -337,13 +258,7 @@ module _ (present : ℕ) (resource : Resource) (r s : Request) (alike : AreAlike
               has_fields = h.goes.has_fields ∙ known alike_select rep h.goes.response;
             };
       }
-  gives_alike false reason status sent fields select h =
-      record {
-        has_status =
-            h.has_status ∙ ap (λ (why : Option Denial). Some (status_of resource.state why reason)) alike.denied;
-        sends = h.sends;
-        has_fields = h.has_fields ∙ same_fields reason;
-      }
+  gives_alike false reason status sent fields select h = grind (arith, alike, same_fields)
 
   shared_alike : (policy : Option Policy) (lines : List Line) (fs gs : List Field)
       → ((p : Policy) → policy ≡ Some p → granted p (r.fields (codes "origin")) ≡ granted p (s.fields (codes "origin")))
@@ -356,31 +271,26 @@ pub vary_is_sound : (present : ℕ) (resource : Resource) (r s : Request) (a b :
     → Serves (set_all before (fields_of a.fields.items) (codes "vary")) r.fields s.fields → AreSame a b
 vary_is_sound present resource r s a b before h k alike other v =
     let select = selects present resource r a h before r.fields s.fields v in
-    let leave : is_preflight_request r.method r.fields ≡ is_preflight_request s.method s.fields =
-    no_preflight r.method r.fields other ∙ sym (no_preflight s.method s.fields (λ e. other (alike.method ∙ e))) in
-    let reason : b.reason ≡ a.reason =
-    one_reason present resource s b.reason a.reason k.first
-    (same_first present resource r s alike leave a.reason select h.first) in
-    let mine : GivesIf (is_admitted a.reason) present resource s a.reason a.status a.sends h.own =
-    gives_alike present resource r s alike leave (is_admitted a.reason) a.reason a.status a.sends h.own
-    (λ e. select (admitted_depends a.reason e)) h.gives in
-    let theirs : GivesIf (is_admitted a.reason) present resource s a.reason b.status b.sends k.own =
-    subst (λ (q : Reason). GivesIf (is_admitted q) present resource s q b.status b.sends k.own) reason k.gives in
-    let given = gives_same present resource s a.status b.status a.sends b.sends h.own k.own (is_admitted a.reason)
-    a.reason mine theirs in
-    let shares : IsShared resource.cors s (vary_lines resource a.reason) k.shared =
-    subst (λ (q : Reason). IsShared resource.cors s (vary_lines resource q) k.shared) reason k.is_shared in
-    let shared : h.shared ≡ k.shared =
-    shared_alike present resource r s alike leave resource.cors (vary_lines resource a.reason) h.shared k.shared
-    (grants present resource r a h before r.fields s.fields v) other h.is_shared shares in
+    let leave : is_preflight_request r.method r.fields ≡ is_preflight_request s.method s.fields = no_preflight _
+    r.fields other ∙ sym (no_preflight _ s.fields (λ e. other (alike.method ∙ e))) in
+    let reason : b.reason ≡ a.reason = one_reason _ _ s _ _ k.first (same_first present resource r s alike leave
+    a.reason select h.first) in
+    let mine : GivesIf (is_admitted a.reason) present resource s a.reason a.status a.sends h.own = gives_alike present
+    resource r s alike leave (is_admitted a.reason) a.reason a.status a.sends h.own (λ e. select (admitted_depends _ e))
+    h.gives in
+    let theirs : GivesIf (is_admitted a.reason) present resource s a.reason b.status b.sends k.own = subst (λ (q :
+    Reason). GivesIf (is_admitted q) present resource s q b.status b.sends k.own) reason k.gives in
+    let given = gives_same _ _ s a.status b.status a.sends b.sends h.own k.own (is_admitted a.reason) a.reason mine
+    theirs in
+    let shares : IsShared resource.cors s (vary_lines resource a.reason) k.shared = subst (λ (q : Reason). IsShared
+    resource.cors s (vary_lines resource q) k.shared) reason k.is_shared in
+    let shared : h.shared ≡ k.shared = shared_alike present resource r s alike leave resource.cors (vary_lines resource
+    a.reason) h.shared k.shared (grants _ resource r a h before r.fields s.fields v) other h.is_shared shares in
     record {
       reason = sym reason;
       status = given.status;
       sends = given.sends;
-      fields =
-          h.fields
-          ∙ ap (λ (own : List Field). (own ++ vary_fields (vary_lines resource a.reason)) ++ h.shared) given.fields
-          ∙ ap (λ (rest : List Field). (k.own ++ vary_fields (vary_lines resource a.reason)) ++ rest) shared
-          ∙ ap (λ (q : Reason). (k.own ++ vary_fields (vary_lines resource q)) ++ k.shared) (sym reason)
-          ∙ sym k.fields;
+      fields = h.fields ∙ ap (λ (own : List Field). (own ++ vary_fields (vary_lines resource a.reason)) ++ h.shared)
+          given.fields ∙ ap (λ (rest : List Field). (k.own ++ vary_fields (vary_lines resource a.reason)) ++ rest) shared ∙
+          ap (λ (q : Reason). (k.own ++ vary_fields (vary_lines resource q)) ++ k.shared) (sym reason) ∙ sym k.fields;
     }
