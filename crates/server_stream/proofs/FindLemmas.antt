@@ -1,23 +1,21 @@
 -- What a read of `http1` finds.
-use Rattle.std.proofs.Common.{◌≡◌, ℕ, ◌<◌, ◌≤◌, ◌⊎◌, inl, inr, Bool, true, false, List, [], ◌++◌, length, ◌-◌, ◌&&◌}
-use Rattle.std.proofs.{Common.{◌==◌, not, drop, sym, refl, ap, ◌∙◌, subst, append-nil, arith}, lemmas.Bool.and_parts}
+use Rattle.std.proofs.Common.{◌≡◌, ℕ, ◌≤◌, ◌⊎◌, inl, inr, Bool, true, false, List, [], ◌++◌, length, ◌&&◌, ◌==◌, not}
+use Rattle.std.proofs.{Common.{drop, sym, refl, ap, ◌∙◌, subst, append-nil, arith}, lemmas.Bool.and_parts}
 use Rattle.httparse.specs.{Spans.span_bytes, declared.spans.{HeaderSpan.HeaderSpan, RequestSpans.RequestSpans}}
 use Rattle.{httparse.{specs.declared.spans.Span.Span, proofs.RunLemmas.length-slice_range}, http1.specs.Body.body_of}
 use Rattle.http1.specs.{Fields.Header, ServerTrace.headers_at, Conn.{ReadsPiece, is_read, unread_size}}
-use Rattle.http1.specs.{Decoder.{Completes, Continues, Ends, decoder_for}, Server.{ReadsAt, ReadsHead, ServerReads}}
-use Rattle.http1.specs.Server.{after_piece, closed_server, cycle, new_server, request_of, server_eof}
-use Rattle.http1.specs.declared.conn.{Event.Event, Limits.Limits, Progress.Progress, Reading.Reading}
-use Rattle.http1.specs.declared.{decode.Decoder.Decoder, framing.Framing.Framing, server.Server.Server}
-use Rattle.{gateway_connection.specs.Content.{HasNoMap, map_of}, server_stream.specs.Heads.IsFieldsRejection}
-use Rattle.server_stream.specs.Heads.{IsHeadRejection, IsUnder, content_size}
-use Rattle.server_stream.specs.declared.connection.StreamConnection.{StreamConnection}
+use Rattle.http1.specs.{Decoder.{Completes, Ends, decoder_for}, Server.{ReadsAt, ReadsHead, ServerReads, after_piece}}
+use Rattle.http1.specs.{Server.{closed_server, cycle, new_server, request_of, server_eof}, declared.conn.Event.Event}
+use Rattle.http1.specs.declared.{conn.{Limits.Limits, Progress.Progress, Reading.Reading}, decode.Decoder.Decoder}
+use Rattle.http1.specs.declared.{framing.Framing.Framing, server.Server.Server}
+use Rattle.{gateway_connection.specs.Content.HasNoMap, server_stream.specs.Heads.{IsFieldsRejection, IsHeadRejection}}
+use Rattle.server_stream.specs.{Heads.{IsUnder, content_size}, declared.connection.StreamConnection.StreamConnection}
 use Rattle.server_stream.specs.declared.{event.StreamRequest.StreamRequest, rejection.StreamRejection.StreamRejection}
 use Rattle.server_stream.specs.Steps.{HasInvalidFields, IsStarved, IsWrong, Rejects, RunsOut, RunsOutAt, TakesHead}
 use Rattle.server_stream.specs.Steps.{TakesPiece}
 use Rattle.http1.specs.Server as Serving
 use Rattle.http1.specs.declared.conn.Event.TheVariants as Found
 use Rattle.http1.specs.declared.conn.Reading.TheVariants as Reads
-use Rattle.http1.specs.declared.conn.Writing.{Writing}
 use Rattle.http1.specs.declared.conn.Writing.TheVariants as Writes
 use Rattle.http1.specs.declared.framing.Framing.TheVariants as Framed
 use Rattle.server_stream.specs.declared.rejection.StreamRejection.TheVariants as Because
@@ -39,43 +37,25 @@ module _ (s new : Server) (input : List ℕ) (spans : List HeaderSpan) where
   Tells len e = Unit {0}
 
   tells_head : (len : ℕ) (e : Event Spans) → s.reading ≡ Reads.Head → ReadsHead s input spans new len e → Tells len e
-  tells_head len Found.NeedMore is found =
-      subst (λ (r : Reading). RunsOutAt r s input new (drop len input)) (sym is)
-      (found.1, ap (λ (n : ℕ). drop n input) found.0, found.2, found.3, found.4)
-  tells_head len (Found.Head r) is found = (is, found)
-  tells_head len e is found = absurd found
+  tells_head len e is found = grind (arith, e)
 
   tells_body : (d : Decoder) (next : Reading) (len : ℕ) (e : Event Spans) → s.reading ≡ Reads.Body d
       → ReadsPiece d input spans next len e → new ≡ after_piece s input next → Tells len e
-  tells_body d next len Found.NeedMore is found goes =
-      subst (λ (r : Reading). RunsOutAt r s input new (drop len input)) (sym is)
-      (found.0, len, found.2, refl, goes ∙ ap (after_piece s input) found.1)
-  tells_body d next len (Found.Data p) is found goes = (d, next, is, found, goes)
-  tells_body d next len (Found.End count) is found goes = (d, next, is, found, goes)
-  tells_body d next len e is found goes = absurd found
+  tells_body d next len e is found goes = grind (arith, e)
 
   tells_at : (r : Reading) (read : Progress Spans) → s.reading ≡ r → ReadsAt r s input spans new read
       → Tells read.consumed read.event
-  tells_at Reads.Head read is found = tells_head read.consumed read.event is found
-  tells_at (Reads.Body d) read is found = tells_body d found.0 read.consumed read.event is found.1 found.2
-  tells_at Reads.Done read is found = subst (λ (p : Progress Spans). Tells p.consumed p.event) (sym found.0) tt
-  tells_at Reads.Upgraded read is found = subst (λ (p : Progress Spans). Tells p.consumed p.event) (sym found.0) tt
-  tells_at Reads.Closed read is found = subst (λ (p : Progress Spans). Tells p.consumed p.event) (sym found.0) tt
-  tells_at (Reads.Failed e) read is found = absurd found
+  tells_at r read is found = grind (arith, r, tells_head, tells_body)
 
   pub tells : (read : Progress Spans) → ServerReads s input spans new read → (e : Event Spans) → read.event ≡ e
       → Tells read.consumed e
-  tells read found e is =
-      subst (λ (x : Event Spans). Tells read.consumed x) is (tells_at s.reading read refl found)
+  tells read found e is = subst (λ (x : Event Spans). Tells read.consumed x) is (tells_at s.reading read refl found)
 
 -- ---- heads
 
 size_of : (limits : Limits) (framing : Framing) → unread_size (Reads.Body (decoder_for limits framing))
     ≡ content_size framing
-size_of limits Framed.NoBody = refl
-size_of limits (Framed.Length len) = refl
-size_of limits Framed.Chunked = refl
-size_of limits Framed.UntilClose = refl
+size_of limits framing = grind (arith, framing)
 
 -- the parts of the head that was taken
 pub takes_head : (old new : StreamConnection) (s : Server) (spans : List HeaderSpan) (len : ℕ) (r : RequestSpans)
@@ -83,58 +63,16 @@ pub takes_head : (old new : StreamConnection) (s : Server) (spans : List HeaderS
     → Serving.TakesHead old.server seen spans s len r → IsUnder old.input.items spans r s told
     → new.input.items ≡ drop r.len old.input.items → new ≡ record old { server = s; input = new.input }
     → TakesHead old told new
-takes_head old new s spans len r told seen same due head u left rest =
-    let t : Serving.TakesHead old.server old.input.items spans s len r =
-    subst (λ (x : List ℕ). Serving.TakesHead old.server x spans s len r) same head in
-    let server : new.server ≡ s = ap (λ (m : StreamConnection). m.server) rest in
-    record {
-      due = due;
-      head = t.head;
-      framing = t.framing;
-      accepts = rw (left ∙ ap (λ (n : ℕ). drop n old.input.items) (sym t.consumed)) t.accepts;
-      plain = sym (ap (λ (x : Server). x.request.has_codings) t.next) ∙ u.plain;
-      parts = λ i. record {
-        method = (u.method ∙ t.covered.method) i;
-        target = (u.target ∙ t.covered.path) i;
-        minor = (u.minor ∙ t.covered.version) i;
-        fields = (u.fields ∙ ap map_of t.covered.fields) i;
-        size = (u.size ∙ ap (λ (x : Server). unread_size x.reading) t.next ∙ size_of old.server.limits t.framing) i;
-        expects_continue = (u.expects ∙ ap (λ (x : Server). x.request.expects_continue) t.next) i;
-      };
-      server = server ∙ t.next;
-      rest = rest ∙ ap (λ (x : Server). record old { server = x; input = new.input }) (sym server);
-    }
+takes_head old new s spans len r told seen same due head u left rest = grind (arith, size_of)
 
 -- ---- content
 
-pub takes_piece : (old new : StreamConnection) (len : ℕ) (p : Span) (piece seen : List ℕ) (d : Decoder)
-    (next : Reading) → seen ≡ old.input.items → old.server.reading ≡ Reads.Body d
-    → ReadsPiece {H = RequestSpans} d seen [] next len (Found.Data p)
-    → new.server ≡ after_piece old.server seen next → piece ≡ span_bytes old.input.items p
-    → new.input.items ≡ drop p.end old.input.items
+pub takes_piece : (old new : StreamConnection) (len : ℕ) (p : Span) (piece seen : List ℕ) (d : Decoder) (next : Reading)
+    → seen ≡ old.input.items → old.server.reading ≡ Reads.Body d
+    → ReadsPiece {H = RequestSpans} d seen [] next len (Found.Data p) → new.server ≡ after_piece old.server seen next
+    → piece ≡ span_bytes old.input.items p → new.input.items ≡ drop p.end old.input.items
     → new ≡ record old { server = new.server; input = new.input } → TakesPiece old piece new
-takes_piece old new len p piece seen d next same reading found goes bytes left rest =
-    let continues : Continues d old.input.items found.0 p.end piece =
-    subst (λ (t : List ℕ). Continues d old.input.items found.0 p.end t) (sym bytes)
-    (subst (λ (t : List ℕ). Continues d t found.0 p.end (span_bytes t p)) same found.4) in
-    record {
-      decoder = d;
-      next = found.0;
-      len = p.end;
-      reading = reading;
-      continues = continues;
-      some = subst (λ (t : List ℕ). 0 < length t) (sym bytes)
-          (spans_some old.input.items p found.3 (subst (λ (t : List ℕ). p.end ≤ length t) same found.4.within));
-      input = left;
-      server = goes ∙ ap (λ (t : List ℕ). after_piece old.server t next) same
-          ∙ ap (after_piece old.server old.input.items) found.1;
-      rest = rest;
-    }
-  where
-    spans_some : (xs : List ℕ) (p : Span) → p.start < p.end → p.end ≤ length xs → 0 < length (span_bytes xs p)
-    spans_some xs p some within =
-        let size : length (span_bytes xs p) ≡ p.end - p.start =
-        length-slice_range xs p.start p.end (omega arith) within in omega arith
+takes_piece old new len p piece seen d next same reading found goes bytes left rest = grind (arith, length-slice_range)
 
 -- ---- rejections
 
@@ -181,8 +119,7 @@ rejects_head old new s spans len r seen why same due head is rest =
 pub rejects_end : (old new : StreamConnection) (spans : List HeaderSpan) (next : Reading) (len count : ℕ)
     (seen : List ℕ) (why : StreamRejection) (d : Decoder) → seen ≡ old.input.items → old.server.reading ≡ Reads.Body d
     → ReadsPiece {H = RequestSpans} d seen spans next len (Found.End count)
-    → new.server ≡ after_piece old.server seen next
-    → IsFieldsRejection (headers_at old.input.items spans count) why
+    → new.server ≡ after_piece old.server seen next → IsFieldsRejection (headers_at old.input.items spans count) why
     → new ≡ record old { server = new.server; input = new.input } → Rejects old why new
 rejects_end old new spans next len count seen why d same reading found goes is rest =
     let e : Ends d old.input.items spans len count = subst (λ (x : List ℕ). Ends d x spans len count) same found.1 in
@@ -211,38 +148,20 @@ rejects_end old new spans next len count seen why d same reading found goes is r
 
 -- the server that reads this next, and knows whether its client waits
 abbrev pub reads_next : Server → Reading → Bool → Server
-reads_next s next waits =
-    record s { reading = next; request = record (s.request) { expects_continue = waits } }
+reads_next s next waits = record s { reading = next; request = record (s.request) { expects_continue = waits } }
 
 -- it goes on, or it closes, or it begins again
 abbrev pub Turns : Server → Reading → Bool → Server → Type 0
-Turns s next waits new =
-    (new ≡ reads_next s next waits)
+Turns s next waits new = (new ≡ reads_next s next waits)
     ⊎ (((s.writing ≡ Writes.Done) × (new ≡ closed_server (reads_next s next waits)))
     ⊎ ((s.writing ≡ Writes.Done) × (s.request.keep_alive ≡ true) × (is_read next ≡ true)
     × (new ≡ new_server s.limits)))
 
 turns : (s : Server) (next : Reading) (waits : Bool) → Turns s next waits (cycle (reads_next s next waits))
-turns s next waits = by_writing s.writing refl
-  where
-    by_reading : (b : Bool) → is_read next ≡ b → s.writing ≡ Writes.Done → s.request.keep_alive ≡ true
-        → Turns s next waits (cycle (reads_next s next waits))
-    by_reading true is done keeps = inr (inr (done, keeps, is, rw (done, keeps, is) refl))
-    by_reading false is done keeps = inl (rw (done, keeps, is) refl)
-
-    by_keeping : (b : Bool) → s.request.keep_alive ≡ b → s.writing ≡ Writes.Done
-        → Turns s next waits (cycle (reads_next s next waits))
-    by_keeping true keeps done = by_reading (is_read next) refl done keeps
-    by_keeping false keeps done = inr (inl (done, rw (done, keeps) refl))
-
-    by_writing : (w : Writing) → s.writing ≡ w → Turns s next waits (cycle (reads_next s next waits))
-    by_writing Writes.Done is = by_keeping s.request.keep_alive refl is
-    by_writing w is = inl (rw is refl)
+turns s next waits = grind arith
 
 pub limits_turned : (s new : Server) (next : Reading) (waits : Bool) → Turns s next waits new → new.limits ≡ s.limits
-limits_turned s new next waits (inl goes) = rw goes refl
-limits_turned s new next waits (inr (inl closes)) = rw closes.1 refl
-limits_turned s new next waits (inr (inr begins)) = rw begins.3 refl
+limits_turned s new next waits turn = grind (arith, turn)
 
 -- whether the client still waits, once this was read
 abbrev pub still_waits : Server → List ℕ → Reading → Bool
@@ -261,23 +180,10 @@ turns_piece s input next = turns s next (still_waits s input next)
 -- the server needs more, or has closed
 pub starved : (s new : Server) (input rest : List ℕ) (r : Reading) → RunsOutAt r s input new rest → s.reading ≡ r
     → IsStarved new.reading
-starved s new input rest Reads.Head found is = rw (found.0, is) tt
-starved s new input rest (Reads.Body d) found is =
-    rw found.4 (turned _ (turns_piece s input (Reads.Body found.0)))
-  where
-    turned : {waits : Bool} (x : Server) → Turns s (Reads.Body found.0) waits x → IsStarved x.reading
-    turned x (inl goes) = rw goes tt
-    turned x (inr (inl closes)) = rw closes.1 tt
-    turned x (inr (inr begins)) = rw begins.3 tt
-starved s new input rest r found is = absurd found
+starved s new input rest r found is = grind (arith, r, turns_piece)
 
 pub still : (old new : StreamConnection) (spans : List HeaderSpan) (read : Progress RequestSpans) (seen : List ℕ)
     → seen ≡ old.input.items → ServerReads old.server seen spans new.server read → read.event ≡ Found.NeedMore
     → new.input.items ≡ drop read.consumed old.input.items
     → new ≡ record old { server = new.server; input = new.input } → RunsOut old new
-still old new spans read seen same found is left rest = record {
-  rest = rest;
-  found = subst (λ (i : List ℕ). RunsOutAt old.server.reading old.server old.input.items new.server i) (sym left)
-      (tells old.server new.server old.input.items spans read
-      (subst (λ (i : List ℕ). ServerReads old.server i spans new.server read) same found) Found.NeedMore is);
-}
+still old new spans read seen same found is left rest = grind (arith, tells)

@@ -1,20 +1,20 @@
 -- What is true after every history of calls.
-use Rattle.std.{specs.Bool.⊤, proofs.Common.{◌≡◌, ◌≢◌, ℕ, ◌⊎◌, inl, inr, Bool, true, false, cond, ◌&&◌, not, List, []}}
-use Rattle.std.proofs.Common.{◌∷◌, ◌++◌, length, take, drop, map, Option, Some, None, Result, Ok, Err, sym, refl, ap}
-use Rattle.std.proofs.{Common.{◌∙◌, append_assoc, append-nil, ◌==◌, ◌/◌, ◌||◌, nat_lt}, lemmas.Bool.and_parts}
-use Rattle.{std.proofs.lemmas.List.take-append-drop, httparse.specs.{Grammar.Field, Spans.name_and_value}}
-use Rattle.{httparse.proofs.GrammarLemmas.ReadsRequest-append, http_header.specs.FieldValue.FieldValue}
-use Rattle.{http_header.specs.HeaderMap.Entries, http1.specs.{Body.{ReadsBody, body_of}, Decoder.Completes}}
-use Rattle.http1.specs.{Decoder.{Continues, decoder_for, with_front}, Fields.{Header, known_fields}, Conn.Plan}
-use Rattle.http1.specs.Conn.{after_data, awaits_head, data_refusal, data_text, finish_refusal, finish_text, is_connect}
-use Rattle.http1.specs.{Conn.{is_read, plan_refusal, planned_headers}, Head.{is_status_line, response_text}}
+use Rattle.std.proofs.Common.{arith, ◌≡◌, ◌≢◌, ℕ, ◌⊎◌, inl, inr, Bool, true, false, cond, ◌&&◌, not, List, [], ◌∷◌}
+use Rattle.std.proofs.Common.{◌++◌, length, take, drop, map, Option, Some, None, Result, Ok, Err, sym, refl, ap, ◌∙◌}
+use Rattle.std.proofs.{Common.{append_assoc, append-nil, ◌==◌, ◌/◌, ◌||◌, nat_lt}, lemmas.Bool.and_parts}
+use Rattle.{std.{proofs.lemmas.List.take-append-drop, specs.Bool.⊤}, httparse.specs.Grammar.Field}
+use Rattle.httparse.{specs.Spans.name_and_value, proofs.GrammarLemmas.ReadsRequest-append}
+use Rattle.{http_header.specs.{FieldValue.FieldValue, HeaderMap.Entries}, http1.specs.Body.{ReadsBody, body_of}}
+use Rattle.http1.specs.{Decoder.{Completes, Continues, decoder_for, with_front}, Fields.Header, Conn.{Plan, after_data}}
+use Rattle.http1.specs.Conn.{awaits_head, data_refusal, data_text, finish_refusal, finish_text, is_connect, is_read}
+use Rattle.http1.specs.{Conn.{plan_refusal, planned_headers}, Head.{is_status_line, response_text}}
 use Rattle.http1.specs.{Message.AcceptsRequest, Server.{RefusesAt, after_end, after_informational, after_piece}}
 use Rattle.http1.specs.Server.{after_response, bodiless_refusal, closed_server, failed_server, has_request}
 use Rattle.http1.specs.Server.{informational_refusal, may_respond, new_server, planned_response, responding}
-use Rattle.http1.specs.Server.{response_plan, response_refusal, upgrade_refusal, states_upgrade, upgraded_server}
-use Rattle.http1.specs.{Server.with_writing, declared.conn.{BodySize.BodySize, Limits.Limits, Reading.Reading}}
-use Rattle.http1.specs.declared.{decode.Decoder.Decoder, encode.Encoder.Encoder, error.WriteError.WriteError}
-use Rattle.http1.specs.declared.{error.ReadError.{ReadError, TheVariants.UnexpectedEof}, framing.Framing.Framing}
+use Rattle.http1.specs.Server.{response_plan, response_refusal, upgrade_refusal, upgraded_server, with_writing}
+use Rattle.http1.specs.declared.{conn.{BodySize.BodySize, Limits.Limits, Reading.Reading}, decode.Decoder.Decoder}
+use Rattle.http1.specs.declared.{encode.Encoder.Encoder, error.{WriteError.WriteError, ReadError.ReadError}}
+use Rattle.http1.specs.declared.{error.ReadError.TheVariants.UnexpectedEof, framing.Framing.Framing}
 use Rattle.http1.{specs.declared.server.Server.Server, proofs.DecoderLemmas.decoder_for-live}
 use Rattle.{http1.proofs.OneParse.body_from_completes, gateway_connection.specs.Content.{after_pieces, map_of}}
 use Rattle.gateway_connection.{specs.Exchanges.{encoder_in, keeps_in}, proofs.ContentLemmas.{end_at, front_goes}}
@@ -22,8 +22,8 @@ use Rattle.gateway_connection.proofs.ContentLemmas.{front_grows, put_at, takes_d
 use Rattle.server_stream.proofs.FindLemmas.{Turns, limits_turned, reads_next, still_waits, turns_piece, waits_before}
 use Rattle.server_stream.specs.Exchanges.{Answer, Bare, Begun, Due, Exchange, Final, IsFramedFor, IsOf, ReadsExchange}
 use Rattle.server_stream.specs.Exchanges.{ReadsKept, Response, Switched, answer_text, bare_text, bare_texts}
-use Rattle.server_stream.specs.Exchanges.{exchange_text, final_text, head_text, no_answer, plan_of, response_bytes}
-use Rattle.server_stream.specs.{Heads.told_of, declared.connection.StreamConnection.StreamConnection}
+use Rattle.server_stream.specs.{Exchanges.{exchange_text, head_text, no_answer, plan_of, response_bytes}, Heads.told_of}
+use Rattle.server_stream.specs.declared.connection.StreamConnection.{StreamConnection}
 use Rattle.server_stream.specs.declared.event.{StreamRequest.StreamRequest, StreamEvent.StreamEvent}
 use Rattle.server_stream.specs.{declared.rejection.StreamRejection.StreamRejection, History.{Exchanged, Heard}}
 use Rattle.server_stream.specs.History.{IsReached, IsTold, IsWhole, MayPut, Past, answers, begins, change, informs}
@@ -60,8 +60,7 @@ kept-append (first ∷ es) stream e reads exchange = (reads.0, reads.1, kept-app
 
 -- once it is closed, or no longer HTTP
 abbrev IsShut : Server → Type 0
-IsShut s =
-    ((s.reading ≡ Reads.Closed) × (s.writing ≡ Writes.Closed))
+IsShut s = ((s.reading ≡ Reads.Closed) × (s.writing ≡ Writes.Closed))
     ⊎ ((s.reading ≡ Reads.Upgraded) × (s.writing ≡ Writes.Upgraded))
 
 -- it keeps the connection only if the response does
@@ -70,10 +69,8 @@ Keeps s r = s.request.keep_alive ≡ true → keeps_in (plan_of r) ≡ true
 
 -- by the trailer fields of the response: it writes the content, or the response is ended
 abbrev WritesResponse : Option (List Header) → Server → Response → Type 0
-WritesResponse None s r =
-    (s.writing ≡ Writes.Body (after_pieces r.pieces (encoder_in (plan_of r)))) × Keeps s r
-WritesResponse (Some trailers) s r =
-    ((s.writing ≡ Writes.Done) × Keeps s r)
+WritesResponse None s r = (s.writing ≡ Writes.Body (after_pieces r.pieces (encoder_in (plan_of r)))) × Keeps s r
+WritesResponse (Some trailers) s r = ((s.writing ≡ Writes.Done) × Keeps s r)
     ⊎ ((s.writing ≡ Writes.Closed) ⊎ ((s ≡ new_server s.limits) × (keeps_in (plan_of r) ≡ true)))
 
 abbrev WritesAt : Server → Final → Type 0
@@ -118,21 +115,15 @@ DueAt s final heard = ⊤
 due_on : (s next : Server) (f : Final) (told : StreamRequest) (content content_on : List ℕ)
     → (may_respond s ≡ true → may_respond next ≡ true) → DueAt s f (Part told content)
     → DueAt next f (Part told content_on)
-due_on s next Due told content content_on goes due = goes due
-due_on s next (Begun r) told content content_on goes due = tt
-due_on s next (Switched b) told content content_on goes due = tt
+due_on s next f told content content_on goes due = grind (arith, f)
 
 due_over : (s next : Server) (f : Final) (told : StreamRequest) (content : List ℕ) (trailers : Entries FieldValue)
     → (may_respond s ≡ true → may_respond next ≡ true) → DueAt s f (Part told content)
     → DueAt next f (Whole told content trailers)
-due_over s next Due told content trailers goes due = goes due
-due_over s next (Begun r) told content trailers goes due = tt
-due_over s next (Switched b) told content trailers goes due = tt
+due_over s next f told content trailers goes due = grind (arith, f)
 
 due_may : (s : Server) (heard : Heard) → may_respond s ≡ true → DueAt s Due heard
-due_may s Nothing may = tt
-due_may s (Part head content) may = may
-due_may s (Whole head content trailers) may = may
+due_may s heard may = grind (arith, heard)
 
 -- the final response is ended, and keeps the connection
 abbrev IsKept : Final → Type 0
@@ -181,79 +172,30 @@ record Going (k : Frame) (s : Server) (input : List ℕ) (heard : Heard) (a : An
 -- ---- a turn of the server
 
 new_body : (s : Server) (d : Decoder) → s.reading ≡ Reads.Body d → ¬ (s ≡ new_server s.limits)
-new_body s d is new =
-    let head : s.reading ≡ Reads.Head = ap (λ (x : Server). x.reading) new in absurd (cc (is, head))
+new_body s d is new = grind arith
 
 shut_body : (s : Server) (d : Decoder) → s.reading ≡ Reads.Body d → ¬ (IsShut s)
-shut_body s d is (inl shut) = absurd (cc (is, shut.0))
-shut_body s d is (inr shut) = absurd (cc (is, shut.0))
+shut_body s d is shut = grind (arith, shut)
 
 shut_failed : (s : Server) (e : ReadError) → s.reading ≡ Reads.Failed e → ¬ (IsShut s)
-shut_failed s e is (inl shut) = absurd (cc (is, shut.0))
-shut_failed s e is (inr shut) = absurd (cc (is, shut.0))
+shut_failed s e is shut = grind (arith, shut)
 
 new_failed : (s : Server) (e : ReadError) → s.reading ≡ Reads.Failed e → ¬ (s ≡ new_server s.limits)
-new_failed s e is new =
-    let head : s.reading ≡ Reads.Head = ap (λ (x : Server). x.reading) new in absurd (cc (is, head))
+new_failed s e is new = grind arith
 
 shut_head : (s : Server) → s.reading ≡ Reads.Head → ¬ (IsShut s)
-shut_head s is (inl shut) = absurd (cc (is, shut.0))
-shut_head s is (inr shut) = absurd (cc (is, shut.0))
+shut_head s is shut = grind (arith, shut)
 
 -- within content, the final response is as before, or it was ended
 writes_turned : (s new : Server) (d : Decoder) (next : Reading) (waits : Bool) (f : Final) → s.reading ≡ Reads.Body d
     → Turns s next waits new → WritesAt s f → WritesAt new f
-writes_turned s new d next waits f is t w = by_turn t
-  where
-    same : (f : Final) → WritesAt s f → WritesAt (reads_next s next waits) f
-    same Due w = w
-    same (Begun r) w = response r.trailers w
-      where
-        response : (t : Option (List Header)) → WritesResponse t s r → WritesResponse t (reads_next s next waits) r
-        response None w = w
-        response (Some trailers) (inl done) = inl done
-        response (Some trailers) (inr (inl closed)) = inr (inl closed)
-        response (Some trailers) (inr (inr again)) = absurd (new_body s d is again.0)
-    same (Switched b) w = w
-
-    ended : (f : Final) → s.writing ≡ Writes.Done → WritesAt s f
-        → WritesAt (closed_server (reads_next s next waits)) f
-    ended Due done w = inr refl
-    ended (Begun r) done w = response r.trailers w
-      where
-        response : (t : Option (List Header)) → WritesResponse t s r
-            → WritesResponse t (closed_server (reads_next s next waits)) r
-        response None w = absurd (cc (done, w.0))
-        response (Some trailers) w = inr (inl refl)
-    ended (Switched b) done w = absurd (cc (done, w))
-
-    again : (f : Final) → s.writing ≡ Writes.Done → s.request.keep_alive ≡ true → WritesAt s f
-        → WritesAt (new_server s.limits) f
-    again Due done keeps w = inl refl
-    again (Begun r) done keeps w = response r.trailers w
-      where
-        response : (t : Option (List Header)) → WritesResponse t s r → WritesResponse t (new_server s.limits) r
-        response None w = absurd (cc (done, w.0))
-        response (Some trailers) (inl ended) = inr (inr (refl, ended.1 keeps))
-        response (Some trailers) (inr (inl closed)) = absurd (cc (done, closed))
-        response (Some trailers) (inr (inr new)) = absurd (new_body s d is new.0)
-    again (Switched b) done keeps w = absurd (cc (done, w))
-
-    by_turn : Turns s next waits new → WritesAt new f
-    by_turn (inl goes) = rw goes (same f w)
-    by_turn (inr (inl closes)) = rw closes.1 (ended f closes.0 w)
-    by_turn (inr (inr anew)) = rw anew.3 (again f anew.0 anew.1 w)
+writes_turned s new d next waits f is t w = grind (arith, new_body)
 
 -- what it knows of the request is as before
 is_of_waits : {q : Known.Request} {h : Grammar.RequestHead} {framing : Framing} (waits : Bool)
     → (waits ≡ true → q.expects_continue ≡ true) → IsOf q h framing
     → IsOf (record q { expects_continue = waits }) h framing
-is_of_waits waits before is = record {
-  method = is.method;
-  minor = is.minor;
-  keeps = is.keeps;
-  waits = λ yes. is.waits (before yes);
-}
+is_of_waits waits before is = grind arith
 
 may_begin : (s : Server) (d : Decoder) (next : Reading) (waits : Bool) → s.reading ≡ Reads.Body d
     → may_respond (reads_next s next waits) ≡ true → may_respond s ≡ true
@@ -269,16 +211,11 @@ asked_turned s new d next waits h framing is before (inr (inl closes)) asked may
 asked_turned s new d next waits h framing is before (inr (inr anew)) asked may = absurd (cc (rw anew.3 at may))
 
 content_asks : (r : Reading) → IsOfContent r → has_request r ≡ true
-content_asks (Reads.Body d) is = refl
-content_asks Reads.Done is = refl
-content_asks r is = absurd is
+content_asks r is = grind (arith, r)
 
 may_turned : (s new : Server) (next : Reading) (waits : Bool) → has_request next ≡ true → Turns s next waits new
     → may_respond s ≡ true → may_respond new ≡ true
-may_turned s new next waits asks (inl goes) may =
-    rw goes (rw ((and_parts (awaits_head s.writing) (has_request s.reading) may).0, asks) refl)
-may_turned s new next waits asks (inr (inl closes)) may = absurd (cc (may, done_mute s closes.0))
-may_turned s new next waits asks (inr (inr anew)) may = absurd (cc (may, done_mute s anew.0))
+may_turned s new next waits asks turn may = grind (arith, turn, and_parts, done_mute)
 
 -- ---- the input goes on
 
@@ -290,12 +227,10 @@ grows bytes P a b f more = simp append_assoc (f (bytes ++ more))
 abbrev grown : Place → List ℕ → Place
 grown w bytes = record w { start = w.start ++ bytes; unread = w.unread ++ bytes }
 
-told_grows : (w : Place) (bytes : List ℕ) (heard : Heard) (x : ToldAt w heard)
-    → (y : ToldAt (grown w bytes) heard)
+told_grows : (w : Place) (bytes : List ℕ) (heard : Heard) (x : ToldAt w heard) → (y : ToldAt (grown w bytes) heard)
     × ((s : Server) → AskedAt w s heard x → AskedAt (grown w bytes) s heard y)
     × ((s : Server) (a : Answer) → IsAt w s a heard x → IsAt (grown w bytes) s a heard y)
-told_grows w bytes Nothing x =
-    (ap (λ (t : List ℕ). t ++ bytes) x, λ s asked. tt, λ s a at. at)
+told_grows w bytes Nothing x = (ap (λ (t : List ℕ). t ++ bytes) x, λ s asked. tt, λ s a at. at)
 told_grows w bytes (Part head content) x = (
   record {
     head = x.head;
@@ -380,37 +315,23 @@ module _ {k : Frame} {s : Server} {input : List ℕ} {a : Answer} where
     where
       reads_turned : {new : Server} {waits : Bool} → Turns s (Reads.Body after) waits new
           → (new.reading ≡ Reads.Body after) ⊎ IsShut new
-      reads_turned (inl goes) = rw goes (inl refl)
-      reads_turned (inr (inl closes)) = rw closes.1 (inr (inl (refl, refl)))
-      reads_turned (inr (inr anew)) = absurd (cc anew.2)
+      reads_turned turn = grind (arith, turn)
 
   -- a request is being read
   in_part : (P : Heard → Type 0) {d : Decoder} → s.reading ≡ Reads.Body d
       → ((head : StreamRequest) (content : List ℕ) (g : Going k s input (Part head content) a)
-      → d ≡ g.goes.told.decoder → P (Part head content))
-      → (heard : Heard) → Going k s input heard a → P heard
-  in_part P {d} is f Nothing g = nothing g.at.1
-    where
-      nothing : (s ≡ new_server s.limits) ⊎ IsShut s → P Nothing
-      nothing (inl new) = absurd (new_body s d is new)
-      nothing (inr shut) = absurd (shut_body s d is shut)
+      → d ≡ g.goes.told.decoder → P (Part head content)) → (heard : Heard) → Going k s input heard a → P heard
+  in_part P {d} is f Nothing g = grind (arith, new_body, shut_body)
   in_part P {d} is f (Part head content) g = part g.at
     where
       part : (s.reading ≡ Reads.Body g.goes.told.decoder) ⊎ IsShut s → P (Part head content)
       part (inl reads) = f head content g (cc (is, reads))
       part (inr shut) = absurd (shut_body s d is shut)
-  in_part P {d} is f (Whole head content trailers) g = whole g.at
-    where
-      whole : (s.reading ≡ Reads.Done) ⊎ (IsShut s ⊎ ((s ≡ new_server s.limits) × IsKept a.final))
-          → P (Whole head content trailers)
-      whole (inl done) = absurd (cc (is, done))
-      whole (inr (inl shut)) = absurd (shut_body s d is shut)
-      whole (inr (inr new)) = absurd (new_body s d is new.0)
+  in_part P {d} is f (Whole head content trailers) g = grind (arith, shut_body, new_body)
 
-  piece_now : {next : Server} {rest : List ℕ} (d after : Decoder) (len : ℕ) (piece : List ℕ)
-      → s.reading ≡ Reads.Body d → Continues d input after len piece → rest ≡ drop len input
-      → next ≡ after_piece s input (Reads.Body after) → (heard_now : Heard) → Going k s input heard_now a
-      → Going k next rest (with_content piece heard_now) a
+  piece_now : {next : Server} {rest : List ℕ} (d after : Decoder) (len : ℕ) (piece : List ℕ) → s.reading ≡ Reads.Body d
+      → Continues d input after len piece → rest ≡ drop len input → next ≡ after_piece s input (Reads.Body after)
+      → (heard_now : Heard) → Going k s input heard_now a → Going k next rest (with_content piece heard_now) a
   piece_now {next} {rest} d after len piece is continues left goes =
       in_part (λ heard_now. Going k next rest (with_content piece heard_now) a) is (λ head content g same.
       part_now head content piece d after len g.goes is same continues left goes)
@@ -419,18 +340,16 @@ module _ {k : Frame} {s : Server} {input : List ℕ} {a : Answer} where
   runs_out : {next : Server} {rest : List ℕ} (r : Reading) → s.reading ≡ r → RunsOutAt r s input next rest
       → (heard_now : Heard) → Going k s input heard_now a → Going k next rest heard_now a
   runs_out Reads.Head is found heard_now g = rw (found.0, found.1) g
-  runs_out {next} {rest} (Reads.Body d) is found heard_now g =
-      in_part (λ heard_now. Going k next rest heard_now a) is (λ head content g same.
-      rw (append-nil content) at
+  runs_out {next} {rest} (Reads.Body d) is found heard_now g = in_part (λ heard_now. Going k next rest heard_now a) is
+      (λ head content g same. rw (append-nil content) at
       (part_now head content [] d found.0 found.1 g.goes is same found.2.continues found.3 found.4)) heard_now g
   runs_out r is found heard_now g = absurd found
 
   -- content ends
   end_now : {next : Server} {rest : List ℕ} (fields : List Field) {d : Decoder} {trailers : Entries FieldValue}
-      → s.reading ≡ Reads.Body d
-      → ((more : List ℕ) → Completes d (input ++ more) (body_of [] fields) (rest ++ more))
-      → trailers ≡ map_of (map name_and_value fields) → next ≡ after_piece s input Reads.Done
-      → (heard_now : Heard) → Going k s input heard_now a → Going k next rest (with_end trailers heard_now) a
+      → s.reading ≡ Reads.Body d → ((more : List ℕ) → Completes d (input ++ more) (body_of [] fields) (rest ++ more))
+      → trailers ≡ map_of (map name_and_value fields) → next ≡ after_piece s input Reads.Done → (heard_now : Heard)
+      → Going k s input heard_now a → Going k next rest (with_end trailers heard_now) a
   end_now {next} {rest} fields {d} {trailers} is completes fields_are goes =
       in_part (λ heard_now. Going k next rest (with_end trailers heard_now) a) is (λ head content g same.
       let x = g.goes.told in
@@ -464,29 +383,14 @@ module _ {k : Frame} {s : Server} {input : List ℕ} {a : Answer} where
     where
       ends_turned : {new : Server} {waits : Bool} (f : Final) → WritesAt s f → Turns s Reads.Done waits new
           → (new.reading ≡ Reads.Done) ⊎ (IsShut new ⊎ ((new ≡ new_server new.limits) × IsKept f))
-      ends_turned f w (inl goes) = rw goes (inl refl)
-      ends_turned f w (inr (inl closes)) = rw closes.1 (inr (inl (inl (refl, refl))))
-      ends_turned f w (inr (inr anew)) = rw anew.3 (inr (inr (refl, kept f w)))
-        where
-          kept : (f : Final) → WritesAt s f → IsKept f
-          kept Due (inl head) = absurd (cc (head, anew.0))
-          kept Due (inr closed) = absurd (cc (closed, anew.0))
-          kept (Begun r) w = response r.trailers refl w
-            where
-              response : (t : Option (List Header)) → r.trailers ≡ t → WritesResponse t s r → IsKept (Begun r)
-              response None begun w = absurd (cc (anew.0, w.0))
-              response (Some trailers) whole (inl ended) = (λ none. absurd (cc (whole, none)), ended.1 anew.1)
-              response (Some trailers) whole (inr (inl closed)) = absurd (cc (anew.0, closed))
-              response (Some trailers) whole (inr (inr new)) = absurd (new_body s _ is new.0)
-          kept (Switched b) w = absurd (cc (anew.0, w))
+      ends_turned f w turn = grind (arith, turn, new_body)
 
 -- ---- the next request
 
 -- an exchange that is over
 whole_reads : {limits : Limits} {start unread content : List ℕ} {told : StreamRequest} {trailers : Entries FieldValue}
     (interim : List Bare) (r : Response) → IsWhole limits start told content trailers unread (Begun r)
-    → IsKept (Begun r) → (more : List ℕ)
-    → ReadsExchange limits (start ++ more)
+    → IsKept (Begun r) → (more : List ℕ) → ReadsExchange limits (start ++ more)
     (record { head = told; content = content; trailers = trailers; interim = interim; response = r }) (unread ++ more)
 whole_reads interim r x kept more = record {
   message = record { head = x.head; body = x.body };
@@ -523,32 +427,10 @@ module _ {k : Frame} {s : Server} {input : List ℕ} (is : s.reading ≡ Reads.H
   }
     where
       writing : (s ≡ new_server s.limits) ⊎ IsShut s → s.writing ≡ Writes.Head
-      writing (inl new) = ap (λ (x : Server). x.writing) new
-      writing (inr shut) = absurd (shut_head s is shut)
-  next_begins (Part head content) a g = part g.at
-    where
-      part : (s.reading ≡ Reads.Body g.goes.told.decoder) ⊎ IsShut s → Begins k s input (Part head content) a
-      part (inl reads) = absurd (cc (is, reads))
-      part (inr shut) = absurd (shut_head s is shut)
-  next_begins (Whole head content trailers) a g = whole g.at
-    where
-      ended : (interim : List Bare) (f : Final) → IsKept f
-          → Goes k s input (Whole head content trailers) (record { interim = interim; final = f })
-          → s ≡ new_server s.limits
-          → Begins k s input (Whole head content trailers) (record { interim = interim; final = f })
-      ended interim Due kept g new = absurd kept
-      ended interim (Begun r) kept g new = record {
-        written = g.since.written ∙ sym (texts-append k.before _) ∙ sym (append-nil _);
-        kept = λ more. kept-append k.before _ _ (g.since.kept more) (whole_reads interim r g.told kept more);
-        writing = ap (λ (x : Server). x.writing) new;
-      }
-      ended interim (Switched b) kept g new = absurd kept
-
-      whole : (s.reading ≡ Reads.Done) ⊎ (IsShut s ⊎ ((s ≡ new_server s.limits) × IsKept a.final))
-          → Begins k s input (Whole head content trailers) a
-      whole (inl done) = absurd (cc (is, done))
-      whole (inr (inl shut)) = absurd (shut_head s is shut)
-      whole (inr (inr new)) = ended a.interim a.final new.1 g.goes new.0
+      writing at = grind (arith, at, shut_head)
+  next_begins (Part head content) a g = grind (arith, shut_head)
+  next_begins (Whole head content trailers) a g =
+      grind (arith, texts-append, append-nil, kept-append, whole_reads, shut_head)
 
   -- its head is read
   head_now : {h : Grammar.RequestHead} {framing : Framing} {rest : List ℕ}
@@ -610,22 +492,12 @@ RejectedAt k next unread heard a = Goes k next unread heard a
 
 failed_writes : (s : Server) (d : Decoder) (e : ReadError) (f : Final) → s.reading ≡ Reads.Body d → WritesAt s f
     → WritesAt (failed_server s e) f
-failed_writes s d e Due is w = w
-failed_writes s d e (Begun r) is w = response r.trailers w
-  where
-    response : (t : Option (List Header)) → WritesResponse t s r → WritesResponse t (failed_server s e) r
-    response None w = (w.0, λ keeps. absurd (cc keeps))
-    response (Some trailers) (inl done) = inl (done.0, λ keeps. absurd (cc keeps))
-    response (Some trailers) (inr (inl closed)) = inr (inl closed)
-    response (Some trailers) (inr (inr again)) = absurd (new_body s d is again.0)
-failed_writes s d e (Switched b) is w = w
+failed_writes s d e f is w = grind (arith, f, new_body)
 
 failed_asked : (s : Server) (d : Decoder) (e : ReadError) (h : Grammar.RequestHead) (framing : Framing)
     → s.reading ≡ Reads.Body d → (may_respond s ≡ true → IsOf s.request h framing)
     → may_respond (failed_server s e) ≡ true → IsOf (failed_server s e).request h framing
-failed_asked s d e h framing is asked may =
-    let x = asked (may_begin s d (Reads.Failed e) s.request.expects_continue is may) in
-    record { method = x.method; minor = x.minor; keeps = λ keeps. absurd (cc keeps); waits = x.waits }
+failed_asked s d e h framing is asked may = grind (arith, may_begin)
 
 module _ {k : Frame} {s : Server} {input : List ℕ} {a : Answer} where
   head_fails : (next : Server) → s.reading ≡ Reads.Head → next.limits ≡ s.limits → next.writing ≡ s.writing
@@ -638,11 +510,7 @@ module _ {k : Frame} {s : Server} {input : List ℕ} {a : Answer} where
     asked = tt;
     due = rw g.at.0 tt;
   }
-  head_fails next is limited writing (Part head content) g = absurd (part g.at)
-    where
-      part : (s.reading ≡ Reads.Body g.goes.told.decoder) ⊎ IsShut s → ⊥
-      part (inl reads) = absurd (cc (is, reads))
-      part (inr shut) = shut_head s is shut
+  head_fails next is limited writing (Part head content) g = grind (arith, shut_head)
   head_fails next is limited writing (Whole head content trailers) g =
       rejected_now is limited writing (Whole head content trailers) a g
 
@@ -661,9 +529,8 @@ module _ {k : Frame} {s : Server} {input : List ℕ} {a : Answer} where
 
   piece_fails : (d : Decoder) (reading : Reading) → s.reading ≡ Reads.Body d → IsOfContent reading → (heard_now : Heard)
       → Going k s input heard_now a → RejectedAt k (after_piece s input reading) input heard_now a
-  piece_fails d reading is within =
-      in_part (λ heard_now. RejectedAt k (after_piece s input reading) input heard_now a) is
-      (λ head content g same.
+  piece_fails d reading is within = in_part (λ heard_now. RejectedAt k (after_piece s input reading) input heard_now a)
+      is (λ head content g same.
       let x = g.goes.told in
       let waits = still_waits s input reading in
       let t = turns_piece s input reading in
@@ -679,42 +546,21 @@ module _ {k : Frame} {s : Server} {input : List ℕ} {a : Answer} where
 
   -- a connection that isn't rejected can be read
   not_failed : (e : ReadError) → s.reading ≡ Reads.Failed e → (heard_now : Heard) → ¬ (Going k s input heard_now a)
-  not_failed e is Nothing g = nothing g.at.1
-    where
-      nothing : (s ≡ new_server s.limits) ⊎ IsShut s → ⊥
-      nothing (inl new) = new_failed s e is new
-      nothing (inr shut) = shut_failed s e is shut
-  not_failed e is (Part head content) g = part g.at
-    where
-      part : (s.reading ≡ Reads.Body g.goes.told.decoder) ⊎ IsShut s → ⊥
-      part (inl reads) = absurd (cc (is, reads))
-      part (inr shut) = shut_failed s e is shut
-  not_failed e is (Whole head content trailers) g = whole g.at
-    where
-      whole : (s.reading ≡ Reads.Done) ⊎ (IsShut s ⊎ ((s ≡ new_server s.limits) × IsKept a.final)) → ⊥
-      whole (inl done) = absurd (cc (is, done))
-      whole (inr (inl shut)) = shut_failed s e is shut
-      whole (inr (inr new)) = new_failed s e is new.0
+  not_failed e is heard_now g = grind (arith, heard_now, new_failed, shut_failed)
 
   malformed : (r : Reading) (room : ℕ) (e : ReadError) → s.reading ≡ r → RefusesAt r s.limits input room e
       → (heard_now : Heard) → Going k s input heard_now a → RejectedAt k (failed_server s e) input heard_now a
-  malformed Reads.Head room e is wrong heard_now g = head_fails (failed_server s e) is refl refl heard_now g
-  malformed (Reads.Body d) room e is wrong heard_now g = body_fails d e is heard_now g
-  malformed (Reads.Failed earlier) room e is wrong heard_now g = absurd (not_failed earlier is heard_now g)
-  malformed r room e is wrong heard_now g = absurd wrong
+  malformed r room e is wrong heard_now g = grind (arith, r, head_fails, body_fails, not_failed)
 
   fails : (next : Server) → Fails s input next → (heard_now : Heard) → Going k s input heard_now a
       → RejectedAt k next input heard_now a
-  fails next (inl wrong) heard_now g =
-      rw wrong.2 (malformed s.reading _ wrong.0 refl wrong.1 heard_now g)
+  fails next (inl wrong) heard_now g = rw wrong.2 (malformed s.reading _ wrong.0 refl wrong.1 heard_now g)
   fails next (inr (inl head)) heard_now g = rw head.5 (head_fails _ head.0 refl refl heard_now g)
   fails next (inr (inr piece)) heard_now g = rw piece.4 (piece_fails piece.0 piece.1 piece.2 piece.3 heard_now g)
 
   cut_off : (r : Reading) → s.reading ≡ r → IsWithin r input → (heard_now : Heard) → Going k s input heard_now a
       → RejectedAt k (failed_server s UnexpectedEof) input heard_now a
-  cut_off Reads.Head is within heard_now g = head_fails (failed_server s UnexpectedEof) is refl refl heard_now g
-  cut_off (Reads.Body d) is within heard_now g = body_fails d UnexpectedEof is heard_now g
-  cut_off r is within heard_now g = absurd within
+  cut_off r is within heard_now g = grind (arith, r, head_fails, body_fails)
 
   -- the input ends between two requests
   closed_now : s.reading ≡ Reads.Head → (heard_now : Heard) → Going k s input heard_now a
@@ -730,11 +576,7 @@ module _ {k : Frame} {s : Server} {input : List ℕ} {a : Answer} where
     };
     at = (g.at.0, inr (inl (refl, refl)));
   }
-  closed_now is (Part head content) g = absurd (part g.at)
-    where
-      part : (s.reading ≡ Reads.Body g.goes.told.decoder) ⊎ IsShut s → ⊥
-      part (inl reads) = absurd (cc (is, reads))
-      part (inr shut) = shut_head s is shut
+  closed_now is (Part head content) g = grind (arith, shut_head)
   closed_now is (Whole head content trailers) g = record {
     goes = record {
       since = g.goes.since;
@@ -748,23 +590,13 @@ module _ {k : Frame} {s : Server} {input : List ℕ} {a : Answer} where
   }
     where
       whole : (s.reading ≡ Reads.Done) ⊎ (IsShut s ⊎ ((s ≡ new_server s.limits) × IsKept a.final)) → IsKept a.final
-      whole (inl done) = absurd (cc (is, done))
-      whole (inr (inl shut)) = absurd (shut_head s is shut)
-      whole (inr (inr new)) = new.1
+      whole at = grind (arith, at, shut_head)
 
       ended : (f : Final) → IsKept f → DueAt (closed_server s) f (Whole head content trailers)
-      ended Due kept = absurd kept
-      ended (Begun r) kept = tt
-      ended (Switched b) kept = tt
+      ended f kept = grind (arith, f)
 
       closes : (f : Final) → IsKept f → WritesAt (closed_server s) f
-      closes Due kept = absurd kept
-      closes (Begun r) kept = response r.trailers refl
-        where
-          response : (t : Option (List Header)) → r.trailers ≡ t → WritesResponse t (closed_server s) r
-          response None none = absurd (kept.0 none)
-          response (Some trailers) some = inr (inl refl)
-      closes (Switched b) kept = absurd kept
+      closes f kept = grind (arith, f)
 
 -- ---- responses are put
 
@@ -835,31 +667,21 @@ record PutIn {k : Frame} {s : Server} {unread : List ℕ} {heard : Heard} {a : A
 
 longer : {k : Frame} {before after : List ℕ} (text : List ℕ) → Since k before → after ≡ before ++ text
     → Since (record k { output = k.output ++ text }) after
-longer {k} {before} {after} text s more = record {
-  written = sym (append_assoc k.sent k.output text) ∙ ap (λ (t : List ℕ). t ++ text) s.written
-      ∙ append_assoc (texts k.before) before text ∙ ap (λ (t : List ℕ). texts k.before ++ t) (sym more);
-  start = s.start;
-  kept = s.kept;
-}
+longer {k} {before} {after} text s more = grind (arith, append_assoc)
 
 -- the server reads on within the request
 stays_at : (w : Place) (s next : Server) (b : Answer) → next.reading ≡ s.reading → (heard : Heard) (y : ToldAt w heard)
     → InRequest w s heard y → IsAt w next b heard y
 stays_at w s next b same Nothing y is = absurd is
-stays_at w s next b same (Part head content) y is = inl (same ∙ is)
-stays_at w s next b same (Whole head content trailers) y is = inl (same ∙ is)
+stays_at w s next b same heard y is = inl (same ∙ is)
 
 -- no response may begin
 not_asked : (w : Place) (next : Server) → may_respond next ≡ false → (heard : Heard) (x : ToldAt w heard)
     → AskedAt w next heard x
-not_asked w next mute Nothing x = tt
-not_asked w next mute (Part head content) x = λ may. absurd (cc (mute, may))
-not_asked w next mute (Whole head content trailers) x = λ may. absurd (cc (mute, may))
+not_asked w next mute heard x = grind (arith, heard)
 
 framed_as : (w : Place) (heard : Heard) (x : ToldAt w heard) → FramedAt w w.final heard x
-framed_as w Nothing x = tt
-framed_as w (Part head content) x = x.framed
-framed_as w (Whole head content trailers) x = x.framed
+framed_as w heard x = grind (arith, heard)
 
 puts : {k : Frame} {s : Server} {unread : List ℕ} {heard : Heard} {a : Answer} (g : Goes k s unread heard a)
     (next : Server) (text : List ℕ) (b : Answer) → answer_text b ≡ answer_text a ++ text → next.limits ≡ s.limits
@@ -867,8 +689,7 @@ puts : {k : Frame} {s : Server} {unread : List ℕ} {heard : Heard} {a : Answer}
     → AskedAt (place k g.since.start a unread) next heard g.told → DueAt next b.final heard
     → ¬ (s ≡ new_server s.limits) → ¬ (IsShut s)
     → ((y : ToldAt (place k g.since.start b unread) heard) → InRequest (place k g.since.start b unread) s heard y
-    → IsAt (place k g.since.start b unread) next b heard y)
-    → PutIn g next text b
+    → IsAt (place k g.since.start b unread) next b heard y) → PutIn g next text b
 unfolding longer
 puts {k} {s} {unread} {heard} {a} g next text b said limited framed writes asked due old running at =
     let w = place k g.since.start a unread in
@@ -888,38 +709,25 @@ puts {k} {s} {unread} {heard} {a} g next text b said limited framed writes asked
 -- ---- a response may begin
 
 begun_old : (s : Server) → may_respond s ≡ true → ¬ (s ≡ new_server s.limits)
-begun_old s may new =
-    let mute : may_respond s ≡ false = ap (λ (x : Server). may_respond x) new in absurd (cc (may, mute))
+begun_old s may new = grind arith
 
 begun_running : (s : Server) → may_respond s ≡ true → ¬ (IsShut s)
-begun_running s may (inl shut) = absurd (cc (may, closed_mute s shut.1))
-begun_running s may (inr shut) = absurd (cc (may, upgraded_mute s shut.1))
+begun_running s may shut = grind (arith, shut, closed_mute, upgraded_mute)
 
 due_now : (s : Server) (f : Final) → may_respond s ≡ true → WritesAt s f → f ≡ Due
-due_now s Due may w = refl
-due_now s (Begun r) may w = absurd (response r.trailers w)
-  where
-    response : (t : Option (List Header)) → WritesResponse t s r → ⊥
-    response None w = absurd (cc (may, body_mute s _ w.0))
-    response (Some trailers) (inl done) = absurd (cc (may, done_mute s done.0))
-    response (Some trailers) (inr (inl closed)) = absurd (cc (may, closed_mute s closed))
-    response (Some trailers) (inr (inr new)) = begun_old s may new.0
-due_now s (Switched b) may w = absurd (cc (may, upgraded_mute s w))
+due_now s f may w = grind (arith, f, body_mute, done_mute, closed_mute, begun_old, upgraded_mute)
 
 -- why a head without content isn't rejected
 module _ (minor status : ℕ) (reason : List ℕ) (headers : List Header) where
   in_state : (state right : Bool) → bodiless_refusal state right minor status reason headers ≡ None → state ≡ true
-  in_state true right none = refl
-  in_state false right none = absurd (cc none)
+  in_state state right none = grind (arith, state)
 
   switches_in_state : (state right missing : Bool) → cond missing (Some Refusal.MissingUpgrade)
       (bodiless_refusal state right minor status reason headers) ≡ None → state ≡ true
-  switches_in_state state right true none = absurd (cc none)
-  switches_in_state state right false none = in_state state right none
+  switches_in_state state right missing none = grind (arith, missing, in_state)
 
 read_asks : (r : Reading) → is_read r ≡ true → has_request r ≡ true
-read_asks Reads.Done is = refl
-read_asks r is = absurd (cc is)
+read_asks r is = grind (arith, r)
 
 abbrev bare : ℕ → ℕ → List ℕ → List Header → Bare
 bare minor status reason headers = record { minor = minor; status = status; reason = reason; headers = headers }
@@ -932,25 +740,21 @@ module _ {k : Frame} {s : Server} {unread : List ℕ} (heard : Heard) (a : Answe
       → informational_refusal s status reason headers ≡ None
       → PutIn g (after_informational s status) (response_text 1 status reason headers)
       (record a { interim = a.interim ++ bare 1 status reason headers ∷ [] })
-  inform_now status reason headers none =
-      puts g (after_informational s status) (response_text 1 status reason headers)
-      (record a { interim = a.interim ++ bare 1 status reason headers ∷ [] }) said refl
-      (framed_as here heard g.told) writes (asks here heard g.told g.asked)
-      (rw due (due_may (after_informational s status) heard may)) (begun_old s may) (begun_running s may)
-      (stays_at here s (after_informational s status)
+  inform_now status reason headers none = puts g (after_informational s status) (response_text 1 status reason headers)
+      (record a { interim = a.interim ++ bare 1 status reason headers ∷ [] }) said refl (framed_as here heard g.told)
+      writes (asks here heard g.told g.asked) (rw due (due_may (after_informational s status) heard may))
+      (begun_old s may) (begun_running s may) (stays_at here s (after_informational s status)
       (record a { interim = a.interim ++ bare 1 status reason headers ∷ [] }) refl heard)
     where
       may : may_respond s ≡ true
-      may = (and_parts (may_respond s) (nat_lt 0 s.request.minor) (in_state 1 status reason headers _
-          ((status / 100 == 1) && not (status == 101)) none)).0
+      may = grind (arith, and_parts, nat_lt, in_state)
 
       due : a.final ≡ Due
       due = due_now s a.final may g.writes
 
       said : answer_text (record a { interim = a.interim ++ bare 1 status reason headers ∷ [] })
           ≡ answer_text a ++ response_text 1 status reason headers
-      said = rw due (append-nil _ ∙ bare_texts-append a.interim (bare 1 status reason headers)
-          ∙ ap (λ (t : List ℕ). t ++ response_text 1 status reason headers) (sym (append-nil (bare_texts a.interim))))
+      said = grind (arith, due, append-nil, bare_texts-append)
 
       writes : WritesAt (after_informational s status) a.final
       writes = rw due (rw due at g.writes)
@@ -958,39 +762,29 @@ module _ {k : Frame} {s : Server} {unread : List ℕ} (heard : Heard) (a : Answe
       asks : (w : Place) (heard : Heard) (x : ToldAt w heard) → AskedAt w s heard x
           → AskedAt w (after_informational s status) heard x
       asks w Nothing x asked = tt
-      asks w (Part head content) x asked =
-          λ may. is_of_waits _ (λ waits. (and_parts s.request.expects_continue _ waits).0) (asked may)
-      asks w (Whole head content trailers) x asked =
-          λ may. is_of_waits _ (λ waits. (and_parts s.request.expects_continue _ waits).0) (asked may)
+      asks w heard x asked = grind (arith, is_of_waits, and_parts)
 
   respond_now : (status : ℕ) (reason : List ℕ) (headers : List Header) (size : BodySize)
       → response_refusal s status reason size headers ≡ None
       → PutIn g (after_response s status size headers) (planned_response s status reason size headers)
       (record a { final = Begun (begins s status reason headers size) })
-  respond_now status reason headers size none =
-      puts g (after_response s status size headers) (planned_response s status reason size headers)
-      (record a { final = Begun (begins s status reason headers size) }) said stays.0
-      (framed here heard g.told g.asked) writes
-      (not_asked here (after_response s status size headers)
+  respond_now status reason headers size none = puts g (after_response s status size headers)
+      (planned_response s status reason size headers) (record a { final = Begun (begins s status reason headers size) })
+      said stays.0 (framed here heard g.told g.asked) writes (not_asked here (after_response s status size headers)
       (body_mute (after_response s status size headers) _ stays.2) heard g.told) tt (begun_old s may)
-      (begun_running s may)
-      (stays_at (record here { final = Begun (begins s status reason headers size) }) s
+      (begun_running s may) (stays_at (record here { final = Begun (begins s status reason headers size) }) s
       (after_response s status size headers) (record a { final = Begun (begins s status reason headers size) }) stays.1
       heard)
     where
       planned : (may early : Bool) (plan : Result Plan WriteError)
           → plan_refusal (cond (not may) (Err Refusal.State) (cond early (Err Refusal.InvalidStartLine) plan))
-          (is_status_line s.request.minor status reason) headers ≡ None
-          → (may ≡ true)
+          (is_status_line s.request.minor status reason) headers ≡ None → (may ≡ true)
           × (cond (not may) (Err Refusal.State) (cond early (Err Refusal.InvalidStartLine) plan) ≡ plan)
-      planned true false plan none = (refl, refl)
-      planned true true plan none = absurd (cc none)
-      planned false early plan none = absurd (cc none)
+      planned may early plan none = grind (arith, may, early)
 
       may_plan : (may_respond s ≡ true)
           × (response_plan s status size headers ≡ plan_of (begins s status reason headers size))
-      may_plan = planned (may_respond s) (nat_lt status 200 || (is_connect s.request.method && nat_lt status 300))
-          (plan_of (begins s status reason headers size)) none
+      may_plan = grind (arith, planned, nat_lt)
 
       may : may_respond s ≡ true
       may = may_plan.0
@@ -1003,45 +797,31 @@ module _ {k : Frame} {s : Server} {unread : List ℕ} (heard : Heard) (a : Answe
           → ((responding s plan).limits ≡ s.limits) × ((responding s plan).reading ≡ s.reading)
           × ((responding s plan).writing ≡ Writes.Body (encoder_in plan))
           × ((responding s plan).request.keep_alive ≡ keeps_in plan)
-      responds (Ok plan) none = (refl, refl, refl, refl)
-      responds (Err error) none = absurd (cc none)
+      responds plan none = grind (arith, plan)
 
       stays : ((after_response s status size headers).limits ≡ s.limits)
           × ((after_response s status size headers).reading ≡ s.reading)
           × ((after_response s status size headers).writing
           ≡ Writes.Body (encoder_in (response_plan s status size headers)))
-          × ((after_response s status size headers).request.keep_alive
-          ≡ keeps_in (response_plan s status size headers))
+          × ((after_response s status size headers).request.keep_alive ≡ keeps_in (response_plan s status size headers))
       stays = responds (response_plan s status size headers) none
 
       writes : WritesAt (after_response s status size headers) (Begun (begins s status reason headers size))
-      writes = (
-        stays.2 ∙ ap (λ (p : Result Plan WriteError). Writes.Body (encoder_in p)) may_plan.1,
-        λ keeps. ap keeps_in (sym may_plan.1) ∙ sym stays.3 ∙ keeps,
-      )
+      writes = grind (arith, stays, may_plan)
 
       text : planned_response s status reason size headers ≡ head_text (begins s status reason headers size)
-      text = ap (λ (p : Result Plan WriteError). response_text s.request.minor status reason
-          (planned_headers p headers)) may_plan.1
+      text = grind (arith, may_plan)
 
       said : answer_text (record a { final = Begun (begins s status reason headers size) })
           ≡ answer_text a ++ planned_response s status reason size headers
-      said = ap (λ (t : List ℕ). bare_texts a.interim ++ t)
-          (append-nil (head_text (begins s status reason headers size)))
-          ∙ ap (λ (t : List ℕ). bare_texts a.interim ++ t) (sym text)
-          ∙ ap (λ (t : List ℕ). t ++ planned_response s status reason size headers)
-          (sym (append-nil (bare_texts a.interim)))
-          ∙ ap (λ (f : Final). (bare_texts a.interim ++ final_text f)
-          ++ planned_response s status reason size headers) (sym due)
+      said = grind (arith, append-nil, text, due)
 
       framed : (w : Place) (heard : Heard) (x : ToldAt w heard) → AskedAt w s heard x
           → FramedAt w (Begun (begins s status reason headers size)) heard x
       framed w Nothing x asked = tt
-      framed w (Part head content) x asked = asked may
-      framed w (Whole head content trailers) x asked = asked may
+      framed w heard x asked = asked may
 
-  switch_now : (status : ℕ) (reason : List ℕ) (headers : List Header)
-      → upgrade_refusal s status reason headers ≡ None
+  switch_now : (status : ℕ) (reason : List ℕ) (headers : List Header) → upgrade_refusal s status reason headers ≡ None
       → PutIn g (upgraded_server s) (response_text s.request.minor status reason headers)
       (record a { final = Switched (bare s.request.minor status reason headers) })
   switch_now status reason headers none =
@@ -1052,98 +832,58 @@ module _ {k : Frame} {s : Server} {unread : List ℕ} (heard : Heard) (a : Answe
       (at (record here { final = Switched (bare s.request.minor status reason headers) }) heard)
     where
       state : (awaits_head s.writing && (is_read s.reading && s.request.wants_upgrade)) ≡ true
-      state = switches_in_state s.request.minor status reason headers
-          (awaits_head s.writing && (is_read s.reading && s.request.wants_upgrade))
-          (cond (is_connect s.request.method) (status / 100 == 2) (status == 101))
-          (((awaits_head s.writing && (is_read s.reading && s.request.wants_upgrade))
-          && cond (is_connect s.request.method) (status / 100 == 2) (status == 101))
-          && not (states_upgrade s.request (known_fields headers))) none
+      state = grind (arith, switches_in_state)
 
       may : may_respond s ≡ true
-      may =
-          let x = and_parts (awaits_head s.writing) (is_read s.reading && s.request.wants_upgrade) state in
-          let read = (and_parts (is_read s.reading) s.request.wants_upgrade x.1).0 in
-          rw (x.0, read_asks s.reading read) refl
+      may = grind (arith, and_parts, state, read_asks)
 
       due : a.final ≡ Due
       due = due_now s a.final may g.writes
 
       said : answer_text (record a { final = Switched (bare s.request.minor status reason headers) })
           ≡ answer_text a ++ response_text s.request.minor status reason headers
-      said = ap (λ (t : List ℕ). t ++ response_text s.request.minor status reason headers)
-          (sym (append-nil (bare_texts a.interim)))
-          ∙ ap (λ (f : Final). (bare_texts a.interim ++ final_text f)
-          ++ response_text s.request.minor status reason headers) (sym due)
+      said = grind (arith, append-nil, due)
 
       framed : (w : Place) (heard : Heard) (x : ToldAt w heard) → AskedAt w s heard x
           → FramedAt w (Switched (bare s.request.minor status reason headers)) heard x
-      framed w Nothing x asked = tt
-      framed w (Part head content) x asked = (asked may).minor
-      framed w (Whole head content trailers) x asked = (asked may).minor
+      framed w heard x asked = grind (arith, heard, may)
 
       at : (w : Place) (heard : Heard) (y : ToldAt w heard) → InRequest w s heard y
           → IsAt w (upgraded_server s) (record a { final = Switched (bare s.request.minor status reason headers) })
           heard y
-      at w Nothing y is = absurd is
-      at w (Part head content) y is = inr (inr (refl, refl))
-      at w (Whole head content trailers) y is = inr (inl (inr (refl, refl)))
+      at w heard y is = grind (arith, heard)
 
 -- ---- a response goes on
 
 -- after the end the server begins again, or waits for the end of the request, or closes
 abbrev EndTurns : Server → Server → Type 0
-EndTurns s next =
-    ((s.request.keep_alive ≡ true) × (is_read s.reading ≡ true) × (next ≡ new_server s.limits))
+EndTurns s next = ((s.request.keep_alive ≡ true) × (is_read s.reading ≡ true) × (next ≡ new_server s.limits))
     ⊎ ((next ≡ record s { writing = Writes.Done }) ⊎ (next ≡ closed_server (record s { writing = Writes.Done })))
 
 end_turns : (s : Server) → EndTurns s (after_end s)
-end_turns s = by_keeping s.request.keep_alive refl
-  where
-    by_reading : (b : Bool) → is_read s.reading ≡ b → s.request.keep_alive ≡ true → EndTurns s (after_end s)
-    by_reading true read keeps = inl (keeps, read, rw (keeps, read) refl)
-    by_reading false read keeps = inr (inl (rw (keeps, read) refl))
-
-    by_keeping : (b : Bool) → s.request.keep_alive ≡ b → EndTurns s (after_end s)
-    by_keeping true keeps = by_reading (is_read s.reading) refl keeps
-    by_keeping false keeps = inr (inr (rw keeps refl))
+end_turns s = grind arith
 
 limits_ended : (s next : Server) → EndTurns s next → next.limits ≡ s.limits
-limits_ended s next (inl again) = ap (λ (y : Server). y.limits) again.2
-limits_ended s next (inr (inl waits)) = ap (λ (y : Server). y.limits) waits
-limits_ended s next (inr (inr closes)) = ap (λ (y : Server). y.limits) closes
+limits_ended s next turn = grind (arith, turn)
 
 mute_ended : (s next : Server) → EndTurns s next → may_respond next ≡ false
-mute_ended s next (inl again) = ap (λ (y : Server). may_respond y) again.2
-mute_ended s next (inr (inl waits)) = ap (λ (y : Server). may_respond y) waits
-mute_ended s next (inr (inr closes)) = ap (λ (y : Server). may_respond y) closes
+mute_ended s next turn = grind (arith, turn)
 
 -- the response that is being put
 begun_now : (s : Server) (r : Response) (e : Encoder) → s.writing ≡ Writes.Body e → WritesResponse r.trailers s r
     → (r.trailers ≡ None) × (s.writing ≡ Writes.Body (after_pieces r.pieces (encoder_in (plan_of r)))) × Keeps s r
-begun_now s r e is w = response r.trailers refl w
-  where
-    response : (t : Option (List Header)) → r.trailers ≡ t → WritesResponse t s r
-        → (r.trailers ≡ None) × (s.writing ≡ Writes.Body (after_pieces r.pieces (encoder_in (plan_of r)))) × Keeps s r
-    response None none w = (none, w.0, w.1)
-    response (Some trailers) some (inl done) = absurd (cc (is, done.0))
-    response (Some trailers) some (inr (inl closed)) = absurd (cc (is, closed))
-    response (Some trailers) some (inr (inr new)) =
-        let head : s.writing ≡ Writes.Head = ap (λ (x : Server). x.writing) new.0 in absurd (cc (is, head))
+begun_now s r e is w = grind arith
 
 writing_old : (s : Server) (e : Encoder) → s.writing ≡ Writes.Body e → ¬ (s ≡ new_server s.limits)
-writing_old s e is new =
-    let head : s.writing ≡ Writes.Head = ap (λ (x : Server). x.writing) new in absurd (cc (is, head))
+writing_old s e is new = grind arith
 
 writing_running : (s : Server) (e : Encoder) → s.writing ≡ Writes.Body e → ¬ (IsShut s)
-writing_running s e is (inl shut) = absurd (cc (is, shut.1))
-writing_running s e is (inr shut) = absurd (cc (is, shut.1))
+writing_running s e is shut = grind (arith, shut)
 
-more_said : (interim : List Bare) (r next : Response) (text : List ℕ)
-    → response_bytes next ≡ response_bytes r ++ text
+more_said : (interim : List Bare) (r next : Response) (text : List ℕ) → response_bytes next ≡ response_bytes r ++ text
     → answer_text (record { interim = interim; final = Begun next })
     ≡ answer_text (record { interim = interim; final = Begun r }) ++ text
-more_said interim r next text more = ap (λ (t : List ℕ). bare_texts interim ++ t) more
-    ∙ sym (append_assoc (bare_texts interim) (response_bytes r) text)
+more_said interim r next text more = grind (arith, append_assoc)
 
 abbrev answer : List Bare → Final → Answer
 answer interim final = record { interim = interim; final = final }
@@ -1151,20 +891,15 @@ answer interim final = record { interim = interim; final = final }
 framed_change : (w : Place) (r next : Response) → w.final ≡ Begun r → next.asked ≡ r.asked → (heard : Heard)
     (y : ToldAt w heard) → FramedAt w (Begun next) heard y
 framed_change w r next is same Nothing y = tt
-framed_change w r next is same (Part head content) y =
-    let framed : IsOf r.asked y.head y.framing = rw is at y.framed in rw same framed
-framed_change w r next is same (Whole head content trailers) y =
-    let framed : IsOf r.asked y.head y.framing = rw is at y.framed in rw same framed
+framed_change w r next is same heard y = let framed : IsOf r.asked y.head y.framing = rw is at y.framed in grind arith
 
 due_closed : (s : Server) (e : Encoder) → s.writing ≡ Writes.Body e
     → (s.writing ≡ Writes.Head) ⊎ (s.writing ≡ Writes.Closed) → ⊥
-due_closed s e is (inl head) = absurd (cc (is, head))
-due_closed s e is (inr closed) = absurd (cc (is, closed))
+due_closed s e is final = grind (arith, final)
 
 module _ {k : Frame} {s : Server} {unread : List ℕ} (heard : Heard) (interim : List Bare) where
-  push_now : (piece : List ℕ) (e : Encoder) → s.writing ≡ Writes.Body e
-      → data_refusal s.writing (length piece) ≡ None → (f : Final)
-      → (g : Goes k s unread heard (answer interim f))
+  push_now : (piece : List ℕ) (e : Encoder) → s.writing ≡ Writes.Body e → data_refusal s.writing (length piece) ≡ None
+      → (f : Final) → (g : Goes k s unread heard (answer interim f))
       → PutIn g (with_writing s (after_data s.writing (length piece))) (data_text s.writing piece)
       (answer interim (change (with_piece piece) f))
   push_now piece e is none Due g = absurd (due_closed s e is g.writes)
@@ -1175,8 +910,7 @@ module _ {k : Frame} {s : Server} {unread : List ℕ} (heard : Heard) (interim :
       puts g next (data_text s.writing piece) (answer interim (Begun (with_piece piece r)))
       (more_said interim r (with_piece piece r) (data_text s.writing piece) p.1) refl
       (framed_change here r (with_piece piece r) refl refl heard g.told) (rw x.0 (goes_on, x.2))
-      (not_asked here next (body_mute next _ goes_on) heard g.told) tt
-      (writing_old s e is) (writing_running s e is)
+      (not_asked here next (body_mute next _ goes_on) heard g.told) tt (writing_old s e is) (writing_running s e is)
       (stays_at there s next (answer interim (Begun (with_piece piece r))) refl heard)
     where
       x : (r.trailers ≡ None) × (s.writing ≡ Writes.Body (after_pieces r.pieces (encoder_in (plan_of r)))) × Keeps s r
@@ -1196,8 +930,7 @@ module _ {k : Frame} {s : Server} {unread : List ℕ} (heard : Heard) (interim :
   push_now piece e is none (Switched b) g = absurd (cc (is, g.writes))
 
   ends_now : (trailers : List Header) (e : Encoder) → s.writing ≡ Writes.Body e
-      → finish_refusal s.writing trailers ≡ None → (f : Final)
-      → (g : Goes k s unread heard (answer interim f))
+      → finish_refusal s.writing trailers ≡ None → (f : Final) → (g : Goes k s unread heard (answer interim f))
       → PutIn g (after_end s) (finish_text s.writing trailers) (answer interim (change (with_trailers trailers) f))
   ends_now trailers e is none Due g = absurd (due_closed s e is g.writes)
   ends_now trailers e is none (Begun r) g =
@@ -1220,21 +953,18 @@ module _ {k : Frame} {s : Server} {unread : List ℕ} (heard : Heard) (interim :
       text = end_at (head_text r) r.pieces (encoder_in (plan_of r)) s.writing r.trailers trailers at_trailers none
 
       writes : (next : Server) → EndTurns s next → WritesAt next (Begun (with_trailers trailers r))
-      writes next (inl again) = rw again.2 (inr (inr (refl, x.2 again.0)))
-      writes next (inr (inl waits)) = rw waits (inl (refl, x.2))
-      writes next (inr (inr closes)) = rw closes (inr (inl refl))
+      writes next turn = grind (arith, turn, x)
 
       at : (w : Place) (next : Server) → EndTurns s next → (heard : Heard) (y : ToldAt w heard) → InRequest w s heard y
           → IsAt w next (answer interim (Begun (with_trailers trailers r))) heard y
       at w next turn Nothing y within = absurd within
       at w next (inl again) (Part head content) y within =
           let going : is_read s.reading ≡ false = ap is_read within in absurd (cc (again.1, going))
-      at w next (inr (inl waits)) (Part head content) y within = rw waits (inl within)
       at w next (inr (inr closes)) (Part head content) y within = rw closes (inr (inl (refl, refl)))
       at w next (inl again) (Whole head content t) y within =
           rw again.2 (inr (inr (refl, (λ none. absurd (cc none), x.2 again.0))))
-      at w next (inr (inl waits)) (Whole head content t) y within = rw waits (inl within)
       at w next (inr (inr closes)) (Whole head content t) y within = rw closes (inr (inl (inl (refl, refl))))
+      at w next (inr (inl waits)) heard y within = rw waits (inl within)
   ends_now trailers e is none (Switched b) g = absurd (cc (is, g.writes))
 
 -- ---- histories
@@ -1281,8 +1011,7 @@ run_of {limits} {s} {i} none g = record {
 }
 
 run_put : {limits : Limits} {s next : Server} {i o text : List ℕ} {f : Option StreamRejection} {p : Past} {b : Answer}
-    (r : Run limits s i o f p) → PutIn r.goes next text b
-    → Run limits next i (o ++ text) f (record p { answer = b })
+    (r : Run limits s i o f p) → PutIn r.goes next text b → Run limits next i (o ++ text) f (record p { answer = b })
 run_put r x = record {
   unread = r.unread;
   goes = x.goes;
@@ -1307,15 +1036,13 @@ find_goes {limits} {p} old new Is.NeedsInput found g = runs_out_at {limits = lim
 find_goes {limits} {p} old new (Is.Head told) found g =
     rw (found.rest, found.server, found.parts) (head_now found.due found.accepts p.heard p.answer g)
 find_goes {limits} {p} old new (Is.Content piece) found g =
-    rw found.rest (piece_now found.decoder found.next found.len piece found.reading found.continues found.input
-    found.server p.heard g)
+    rw found.rest (piece_now _ _ _ _ found.reading found.continues found.input found.server _ g)
 find_goes {limits} {p} old new (Is.End trailers) found g =
     rw found.rest (end_now found.fields found.reading found.completes found.parts found.server p.heard g)
 find_goes {limits} {p} old new Is.Waits found g = rw found.1 g
 find_goes {limits} {p} old new Is.Switched found g = rw found.1 g
 find_goes {limits} {p} old new Is.Closed (inl found) g = rw found.1 g
-find_goes {limits} {p} old new Is.Closed (inr found) g =
-    ends_between {limits = limits} {p = p} found.1 new found.3
+find_goes {limits} {p} old new Is.Closed (inr found) g = ends_between {limits = limits} {p = p} found.1 new found.3
     (runs_out_at {limits = limits} {p = p} old found.1 found.2 g)
 find_goes old new (Is.Rejected why) found g = absurd found
 
@@ -1343,11 +1070,8 @@ rejected_run {limits} {next} unread why p (Whole head content trailers) g = reco
 }
 
 rejected_again : {limits : Limits} {s : Server} {i o : List ℕ} {f : Option StreamRejection} (p : Past) (h : Heard)
-    → IsOpen h → Run limits s i o f (record p { heard = h })
-    → Run limits s i o f (reject_at h (record p { heard = h }))
-rejected_again p Nothing is r = r
-rejected_again p (Part head content) is r = r
-rejected_again p (Whole head content trailers) is r = absurd is
+    → IsOpen h → Run limits s i o f (record p { heard = h }) → Run limits s i o f (reject_at h (record p { heard = h }))
+rejected_again p h is r = grind (arith, h)
 
 rejects_run : {limits : Limits} {p : Past} (old new : StreamConnection) (why : StreamRejection) → Rejects old why new
     → GoingAt limits old p → Run limits new.server new.input.items new.output.items (Some why) (reject_at p.heard p)
@@ -1357,14 +1081,12 @@ rejects_run {limits} {p} old new why (inr cut) g =
     let ends = cut.1 in
     let between = ends.1 in
     let off = ends.3 in
-    rw off.rest (rejected_run between.input.items why p p.heard
-    (cut_off between.server.reading refl off.within p.heard
+    rw off.rest (rejected_run between.input.items why p p.heard (cut_off between.server.reading refl off.within p.heard
     (runs_out_at {limits = limits} {p = p} old between ends.2 g)))
 
 said : {limits : Limits} {p : Past} (old new : StreamConnection) (event : StreamEvent) (f : Option StreamRejection)
     → old.fault ≡ f → SaysAt f old event new → RunAt limits old p → RunAt limits new (tell event p)
-said {limits} {p} old new event (Some why) is says r =
-    rw (says.0, says.1) (rejected_again p p.heard (r.broken why is) r)
+said {limits} {p} old new event (Some why) is says r = grind (arith, rejected_again)
 said {limits} {p} old new event None is (inl found) r =
     run_of (fault_stays event found ∙ is) (find_goes old new event found (going_of r is))
   where
@@ -1372,19 +1094,10 @@ said {limits} {p} old new event None is (inl found) r =
     out_stays old new w = ap (λ (m : StreamConnection). m.fault) w.rest
 
     between_stays : (old new : StreamConnection) → EndsBetween old new → new.fault ≡ old.fault
-    between_stays old new (inl closes) = ap (λ (m : StreamConnection). m.fault) closes.2
-    between_stays old new (inr closed) = ap (λ (m : StreamConnection). m.fault) closed.1
+    between_stays old new between = grind (arith, between)
 
     fault_stays : (event : StreamEvent) → Finds old event new → new.fault ≡ old.fault
-    fault_stays Is.NeedsInput found = out_stays old new found.1
-    fault_stays (Is.Head told) found = ap (λ (m : StreamConnection). m.fault) found.rest
-    fault_stays (Is.Content piece) found = ap (λ (m : StreamConnection). m.fault) found.rest
-    fault_stays (Is.End trailers) found = ap (λ (m : StreamConnection). m.fault) found.rest
-    fault_stays Is.Waits found = ap (λ (m : StreamConnection). m.fault) found.1
-    fault_stays Is.Switched found = ap (λ (m : StreamConnection). m.fault) found.1
-    fault_stays Is.Closed (inl found) = ap (λ (m : StreamConnection). m.fault) found.1
-    fault_stays Is.Closed (inr found) = between_stays found.1 new found.3 ∙ out_stays old found.1 found.2
-    fault_stays (Is.Rejected why) found = absurd found
+    fault_stays event found = grind (arith, event, found, out_stays, between_stays)
 said {limits} {p} old new event None is (inr failed) r =
     rw (failed.3, failed.4) (rejects_run old failed.1 failed.0 failed.2 (going_of r is))
 
@@ -1446,15 +1159,13 @@ put : {limits : Limits} {p : Past} (old new : StreamConnection) (piece : List �
     → RunAt limits old p → RunAt limits new (answers (change (with_piece piece) p.answer.final) p)
 put {limits} {p} old new piece x r =
     let e = takes_data _ _ x.0 in
-    rw (x.1.rest, x.1.output, x.1.server)
-    (run_put r (push_now p.heard p.answer.interim piece e.0 e.1 x.0 p.answer.final r.goes))
+    rw (x.1.rest, x.1.output, x.1.server) (run_put r (push_now _ _ piece e.0 e.1 x.0 p.answer.final r.goes))
 
 ended : {limits : Limits} {p : Past} (old new : StreamConnection) (trailers : List Header) → Ends old trailers new
     → RunAt limits old p → RunAt limits new (answers (change (with_trailers trailers) p.answer.final) p)
 ended {limits} {p} old new trailers x r =
     let e = takes_end _ _ x.0 in
-    rw (x.1.rest, x.1.output, x.1.server)
-    (run_put r (ends_now p.heard p.answer.interim trailers e.0 e.1 x.0 p.answer.final r.goes))
+    rw (x.1.rest, x.1.output, x.1.server) (run_put r (ends_now _ _ trailers e.0 e.1 x.0 p.answer.final r.goes))
 
 refused : {limits : Limits} {old new : StreamConnection} {p : Past} → PutsNothing old new → RunAt limits old p
     → RunAt limits new p
@@ -1488,8 +1199,7 @@ runs (Opened m new) = new_run new.server new.input new.output new.fault
 runs (Received old new p bytes before going x) = received old new bytes x (runs before)
 runs (Finished old new p before is) = rw is (runs before)
 runs (Informed old new p status reason headers before x) = informed old new status reason headers x (runs before)
-runs (Responded old new p status reason headers size before x) =
-    responded old new status reason headers size x (runs before)
+runs (Responded old new p status reason headers size before x) = grind (arith, responded, runs before)
 runs (Handed old new p status reason headers before x) = handed old new status reason headers x (runs before)
 runs (Put old new p piece before x) = put old new piece x (runs before)
 runs (Ended old new p trailers before x) = ended old new trailers x (runs before)
@@ -1498,26 +1208,7 @@ runs (Written old new p count before within out) = written old new count out (ru
 runs (Said old new p event before says) = said old new event old.fault refl says (runs before)
 
 may_put : (s : Server) (f : Final) (heard : Heard) → WritesAt s f → DueAt s f heard → MayPut s f heard
-may_put s Due Nothing w due = tt
-may_put s Due (Part head content) w due = due
-may_put s Due (Whole head content trailers) w due = due
-may_put s (Begun r) heard w due = response r.trailers refl w
-  where
-    response : (t : Option (List Header)) → r.trailers ≡ t → WritesResponse t s r → r.trailers ≡ None
-        → s.writing ≡ Writes.Body (after_pieces r.pieces (encoder_in (plan_of r)))
-    response None is w none = w.0
-    response (Some trailers) is w none = absurd (cc (is, none))
-may_put s (Switched b) heard w due = tt
+may_put s f heard w due = grind (arith, f, heard)
 
 pub exchanged : {limits : Limits} {m : StreamConnection} {p : Past} → IsReached limits m p → Exchanged limits m p
-exchanged {limits} {m} {p} reached =
-    let r = runs reached in
-    record {
-      written = r.goes.since.written;
-      start = r.goes.since.start;
-      before = r.goes.since.kept;
-      unread = r.unread;
-      now = r.goes.told;
-      left = λ none. (r.going none).0;
-      puts = may_put m.server p.answer.final p.heard r.goes.writes r.goes.due;
-    }
+exchanged {limits} {m} {p} reached = grind (arith, runs, may_put)

@@ -1,4 +1,4 @@
-use Rattle.std.proofs.{Common.{inr, refl}, lemmas.Result.{IfErr-weaker, IfOk-weaker, err_from_is_err_and}}
+use Rattle.std.proofs.{Common.{arith, inr, refl}, lemmas.Result.{IfErr-weaker, IfOk-weaker, err_from_is_err_and}}
 use Rattle.http1.specs.declared.conn.Event.TheVariants as Found
 use Rattle.{gateway_connection.proofs.FieldLemmas.fails_as, server_stream.proofs.FieldLemmas.rejection_of}
 use Rattle.server_stream.proofs.FindLemmas.{rejects_end, rejects_head, starved, still, takes_head, takes_piece, tells}
@@ -24,16 +24,10 @@ returns-in_err-trailers-in-End-clause-err c =
     (rejection_of _ _ c.in_err-trailers-in-End.ensures.reason) refl)
 
 pub find_end-requires : goal.find_end-requires
-find_end-requires c =
-    let old = c.args.self.now in
-    starved old.server _ _ _ old.server.reading
-    (tells old.server _ _ _ _ c.in-Ok.ensures.ok Found.NeedMore c.in-NeedMore.is) refl
+find_end-requires c = grind (arith, starved, tells)
 
 pub returns-then-self-clause-ok : goal.returns-then-self-clause-ok
-returns-then-self-clause-ok c =
-    let old = c.args.self.now in
-    let runs = still old _ _ _ _ c.as_slice.ensures c.in-Ok.ensures.ok c.in-NeedMore.is c.advance.ensures.items refl in
-    IfOk-weaker c.find_end.result _ _ (λ event e. rw e.0 (inr (c.if-self.true, _, runs, e.1))) c.find_end.ensures.ok
+returns-then-self-clause-ok c = grind (arith, still, IfOk-weaker)
 
 pub returns-then-self-clause-err : goal.returns-then-self-clause-err
 returns-then-self-clause-err c =
