@@ -81,8 +81,7 @@ module _ {Y Z : Type 0} (target : List ℕ) where
   pub first-shown : (es : Entries Y Z) (e : String Y × Vec StoredResponse Z) → slice_get es 0 ≡ Some e
       → is_key target e.0 ≡ true → e.1.items ≡ responses_at target (shown es)
   first-shown [] e at same = absurd (subst IsNone at tt)
-  first-shown (f ∷ es) e at same =
-      let first : f ≡ e = grind (arith, at) in
+  first-shown (f ∷ es) e at same = let first : f ≡ e = grind (arith, at) in
       subst (λ (g : String Y × Vec StoredResponse Z). g.1.items ≡ responses_at target (shown (f ∷ es))) first
       (sym (ap (λ b. cond b f.1.items (responses_at target (shown es)))
       (ap (λ (g : String Y × Vec StoredResponse Z). is_key target g.0) first ∙ same)))
@@ -118,8 +117,7 @@ module _ {Y Z : Type 0} (target : List ℕ) where
   pub record IsTaken (es new : Entries Y Z) (items : List StoredResponse) : Type 0 where
     pub are : items ≡ responses_at target (shown es)
     pub left : shown new ≡ without target (shown es)
-    pub counts : (m : Target → ℕ) → m (target, []) ≡ 0
-        → sum_by m (shown new) + m (target, items) ≡ sum_by m (shown es)
+    pub counts : (m : Target → ℕ) → m (target, []) ≡ 0 → sum_by m (shown new) + m (target, items) ≡ sum_by m (shown es)
 
   pub is-taken : (es new : Entries Y Z) → new ≡ remove_entry (is_key target) es → IsDistinct string_eq (keys_of es)
       → (taken : Option (Vec StoredResponse Z)) → taken ≡ lookup (is_key target) es → IsTaken es new (items_of taken)
@@ -145,9 +143,8 @@ module _ {Y Z : Type 0} (target : List ℕ) where
   lookup_entry-absent [] h = refl
   lookup_entry-absent (e ∷ es) h = rw h.0 (lookup_entry-absent es h.1)
 
-  used-entry : (es : Entries Y Z) → IsDistinct string_eq (keys_of es)
-      → shown (option_map_or (λ e. e ∷ remove_entry (is_key target) es) (lookup_entry (is_key target) es) es)
-      ≡ used target (shown es)
+  used-entry : (es : Entries Y Z) → IsDistinct string_eq (keys_of es) → shown (option_map_or
+      (λ e. e ∷ remove_entry (is_key target) es) (lookup_entry (is_key target) es) es) ≡ used target (shown es)
   used-entry es d = shown_by (lookup_entry (is_key target) es) refl
     where
       absent-entry : (es : Entries Y Z) → lookup_entry (is_key target) es ≡ None → IsAbsent target (shown es)
@@ -174,8 +171,7 @@ module _ {Y Z : Type 0} (target : List ℕ) where
 
       shown_by : (found : Option (String Y × Vec StoredResponse Z)) → lookup_entry (is_key target) es ≡ found
           → shown (option_map_or (λ e. e ∷ remove_entry (is_key target) es) found es) ≡ used target (shown es)
-      shown_by None h =
-          let none = absent-entry es h in
+      shown_by None h = let none = absent-entry es h in
           sym (ap (λ l. l ++ without target (shown es)) (filter-absent target (shown es) none)
           ∙ without-absent target (shown es) none)
       shown_by (Some e) h = ap (λ l. shown_entry e ∷ l) (shown-remove_entry es d)
@@ -191,16 +187,14 @@ pub put-absent : {Y Z : Type 0} (target : List ℕ) (es new : Entries Y Z) (cap 
     → new ≡ put_entries string_eq (lru_cache es cap) key responses → shown new ≡ (target, responses.items) ∷ shown es
 put-absent target es new cap key responses same h few put =
     let absent : IsAbsent (string_bytes key) (shown es) = rw same h in
-    let first : put_entries string_eq (lru_cache es cap) key responses ≡ (key, responses) ∷ es =
-    rw (lookup_entry-absent (string_bytes key) es absent)
-    (ap (λ l. (key, responses) ∷ l) (take_all (cap - 1) es (omega (arith, few)))) in
+    let first : put_entries string_eq (lru_cache es cap) key responses ≡ (key, responses) ∷ es = rw (lookup_entry-absent
+    (string_bytes key) es absent) (ap (λ l. (key, responses) ∷ l) (take_all (cap - 1) es (omega (arith, few)))) in
     ap shown (put ∙ first) ∙ ap (λ t. (t, responses.items) ∷ shown es) same
 
 -- a target that is used counts as before
 sum_by-used : (target : List ℕ) (m : Target → ℕ) (contents : Contents)
     → sum_by m (used target contents) ≡ sum_by m contents
-sum_by-used target m contents =
-    sum_by-append m (filter (is_for target) contents) (without target contents)
+sum_by-used target m contents = sum_by-append m (filter (is_for target) contents) (without target contents)
     ∙ sum_by-filter_both (is_for target) (λ entry. not (is_for target entry)) (λ _. refl) m contents
 
 -- ---- the last target
@@ -211,8 +205,7 @@ some-last x xs h = grind (arith, slice_get-get_or (x ∷ xs) (length (x ∷ xs) 
 -- the last of a list, and what stands before it, count as all
 sum_by-last : {X : Type 0} (f : X → ℕ) (xs : List X) (x : X) → slice_get xs (length xs - 1) ≡ Some x
     → sum_by f (take (length xs - 1) xs) + f x ≡ sum_by f xs
-sum_by-last f xs x h =
-    let last = slice_get_within xs (length xs - 1) x h in
+sum_by-last f xs x h = let last = slice_get_within xs (length xs - 1) x h in
     let grows = sum_by_more f xs (length xs - 1) x last in
     let whole : take (length xs - 1 + 1) xs ≡ xs = ap (λ n. take n xs) (omega (arith, last)) ∙ take-length xs in
     let at : get_or xs (length xs - 1) x ≡ x = get_or_from_slice_get xs (length xs - 1) x x h in
@@ -242,31 +235,29 @@ none-last (e ∷ es) new h left = absurd (some-last e es h)
 -- with later numbers
 pub counted-later : {limits : Limits} {responses bytes next later : ℕ} {contents : Contents}
     → IsCounted limits responses bytes next contents → next ≤ later → IsCounted limits responses bytes later contents
-counted-later {next = next} {later = later} {contents = contents} are rises =
-    record {
-      counted = are.counted;
-      weighed = are.weighed;
-      few = are.few;
-      light = are.light;
-      sized = are.sized;
-      numbered = numbered-later next later contents rises are.numbered;
-    }
+counted-later {next = next} {later = later} {contents = contents} are rises = record {
+  counted = are.counted;
+  weighed = are.weighed;
+  few = are.few;
+  light = are.light;
+  sized = are.sized;
+  numbered = numbered-later next later contents rises are.numbered;
+}
 
 module _ {limits : Limits} {responses bytes next : ℕ} {old new : Contents} where
   -- without one of its targets
   pub counted-less : IsCounted limits responses bytes next old → (gone : Target)
       → ((m : Target → ℕ) → m (gone.0, []) ≡ 0 → sum_by m new + m gone ≡ sum_by m old)
       → IsCounted limits (responses - length gone.1) (bytes - bytes_at gone.0 gone.1) next new
-  counted-less are gone counts =
-      record {
-        counted = omega (arith, counts (λ entry. length entry.1) refl, are.counted);
-        weighed = omega (arith, counts (λ entry. bytes_at entry.0 entry.1) refl, are.weighed);
-        few = omega (arith, are.few);
-        light = omega (arith, are.light);
-        sized = are.sized;
-        numbered = numbered-fewer next old new
-            (λ number. omega (arith, counts (λ entry. times_in number entry.1) refl)) are.numbered;
-      }
+  counted-less are gone counts = record {
+    counted = omega (arith, counts (λ entry. length entry.1) refl, are.counted);
+    weighed = omega (arith, counts (λ entry. bytes_at entry.0 entry.1) refl, are.weighed);
+    few = omega (arith, are.few);
+    light = omega (arith, are.light);
+    sized = are.sized;
+    numbered = numbered-fewer next old new
+        (λ number. omega (arith, counts (λ entry. times_in number entry.1) refl)) are.numbered;
+  }
 
   -- with the same in another order
   pub counted-used : IsCounted limits responses bytes next old → (target : List ℕ) → new ≡ used target old
@@ -329,16 +320,14 @@ module _ (limits : Limits) (responses bytes : ℕ) where
 
   module _ (few : responses ≤ limits.responses) (light : bytes ≤ limits.bytes) where
     not_empty : (mid : Contents) → ¬ (HasRoom limits responses bytes mid) → 0 < length mid
-    not_empty [] cramped =
-        absurd (cramped (record { few = omega (arith, few); light = omega (arith, light) }))
+    not_empty [] cramped = absurd (cramped (record { few = omega (arith, few); light = omega (arith, light) }))
     not_empty (entry ∷ mid) cramped = omega arith
 
     module _ (mid new : Contents) (cramped : ¬ (HasRoom limits responses bytes mid))
         (left : new ≡ take (length mid - 1) mid) where
       pub front-shorter : length new < length mid
       front-shorter =
-          let some = not_empty mid cramped in
-          rw left (rw (length-take (length mid - 1) mid) (omega (arith, some)))
+          let some = not_empty mid cramped in rw left (rw (length-take (length mid - 1) mid) (omega (arith, some)))
 
       pub front-next : (old : Contents) → IsFrontWithout limits responses bytes old mid
           → IsFrontWithout limits responses bytes old new

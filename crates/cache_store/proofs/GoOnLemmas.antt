@@ -8,10 +8,9 @@ use Rattle.cache_store.proofs.HistoryLemmas.{Has-append, Has-take, Has-used, Has
 use Rattle.cache_store.proofs.HistoryLemmas.{Has-drop, Has-rest, Has-without, HasUnder-weaker, under-with_target}
 
 -- those that are left so far, and one more
-pub kept-next : (all left next others these : List StoredResponse) (one : StoredResponse)
-    (fate : Option StoredResponse) (first last : ℕ) → first ≤ last → these ≡ one ∷ others
-    → next ≡ left ++ option_to_list fate → IsSameOrNumbered one last fate
-    → ((stored : StoredResponse) → Has left stored → Has all stored ⊎ (first ≤ stored.number))
+pub kept-next : (all left next others these : List StoredResponse) (one : StoredResponse) (fate : Option StoredResponse)
+    (first last : ℕ) → first ≤ last → these ≡ one ∷ others → next ≡ left ++ option_to_list fate → IsSameOrNumbered
+    one last fate → ((stored : StoredResponse) → Has left stored → Has all stored ⊎ (first ≤ stored.number))
     → ((stored : StoredResponse) → Has these stored → Has all stored)
     → (stored : StoredResponse) → Has next stored → Has all stored ⊎ (first ≤ stored.number)
 kept-next all left next others these one fate first last rises split put is kept there stored h =
@@ -51,9 +50,8 @@ module _ (next : ℕ) (old : Contents) (later : ℕ) (new : Contents) (rises : n
       (responses : List StoredResponse)
       (each : (stored : StoredResponse) → Has responses stored
       → Has (responses_at target old) stored ⊎ (next ≤ stored.number)) where
-    among : (other : List ℕ) (stored : StoredResponse)
-        → HasUnder rest other stored ⊎ ((target ≡ other) × Has responses stored)
-        → HasUnder old other stored ⊎ (next ≤ stored.number)
+    among : (other : List ℕ) (stored : StoredResponse) → HasUnder rest other stored
+        ⊎ ((target ≡ other) × Has responses stored) → HasUnder old other stored ⊎ (next ≤ stored.number)
     among other stored (inl under) = inl (HasUnder-weaker old rest fewer other stored under)
     among other stored (inr (same, h)) = elim (each stored h) [
       | inl was ↦ inl (subst (λ t. HasUnder old t stored) same (HasUnder-responses_at target old stored was))
@@ -61,18 +59,16 @@ module _ (next : ℕ) (old : Contents) (later : ℕ) (new : Contents) (rises : n
     ]
 
     pub goes-put : new ≡ (target, responses) ∷ rest → GoOn next old later new
-    goes-put put =
-        record {
-          rises = rises;
-          kept = λ other stored h. among other stored (under-put target responses rest new put other stored h);
-        }
+    goes-put put = record {
+      rises = rises;
+      kept = λ other stored h. among other stored (under-put target responses rest new put other stored h);
+    }
 
     pub goes-with : new ≡ with_target target responses rest → GoOn next old later new
-    goes-with put =
-        record {
-          rises = rises;
-          kept = λ other stored h. among other stored (under-with_target target responses rest new put other stored h);
-        }
+    goes-with put = record {
+      rises = rises;
+      kept = λ other stored h. among other stored (under-with_target target responses rest new put other stored h);
+    }
 
   pub goes-inserted : (limits : Limits) (target : List ℕ) (stored : StoredResponse)
       → IsInserted limits target stored old new → next ≤ stored.number → GoOn next old later new
@@ -112,9 +108,8 @@ module _ (next : ℕ) (old : Contents) (later : ℕ) (new : Contents) (rises : n
     goes-left these within kept put = goes-with target other fewer-other left (each-left these within kept) put
 
     pub goes-again : (these : List StoredResponse) → ((one : StoredResponse) → Has these one → Has taken one)
-        → ((one : StoredResponse) → Has left one → Has these one ⊎ (first ≤ one.number))
-        → (fresh : StoredResponse) → first ≤ fresh.number → new ≡ (target, left ++ fresh ∷ []) ∷ other
-        → GoOn next old later new
+        → ((one : StoredResponse) → Has left one → Has these one ⊎ (first ≤ one.number)) → (fresh : StoredResponse)
+        → first ≤ fresh.number → new ≡ (target, left ++ fresh ∷ []) ∷ other → GoOn next old later new
     goes-again these within kept fresh above put =
         goes-put target other fewer-other (left ++ fresh ∷ [])
         (λ one h. elim (Has-append _ _ _ h) [

@@ -61,24 +61,21 @@ Has-slice_get (y ∷ xs) zero x h = inl (grind (arith, h))
 Has-slice_get (y ∷ xs) (suc i) x h = inr (Has-slice_get xs i x h)
 
 -- what is left of stored responses was made of one of them
-pub Has-left : (B : StoredResponse → Option StoredResponse → Type 0) (all left : List StoredResponse) → AreLeft B all
-    left → (stored : StoredResponse) → Has left stored
-    → (old : StoredResponse) × Has all old × B old (Some stored)
+pub Has-left : (B : StoredResponse → Option StoredResponse → Type 0) (all left : List StoredResponse) → AreLeft B
+    all left → (stored : StoredResponse) → Has left stored → (old : StoredResponse) × Has all old × B old (Some stored)
 Has-left B [] left none stored h = absurd (subst (λ l. Has l stored) none h)
 Has-left B (one ∷ all) left (None, rest, becomes, are, put) stored h =
     let on = Has-left B all rest are stored (subst (λ l. Has l stored) put h) in (on.0, inr on.1, on.2)
-Has-left B (one ∷ all) left (Some fresh, rest, becomes, are, put) stored h =
-    elim (subst (λ l. Has l stored) put h) [
-      | inl same ↦ (one, inl refl, subst (λ s. B one (Some s)) same becomes)
-      | inr r ↦ let on = Has-left B all rest are stored r in (on.0, inr on.1, on.2)
-    ]
+Has-left B (one ∷ all) left (Some fresh, rest, becomes, are, put) stored h = elim (subst (λ l. Has l stored) put h) [
+  | inl same ↦ (one, inl refl, subst (λ s. B one (Some s)) same becomes)
+  | inr r ↦ let on = Has-left B all rest are stored r in (on.0, inr on.1, on.2)
+]
 
 -- ---- what a store has
 
 pub Has-without : (target : List ℕ) (contents : Contents) (entry : Target) → Has (without target contents) entry
     → Has contents entry × (target ≢ entry.0)
-Has-without target contents entry h =
-    let kept = Has-filter (λ e. not (is_for target e)) contents entry h in
+Has-without target contents entry h = let kept = Has-filter (λ e. not (is_for target e)) contents entry h in
     (kept.0, λ same. grind (arith, kept.1, (bytes_eq-Decides target entry.0).1 same))
 
 pub Has-used : (target : List ℕ) (contents : Contents) (entry : Target) → Has (used target contents) entry → Has
@@ -101,8 +98,7 @@ HasUnder-responses_at target (entry ∷ contents) stored h = (elim (is_for targe
     b → Has (cond b entry.1 (responses_at target contents)) stored → HasUnder (entry ∷ contents) target stored) [
       | true ↦ λ t k. record {
         responses = entry.1;
-        at = inl (ap (λ key. (key, entry.1)) (sym ((bytes_eq-Decides target
-            entry.0).0 t)));
+        at = inl (ap (λ key. (key, entry.1)) (sym ((bytes_eq-Decides target entry.0).0 t)));
         among = k;
       }
       | false ↦ λ t k. let under = HasUnder-responses_at target contents stored k in
@@ -113,14 +109,13 @@ HasUnder-responses_at target (entry ∷ contents) stored h = (elim (is_for targe
 pub under-put : (target : List ℕ) (responses : List StoredResponse) (rest new : Contents) → new ≡ (target, responses)
     ∷ rest → (other : List ℕ) (stored : StoredResponse) → HasUnder new other stored
     → HasUnder rest other stored ⊎ ((target ≡ other) × Has responses stored)
-under-put target responses rest new put other stored h =
-    elim (subst (λ l. Has l (other, h.responses)) put h.at) [
-      | inl same ↦ inr (
-        ap (λ entry. entry.0) same,
-        subst (λ l. Has l stored) (sym (ap (λ entry. entry.1) same)) h.among,
-      )
-      | inr k ↦ inl (record { responses = h.responses; at = k; among = h.among })
-    ]
+under-put target responses rest new put other stored h = elim (subst (λ l. Has l (other, h.responses)) put h.at) [
+  | inl same ↦ inr (
+    ap (λ entry. entry.0) same,
+    subst (λ l. Has l stored) (sym (ap (λ entry. entry.1) same)) h.among,
+  )
+  | inr k ↦ inl (record { responses = h.responses; at = k; among = h.among })
+]
 
 -- the same, where it is put only if it has responses
 pub under-with_target : (target : List ℕ) (responses : List StoredResponse) (rest new : Contents)
@@ -141,9 +136,8 @@ Has-rest new all rest (inr (place, found, inr other)) stored h = rw other.1 at h
 module _ (policy : Policy) (limits : Limits) where
   -- what is stored under a target is justified
   abbrev pub AreJustified : History → Contents → Type 0
-  AreJustified calls contents =
-      (target : List ℕ) (stored : StoredResponse) → HasUnder contents target stored → IsJustified policy target calls
-      stored
+  AreJustified calls contents = (target : List ℕ) (stored : StoredResponse)
+      → HasUnder contents target stored → IsJustified policy target calls stored
 
   module _ (calls : History) (old new : Contents) (before : AreJustified calls old) where
     weaker : ((entry : Target) → Has new entry → Has old entry) → AreJustified calls new
@@ -173,13 +167,11 @@ module _ (policy : Policy) (limits : Limits) where
     -- those of other targets
     apart : (target other : List ℕ) (stored : StoredResponse) → HasUnder (without target old) other stored
         → IsJustified policy other calls stored
-    apart target other stored h =
-        before other stored (HasUnder-weaker old (without target old) (λ entry k. (Has-without target old entry k).0)
-        other stored h)
+    apart target other stored h = before other stored
+        (HasUnder-weaker old (without target old) (λ entry k. (Has-without target old entry k).0) other stored h)
 
-    arrived : (target : List ℕ) (came : StoredResponse) (reception : Reception) → Step policy limits (Arrived target
-        came reception) old new
-        → AreJustified (Arrived target came reception ∷ calls) new
+    arrived : (target : List ℕ) (came : StoredResponse) (reception : Reception) → Step policy limits
+        (Arrived target came reception) old new → AreJustified (Arrived target came reception ∷ calls) new
     arrived target came reception (inl same) other stored h =
         inl (weaker (λ entry k. subst (λ l. Has l entry) same k) other stored h)
     arrived target came reception (inr (inl (one, allowed, kept_as, inserted))) other stored h =
@@ -218,9 +210,8 @@ module _ (policy : Policy) (limits : Limits) where
           ]
 
       -- the answer itself
-      answered : (fresh : StoredResponse) (left : List StoredResponse)
-          → (r : IsRefreshedTo policy target request update exchange old new fresh left)
-          → IsReusable policy (fields_of_stored r.selected.response) request update fresh
+      answered : (fresh : StoredResponse) (left : List StoredResponse) → (r : IsRefreshedTo policy target request update
+          exchange old new fresh left) → IsReusable policy (fields_of_stored r.selected.response) request update fresh
           → IsJustified policy target (Validated target request update exchange ∷ calls) fresh
       answered fresh left r reusable =
           let was = r.selected.response in
@@ -273,10 +264,9 @@ module _ (policy : Policy) (limits : Limits) where
       validated (inr left) other stored h = inl (weaker (fewer-without target left) other stored h)
 
       -- one of the responses that a HEAD left
-      by_head : (left : List StoredResponse)
-          → AreLeft (BecomesByHead policy request update exchange) (responses_at target old) left
-          → (stored : StoredResponse) → Has left stored
-          → IsJustified policy target (Described target request update exchange ∷ calls) stored
+      by_head : (left : List StoredResponse) → AreLeft
+          (BecomesByHead policy request update exchange) (responses_at target old) left → (stored : StoredResponse)
+          → Has left stored → IsJustified policy target (Described target request update exchange ∷ calls) stored
       by_head left are stored h =
           let was = Has-left (BecomesByHead policy request update exchange)
           (responses_at target old) left are stored h in
@@ -300,8 +290,7 @@ module _ (policy : Policy) (limits : Limits) where
       described (inr left) other stored h = inl (weaker (fewer-without target left) other stored h)
 
     answered_request : (target method : List ℕ) (status : ℕ) → Step policy limits
-        (Answered target method status) old new
-        → AreJustified (Answered target method status ∷ calls) new
+        (Answered target method status) old new → AreJustified (Answered target method status ∷ calls) new
     answered_request target method status (inl (is, left)) other stored h =
         let kept = removed target left other stored h in ((λ _. kept.0), kept.1)
     answered_request target method status (inr (isnt, same)) other stored h =
@@ -333,47 +322,39 @@ module _ (policy : Policy) (limits : Limits) (calls : History) (contents : Conte
     (ran : Run policy limits calls contents)
     (target : List ℕ) (most : ℕ) (request : Request) (now : ℕ) where
   -- a stored response that is found for a request, and is good enough
-  served : (decision : Decision) (place number : ℕ)
-      (found : IsFound policy most request now (responses_at target contents) decision place)
-      → numbered number (responses_at target contents) ≡ Some found.selected.response
-      → (age : Field) → age ≡ age_of_stored found.selected.response now
-      → IsGoodEnough policy.kind
-      (asks policy request.fields (fields_of_stored found.selected.response)
-      (freshness_of found.lifetime found.selected.response now))
-      (tells policy (fields_of_stored found.selected.response))
-      (freshness_of found.lifetime found.selected.response now)
+  served : (decision : Decision)
+      (place number : ℕ) (found : IsFound policy most request now (responses_at target contents) decision place)
+      → numbered number (responses_at target contents) ≡ Some found.selected.response → (age : Field)
+      → age ≡ age_of_stored found.selected.response now → IsGoodEnough policy.kind (asks policy request.fields
+      (fields_of_stored found.selected.response) (freshness_of found.lifetime found.selected.response now)) (tells
+      policy (fields_of_stored found.selected.response)) (freshness_of found.lifetime found.selected.response now)
       → IsRightlyServed policy most target calls request now (responses_at target contents) number age
-  served decision place number found at age same good =
-      record {
-        response = found.selected.response;
-        at = at;
-        justified = run-justified policy limits calls contents ran target found.selected.response
-            (HasUnder-responses_at target contents found.selected.response (Has-slice_get (responses_at target
-            contents) place found.selected.response found.selected.at));
-        matches = found.selected.is.0;
-        lifetime = found.lifetime;
-        fresh_for = found.fresh_for;
-        good = good;
-        age = same;
-      }
+  served decision place number found at age same good = record {
+    response = found.selected.response;
+    at = at;
+    justified = run-justified policy limits calls contents ran target found.selected.response
+        (HasUnder-responses_at target contents found.selected.response (Has-slice_get (responses_at target
+        contents) place found.selected.response found.selected.at));
+    matches = found.selected.is.0;
+    lifetime = found.lifetime;
+    fresh_for = found.fresh_for;
+    good = good;
+    age = same;
+  }
 
-  shown : {named number : ℕ} {stored : StoredResponse} → named ≡ number
-      → numbered named (responses_at target contents) ≡ Some stored
-      → numbered number (responses_at target contents) ≡ Some stored
+  shown : {named number : ℕ} {stored : StoredResponse} → named ≡ number → numbered named
+      (responses_at target contents) ≡ Some stored → numbered number (responses_at target contents) ≡ Some stored
   shown {stored = stored} same at = subst (λ n. numbered n (responses_at target contents) ≡ Some stored) same at
 
   pub lookup_served : (lookup : Lookup) → IsAnswer policy most request now (responses_at target contents) lookup
       → (number : ℕ) (age : Field) → Serves lookup number age
       → IsRightlyServed policy most target calls request now (responses_at target contents) number age
-  lookup_served (Serve named line) (inl is) number age same =
-      served decisions.Serve is.place number is.found (shown same.0 is.shown) age (sym same.1 ∙ is.age)
-      (is.found.decided.0, inl is.found.decided.1)
-  lookup_served (Serve named line) (inr is) number age same =
-      served decisions.ServeStale is.place number is.found (shown same.0 is.shown) age (sym same.1 ∙ is.age)
-      (is.found.decided.0, inr (inr is.found.decided.3))
-  lookup_served (ServeAndRevalidate named line) is number age same =
-      served decisions.ServeAndRevalidate is.place number is.found (shown same.0 is.shown) age (sym same.1 ∙ is.age)
-      (is.found.decided.0, inr (inl is.found.decided.2))
+  lookup_served (Serve named line) (inl is) number age same = served decisions.Serve is.place number is.found
+      (shown same.0 is.shown) age (sym same.1 ∙ is.age) (is.found.decided.0, inl is.found.decided.1)
+  lookup_served (Serve named line) (inr is) number age same = served decisions.ServeStale is.place number is.found
+      (shown same.0 is.shown) age (sym same.1 ∙ is.age) (is.found.decided.0, inr (inr is.found.decided.3))
+  lookup_served (ServeAndRevalidate named line) is number age same = served decisions.ServeAndRevalidate is.place number
+      is.found (shown same.0 is.shown) age (sym same.1 ∙ is.age) (is.found.decided.0, inr (inl is.found.decided.2))
   lookup_served (Validate named fields) is number age none = absurd none
   lookup_served (ValidateOrServe named fields) is number age none = absurd none
   lookup_served Unavailable is number age none = absurd none

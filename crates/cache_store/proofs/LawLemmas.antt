@@ -28,15 +28,14 @@ module _ (policy : Policy) (request : Request) (status : ℕ) (given stored : Li
 
   stores : (by : Governing) → StoresBy policy.kind request status given (directed request.fields) by
       → StoresBy policy.kind request status stored (directed request.fields) by
-  stores by may =
-      record {
-        understood = may.understood;
-        stored = may.stored;
-        request_lets = may.request_lets;
-        response_lets = may.response_lets;
-        shareable = may.shareable;
-        suited = suited by may.suited;
-      }
+  stores by may = record {
+    understood = may.understood;
+    stored = may.stored;
+    request_lets = may.request_lets;
+    response_lets = may.response_lets;
+    shareable = may.shareable;
+    suited = suited by may.suited;
+  }
 
   same-stores : MayStoreUnder policy request status given → MayStoreUnder policy request status stored
   same-stores may = stores (governing policy.targets stored) (rw (← governed) at may)
@@ -44,21 +43,18 @@ module _ (policy : Policy) (request : Request) (status : ℕ) (given stored : Li
 -- a response that may be stored may be stored as it is stored
 module _ (policy : Policy) (came stored : StoredResponse) (became : IsStoredAs came stored) where
   same_request : request_of_stored came ≡ request_of_stored stored
-  same_request = ap (λ method. request_of_stored (record came { method = method })) (sym became.method)
-      ∙ ap (λ request. request_of_stored (record came { method = stored.method; request = request }))
-      (sym became.request)
+  same_request = ap (λ method. request_of_stored (record came { method = method })) (sym became.method) ∙ ap
+      (λ request. request_of_stored (record came { method = stored.method; request = request })) (sym became.request)
 
   came-stores : (reception : Reception) → IsToStore policy came reception
       → MayStoreUnder policy (request_of_stored stored) stored.status (fields_of_stored stored)
-  came-stores reception is =
-      let given = fields_of_stored came in
+  came-stores reception is = let given = fields_of_stored came in
       let kept = fields_of_stored stored in
-      subst (λ status. MayStoreUnder policy (request_of_stored stored) status kept) (sym became.status)
-      (subst (λ request. MayStoreUnder policy request came.status kept) same_request
+      subst (λ status. MayStoreUnder policy (request_of_stored stored) status kept)
+      (sym became.status) (subst (λ request. MayStoreUnder policy request came.status kept) same_request
       (same-stores policy (request_of_stored came) came.status given kept
       (governing_stays policy.targets came.received given kept is.fair became.fields)
-      (expires_stays policy.targets came.received given kept is.fair became.fields)
-      is.allowed))
+      (expires_stays policy.targets came.received given kept is.fair became.fields) is.allowed))
 
 module _ (policy : Policy) (target : List ℕ) where
   may-be : (calls : History) (stored : StoredResponse) → IsJustified policy target calls stored
@@ -68,9 +64,8 @@ module _ (policy : Policy) (target : List ℕ) where
   may-be (Arrived other came reception ∷ calls) stored (inl is) = may-be calls stored is
   may-be (Arrived other came reception ∷ calls) stored (inr is) = came-stores policy came stored is.2 reception is.1
   may-be (Validated other request update exchange ∷ calls) stored (inl is) = may-be calls stored is
-  may-be (Validated other request update exchange ∷ calls) stored
-      (inr (same, (old, was, fits, about, fresh, reusable))) =
-      reusable.1.first
+  may-be (Validated other request update exchange ∷ calls)
+      stored (inr (same, (old, was, fits, about, fresh, reusable))) = reusable.1.first
   may-be (Described other request head exchange ∷ calls) stored (inl is) = may-be calls stored is
   may-be (Described other request head exchange ∷ calls) stored (inr (same, (old, was, get, about, fresh, reusable))) =
       reusable.1.first
@@ -81,16 +76,15 @@ module _ (policy : Policy) (target : List ℕ) where
 
   further : (call : Call) (calls : History) (stored : StoredResponse) → HasCome target calls stored
       → HasCome target (call ∷ calls) stored
-  further call calls stored h =
-      record {
-        came = h.came;
-        reception = h.reception;
-        called = inr h.called;
-        method = h.method;
-        request = h.request;
-        status = h.status;
-        content = h.content;
-      }
+  further call calls stored h = record {
+    came = h.came;
+    reception = h.reception;
+    called = inr h.called;
+    method = h.method;
+    request = h.request;
+    status = h.status;
+    content = h.content;
+  }
 
   came-from : (calls : History) (stored : StoredResponse) → IsJustified policy target calls stored
       → HasCome target calls stored
@@ -98,16 +92,15 @@ module _ (policy : Policy) (target : List ℕ) where
   came-from (Looked other ∷ calls) stored is = further (Looked other) calls stored (came-from calls stored is)
   came-from (Arrived other came reception ∷ calls) stored (inl is) =
       further (Arrived other came reception) calls stored (came-from calls stored is)
-  came-from (Arrived other came reception ∷ calls) stored (inr is) =
-      record {
-        came = came;
-        reception = reception;
-        called = inl (ap (λ t. Arrived t came reception) is.0);
-        method = is.2.method;
-        request = is.2.request;
-        status = is.2.status;
-        content = is.2.content;
-      }
+  came-from (Arrived other came reception ∷ calls) stored (inr is) = record {
+    came = came;
+    reception = reception;
+    called = inl (ap (λ t. Arrived t came reception) is.0);
+    method = is.2.method;
+    request = is.2.request;
+    status = is.2.status;
+    content = is.2.content;
+  }
   came-from (Validated other request update exchange ∷ calls) stored (inl is) =
       further (Validated other request update exchange) calls stored (came-from calls stored is)
   came-from (Validated other request update exchange ∷ calls) stored
@@ -172,8 +165,7 @@ module _ (policy : Policy) (target : List ℕ) where
 -- ---- the laws
 
 pub stored-may-be : (policy : Policy) (limits : Limits) (calls : History) (contents : Contents)
-    → Run policy limits calls
-    contents → (target : List ℕ) (stored : StoredResponse) → HasUnder contents target stored
+    → Run policy limits calls contents → (target : List ℕ) (stored : StoredResponse) → HasUnder contents target stored
     → MayStoreUnder policy (request_of_stored stored) stored.status (fields_of_stored stored)
 stored-may-be policy limits calls contents ran target stored h =
     may-be policy target calls stored (run-justified policy limits calls contents ran target stored h)
@@ -185,9 +177,7 @@ stored_came policy limits calls contents ran target stored h =
     came-from policy target calls stored (run-justified policy limits calls contents ran target stored h)
 
 pub stored_since : (policy : Policy) (limits : Limits) (later : History) (call : Call) (earlier : History)
-    (contents : Contents) → Run policy limits (later ++ call ∷ earlier) contents → (target : List ℕ)
-    → Removes target call → (stored : StoredResponse) → HasUnder contents target stored
-    → IsJustified policy target later stored
-stored_since policy limits later call earlier contents ran target removes stored h =
-    since policy target call earlier removes later stored
-    (run-justified policy limits (later ++ call ∷ earlier) contents ran target stored h)
+    (contents : Contents) → Run policy limits (later ++ call ∷ earlier) contents → (target : List ℕ) → Removes
+    target call → (stored : StoredResponse) → HasUnder contents target stored → IsJustified policy target later stored
+stored_since policy limits later call earlier contents ran target removes stored h = since policy target call
+    earlier removes later stored (run-justified policy limits (later ++ call ∷ earlier) contents ran target stored h)

@@ -20,24 +20,20 @@ module _ (policy : Policy) (most : ℕ) (request : Request) (now : ℕ) (respons
     (distinct : (number : ℕ) → times_in number responses ≤ 1) where
   -- the policy decides so about the selected response
   abbrev IsDecided : Decision → Type 0
-  IsDecided d =
-      (lifetime : ℕ) × IsFreshFor policy most selected.response lifetime
-      × AnswersUnder policy request.fields (fields_of_stored selected.response)
-      (freshness_of lifetime selected.response now) d
+  IsDecided d = (lifetime : ℕ) × IsFreshFor policy most selected.response lifetime × AnswersUnder policy request.fields
+      (fields_of_stored selected.response) (freshness_of lifetime selected.response now) d
 
   found_as : IsDecided decision → (other : Decision) → decision ≡ other
       → IsFound policy most request now responses other place
-  found_as decided other same =
-      let d = subst IsDecided same decided in
+  found_as decided other same = let d = subst IsDecided same decided in
       record { selected = selected; lifetime = d.0; fresh_for = d.1; decided = d.2 }
 
   -- no other of the responses has its number
   shown : (number : ℕ) → number ≡ selected.response.number → numbered number responses ≡ Some selected.response
   shown number same = ap (λ n. numbered n responses) same ∙ numbered-at _ _ _ distinct selected.at
 
-  answer_by : IsDecided decision → (lookup : Lookup)
-      → IsLookupOf selected.response (age_now now selected.response) decision lookup
-      → IsAnswer policy most request now responses lookup
+  answer_by : IsDecided decision → (lookup : Lookup) → IsLookupOf selected.response
+      (age_now now selected.response) decision lookup → IsAnswer policy most request now responses lookup
   unfolding found_as
   answer_by decided (Serve number age) is = elim is.0 [
     | inl same ↦ inl (record {
@@ -92,12 +88,10 @@ module _ (policy : Policy) (most : ℕ) (request : Request) (now : ℕ) (respons
 
 -- the decision by what governs the stored response, as the code has it
 pub decision-by : (policy : Policy) (most : ℕ) (request : LineMap) (age : ℕ) (stored : StoredResponse)
-    (decision : Decision) (by : Governing) → by ≡ governing policy.targets (fields_of_stored stored) → (lifetime : ℕ)
-    → IsFreshBy policy.kind by most stored lifetime
-    → Answers policy.kind
-    (counted policy.immutable (directed request) by.directives (record { lifetime = lifetime; age = age }))
-    by.directives (record { lifetime = lifetime; age = age }) decision
-    → IsDecisionOf policy most request age stored decision
+    (decision : Decision) (by : Governing) → by ≡ governing policy.targets (fields_of_stored stored)
+    → (lifetime : ℕ) → IsFreshBy policy.kind by most stored lifetime → Answers policy.kind (counted policy.immutable
+    (directed request) by.directives (record { lifetime = lifetime; age = age })) by.directives
+    (record { lifetime = lifetime; age = age }) decision → IsDecisionOf policy most request age stored decision
 decision-by policy most request age stored decision by is lifetime fresh_by answers = (
   lifetime,
   rw is at fresh_by,

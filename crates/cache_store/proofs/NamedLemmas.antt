@@ -12,10 +12,9 @@ module _ (base : Parts) (all : List Line) where
       → these ≡ line ∷ others → next ≡ named ++ option_to_list found → Continues named these → Names base line found
       → Continues next others
   continues-next named next these others line found split put before names rest are =
-      subst (λ l. AreNamedBy base all (l ++ rest)) (sym put)
-      (subst (AreNamedBy base all) (sym (append_assoc named (option_to_list found) rest))
-      (before (option_to_list found ++ rest) (subst (λ l. AreNamedBy base l (option_to_list found ++ rest)) (sym split)
-      (found, rest, names, are, refl))))
+      subst (λ l. AreNamedBy base all (l ++ rest)) (sym put) (subst (AreNamedBy base all)
+      (sym (append_assoc named (option_to_list found) rest)) (before (option_to_list found ++ rest)
+      (subst (λ l. AreNamedBy base l (option_to_list found ++ rest)) (sym split) (found, rest, names, are, refl))))
 
   pub continues-end : (named : List Parts) (lines : List Line) → lines ≡ [] → Continues named lines
       → AreNamedBy base all named
@@ -25,8 +24,7 @@ module _ (base : Parts) (all : List Line) where
 -- the lines of two fields name what each names
 pub named-append : (base : Parts) (first second : List Line) (named others : List Parts) → AreNamedBy base first named
     → AreNamedBy base second others → AreNamedBy base (first ++ second) (named ++ others)
-named-append base [] second named others none are =
-    subst (λ l. AreNamedBy base second (l ++ others)) (sym none) are
+named-append base [] second named others none are = subst (λ l. AreNamedBy base second (l ++ others)) (sym none) are
 named-append base (line ∷ first) second named others (found, rest, names, left, put) are = (
   found,
   rest ++ others,

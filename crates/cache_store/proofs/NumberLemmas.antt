@@ -49,8 +49,7 @@ times-has number (x ∷ xs) stored (inr h) same = omega (arith, times-cons numbe
 pub numbered-at : (xs : List StoredResponse) (i : ℕ) (stored : StoredResponse)
     → ((number : ℕ) → times_in number xs ≤ 1) → slice_get xs i ≡ Some stored → numbered stored.number xs ≡ Some stored
 numbered-at [] i stored once at = absurd (grind (arith, at))
-numbered-at (x ∷ xs) zero stored once at =
-    let same : x ≡ stored = grind (arith, at) in
+numbered-at (x ∷ xs) zero stored once at = let same : x ≡ stored = grind (arith, at) in
     rw (own-number stored.number x (ap (λ (s : StoredResponse). s.number) same)) (ap Some same)
 numbered-at (x ∷ xs) (suc i) stored once at =
     let here = at-has xs i stored at in
@@ -67,8 +66,7 @@ numbered-at (x ∷ xs) (suc i) stored once at =
           (λ number. omega (arith, once number, times-cons number x xs)) at
     ]) refl
   where
-    at-has : (xs : List StoredResponse) (i : ℕ) (stored : StoredResponse) → slice_get xs i ≡ Some stored
-        → Has xs stored
+    at-has : (xs : List StoredResponse) (i : ℕ) (stored : StoredResponse) → slice_get xs i ≡ Some stored → Has xs stored
     at-has [] i stored at = absurd (grind (arith, at))
     at-has (x ∷ xs) zero stored at = inl (grind (arith, at))
     at-has (x ∷ xs) (suc i) stored at = inr (at-has xs i stored at)
@@ -108,21 +106,19 @@ distinct-at next target contents are number = omega (arith, times-at target numb
 
 pub numbered-fewer : (next : ℕ) (old new : Contents)
     → ((number : ℕ) → times_used number new ≤ times_used number old) → AreNumbered next old → AreNumbered next new
-numbered-fewer next old new fewer are =
-    record {
-      some = are.some;
-      once = λ number. omega (arith, fewer number, are.once number);
-      below = λ number past. omega (arith, fewer number, are.below number past);
-    }
+numbered-fewer next old new fewer are = record {
+  some = are.some;
+  once = λ number. omega (arith, fewer number, are.once number);
+  below = λ number past. omega (arith, fewer number, are.below number past);
+}
 
 pub numbered-later : (next later : ℕ) (contents : Contents) → next ≤ later → AreNumbered next contents
     → AreNumbered later contents
-numbered-later next later contents rises are =
-    record {
-      some = omega (arith, rises, are.some);
-      once = are.once;
-      below = λ number past. are.below number (omega (arith, rises, past));
-    }
+numbered-later next later contents rises are = record {
+  some = omega (arith, rises, are.some);
+  once = are.once;
+  below = λ number past. are.below number (omega (arith, rises, past));
+}
 
 -- ---- where a new response is put
 
@@ -146,46 +142,44 @@ module _ (next : ℕ) (new : StoredResponse) (old other rest : Contents) (taken 
     (fewer : (number : ℕ) → times_in number others ≤ times_in number taken)
     (trimmed : ℕ) (is_kept : kept ≡ drop trimmed others) (front : ℕ) (is_rest : rest ≡ take front other) where
   within : (number : ℕ) → times_in number kept + times_used number rest ≤ times_used number old
-  within number =
-      omega (
-        arith,
-        all number,
-        fewer number,
-        ap (times_in number) is_kept,
-        sum_by-take-drop (one_in number) others trimmed,
-        ap (times_used number) is_rest,
-        sum_by-take-drop (λ (e : Target). times_in number e.1) other front,
-      )
+  within number = omega (
+    arith,
+    all number,
+    fewer number,
+    ap (times_in number) is_kept,
+    sum_by-take-drop (one_in number) others trimmed,
+    ap (times_used number) is_rest,
+    sum_by-take-drop (λ (e : Target). times_in number e.1) other front,
+  )
 
   pub numbered-inserted : AreNumberedWith next (kept ++ new ∷ []) rest
-  numbered-inserted =
-      record {
-        once = λ number. (elim (has_number number new) as (λ b. has_number number new ≡ b
-            → times_in number (kept ++ new ∷ []) + times_used number rest ≤ 1) [
-              | true ↦ λ t. let same = is-number number new t in omega (
-                arith,
-                within number,
-                times-last number kept new,
-                one-own number new same,
-                ap (λ n. times_used n old) same,
-                unused,
-              )
-              | false ↦ λ t. omega (
-                arith,
-                within number,
-                times-last number kept new,
-                one-other number new (not-number number new t),
-                are.once number,
-              )
-            ]) refl;
-        below = λ number past. omega (
-          arith,
-          within number,
-          times-last number kept new,
-          one-other number new (λ same. omega (arith, same, last, past)),
-          are.below number past,
-        );
-      }
+  numbered-inserted = record {
+    once = λ number. (elim (has_number number new) as (λ b. has_number number new ≡ b
+        → times_in number (kept ++ new ∷ []) + times_used number rest ≤ 1) [
+          | true ↦ λ t. let same = is-number number new t in omega (
+            arith,
+            within number,
+            times-last number kept new,
+            one-own number new same,
+            ap (λ n. times_used n old) same,
+            unused,
+          )
+          | false ↦ λ t. omega (
+            arith,
+            within number,
+            times-last number kept new,
+            one-other number new (not-number number new t),
+            are.once number,
+          )
+        ]) refl;
+    below = λ number past. omega (
+      arith,
+      within number,
+      times-last number kept new,
+      one-other number new (λ same. omega (arith, same, last, past)),
+      are.below number past,
+    );
+  }
 
 -- what is left of updated responses, and perhaps the answer beside it
 module _ (next later first : ℕ) (old other : Contents) (taken these left : List StoredResponse)
@@ -232,37 +226,34 @@ module _ (next later first : ℕ) (old other : Contents) (taken these left : Lis
 
   pub numbered-again : (fresh : StoredResponse) → fresh.number ≡ first + length these
       → length these + 1 ≡ length taken → AreNumberedWith later (left ++ fresh ∷ []) other
-  numbered-again fresh last one_less =
-      record {
-        once = λ number. (elim (has_number number fresh) as (λ b. has_number number fresh ≡ b
-            → times_in number (left ++ fresh ∷ []) + times_used number other ≤ 1) [
-              | true ↦ λ t. omega (
-                arith,
-                times-last number left fresh,
-                one-own number fresh (is-number number fresh t),
-                left-below number (omega (arith, last, is-number number fresh t)),
-              )
-              | false ↦ λ t. omega (
-                arith,
-                times-last number left fresh,
-                one-other number fresh (not-number number fresh t),
-                left-once number,
-              )
-            ]) refl;
-        below = λ number past. omega (
-          arith,
-          times-last number left fresh,
-          one-other number fresh (λ same. omega (arith, same, last, is_first, is_later, one_less, past)),
-          left-below number (omega (arith, is_first, is_later, short, past)),
-        );
-      }
+  numbered-again fresh last one_less = record {
+    once = λ number. (elim (has_number number fresh) as (λ b. has_number number fresh ≡ b
+        → times_in number (left ++ fresh ∷ []) + times_used number other ≤ 1) [
+          | true ↦ λ t. omega (
+            arith,
+            times-last number left fresh,
+            one-own number fresh (is-number number fresh t),
+            left-below number (omega (arith, last, is-number number fresh t)),
+          )
+          | false ↦ λ t. omega (
+            arith,
+            times-last number left fresh,
+            one-other number fresh (not-number number fresh t),
+            left-once number,
+          )
+        ]) refl;
+    below = λ number past. omega (
+      arith,
+      times-last number left fresh,
+      one-other number fresh (λ same. omega (arith, same, last, is_first, is_later, one_less, past)),
+      left-below number (omega (arith, is_first, is_later, short, past)),
+    );
+  }
 
 -- ---- what is left of responses that are updated
 
-times-same : (number : ℕ) (one new : StoredResponse) → new ≡ one
-    → times_in number (new ∷ []) ≤ one_in number one
-times-same number one new same =
-    omega (arith, times-cons number new [], ap (one_in number) same)
+times-same : (number : ℕ) (one new : StoredResponse) → new ≡ one → times_in number (new ∷ []) ≤ one_in number one
+times-same number one new same = omega (arith, times-cons number new [], ap (one_in number) same)
 
 one-most : (number : ℕ) (one : StoredResponse) → one_in number one ≤ 1
 one-most number one = elim (has_number number one) as (λ b. one_if b ≤ 1) [
@@ -283,48 +274,45 @@ fate-most number (Some new) = omega (arith, times-cons number new [], one-most n
 
 -- so far, with the numbers before this one
 pub record AreRenumbering (first last : ℕ) (all left rest : List StoredResponse) : Type 0 where
-  pub before : (number : ℕ) → number < first
-      → times_in number left + times_in number rest ≤ times_in number all
+  pub before : (number : ℕ) → number < first → times_in number left + times_in number rest ≤ times_in number all
   pub given : (number : ℕ) → first ≤ number → number < last
       → times_in number left + times_in number rest ≤ times_in number all + 1
   pub after : (number : ℕ) → last ≤ number → times_in number left + times_in number rest ≤ times_in number all
 
 pub renumbering-none : (first : ℕ) (all : List StoredResponse) → AreRenumbering first first all [] all
-renumbering-none first all =
-    record {
-      before = λ number past. omega arith;
-      given = λ number from past. omega arith;
-      after = λ number past. omega arith;
-    }
+renumbering-none first all = record {
+  before = λ number past. omega arith;
+  given = λ number from past. omega arith;
+  after = λ number past. omega arith;
+}
 
 pub renumbering-next : (first last : ℕ) (all left next others these : List StoredResponse) (one : StoredResponse)
     (fate : Option StoredResponse) → first ≤ last → these ≡ one ∷ others → next ≡ left ++ option_to_list fate
     → IsSameOrNumbered one last fate → AreRenumbering first last all left these
     → AreRenumbering first (last + 1) all next others
-renumbering-next first last all left next others these one fate from split put is so_far =
-    record {
-      before = λ number past. omega (
-        arith,
-        so_far.before number past,
-        counts number,
-        fate-other number last one fate is (λ same. omega (arith, same, past, from)),
-      );
-      given = λ number above past. elim (cases_lt number last) [
-        | inl earlier ↦ omega (
-          arith,
-          so_far.given number above earlier,
-          counts number,
-          fate-other number last one fate is (λ same. omega (arith, same, earlier)),
-        )
-        | inr now ↦ omega (arith, so_far.after number now, counts number, fate-most number fate)
-      ];
-      after = λ number past. omega (
-        arith,
-        so_far.after number (omega (arith, past)),
-        counts number,
-        fate-other number last one fate is (λ same. omega (arith, same, past)),
-      );
-    }
+renumbering-next first last all left next others these one fate from split put is so_far = record {
+  before = λ number past. omega (
+    arith,
+    so_far.before number past,
+    counts number,
+    fate-other number last one fate is (λ same. omega (arith, same, past, from)),
+  );
+  given = λ number above past. elim (cases_lt number last) [
+    | inl earlier ↦ omega (
+      arith,
+      so_far.given number above earlier,
+      counts number,
+      fate-other number last one fate is (λ same. omega (arith, same, earlier)),
+    )
+    | inr now ↦ omega (arith, so_far.after number now, counts number, fate-most number fate)
+  ];
+  after = λ number past. omega (
+    arith,
+    so_far.after number (omega (arith, past)),
+    counts number,
+    fate-other number last one fate is (λ same. omega (arith, same, past)),
+  );
+}
   where
     counts : (number : ℕ) → (times_in number next ≡ times_in number left + times_in number (option_to_list fate))
         × (times_in number these ≡ one_in number one + times_in number others)
@@ -335,9 +323,8 @@ renumbering-next first last all left next others these one fate from split put i
 
 pub renumbering-end : (first last : ℕ) (all left rest : List StoredResponse) → AreRenumbering first last all left rest
     → AreRenumbered first last all left
-renumbering-end first last all left rest so_far =
-    record {
-      before = λ number past. omega (arith, so_far.before number past);
-      given = λ number from past. omega (arith, so_far.given number from past);
-      after = λ number past. omega (arith, so_far.after number past);
-    }
+renumbering-end first last all left rest so_far = record {
+  before = λ number past. omega (arith, so_far.before number past);
+  given = λ number from past. omega (arith, so_far.given number from past);
+  after = λ number past. omega (arith, so_far.after number past);
+}

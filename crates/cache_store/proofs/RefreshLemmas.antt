@@ -34,12 +34,11 @@ one_less taken these place inside is_these = omega (arith, ap length is_these, l
 module _ (all taken : List StoredResponse) (place : ℕ) (fields : List Field) (is_taken : taken ≡ all) where
   pub one_too_small : (one : StoredResponse) → place < length all → one ≡ get_or taken place one
       → IsTooSmallFor one.response fields → IsOneTooSmallFor all fields
-  one_too_small one inside at small =
-      record {
-        stored = one;
-        among = rw (← (at ∙ ap (λ l. get_or l place one) is_taken)) at (Contains-get_or all place one inside);
-        small = small;
-      }
+  one_too_small one inside at small = record {
+    stored = one;
+    among = rw (← (at ∙ ap (λ l. get_or l place one) is_taken)) at (Contains-get_or all place one inside);
+    small = small;
+  }
 
   pub other_too_small : (rest : List StoredResponse) → rest ≡ remove taken place → IsOneTooSmallFor rest fields
       → IsOneTooSmallFor all fields
@@ -56,19 +55,17 @@ module _ (all taken : List StoredResponse) (place : ℕ) (fields : List Field) (
 
 -- ---- another number
 
-pub freshened_numbered : (old : StoredResponse) (update : LineMap) (exchange : Exchange) (n : ℕ)
-    (fresh : StoredResponse) → IsFreshened old update exchange fresh
-    → IsFreshened old update exchange (renumbered n fresh)
-freshened_numbered old update exchange n fresh is =
-    record {
-      method = is.method;
-      request = is.request;
-      status = is.status;
-      content = is.content;
-      requested = is.requested;
-      received = is.received;
-      fields = is.fields;
-    }
+pub freshened_numbered : (old : StoredResponse) (update : LineMap) (exchange : Exchange) (n : ℕ) (fresh
+    : StoredResponse) → IsFreshened old update exchange fresh → IsFreshened old update exchange (renumbered n fresh)
+freshened_numbered old update exchange n fresh is = record {
+  method = is.method;
+  request = is.request;
+  status = is.status;
+  content = is.content;
+  requested = is.requested;
+  received = is.received;
+  fields = is.fields;
+}
 
 module _ (policy : Policy) (stored : LineMap) (request : Request) (update : LineMap) (n : ℕ) (fresh : StoredResponse)
   where
@@ -101,41 +98,38 @@ module _ (policy own : Policy) (target : List ℕ) (request : Request) (update :
 
     refreshed : (kept : StoredResponse) → IsFreshened d update exchange kept
         → IsRefreshedTo policy target request update exchange old new kept left
-    refreshed kept freshened =
-        record {
-          place = place;
-          identified = answers.0;
-          selected = answers.1;
-          freshened = rw is_d at freshened;
-          beside = rw (is_rest ∙ ap (λ l. remove l place) is_taken) at (rw is_own at are_left);
-        }
+    refreshed kept freshened = record {
+      place = place;
+      identified = answers.0;
+      selected = answers.1;
+      freshened = rw is_d at freshened;
+      beside = rw (is_rest ∙ ap (λ l. remove l place) is_taken) at (rw is_own at are_left);
+    }
 
     module _ (n : ℕ) (kept : StoredResponse) (is_kept : kept ≡ renumbered n fresh) where
       pub restored : IsFreshenedAs own d request update exchange (outcomes.Stored fresh)
           → new ≡ (target, left ++ kept ∷ []) ∷ other → IsRestored policy target request update exchange old new n
       unfolding refreshed
-      restored freshened put =
-          record {
-            fresh = renumbered n fresh;
-            left = left;
-            refreshed = refreshed (renumbered n fresh) (freshened_numbered d update exchange n fresh freshened.1);
-            reusable = reusable_numbered policy _ request update n fresh (rw is_d at (rw is_own at freshened.2));
-            at = refl;
-            put = put ∙ ap (λ c. (target, left ++ kept ∷ []) ∷ c) is_other
-                ∙ ap (λ s. (target, left ++ s ∷ []) ∷ without target old) is_kept;
-          }
+      restored freshened put = record {
+        fresh = renumbered n fresh;
+        left = left;
+        refreshed = refreshed (renumbered n fresh) (freshened_numbered d update exchange n fresh freshened.1);
+        reusable = reusable_numbered policy _ request update n fresh (rw is_d at (rw is_own at freshened.2));
+        at = refl;
+        put = put ∙ ap (λ c. (target, left ++ kept ∷ []) ∷ c) is_other
+            ∙ ap (λ s. (target, left ++ s ∷ []) ∷ without target old) is_kept;
+      }
 
       pub let_go : IsFreshenedAs own d request update exchange (outcomes.Once fresh)
           → new ≡ with_target target left other → IsLetGo policy target request update exchange old new kept
       unfolding refreshed
-      let_go freshened put =
-          subst (IsLetGo policy target request update exchange old new) (sym is_kept) (record {
-            left = left;
-            refreshed = refreshed (renumbered n fresh) (freshened_numbered d update exchange n fresh freshened.1);
-            unusable = λ is. freshened.2 (subst (λ one. IsReusable own (fields_of_stored one) request update fresh)
-                (sym is_d) (rw (← is_own) at (reusable_unnumbered policy _ request update n fresh is)));
-            put = put ∙ ap (λ c. with_target target left c) is_other;
-          })
+      let_go freshened put = subst (IsLetGo policy target request update exchange old new) (sym is_kept) (record {
+        left = left;
+        refreshed = refreshed (renumbered n fresh) (freshened_numbered d update exchange n fresh freshened.1);
+        unusable = λ is. freshened.2 (subst (λ one. IsReusable own (fields_of_stored one) request update fresh)
+            (sym is_d) (rw (← is_own) at (reusable_unnumbered policy _ request update n fresh is)));
+        put = put ∙ ap (λ c. with_target target left c) is_other;
+      })
 
     -- the response that answers is updated, so it doesn't stay as it was
     pub not_unchanged : {other_fresh : StoredResponse} → IsFreshenedAs own d request update exchange (outcomes.Unchanged
@@ -154,10 +148,9 @@ none_refreshed policy target request update exchange contents none (Once fresh) 
 
 -- what a HEAD leaves
 pub head_refreshed : (policy own : Policy) (target : List ℕ) (request : Request) (update : LineMap)
-    (exchange : Exchange)
-    (old new other : Contents) (taken left : List StoredResponse) → own ≡ policy → other ≡ without target old
-    → taken ≡ responses_at target old → AreLeft (λ one. Becomes own request update exchange one Head) taken left
-    → new ≡ with_target target left other → IsRefreshedByHead policy target request update exchange old new
+    (exchange : Exchange) (old new other : Contents) (taken left : List StoredResponse) → own ≡ policy → other ≡ without
+    target old → taken ≡ responses_at target old → AreLeft (λ one. Becomes own request update exchange one Head)
+    taken left → new ≡ with_target target left other → IsRefreshedByHead policy target request update exchange old new
 head_refreshed policy own target request update exchange old new other taken left is_own is_other is_taken are_left
     put =
     record {

@@ -24,9 +24,8 @@ module _ (limits : Limits) (target : List ℕ) (size : ℕ) where
   pub trim-none : (old : List StoredResponse) → IsTrimming old old
   trim-none old = record { count = 0; left = refl; fewest = λ some. absurd (omega (arith, some)) }
 
-  pub trim-some : FitsAlone limits 1 size → (mid : List StoredResponse) → ¬ (FitsAlone limits (length mid + 1)
-      (bytes_at target mid + size))
-      → 0 < length mid
+  pub trim-some : FitsAlone limits 1 size → (mid : List StoredResponse)
+      → ¬ (FitsAlone limits (length mid + 1) (bytes_at target mid + size)) → 0 < length mid
   trim-some alone [] cramped = absurd (cramped (record {
     variants = alone.variants;
     few = alone.few;
@@ -35,20 +34,17 @@ module _ (limits : Limits) (target : List ℕ) (size : ℕ) where
   }))
   trim-some alone (x ∷ mid) cramped = omega arith
 
-  pub trim-next : (old mid new : List StoredResponse) → IsTrimming old mid → ¬ (FitsAlone limits (length mid + 1)
-      (bytes_at target mid + size))
-      → new ≡ remove mid 0 → IsTrimming old new
-  trim-next old mid new trimming cramped left =
-      record {
-        count = trimming.count + 1;
-        left = left ∙ ap (λ l. remove l 0) trimming.left ∙ drop-one-more trimming.count old;
-        fewest = λ _ fits. cramped (subst (λ l. FitsAlone limits (length l + 1) (bytes_at target l + size))
-            (ap (λ n. drop n old) (omega arith) ∙ sym trimming.left) fits);
-      }
+  pub trim-next : (old mid new : List StoredResponse) → IsTrimming old mid
+      → ¬ (FitsAlone limits (length mid + 1) (bytes_at target mid + size)) → new ≡ remove mid 0 → IsTrimming old new
+  trim-next old mid new trimming cramped left = record {
+    count = trimming.count + 1;
+    left = left ∙ ap (λ l. remove l 0) trimming.left ∙ drop-one-more trimming.count old;
+    fewest = λ _ fits. cramped (subst (λ l. FitsAlone limits (length l + 1) (bytes_at target l + size))
+        (ap (λ n. drop n old) (omega arith) ∙ sym trimming.left) fits);
+  }
 
   pub trim-done : (old new : List StoredResponse) → IsTrimming old new
-      → FitsAlone limits (length new + 1) (bytes_at target new + size)
-      → IsTrimmed limits target size old new
+      → FitsAlone limits (length new + 1) (bytes_at target new + size) → IsTrimmed limits target size old new
   trim-done old new trimming fits =
       record { count = trimming.count; left = trimming.left; fits = fits; fewest = trimming.fewest }
 
@@ -70,21 +66,18 @@ module _ (request : Request) (all : List StoredResponse) (place : ℕ) (found : 
 
 -- ---- where it is put
 
-pub absent_rest : {limits : Limits} {count bytes : ℕ} (target : List ℕ) (old other rest : Contents) → other ≡ without
-    target old
-    → IsLongestWithRoom limits count bytes other rest → IsAbsent target rest
+pub absent_rest : {limits : Limits} {count bytes : ℕ} (target : List ℕ) (old other rest : Contents)
+    → other ≡ without target old → IsLongestWithRoom limits count bytes other rest → IsAbsent target rest
 absent_rest target old other rest is_other room =
     rw (← room.front) at (IsAbsent-take target room.count other (rw (← is_other) at (IsAbsent-without target old)))
 
 -- the numbers are those of the code
 pub inserted : (limits own : Limits) (target : List ℕ) (new : StoredResponse) (old other rest contents : Contents)
     (taken others kept : List StoredResponse) (request : Request) (size count bytes : ℕ)
-    → own ≡ limits → other ≡ without target old → taken ≡ responses_at target old
-    → request ≡ request_of_stored new → IsRest request taken others
-    → size ≡ size_at target new → IsTrimmed own target size others kept
-    → count ≡ length kept + 1 → bytes ≡ bytes_at target kept + size_at target new
-    → IsLongestWithRoom own count bytes other rest
-    → contents ≡ (target, kept ++ new ∷ []) ∷ rest → IsInserted limits target new old contents
+    → own ≡ limits → other ≡ without target old → taken ≡ responses_at target old → request ≡ request_of_stored new
+    → IsRest request taken others → size ≡ size_at target new → IsTrimmed own target size others kept
+    → count ≡ length kept + 1 → bytes ≡ bytes_at target kept + size_at target new → IsLongestWithRoom own
+    count bytes other rest → contents ≡ (target, kept ++ new ∷ []) ∷ rest → IsInserted limits target new old contents
 inserted limits own target new old other rest contents taken others kept request size count bytes
     is_own is_other is_taken is_request beside is_size trimmed is_count is_bytes room put =
     let room_by_limits = rw is_own at room in

@@ -17,9 +17,8 @@ module _ (B : StoredResponse → Option StoredResponse → Type 0) (all : List S
       → Continues left these → B one fate → Continues next others
   continues-next left next others these one fate split put before becomes rest are =
       subst (λ l. AreLeft B all (l ++ rest)) (sym put)
-      (subst (AreLeft B all) (sym (append_assoc left (option_to_list fate) rest))
-      (before (option_to_list fate ++ rest) (subst (λ l. AreLeft B l (option_to_list fate ++ rest)) (sym split)
-      (fate, rest, becomes, are, refl))))
+      (subst (AreLeft B all) (sym (append_assoc left (option_to_list fate) rest)) (before (option_to_list fate ++ rest)
+      (subst (λ l. AreLeft B l (option_to_list fate ++ rest)) (sym split) (fate, rest, becomes, are, refl))))
 
   pub continues-end : (left others : List StoredResponse) → others ≡ [] → Continues left others → AreLeft B all left
   continues-end left others none before =
@@ -27,14 +26,12 @@ module _ (B : StoredResponse → Option StoredResponse → Type 0) (all : List S
 
 -- the next of the responses is too small
 pub next_too_small : (all these others : List StoredResponse) (one : StoredResponse) (fields : List Field)
-    → these ≡ one ∷ others → All (Contains all) these → IsTooSmallFor one.response fields
-    → IsOneTooSmallFor all fields
-next_too_small all these others one fields split among small =
-    record {
-      stored = one;
-      among = All-head (Contains all) one others (subst (All (Contains all)) split among);
-      small = small;
-    }
+    → these ≡ one ∷ others → All (Contains all) these → IsTooSmallFor one.response fields → IsOneTooSmallFor all fields
+next_too_small all these others one fields split among small = record {
+  stored = one;
+  among = All-head (Contains all) one others (subst (All (Contains all)) split among);
+  small = small;
+}
 
 module _ (policy : Policy) (request : Request) (update : LineMap) (exchange : Exchange) (old : StoredResponse) where
   -- what is left of the response after `freshen`

@@ -34,8 +34,7 @@ IsTooSmallToStore came = IsTooSmallFor came.response (storing_fields came.receiv
 
 -- a cache of this policy stores the response
 abbrev pub IsToStore : Policy → StoredResponse → Reception → Type 0
-IsToStore policy came reception =
-    IsStored policy (request_of_stored came) came.status (fields_of_stored came) reception
+IsToStore policy came reception = IsStored policy (request_of_stored came) came.status (fields_of_stored came) reception
 
 -- so many responses, with so many bytes, may be under one target
 pub record FitsAlone (limits : Limits) (responses bytes : ℕ) : Type 0 where
@@ -123,8 +122,7 @@ module _ (policy : Policy) (target : List ℕ) (request : Request) (update : Lin
     -- what becomes of the responses that may answer the request
     abbrev pub IsRefreshed : Refreshed → Type 0
     IsRefreshed Absent = IsSelected (IsCandidate request) (responses_at target old) None × (new ≡ old)
-    IsRefreshed Unchanged =
-        IsAboutNone × ((place : ℕ) × IsChosen request (responses_at target old) place) × (new ≡ old)
+    IsRefreshed Unchanged = IsAboutNone × ((place : ℕ) × IsChosen request (responses_at target old) place) × (new ≡ old)
     IsRefreshed (Stored at) = IsRestored at
     IsRefreshed (Once fresh) = IsLetGo fresh
 

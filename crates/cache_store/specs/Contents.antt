@@ -46,9 +46,8 @@ line_size line = length line.0 + length line.1.bytes + 256
 -- How much a response that is stored under the target counts against the bound of bytes: the target, the content, the
 -- fields of the request and of the response, and 1,024 for what is stored with them. At most 2^64 - 1.
 unfoldable pub size_at : List ℕ → StoredResponse → ℕ
-size_at target stored =
-    min (length target + length stored.content + sum_by line_size (pairs stored.request)
-    + sum_by line_size (pairs stored.response) + 1024) (2 ^ 64 - 1)
+size_at target stored = min (length target + length stored.content + sum_by line_size
+    (pairs stored.request) + sum_by line_size (pairs stored.response) + 1024) (2 ^ 64 - 1)
 
 abbrev pub bytes_at : List ℕ → List StoredResponse → ℕ
 bytes_at target = sum_by (size_at target)

@@ -32,9 +32,8 @@ IsLookupOf stored age decision (ServeAndRevalidate number field) =
     (decision ≡ decisions.ServeAndRevalidate) × (number ≡ stored.number) × (field_of field ≡ age_of_seconds age)
 IsLookupOf stored age decision (Validate number fields) =
     (decision ≡ decisions.Revalidate) × (number ≡ stored.number) × (fields_of fields.items ≡ conditions_of stored)
-IsLookupOf stored age decision (ValidateOrServe number fields) =
-    (decision ≡ decisions.RevalidateOrServe) × (number ≡ stored.number)
-    × (fields_of fields.items ≡ conditions_of stored)
+IsLookupOf stored age decision (ValidateOrServe number fields) = (decision ≡ decisions.RevalidateOrServe)
+    × (number ≡ stored.number) × (fields_of fields.items ≡ conditions_of stored)
 IsLookupOf stored age decision Unavailable = decision ≡ decisions.Unavailable
 IsLookupOf stored age decision Forward = decision ≡ decisions.Fetch
 
@@ -59,8 +58,7 @@ freshness_of seconds stored now =
 
 -- the policy decides so about a stored response of an age, if it suits a request with these fields
 abbrev pub IsDecisionOf : Policy → ℕ → LineMap → ℕ → StoredResponse → Decision → Type 0
-IsDecisionOf policy most request age stored decision =
-    (lifetime : ℕ) × IsFreshFor policy most stored lifetime
+IsDecisionOf policy most request age stored decision = (lifetime : ℕ) × IsFreshFor policy most stored lifetime
     × AnswersUnder policy request (fields_of_stored stored) (record { lifetime = lifetime; age = age }) decision
 
 module _ (policy : Policy) (most : ℕ) (request : Request) (now : ℕ) (responses : List StoredResponse) where
@@ -93,8 +91,7 @@ module _ (policy : Policy) (most : ℕ) (request : Request) (now : ℕ) (respons
 
   -- the answer has fields, which take memory: a response is selected, and the answer isn't 504
   abbrev pub HasFields : Type 0
-  HasFields =
-      (decision : Decision) × (place : ℕ) × IsFound decision place × (decision ≢ decisions.Unavailable)
+  HasFields = (decision : Decision) × (place : ℕ) × IsFound decision place × (decision ≢ decisions.Unavailable)
 
   -- which facts give each answer
   abbrev pub IsAnswer : Lookup → Type 0

@@ -23,9 +23,8 @@ Names base line None = (url : Parts) → RefersTo base line url → ¬ (IsSameOr
 -- the targets in the field lines, in order
 abbrev pub AreNamedBy : Parts → List Line → List Parts → Type 0
 AreNamedBy base [] targets = targets ≡ []
-AreNamedBy base (line ∷ lines) targets =
-    (named : Option Parts) × (rest : List Parts) × Names base line named × AreNamedBy base lines rest
-    × (targets ≡ option_to_list named ++ rest)
+AreNamedBy base (line ∷ lines) targets = (named : Option Parts) × (rest : List Parts)
+    × Names base line named × AreNamedBy base lines rest × (targets ≡ option_to_list named ++ rest)
 
 -- the targets in Location and Content-Location of a response; none if the target of its request is no URL
 abbrev pub AreNamed : List ℕ → LineMap → List Parts → Type 0

@@ -10,9 +10,8 @@ use Rattle.cache_store.specs.declared.updating.By.{By, TheVariants.{Head, NotMod
 abbrev pub AreLeft : (StoredResponse → Option StoredResponse → Type 0) → List StoredResponse → List StoredResponse
     → Type 0
 AreLeft Becomes [] new = new ≡ []
-AreLeft Becomes (one ∷ old) new =
-    (fate : Option StoredResponse) × (rest : List StoredResponse) × Becomes one fate × AreLeft Becomes old rest
-    × (new ≡ option_to_list fate ++ rest)
+AreLeft Becomes (one ∷ old) new = (fate : Option StoredResponse)
+    × (rest : List StoredResponse) × Becomes one fate × AreLeft Becomes old rest × (new ≡ option_to_list fate ++ rest)
 
 -- the map of one of the responses is too small for these fields
 pub record IsOneTooSmallFor (responses : List StoredResponse) (fields : List Field) : Type 0 where
@@ -36,9 +35,8 @@ module _ (policy : Policy) (request : Request) (update : LineMap) (exchange : Ex
   abbrev pub BecomesUpdated : Option StoredResponse → Type 0
   BecomesUpdated (Some new) =
       IsFreshened old update exchange new × IsReusable policy (fields_of_stored old) request update new
-  BecomesUpdated None =
-      (new : StoredResponse) × IsFreshened old update exchange new
-      × ¬ (IsReusable policy (fields_of_stored old) request update new)
+  BecomesUpdated None = (new : StoredResponse)
+      × IsFreshened old update exchange new × ¬ (IsReusable policy (fields_of_stored old) request update new)
 
   -- what a 304 makes of a stored response that isn't the answer
   abbrev pub BecomesBeside : Option StoredResponse → Type 0

@@ -31,8 +31,7 @@ get-drop : (n : ℕ) (xs : List ℕ) (i byte : ℕ) → slice_get (drop n xs) i 
     → (j : ℕ) × (j ≡ n + i) × (slice_get xs j ≡ Some byte)
 get-drop zero xs i byte h = (i, omega arith, h)
 get-drop (suc n) [] i byte h = absurd (grind (arith, h))
-get-drop (suc n) (x ∷ xs) i byte h =
-    let on = get-drop n xs i byte h in (suc on.0, omega (arith, on.1), on.2)
+get-drop (suc n) (x ∷ xs) i byte h = let on = get-drop n xs i byte h in (suc on.0, omega (arith, on.1), on.2)
 
 -- ---- parts
 
@@ -77,21 +76,18 @@ module _ (P : ℕ → ℕ → Type 0) where
 pub length-joined : (one other : Extent) (own new : List ℕ) → one.first ≤ one.last → other.first ≤ other.last
     → length own ≡ size one → length new ≡ size other → Touch one other
     → length (joined one own other new) ≡ size (joint one other)
-length-joined one other own new in_order also count also_count touch =
-    let front = other.first - one.first in
+length-joined one other own new in_order also count also_count touch = let front = other.first - one.first in
     let back = other.last + 1 - one.first in
     let fits : front ≤ length own = omega (arith, touch.after, count, in_order) in
     let before : length (take front own) ≡ front = length-take-le front own fits in
     let after : length (drop back own) ≡ length own - back = length-drop back own in
-    length-append (take front own) (new ++ drop back own)
-    ∙ ap (λ n. length (take front own) + n) (length-append new (drop back own))
-    ∙ omega (arith, before, after, count, also_count, in_order, also, touch.before, touch.after)
+    length-append (take front own) (new ++ drop back own) ∙ ap (λ n. length (take front own) + n) (length-append new
+    (drop back own)) ∙ omega (arith, before, after, count, also_count, in_order, also, touch.before, touch.after)
 
 -- so many are they
 pub length-within : (outer inner : Extent) (content : List ℕ) → IsWithin outer inner → length content ≡ size outer
     → length (bytes_within outer content inner) ≡ size inner
-length-within outer inner content within count =
-    let part = drop (inner.first - outer.first) content in
+length-within outer inner content within count = let part = drop (inner.first - outer.first) content in
     let rest = length-drop (inner.first - outer.first) content in
     length-take (inner.last - outer.first + 1 - (inner.first - outer.first)) part
     ∙ omega (arith, rest, count, within.ordered, within.first, within.last)

@@ -25,9 +25,8 @@ bool_map false p q h = q h
 pub selected_part : (given request : Request) (all parts : List StoredResponse) (place : ℕ) (one : StoredResponse)
     → given ≡ request → all ≡ parts → one ≡ get_or all place one → IsChosen given all place
     → IsSelectedPart request parts (Some one)
-selected_part given request all parts place one asked same is found =
-    subst (λ (q : Request). IsSelectedPart q parts (Some one)) asked
-    (subst (λ (ps : List StoredResponse). IsSelectedPart given ps (Some one)) same
+selected_part given request all parts place one asked same is found = subst (λ (q : Request). IsSelectedPart q parts
+    (Some one)) asked (subst (λ (ps : List StoredResponse). IsSelectedPart given ps (Some one)) same
     (place, found, sym (get_or_from_slice_get all place found.response one found.at) ∙ sym is))
 
 -- ---- what is recorded
@@ -55,9 +54,8 @@ module _ (policy : Policy) (limits : Limits) (key : List ℕ) (old : Contents) (
       kept_recorded part (extent, is, inl (apart, has, is_recorded)) recorded kept
 
   -- the step of the history
-  pub recorded_step : {E : Type 0} (result : Result Recorded E) → IfOk result Records
-      → OnErr result ((new ≡ old) ⊎ IsFront (without key old) new)
-      → Step policy limits (Received key came reception) old new
+  pub recorded_step : {E : Type 0} (result : Result Recorded E) → IfOk result Records → OnErr result
+      ((new ≡ old) ⊎ IsFront (without key old) new) → Step policy limits (Received key came reception) old new
   recorded_step (Ok Unstored) (inl (none, inl (changed, gone))) none_err = inr (inl gone)
   recorded_step (Ok Unstored) (inl (none, inr (current, same))) none_err = inl same
   recorded_step (Ok Unstored) (inr (part, taken, (isnt, why, gone))) none_err = inr (inl gone)
@@ -80,10 +78,9 @@ module _ (policy : Policy) (most : ℕ) (request : Request) (now : ℕ) (parts :
 
   -- the selected part may be reused
   module _ (stored : StoredResponse) (age : Field) (at : Some stored ≡ numbered number parts) where
-    reused_as : (decision : Decision) → IsReuse decision
-        → IsFoundServed policy most request now parts decision number age
-        → (lookup : PartLookup) → IsReused request stored now number age lookup
-        → IsLookedUp policy most request now parts lookup
+    reused_as : (decision : Decision)
+        → IsReuse decision → IsFoundServed policy most request now parts decision number age → (lookup : PartLookup)
+        → IsReused request stored now number age lookup → IsLookedUp policy most request now parts lookup
     reused_as decision reuse served lookup is =
         let same = same_Some stored served.found.selected.response (at ∙ served.shown) in
         decided_lookup lookup (record {
@@ -99,24 +96,21 @@ module _ (policy : Policy) (most : ℕ) (request : Request) (now : ℕ) (parts :
         })
 
     pub reused_lookup : IsFoundServed policy most request now parts decisions.Serve number age
-        ⊎ IsFoundServed policy most request now parts decisions.ServeStale number age
-        → (lookup : PartLookup) → IsReused request stored now number age lookup
-        → IsLookedUp policy most request now parts lookup
+        ⊎ IsFoundServed policy most request now parts decisions.ServeStale number age → (lookup : PartLookup)
+        → IsReused request stored now number age lookup → IsLookedUp policy most request now parts lookup
     reused_lookup (inl served) lookup is = reused_as decisions.Serve (inl refl) served lookup is
     reused_lookup (inr served) lookup is = reused_as decisions.ServeStale (inr refl) served lookup is
 
   -- the origin is to be asked
   pub asked_lookup : (decision : Decision) → IsValidation decision
-      → {place : ℕ} (found : IsFound policy most request now parts decision place)
-      → numbered number parts ≡ Some found.selected.response → (lookup : PartLookup)
-      → ((stored : StoredResponse) → numbered number parts ≡ Some stored → IsAsked request stored lookup)
-      → IsLookedUp policy most request now parts lookup
-  asked_lookup decision validates {place} found shown lookup asks =
-      decided_lookup lookup (record {
-        place = place;
-        decision = decision;
-        found = found;
-        number = number;
-        shown = shown;
-        does = inr (validates, asks found.selected.response shown);
-      })
+      → {place : ℕ} (found : IsFound policy most request now parts decision place) → numbered number parts ≡ Some
+      found.selected.response → (lookup : PartLookup) → ((stored : StoredResponse) → numbered number parts ≡ Some stored
+      → IsAsked request stored lookup) → IsLookedUp policy most request now parts lookup
+  asked_lookup decision validates {place} found shown lookup asks = decided_lookup lookup (record {
+    place = place;
+    decision = decision;
+    found = found;
+    number = number;
+    shown = shown;
+    does = inr (validates, asks found.selected.response shown);
+  })

@@ -11,39 +11,35 @@ use Rattle.cache_store.specs.declared.parts.{combining.Combined.TheVariants.{Onc
 
 -- the response with the content of another one
 abbrev with_content_of : StoredResponse → StoredResponse → StoredResponse
-with_content_of stored fresh =
-    record {
-      method = fresh.method;
-      request = fresh.request;
-      status = fresh.status;
-      response = fresh.response;
-      content = stored.content;
-      requested = fresh.requested;
-      received = fresh.received;
-      number = fresh.number;
-    }
+with_content_of stored fresh = record {
+  method = fresh.method;
+  request = fresh.request;
+  status = fresh.status;
+  response = fresh.response;
+  content = stored.content;
+  requested = fresh.requested;
+  received = fresh.received;
+  number = fresh.number;
+}
 
-freshened-whole : (stored head fresh : StoredResponse) (update : LineMap) (exchange : Exchange)
-    → IsHeadOfStored stored head → IsFreshened head update exchange fresh
-    → IsFreshened stored update exchange (with_content_of stored fresh)
-freshened-whole stored head fresh update exchange is by =
-    record {
-      method = by.method ∙ is.method;
-      request = by.request ∙ is.request;
-      status = by.status ∙ is.status;
-      content = refl;
-      requested = by.requested;
-      received = by.received;
-      fields = λ name. by.fields name ∙ ap (λ (r : Entries FieldValue). freshened (aged_anew exchange.received (lines_at
-          r)) update name) is.response;
-    }
+freshened-whole : (stored head fresh : StoredResponse) (update : LineMap) (exchange : Exchange) → IsHeadOfStored stored
+    head → IsFreshened head update exchange fresh → IsFreshened stored update exchange (with_content_of stored fresh)
+freshened-whole stored head fresh update exchange is by = record {
+  method = by.method ∙ is.method;
+  request = by.request ∙ is.request;
+  status = by.status ∙ is.status;
+  content = refl;
+  requested = by.requested;
+  received = by.received;
+  fields = λ name. by.fields name ∙ ap (λ (r : Entries FieldValue). freshened (aged_anew exchange.received (lines_at
+      r)) update name) is.response;
+}
 
 -- the map of the updated part is too small for the fields of the combination
 pub fresh_too_small : (stored came head fresh : StoredResponse) (reception : Reception) (own other : Extent)
-    (exchange : Exchange) (changes : List Field) → AreCombinable stored came reception own other
-    → IsHeadOfStored stored head → exchange ≡ exchange_of came → changes ≡ extent_fields (joint own other)
-    → IsFreshened head (fields_of_stored came) exchange fresh → IsTooSmallFor fresh.response changes
-    → IsTooSmallToCombine stored came reception
+    (exchange : Exchange) (changes : List Field) → AreCombinable stored came reception own other → IsHeadOfStored stored
+    head → exchange ≡ exchange_of came → changes ≡ extent_fields (joint own other) → IsFreshened head (fields_of_stored
+    came) exchange fresh → IsTooSmallFor fresh.response changes → IsTooSmallToCombine stored came reception
 fresh_too_small stored came head fresh reception own other exchange changes may is_head is_exchange is_changes by
     small =
     inr (

@@ -46,8 +46,7 @@ tag_by lines = option_and_then (λ tag. if is_tag tag && not (is_weak tag) then 
 
 -- the part that the lines of Content-Range say
 abbrev extent_by_lines : List Line → Option Extent
-extent_by_lines lines =
-    option_and_then (λ (content : ContentBytes). extent_by content.range content.length)
+extent_by_lines lines = option_and_then (λ (content : ContentBytes). extent_by content.range content.length)
     (option_and_then content_bytes (only_line lines))
 
 pub tag-stored : (part stored : StoredResponse) → IsStoredAs part stored → (tag : Line)
@@ -113,15 +112,14 @@ abbrev content_of : Extent → ContentBytes
 content_of extent = record { range = Some (extent.first, extent.last); length = Some extent.len }
 
 fits : (extent : Extent) (count : ℕ) → IsPartOf extent count → FitsContent (content_of extent)
-fits extent count is =
-    record {
-      first = λ r h. let same : (extent.first, extent.last) ≡ r = grind (arith, h) in
-          subst (λ (s : ℕ × ℕ). s.0 < 2 ^ 64) same (omega (arith, is.ordered, is.within, is.small));
-      last = λ r h. let same : (extent.first, extent.last) ≡ r = grind (arith, h) in
-          subst (λ (s : ℕ × ℕ). s.1 < 2 ^ 64) same (omega (arith, is.within, is.small));
-      whole = λ n h. let same : extent.len ≡ n = grind (arith, h) in
-          subst (λ m. m < 2 ^ 64) same is.small;
-    }
+fits extent count is = record {
+  first = λ r h. let same : (extent.first, extent.last) ≡ r = grind (arith, h) in
+      subst (λ (s : ℕ × ℕ). s.0 < 2 ^ 64) same (omega (arith, is.ordered, is.within, is.small));
+  last = λ r h. let same : (extent.first, extent.last) ≡ r = grind (arith, h) in
+      subst (λ (s : ℕ × ℕ). s.1 < 2 ^ 64) same (omega (arith, is.within, is.small));
+  whole = λ n h. let same : extent.len ≡ n = grind (arith, h) in
+      subst (λ m. m < 2 ^ 64) same is.small;
+}
 
 -- what the line of a part says is that part
 line_says : (extent own : Extent) (count : ℕ) → IsPartOf extent count
@@ -132,8 +130,7 @@ line_says extent own count is h =
     let same = cond_some (nat_le extent.first extent.last) (content_of extent) content.0 (sym read ∙ content.1) in
     let by : extent_by (Some (extent.first, extent.last)) (Some extent.len) ≡ Some own = rw (← same.1) at content.2 in
     let is_it = cond_some (is_extent extent.first extent.last extent.len)
-    (record { first = extent.first; last = extent.last; len = extent.len }) own by in
-    sym is_it.1
+    (record { first = extent.first; last = extent.last; len = extent.len }) own by in sym is_it.1
 
 -- the lines by which a part is recorded
 abbrev pub recorded_lines : Extent → List Line
@@ -160,11 +157,9 @@ whole-lines extent lines same none = elim (cases_Bool (is_whole extent)) [
 
 -- ---- the part that came
 
-part_of_count : (reception : Reception) (count : ℕ) (sent extent : Extent)
-    → IsPartOf sent (sent.last + 1 - sent.first) → came_of_part reception count sent ≡ Some extent
-    → IsPartOf extent count
-part_of_count Complete count sent extent is h =
-    let all = cond_some (count == size sent) sent extent h in
+part_of_count : (reception : Reception) (count : ℕ) (sent extent : Extent) → IsPartOf sent (sent.last + 1 - sent.first)
+    → came_of_part reception count sent ≡ Some extent → IsPartOf extent count
+part_of_count Complete count sent extent is h = let all = cond_some (count == size sent) sent extent h in
     let many : count ≡ sent.last + 1 - sent.first = grind (arith, all.0, nat_tests) in
     subst (λ (e : Extent). IsPartOf e count) all.1
     (record { ordered = is.ordered; within = is.within; small = is.small; size = many })
@@ -251,9 +246,8 @@ pub tags-same : (stored came : StoredResponse) → HaveSameTag stored came
     → strong_tag (fields_of_stored came) ≡ strong_tag (fields_of_stored stored)
 tags-same stored came h = same_tags (strong_tag (fields_of_stored stored)) (strong_tag (fields_of_stored came)) h
 
-pub combined-tag : (stored came fresh part : StoredResponse) (own other : Extent)
-    → IsCombination stored came own other fresh part → HaveSameTag stored came
-    → strong_tag (fields_of_stored part) ≡ strong_tag (fields_of_stored came)
+pub combined-tag : (stored came fresh part : StoredResponse) (own other : Extent) → IsCombination stored came own
+    other fresh part → HaveSameTag stored came → strong_tag (fields_of_stored part) ≡ strong_tag (fields_of_stored came)
 combined-tag stored came fresh part own other is same = elim (etag stored came fresh part own other is) [
   | inl new ↦ ap tag_by new
   | inr old ↦ ap tag_by old ∙ sym (tags-same stored came same)
@@ -262,13 +256,12 @@ combined-tag stored came fresh part own other is same = elim (etag stored came f
 -- the part of both is one
 pub joint-is : (own other : Extent) (one two : ℕ) → IsPartOf own one → IsPartOf other two → own.len ≡ other.len
     → IsPartOf (joint own other) ((joint own other).last + 1 - (joint own other).first)
-joint-is own other one two a b same =
-    record {
-      ordered = omega (arith, a.ordered, b.ordered);
-      within = omega (arith, a.within, b.within, same);
-      small = a.small;
-      size = refl;
-    }
+joint-is own other one two a b same = record {
+  ordered = omega (arith, a.ordered, b.ordered);
+  within = omega (arith, a.within, b.within, same);
+  small = a.small;
+  size = refl;
+}
 
 -- there is a strong validator
 pub some-tag : (o : Option Line) → IsSome o → (tag : Line) × (o ≡ Some tag)

@@ -23,26 +23,24 @@ use Rattle.cache_rules.specs.declared.storing.Reception.{Reception, TheVariants.
 -- what was received before a call was received before it
 earlier : (call : PartCall) (calls : PartHistory) (key : List ℕ) (tag : Line) (len at byte : ℕ)
     → WasReceived calls key tag len at byte → WasReceived (call ∷ calls) key tag len at byte
-earlier call calls key tag len at byte was =
-    record {
-      came = was.came;
-      reception = was.reception;
-      extent = was.extent;
-      offset = was.offset;
-      called = inr was.called;
-      strong = was.strong;
-      part = was.part;
-      whole = was.whole;
-      position = was.position;
-      same = was.same;
-    }
+earlier call calls key tag len at byte was = record {
+  came = was.came;
+  reception = was.reception;
+  extent = was.extent;
+  offset = was.offset;
+  called = inr was.called;
+  strong = was.strong;
+  part = was.part;
+  whole = was.whole;
+  position = was.position;
+  same = was.same;
+}
 
 module _ (calls : PartHistory) (key : List ℕ) where
   -- If the stored response is a part with a strong validator, all its bytes were received.
   abbrev pub IsFaithful : StoredResponse → Type 0
-  IsFaithful stored =
-      (tag : Line) (own : Extent) → strong_tag (fields_of_stored stored) ≡ Some tag → Holds stored own
-      → AreReceived calls key tag own.len own.first stored.content
+  IsFaithful stored = (tag : Line) (own : Extent) → strong_tag (fields_of_stored stored) ≡ Some tag
+      → Holds stored own → AreReceived calls key tag own.len own.first stored.content
 
   -- Which part a response is that is taken, and that all its bytes were received.
   pub record IsTraced (part : StoredResponse) : Type 0 where
@@ -54,12 +52,10 @@ module _ (calls : PartHistory) (key : List ℕ) where
     pub each : AreReceived calls key tag extent.len extent.first part.content
 
   faithful : (part : StoredResponse) → IsTraced part → IsFaithful part
-  faithful part traced tag own strong holds =
-      let same = recorded-says (fields_of_stored part) traced.extent own (length part.content) traced.is
-      traced.lines holds.extent in
+  faithful part traced tag own strong holds = let same = recorded-says
+      (fields_of_stored part) traced.extent own (length part.content) traced.is traced.lines holds.extent in
       let tags : traced.tag ≡ tag = same_Some traced.tag tag (sym traced.strong ∙ strong) in
-      subst (λ (t : Line). AreReceived calls key t own.len own.first part.content) tags
-      (rw (← same) at traced.each)
+      subst (λ (t : Line). AreReceived calls key t own.len own.first part.content) tags (rw (← same) at traced.each)
 
   -- the ordinary store changes neither the content nor what these fields say
   faithful-stored : (part stored : StoredResponse) → IsStoredAs part stored → IsFaithful part → IsFaithful stored
@@ -79,19 +75,18 @@ module _ (calls : PartHistory) (key : List ℕ) (came : StoredResponse) (recepti
   -- the bytes that came were received
   came-received : (tag : Line) (len : ℕ) → strong_tag (fields_of_stored came) ≡ Some tag → extent.len ≡ len
       → AreReceived now_calls key tag len extent.first came.content
-  came-received tag len strong whole i byte h =
-      record {
-        came = came;
-        reception = reception;
-        extent = extent;
-        offset = i;
-        called = inl refl;
-        strong = strong;
-        part = received;
-        whole = whole;
-        position = refl;
-        same = h;
-      }
+  came-received tag len strong whole i byte h = record {
+    came = came;
+    reception = reception;
+    extent = extent;
+    offset = i;
+    called = inl refl;
+    strong = strong;
+    part = received;
+    whole = whole;
+    position = refl;
+    same = h;
+  }
 
   came-is : IsPartOf extent (length came.content)
   came-is = received-is reception came.status (length came.content) (fields_of_stored came) extent received
@@ -149,19 +144,16 @@ module _ (policy : Policy) (limits : Limits) where
   -- a stored part is faithful
   pub faithful-has : (calls : PartHistory) (contents : Contents) → IsKnown calls contents → (key : List ℕ)
       (stored : StoredResponse) → Has (responses_at key contents) stored → IsFaithful calls key stored
-  faithful-has calls contents known key stored has =
-      known.traced key stored
+  faithful-has calls contents known key stored has = known.traced key stored
       (run-justified policy limits known.history contents known.ran key stored (HasUnder-responses_at _ _ _ has))
 
   -- a part that is taken
-  pub traced-taken : (calls : PartHistory) (contents : Contents) → IsKnown calls contents → (key : List ℕ)
-      (came : StoredResponse) (reception : Reception) (part : StoredResponse)
-      → IsTaken policy (responses_at key contents) came reception part
-      → IsTraced (Received key came reception ∷ calls) key part
+  pub traced-taken : (calls : PartHistory) (contents : Contents) → IsKnown calls contents
+      → (key : List ℕ) (came : StoredResponse) (reception : Reception) (part : StoredResponse) → IsTaken policy
+      (responses_at key contents) came reception part → IsTraced (Received key came reception ∷ calls) key part
   traced-taken calls contents known key came reception part (extent, is, inl (apart, self_contained, recorded)) =
       traced-recorded calls key came reception extent is.received part is.strong recorded
-  traced-taken calls contents known key came reception part (extent, is, inr (inl (none, never))) =
-      absurd (cc never)
+  traced-taken calls contents known key came reception part (extent, is, inr (inl (none, never))) = absurd (cc never)
   traced-taken calls contents known key came reception part
       (extent, is, inr (inr (stored, (place, found, same), (own, other, fresh, may, by, fits)))) =
       let at : slice_get (responses_at key contents) place ≡ Some stored = found.at ∙ ap Some same in
@@ -175,63 +167,54 @@ module _ (policy : Policy) (limits : Limits) where
     later call key stored is tag own strong holds i byte h = earlier _ _ _ _ _ _ _ (is tag own strong holds i byte h)
 
     same-known : (call : PartCall) → new ≡ old → IsKnown (call ∷ calls) new
-    same-known call same =
-        record {
-          history = known.history;
-          ran = subst (StoreRun policy limits known.history) (sym same) known.ran;
-          traced = λ key stored j. later call key stored (known.traced key stored j);
-        }
+    same-known call same = record {
+      history = known.history;
+      ran = subst (StoreRun policy limits known.history) (sym same) known.ran;
+      traced = λ key stored j. later call key stored (known.traced key stored j);
+    }
 
     removed-known : (call : PartCall) (key : List ℕ) → new ≡ without key old → IsKnown (call ∷ calls) new
-    removed-known call key left =
-        record {
-          history = StoreRemoved key ∷ known.history;
-          ran = (old, known.ran, left);
-          traced = λ other stored j. later call other stored (known.traced other stored j.1);
-        }
+    removed-known call key left = record {
+      history = StoreRemoved key ∷ known.history;
+      ran = (old, known.ran, left);
+      traced = λ other stored j. later call other stored (known.traced other stored j.1);
+    }
 
     looked-known : (key : List ℕ) → new ≡ used key old → IsKnown (Looked key ∷ calls) new
-    looked-known key left =
-        record {
-          history = StoreLooked key ∷ known.history;
-          ran = (old, known.ran, left);
-          traced = λ other stored j. later (Looked key) other stored (known.traced other stored j);
-        }
+    looked-known key left = record {
+      history = StoreLooked key ∷ known.history;
+      ran = (old, known.ran, left);
+      traced = λ other stored j. later (Looked key) other stored (known.traced other stored j);
+    }
 
     received-known : (key : List ℕ) (came : StoredResponse) (reception : Reception)
         → Step policy limits (Received key came reception) old new → IsKnown (Received key came reception ∷ calls) new
     received-known key came reception (inl same) = same-known (Received key came reception) same
     received-known key came reception (inr (inl left)) = removed-known (Received key came reception) key left
     -- out of memory after the removal, as if a response had come that isn't complete
-    received-known key came reception (inr (inr (inl front))) =
-        record {
-          history = Arrived key came Incomplete ∷ known.history;
-          ran = (old, known.ran, inr (inr front));
-          traced = λ other stored j. traced_before other stored j;
-        }
+    received-known key came reception (inr (inr (inl front))) = record {
+      history = Arrived key came Incomplete ∷ known.history;
+      ran = (old, known.ran, inr (inr front));
+      traced = λ other stored j. traced_before other stored j;
+    }
       where
-        traced_before : (other : List ℕ) (stored : StoredResponse)
-            → IsJustified policy other (Arrived key came Incomplete ∷ known.history) stored
-            → IsFaithful (Received key came reception ∷ calls) other stored
+        traced_before : (other : List ℕ) (stored : StoredResponse) → IsJustified policy other (Arrived
+            key came Incomplete ∷ known.history) stored → IsFaithful (Received key came reception ∷ calls) other stored
         traced_before other stored (inl j) =
             later (Received key came reception) other stored (known.traced other stored j)
         traced_before other stored (inr (same, to_store, kept)) = absurd (cc to_store.whole)
-    received-known key came reception (inr (inr (inr (part, one, taken, may, as_stored, inserted)))) =
-        record {
-          history = Arrived key part Complete ∷ known.history;
-          ran = (old, known.ran, inr (inl (one, may, as_stored, inserted)));
-          traced = λ other stored j. traced_by other stored j;
-        }
+    received-known key came reception (inr (inr (inr (part, one, taken, may, as_stored, inserted)))) = record {
+      history = Arrived key part Complete ∷ known.history;
+      ran = (old, known.ran, inr (inl (one, may, as_stored, inserted)));
+      traced = λ other stored j. traced_by other stored j;
+    }
       where
-        traced_by : (other : List ℕ) (stored : StoredResponse)
-            → IsJustified policy other (Arrived key part Complete ∷ known.history) stored
-            → IsFaithful (Received key came reception ∷ calls) other stored
-        traced_by other stored (inl j) =
-            later (Received key came reception) other stored (known.traced other stored j)
-        traced_by other stored (inr (same, to_store, kept)) =
-            subst (λ (k : List ℕ). IsFaithful (Received key came reception ∷ calls) k stored) same
-            (faithful-stored (Received key came reception ∷ calls) key part stored kept
-            (faithful (Received key came reception ∷ calls) key part
+        traced_by : (other : List ℕ) (stored : StoredResponse) → IsJustified policy other (Arrived
+            key part Complete ∷ known.history) stored → IsFaithful (Received key came reception ∷ calls) other stored
+        traced_by other stored (inl j) = later (Received key came reception) other stored (known.traced other stored j)
+        traced_by other stored (inr (same, to_store, kept)) = subst (λ (k : List ℕ). IsFaithful
+            (Received key came reception ∷ calls) k stored) same (faithful-stored (Received key came reception ∷ calls)
+            key part stored kept (faithful (Received key came reception ∷ calls) key part
             (traced-taken calls old known key came reception part taken)))
 
     step-known : (call : PartCall) → Step policy limits call old new → IsKnown (call ∷ calls) new
@@ -243,8 +226,7 @@ module _ (policy : Policy) (limits : Limits) where
 
   pub run-known : (calls : PartHistory) (contents : Contents) → Run policy limits calls contents
       → IsKnown calls contents
-  run-known [] contents none =
-      record { history = []; ran = none; traced = λ key stored j. absurd j }
+  run-known [] contents none = record { history = []; ran = none; traced = λ key stored j. absurd j }
   run-known (call ∷ calls) contents (before, ran, change) =
       step-known calls before contents (run-known calls before ran) call change
 
@@ -265,16 +247,14 @@ module _ (policy : Policy) (limits : Limits) where
         }
 
     answered-tag : (request : Request) (stored : StoredResponse) (now : ℕ) (part : Extent)
-        → IsPartAnswer request stored now (Some part)
-        → (tag : Line) × (strong_tag (fields_of_stored stored) ≡ Some tag)
+        → IsPartAnswer request stored now (Some part) → (tag : Line) × (strong_tag (fields_of_stored stored) ≡ Some tag)
     answered-tag request stored now part (inl none) = absurd (cc none.1)
     answered-tag request stored now part (inr (extent, plan, may, planned, is)) = some-tag _ may.strong
 
     pub served_received : (most : ℕ) (request : Request) (now : ℕ) (answer : PartAnswer) (bytes : List ℕ)
         → IsLookedUp policy most request now (responses_at key contents) (Serve answer)
         → HasBytesAt (responses_at key contents) answer.number answer.part bytes
-        → (stored : StoredResponse) × (tag : Line)
-        × (numbered answer.number (responses_at key contents) ≡ Some stored)
+        → (stored : StoredResponse) × (tag : Line) × (numbered answer.number (responses_at key contents) ≡ Some stored)
         × (strong_tag (fields_of_stored stored) ≡ Some tag) × AreBytesOf calls key tag answer.part bytes
     served_received most request now answer bytes is has = elim is.does [
       | inl answers ↦

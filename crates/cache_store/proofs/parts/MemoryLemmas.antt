@@ -13,12 +13,10 @@ use Rattle.cache_store.specs.declared.parts.combining.Combined.TheVariants as co
 -- a request selects one part
 selected_same : (request : Request) (parts : List StoredResponse) (one other : StoredResponse)
     → IsSelectedPart request parts (Some one) → IsSelectedPart request parts (Some other) → one ≡ other
-selected_same request parts one other (place, found, is) (place_too, found_too, is_too) =
-    let places : place ≡ place_too =
-    same_Some place place_too (one_choice request parts (Some place) (Some place_too) found found_too) in
-    let responses : found.response ≡ found_too.response =
-    same_Some found.response found_too.response (sym found.at ∙ ap (slice_get parts) places ∙ found_too.at) in
-    sym is ∙ responses ∙ is_too
+selected_same request parts one other (place, found, is) (place_too, found_too, is_too) = let places : place
+    ≡ place_too = same_Some place place_too (one_choice request parts (Some place) (Some place_too) found found_too) in
+    let responses : found.response ≡ found_too.response = same_Some found.response found_too.response
+    (sym found.at ∙ ap (slice_get parts) places ∙ found_too.at) in sym is ∙ responses ∙ is_too
 
 module _ (policy : Policy) (parts : List StoredResponse) (came : StoredResponse) (reception : Reception) where
   abbrev Needs : Type 0
@@ -42,8 +40,7 @@ module _ (policy : Policy) (parts : List StoredResponse) (came : StoredResponse)
   apart_uncombinable (inl (none, same)) (stored, (place, found, is), may) =
       none place found.response found.at found.is.0
   apart_uncombinable (inr (one, selected, never)) (stored, selected_too, (own, other, may)) =
-      let same = selected_same _ _ _ _ selected_too selected in
-      never own other (rw same at may)
+      let same = selected_same _ _ _ _ selected_too selected in never own other (rw same at may)
 
   -- ---- a call that fails
 
@@ -51,12 +48,10 @@ module _ (policy : Policy) (parts : List StoredResponse) (came : StoredResponse)
     needs_for : IsSelfContained came ⊎ IsCombinable parts came reception → Needs
     needs_for used = record { extent = extent; part = is; used = used }
 
-    pub alone_needs : {A E : Type 0} (result : Result A E) → OnErr result (IsSelfContained came)
-        → OnErr result Needs
+    pub alone_needs : {A E : Type 0} (result : Result A E) → OnErr result (IsSelfContained came) → OnErr result Needs
     alone_needs result fails = on_err_weaker result (λ has. needs_for (inl has)) fails
 
-    pub combined_needs : {A E : Type 0} (result : Result A E) → IsCombinable parts came reception
-        → OnErr result Needs
+    pub combined_needs : {A E : Type 0} (result : Result A E) → IsCombinable parts came reception → OnErr result Needs
     combined_needs result may = OnErr-from result (needs_for (inr may))
 
   -- ---- what is taken
@@ -74,10 +69,8 @@ module _ (policy : Policy) (parts : List StoredResponse) (came : StoredResponse)
 
 -- each outcome is of a response that isn't taken, or needs memory
 pub recorded_needs : (policy : Policy) (limits : Limits) (key : List ℕ) (old new : Contents) (came : StoredResponse)
-    (reception : Reception) (recorded : Recorded)
-    → IsRecordedAs policy limits key old came reception new recorded
-    → IsNotTaken policy (responses_at key old) came reception
-    ⊎ NeedsMemory policy (responses_at key old) came reception
+    (reception : Reception) (recorded : Recorded) → IsRecordedAs policy limits key old came reception new recorded
+    → IsNotTaken policy (responses_at key old) came reception ⊎ NeedsMemory policy (responses_at key old) came reception
 recorded_needs policy limits key old new came reception Unstored (inl (none, left)) = inl none
 recorded_needs policy limits key old new came reception Unstored (inr (part, taken, kept)) =
     inr (taken_needs policy (responses_at key old) came reception part taken)

@@ -31,9 +31,7 @@ module _ (request : Request) (stored : StoredResponse) where
   -- 9111, section 5.2.1.7); a request for the whole asks for what the part lacks; and any other goes on as it is.
   abbrev pub IsAsked : PartLookup → Type 0
   IsAsked (Serve answer) = ⊥
-  IsAsked (Complete fields) =
-      AnswersUnstored request decisions.Fetch
-      × ((part : Extent) × Lacks request stored part
+  IsAsked (Complete fields) = AnswersUnstored request decisions.Fetch × ((part : Extent) × Lacks request stored part
       × IsSomeAnd (strong_tag (fields_of_stored stored)) (λ tag. fields_of fields.items ≡ completing_fields part tag))
   IsAsked Unavailable = AnswersUnstored request decisions.Unavailable
   IsAsked Forward =
@@ -88,5 +86,4 @@ module _ (policy : Policy) (most : ℕ) (request : Request) (now : ℕ) (parts :
 
 -- the bytes are those of this part, which lies within the stored one with the number
 abbrev pub HasBytesAt : List StoredResponse → ℕ → Extent → List ℕ → Type 0
-HasBytesAt parts number part bytes =
-    IsSomeAnd (numbered number parts) (λ stored. HasBytes stored part bytes)
+HasBytesAt parts number part bytes = IsSomeAnd (numbered number parts) (λ stored. HasBytes stored part bytes)

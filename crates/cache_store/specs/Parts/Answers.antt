@@ -25,9 +25,8 @@ bytes_within outer content inner = bytes_between (inner.first - outer.first) (in
 -- several parts, what isn't modified, and what can't be satisfied.
 abbrev pub part_planned : Extent → Option Plan → Option Extent
 part_planned extent (Some (Single part)) =
-    if nat_le extent.first part.first && (nat_le part.first part.last && nat_le part.last extent.last)
-    then Some (record { first = part.first; last = part.last; len = extent.len })
-    else None
+    if nat_le extent.first part.first && (nat_le part.first part.last && nat_le part.last extent.last) then Some
+    (record { first = part.first; last = part.last; len = extent.len }) else None
 part_planned extent (Some Full) = None
 part_planned extent (Some (Multiple parts)) = None
 part_planned extent (Some NotModified) = None
@@ -47,8 +46,7 @@ module _ (request : Request) (stored : StoredResponse) where
     -- The request has this plan by its preconditions, its Range and its If-Range (RFC 9110, sections 13.2.2 and 14.2),
     -- for the representation that has the stored validators and this length.
     abbrev pub HasPlanOf : ℕ → Option Plan → Type 0
-    HasPlanOf len found =
-        (current : Validators) × AreValidators stored current
+    HasPlanOf len found = (current : Validators) × AreValidators stored current
         × IsPlanned now request.method request.fields (Current current) len one_part found
 
     -- The part that answers the request, or none: the stored part may answer it, and holds all that its plan sends.
@@ -61,8 +59,7 @@ module _ (request : Request) (stored : StoredResponse) where
 -- the bytes are those of this part, which lies within the stored one
 abbrev pub HasBytes : StoredResponse → Extent → List ℕ → Type 0
 HasBytes stored part bytes =
-    (extent : Extent) × Holds stored extent × IsWithin extent part
-    × (bytes ≡ bytes_within extent stored.content part)
+    (extent : Extent) × Holds stored extent × IsWithin extent part × (bytes ≡ bytes_within extent stored.content part)
 
 -- the fields of a 206 with this part (RFC 9110, section 15.3.7.1), for `set_all` on the stored ones
 abbrev pub part_fields : Extent → List Field

@@ -77,18 +77,13 @@ IsTooSmallToCombine stored came reception =
 module _ (policy : Policy) (stored came : StoredResponse) (reception : Reception) where
   -- They are combined so. The updated fields allow the reuse, or forbid it.
   abbrev pub IsCombinedTo : (StoredResponse → Type 0) → StoredResponse → Type 0
-  IsCombinedTo Fits combined =
-      (own : Extent) × (other : Extent) × (fresh : StoredResponse) × AreCombinable stored came reception own other
-      × IsCombination stored came own other fresh combined × Fits fresh
+  IsCombinedTo Fits combined = (own : Extent) × (other : Extent) × (fresh : StoredResponse)
+      × AreCombinable stored came reception own other × IsCombination stored came own other fresh combined × Fits fresh
 
   -- which facts give each outcome
   abbrev pub IsCombinedAs : Combined → Type 0
   IsCombinedAs Apart = (own other : Extent) → ¬ (AreCombinable stored came reception own other)
-  IsCombinedAs (Stored combined) =
-      IsCombinedTo (IsReusable policy (fields_of_stored stored) (request_of_stored came) (fields_of_stored came))
-      combined
-  IsCombinedAs (Once combined) =
-      IsCombinedTo
-      (λ fresh. ¬ (IsReusable policy (fields_of_stored stored) (request_of_stored came) (fields_of_stored came)
-      fresh))
-      combined
+  IsCombinedAs (Stored combined) = IsCombinedTo
+      (IsReusable policy (fields_of_stored stored) (request_of_stored came) (fields_of_stored came)) combined
+  IsCombinedAs (Once combined) = IsCombinedTo (λ fresh. ¬
+      (IsReusable policy (fields_of_stored stored) (request_of_stored came) (fields_of_stored came) fresh)) combined

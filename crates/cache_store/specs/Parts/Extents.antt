@@ -32,14 +32,12 @@ pub record Touch (one other : Extent) : Type 0 where
 
 -- the part of both, if they touch
 abbrev pub joint : Extent → Extent → Extent
-joint one other =
-    record { first = min one.first other.first; last = max one.last other.last; len = one.len }
+joint one other = record { first = min one.first other.first; last = max one.last other.last; len = one.len }
 
 -- The bytes of both, if they touch: those of the old part before the new one, the new one, and those of the old one
 -- after it.
 abbrev pub joined : Extent → List ℕ → Extent → List ℕ → List ℕ
-joined old own new other =
-    take (new.first - old.first) own ++ (other ++ drop (new.last + 1 - old.first) own)
+joined old own new other = take (new.first - old.first) own ++ (other ++ drop (new.last + 1 - old.first) own)
 
 -- the part is the whole representation
 abbrev pub is_whole : Extent → Bool

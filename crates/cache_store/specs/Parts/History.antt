@@ -51,8 +51,7 @@ module _ (calls : PartHistory) (key : List ℕ) (tag : Line) where
     pub offset : ℕ
     pub called : Has calls (Received key came reception)
     pub strong : strong_tag (fields_of_stored came) ≡ Some tag
-    pub part : received_extent reception came.status (length came.content) (fields_of_stored came)
-        ≡ Some extent
+    pub part : received_extent reception came.status (length came.content) (fields_of_stored came) ≡ Some extent
     pub whole : extent.len ≡ len
     pub position : at ≡ extent.first + offset
     pub same : slice_get came.content offset ≡ Some byte

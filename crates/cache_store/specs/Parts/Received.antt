@@ -21,10 +21,8 @@ is_signed message = option_map_or has_plus (only_line (message (codes "content-r
 -- so many bytes of this part came: all of them, or if the connection ended the first ones, one at least
 abbrev pub came_of_part : Reception → ℕ → Extent → Option Extent
 came_of_part Complete count extent = if count == size extent then Some extent else None
-came_of_part Incomplete count extent =
-    if nat_lt 0 count && nat_le count (size extent)
-    then Some (record { first = extent.first; last = extent.first + count - 1; len = extent.len })
-    else None
+came_of_part Incomplete count extent = if nat_lt 0 count && nat_le count (size extent) then Some
+    (record { first = extent.first; last = extent.first + count - 1; len = extent.len }) else None
 
 -- the number of Content-Length, if it has one line
 abbrev pub length_in : LineMap → Option ℕ
@@ -33,18 +31,15 @@ length_in message = option_and_then (number_within greatest) (only_line (message
 -- the first bytes came of a whole of this length, one at least and not all
 abbrev pub came_of_whole : Reception → ℕ → ℕ → Option Extent
 came_of_whole Complete count len = None
-came_of_whole Incomplete count len =
-    if nat_lt 0 count && (nat_lt count len && nat_lt len greatest)
-    then Some (record { first = 0; last = count - 1; len = len })
-    else None
+came_of_whole Incomplete count len = if nat_lt 0 count && (nat_lt count len && nat_lt len greatest) then Some
+    (record { first = 0; last = count - 1; len = len }) else None
 
 -- The part of a representation that came: that of a 206, by its Content-Range, which one with several parts doesn't
 -- have (RFC 9110, section 15.3.7.2); or the beginning of a 200 that isn't complete.
 abbrev pub received_extent : Reception → ℕ → ℕ → LineMap → Option Extent
-received_extent reception status count fields =
-    if status == 206
-    then (if is_signed fields then None else option_and_then (came_of_part reception count) (extent_in fields))
-    else (if status == 200 then option_and_then (came_of_whole reception count) (length_in fields) else None)
+received_extent reception status count fields = if status == 206 then
+    (if is_signed fields then None else option_and_then (came_of_part reception count) (extent_in fields)) else
+    (if status == 200 then option_and_then (came_of_whole reception count) (length_in fields) else None)
 
 -- ---- which are stored
 

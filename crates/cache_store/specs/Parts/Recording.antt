@@ -21,15 +21,13 @@ IsSelectedPart request parts (Some stored) =
 
 -- the received part and the one that its request selects may be combined
 abbrev pub IsCombinable : List StoredResponse → StoredResponse → Reception → Type 0
-IsCombinable parts came reception =
-    (stored : StoredResponse) × IsSelectedPart (request_of_stored came) parts (Some stored)
-    × ((own : Extent) × (other : Extent) × AreCombinable stored came reception own other)
+IsCombinable parts came reception = (stored : StoredResponse) × IsSelectedPart (request_of_stored came) parts
+    (Some stored) × ((own : Extent) × (other : Extent) × AreCombinable stored came reception own other)
 
 -- a map is too small for the combination of the received part and the one that its request selects
 abbrev pub IsTooSmallToMerge : List StoredResponse → StoredResponse → Reception → Type 0
-IsTooSmallToMerge parts came reception =
-    (stored : StoredResponse) × IsSelectedPart (request_of_stored came) parts (Some stored)
-    × IsTooSmallToCombine stored came reception
+IsTooSmallToMerge parts came reception = (stored : StoredResponse)
+    × IsSelectedPart (request_of_stored came) parts (Some stored) × IsTooSmallToCombine stored came reception
 
 -- a map is too small for the received part: for the fields that say which part it is, or with these as it is stored
 abbrev pub IsTooSmallToTake : StoredResponse → Extent → Type 0
@@ -119,10 +117,8 @@ module _ (policy : Policy) (limits : Limits) (key : List ℕ) (old : Contents) w
   IsKeptAs part new Unstored =
       (¬ (IsWhole part)) × ((¬ (IsToStore policy part Complete)) ⊎ IsTooLarge limits key part)
       × (new ≡ without key old)
-  IsKeptAs part new Stored =
-      (¬ (IsWhole part))
-      × ((stored : StoredResponse) × IsToStore policy part Complete × IsStoredAs part stored
-      × IsInserted limits key stored old new)
+  IsKeptAs part new Stored = (¬ (IsWhole part)) × ((stored : StoredResponse)
+      × IsToStore policy part Complete × IsStoredAs part stored × IsInserted limits key stored old new)
   IsKeptAs part new (Whole whole) = IsWhole part × (whole ≡ part) × (new ≡ without key old)
   IsKeptAs part new (Once once) = ⊥
 
@@ -137,13 +133,11 @@ module _ (policy : Policy) (limits : Limits) (key : List ℕ) (old : Contents) w
     -- a part is taken of the response, and kept so
     abbrev pub IsTakenAs : Recorded → Type 0
     IsTakenAs recorded =
-        (part : StoredResponse) × IsTaken policy (responses_at key old) came reception part
-        × IsKeptAs part new recorded
+        (part : StoredResponse) × IsTaken policy (responses_at key old) came reception part × IsKeptAs part new recorded
 
     -- a part of it is combined with the selected one, and may not be reused
     abbrev pub IsUsedOnce : StoredResponse → Type 0
-    IsUsedOnce part =
-        (extent : Extent) × IsPart policy came reception extent
+    IsUsedOnce part = (extent : Extent) × IsPart policy came reception extent
         × IsMerged policy (responses_at key old) came reception (combined.Once part) × (new ≡ without key old)
 
     -- which facts give each outcome

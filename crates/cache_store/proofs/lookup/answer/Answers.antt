@@ -8,6 +8,5 @@ returns-in-Some-clause-answer c =
     c.index-responses-place.is _ c.age_of-age.ensures c.decision_for-decision.ensures lookup is) c.found.ensures.answer
 
 pub returns-in-Some-clause-memory : goal.returns-in-Some-clause-memory
-returns-in-Some-clause-memory c =
-    on_err_weaker _ (λ other. has_fields _ _ _ _ _ _ c.in-Some.ensures _ c.requires _ c.index-responses-place.is _
-    c.age_of-age.ensures c.decision_for-decision.ensures other) c.found.ensures.memory
+returns-in-Some-clause-memory c = on_err_weaker _ (λ other. has_fields _ _ _ _ _ _ c.in-Some.ensures _ c.requires
+    _ c.index-responses-place.is _ c.age_of-age.ensures c.decision_for-decision.ensures other) c.found.ensures.memory

@@ -7,9 +7,8 @@ loop-value-preserved c =
     let old = c.loop-value.invariant.named in
     record {
       named = old ++ option_to_list c.in_ok-found.found;
-      put = c.in_ok-append.ensures
-          ∙ ap (λ (l : List Parts). l ++ option_to_list c.in_ok-found.found) c.loop-value.invariant.put
-          ∙ append_assoc c.args.urls.now.items old (option_to_list c.in_ok-found.found);
+      put = c.in_ok-append.ensures ∙ ap (λ (l : List Parts). l ++ option_to_list c.in_ok-found.found)
+          c.loop-value.invariant.put ∙ append_assoc c.args.urls.now.items old (option_to_list c.in_ok-found.found);
       are = continues-next _ _ old _ _ _ _ _ (ap lines_of c.in-Some.ensures.steps) refl c.loop-value.invariant.are
           c.in_ok-found.ensures.target;
     }

@@ -2,8 +2,7 @@ use Rattle.{std.proofs.Common.{◌++◌, ◌∙◌, ap, List}, headers.specs.Lin
 use Rattle.cache_store.proofs.NamedLemmas.{named-append}
 use Rattle.cache_store.proofs.named.named_targets.Goals as goal
 
-pub returns-in_ok-append_named-in-Ok-2-clause-targets :
-    goal.returns-in_ok-append_named-in-Ok-2-clause-targets
+pub returns-in_ok-append_named-in-Ok-2-clause-targets : goal.returns-in_ok-append_named-in-Ok-2-clause-targets
 returns-in_ok-append_named-in-Ok-2-clause-targets c =
     let base = c.in-Ok.base in
     let response = lines_at c.args.response.now in

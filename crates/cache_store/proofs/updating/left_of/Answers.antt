@@ -8,22 +8,20 @@ use Rattle.cache_rules.proofs.FullLemmas.{passed_full}
 use Rattle.cache_store.proofs.updating.left_of.Goals as goal
 
 pub loop-stored-init : goal.loop-stored-init
-loop-stored-init c =
-    record {
-      left = search rules;
-      fewer = search rules;
-      among = subst (All (Contains c.args.responses.items)) (sym c.into_iter-all.ensures.rest)
-          (All-contains_itself c.args.responses.items);
-      numbers = subst
-          (λ l. AreRenumbering c.args.first c.args.first c.args.responses.items l c.into_iter-all.result.rest.items)
-          (sym c.new-left.ensures.items)
-          (subst (AreRenumbering c.args.first c.args.first c.args.responses.items [])
-          (sym c.into_iter-all.ensures.rest) (renumbering-none c.args.first c.args.responses.items));
-      counted = search rules;
-      rises = omega arith;
-      kept = λ stored h. absurd (subst (λ l. Has l stored) c.new-left.ensures.items h);
-      there = λ stored h. subst (λ l. Has l stored) c.into_iter-all.ensures.rest h;
-    }
+loop-stored-init c = record {
+  left = search rules;
+  fewer = search rules;
+  among = subst (All (Contains c.args.responses.items)) (sym c.into_iter-all.ensures.rest)
+      (All-contains_itself c.args.responses.items);
+  numbers = subst
+      (λ l. AreRenumbering c.args.first c.args.first c.args.responses.items l c.into_iter-all.result.rest.items)
+      (sym c.new-left.ensures.items) (subst (AreRenumbering c.args.first c.args.first c.args.responses.items [])
+      (sym c.into_iter-all.ensures.rest) (renumbering-none c.args.first c.args.responses.items));
+  counted = search rules;
+  rises = omega arith;
+  kept = λ stored h. absurd (subst (λ l. Has l stored) c.new-left.ensures.items h);
+  there = λ stored h. subst (λ l. Has l stored) c.into_iter-all.ensures.rest h;
+}
 
 pub loop-stored-preserved : goal.loop-stored-preserved
 loop-stored-preserved c =
@@ -54,21 +52,18 @@ loop-stored-preserved c =
     }
 
 pub returns-clause-left : goal.returns-clause-left
-returns-clause-left c =
-    let these = c.loop-stored.all.rest.items in
+returns-clause-left c = let these = c.loop-stored.all.rest.items in
     let zero : length these ≡ 0 = omega (arith, c.in_default.ensures.cases, c.loop-stored.all.rest.ok.0) in
-    continues-end (λ one. Becomes (policy_of c.args.policy.now) (request_of c.args.request.now)
-    (lines_at c.args.update.now) c.args.exchange one c.args.by) _ _ these (nil_from_length these zero)
-    c.loop-stored.invariant.left
+    continues-end (λ one. Becomes (policy_of c.args.policy.now)
+    (request_of c.args.request.now) (lines_at c.args.update.now) c.args.exchange one c.args.by) _ _ these
+    (nil_from_length these zero) c.loop-stored.invariant.left
 
 pub returns-in_err-fate-clause-full : goal.returns-in_err-fate-clause-full
 returns-in_err-fate-clause-full c = λ full. next_too_small _ _ _ _ _ c.in-Some.ensures.items
     c.loop-stored.invariant.among (c.in_err-fate.ensures.full (ap Err (passed_full _ _ c.from_residual.ensures.1 full)))
 
 pub returns-clause-numbers : goal.returns-clause-numbers
-returns-clause-numbers c =
-    let these = c.loop-stored.all.rest.items in
+returns-clause-numbers c = let these = c.loop-stored.all.rest.items in
     let zero : length these ≡ 0 = omega (arith, c.in_default.ensures.cases, c.loop-stored.all.rest.ok.0) in
-    subst (λ last. AreRenumbered c.args.first last c.args.responses.items c.loop-stored.left.items)
-    (omega (arith, c.loop-stored.invariant.counted, zero))
-    (renumbering-end _ _ _ _ these c.loop-stored.invariant.numbers)
+    subst (λ last. AreRenumbered c.args.first last c.args.responses.items c.loop-stored.left.items) (omega
+    (arith, c.loop-stored.invariant.counted, zero)) (renumbering-end _ _ _ _ these c.loop-stored.invariant.numbers)

@@ -9,32 +9,28 @@ use Rattle.cache_store.specs.declared.freshening.Refreshed.TheVariants as answer
 use Rattle.cache_store.proofs.store.Store.freshen.Goals as goal
 
 pub returns-in_default-clause-ok : goal.returns-in_default-clause-ok
-returns-in_default-clause-ok c =
-    none_refreshed (policy_of_store c.args.self.now) c.args.target.now (request_of c.args.request.now)
-    (lines_at c.args.update.now) c.args.exchange (contents_of c.args.self.now)
-    (rw c.responses.ensures at c.in_default.ensures) c.unrefreshed.result
+returns-in_default-clause-ok c = none_refreshed (policy_of_store c.args.self.now) c.args.target.now
+    (request_of c.args.request.now) (lines_at c.args.update.now) c.args.exchange
+    (contents_of c.args.self.now) (rw c.responses.ensures at c.in_default.ensures) c.unrefreshed.result
     (rw c.responses-in_default.ensures at c.unrefreshed.ensures)
 
 pub returns-in_default-clause-step : goal.returns-in_default-clause-step
 returns-in_default-clause-step c = inl (c.unrefreshed.result, returns-in_default-clause-ok c)
 
 pub remove-stored-requires : goal.remove-stored-requires
-remove-stored-requires c =
-    omega (
-      arith,
-      within _ _ _ _ (rw c.responses.ensures at c.in-Some.ensures),
-      ap length c.take_out-responses.ensures.taken,
-      c.take_out-responses.result.ok.0,
-    )
+remove-stored-requires c = omega (
+  arith,
+  within _ _ _ _ (rw c.responses.ensures at c.in-Some.ensures),
+  ap length c.take_out-responses.ensures.taken,
+  c.take_out-responses.result.ok.0,
+)
 
 pub put_with-requires-clause-absent : goal.put_with-requires-clause-absent
-put_with-requires-clause-absent c =
-    rw (← (c.take_numbers.ensures.contents ∙ c.take_out-responses.ensures.contents)) at
+put_with-requires-clause-absent c = rw (← (c.take_numbers.ensures.contents ∙ c.take_out-responses.ensures.contents)) at
     (IsAbsent-without c.args.target.now (contents_of c.args.self.now))
 
 pub put_in-requires-clause-absent : goal.put_in-requires-clause-absent
-put_in-requires-clause-absent c =
-    rw (← (c.take_numbers.ensures.contents ∙ c.take_out-responses.ensures.contents)) at
+put_in-requires-clause-absent c = rw (← (c.take_numbers.ensures.contents ∙ c.take_out-responses.ensures.contents)) at
     (IsAbsent-without c.args.target.now (contents_of c.args.self.now))
 
 pub returns-in_ok-put_with-in-Stored-clause-ok : goal.returns-in_ok-put_with-in-Stored-clause-ok
@@ -188,20 +184,16 @@ put_in-requires-clause-numbers c =
     c.in_ok-left.ensures.numbers (omega (arith, less)))
 
 pub returns-in_ok-put_with-in-Stored-clause-numbers : goal.returns-in_ok-put_with-in-Stored-clause-numbers
-returns-in_ok-put_with-in-Stored-clause-numbers c =
-    goes-again _ _ _ _
+returns-in_ok-put_with-in-Stored-clause-numbers c = goes-again _ _ _ _
     (omega (arith, c.put_with.ensures.next, c.in_ok-first.ensures.ok, c.take_out-responses.ensures.next)) _ _
     (c.take_numbers.ensures.contents ∙ c.take_out-responses.ensures.contents) _ _ c.take_out-responses.ensures.taken _
     (c.in_ok-first.ensures.ok.0 ∙ c.take_out-responses.ensures.next) _
-    (λ one h. Has-remove _ _ one (rw c.remove-stored.ensures.items at h)) c.in_ok-left.ensures.kept _
-    (omega (arith, ap (λ (stored : StoredResponse). stored.number) c.renumber.ensures))
-    c.in_ok-put_with-in-Stored.ensures.ok
+    (λ one h. Has-remove _ _ one (rw c.remove-stored.ensures.items at h)) c.in_ok-left.ensures.kept _ (omega
+    (arith, ap (λ (stored : StoredResponse). stored.number) c.renumber.ensures)) c.in_ok-put_with-in-Stored.ensures.ok
 
 pub returns-in_ok-put_in-in-Once-clause-numbers : goal.returns-in_ok-put_in-in-Once-clause-numbers
-returns-in_ok-put_in-in-Once-clause-numbers c =
-    goes-left _ _ _ _
+returns-in_ok-put_in-in-Once-clause-numbers c = goes-left _ _ _ _
     (omega (arith, c.put_in.ensures.next, c.in_ok-first.ensures.ok, c.take_out-responses.ensures.next)) _ _
     (c.take_numbers.ensures.contents ∙ c.take_out-responses.ensures.contents) _ _ c.take_out-responses.ensures.taken _
-    (c.in_ok-first.ensures.ok.0 ∙ c.take_out-responses.ensures.next) _
-    (λ one h. Has-remove _ _ one (rw c.remove-stored.ensures.items at h)) c.in_ok-left.ensures.kept
-    c.in_ok-put_in-in-Once.ensures.ok
+    (c.in_ok-first.ensures.ok.0 ∙ c.take_out-responses.ensures.next) _ (λ one h. Has-remove _ _ one
+    (rw c.remove-stored.ensures.items at h)) c.in_ok-left.ensures.kept c.in_ok-put_in-in-Once.ensures.ok

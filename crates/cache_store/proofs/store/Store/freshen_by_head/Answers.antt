@@ -4,16 +4,13 @@ use Rattle.cache_store.proofs.{RefreshLemmas.head_refreshed, GoOnLemmas.{goes-le
 use Rattle.cache_store.proofs.store.Store.freshen_by_head.Goals as goal
 
 pub put_in-requires-clause-absent : goal.put_in-requires-clause-absent
-put_in-requires-clause-absent c =
-    rw (← (c.take_numbers.ensures.contents ∙ c.take_out-responses.ensures.contents)) at
+put_in-requires-clause-absent c = rw (← (c.take_numbers.ensures.contents ∙ c.take_out-responses.ensures.contents)) at
     (IsAbsent-without c.args.target.now (contents_of c.args.self.now))
 
 pub returns-clause-ok : goal.returns-clause-ok
-returns-clause-ok c =
-    head_refreshed _ _ _ _ _ _ _ _ _ _ _
-    (c.policy-policy.ensures ∙ c.take_numbers.ensures.policy ∙ c.take_out-responses.ensures.policy)
-    (c.take_numbers.ensures.contents ∙ c.take_out-responses.ensures.contents) c.take_out-responses.ensures.taken
-    c.in_ok-left.ensures.left c.in_ok-put_in.ensures.ok
+returns-clause-ok c = head_refreshed _ _ _ _ _ _ _ _ _ _ _ (c.policy-policy.ensures ∙ c.take_numbers.ensures.policy
+    ∙ c.take_out-responses.ensures.policy) (c.take_numbers.ensures.contents ∙ c.take_out-responses.ensures.contents)
+    c.take_out-responses.ensures.taken c.in_ok-left.ensures.left c.in_ok-put_in.ensures.ok
 
 pub returns-clause-step : goal.returns-clause-step
 returns-clause-step c = inl (returns-clause-ok c)
@@ -34,14 +31,12 @@ returns-in_err-put_in-clause-numbers c = goes-without _ _ _ _
     (c.in_err-put_in.ensures.err ∙ c.take_numbers.ensures.contents ∙ c.take_out-responses.ensures.contents)
 
 pub returns-in_err-first-clause-memory : goal.returns-in_err-first-clause-memory
-returns-in_err-first-clause-memory c =
-    OnErr-from c.from_residual.result (omega (
-      arith,
-      c.in_err-first.ensures.some,
-      c.len.ensures ∙
-          c.take_out-responses.result.ok.0,
-      ap length c.take_out-responses.ensures.taken,
-    ))
+returns-in_err-first-clause-memory c = OnErr-from c.from_residual.result (omega (
+  arith,
+  c.in_err-first.ensures.some,
+  c.len.ensures ∙ c.take_out-responses.result.ok.0,
+  ap length c.take_out-responses.ensures.taken,
+))
 
 pub left_of-requires : goal.left_of-requires
 left_of-requires c = omega (arith, c.in_ok-first.ensures.ok, c.len.ensures ∙ c.take_out-responses.result.ok.0)
@@ -61,9 +56,8 @@ put_in-requires-clause-numbers c =
     (λ number. omega arith) c.in_ok-left.ensures.numbers (omega arith))
 
 pub returns-clause-numbers : goal.returns-clause-numbers
-returns-clause-numbers c =
-    goes-left _ _ _ _
+returns-clause-numbers c = goes-left _ _ _ _
     (omega (arith, c.put_in.ensures.next, c.in_ok-first.ensures.ok, c.take_out-responses.ensures.next)) _ _
     (c.take_numbers.ensures.contents ∙ c.take_out-responses.ensures.contents) _ _ c.take_out-responses.ensures.taken _
-    (c.in_ok-first.ensures.ok.0 ∙ c.take_out-responses.ensures.next) _ (λ one h. h) c.in_ok-left.ensures.kept
-    c.in_ok-put_in.ensures.ok
+    (c.in_ok-first.ensures.ok.0 ∙ c.take_out-responses.ensures.next) _
+    (λ one h. h) c.in_ok-left.ensures.kept c.in_ok-put_in.ensures.ok

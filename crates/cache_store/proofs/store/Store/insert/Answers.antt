@@ -7,13 +7,11 @@ pub put_with-requires-clause-absent : goal.put_with-requires-clause-absent
 put_with-requires-clause-absent c = absent_rest _ _ _ _ c.take_out-responses.ensures.contents c.make_room.ensures.kept
 
 pub returns-clause-ok : goal.returns-clause-ok
-returns-clause-ok c =
-    let kept = c.trim-bytes.new.responses.items in
-    let bytes : c.trim-bytes.result + c.args.size
-    ≡ bytes_at c.args.target.now kept + size_at c.args.target.now c.args.new =
-    omega (arith, c.trim-bytes.ensures.bytes, c.requires.size) in
-    let count : c.len.result + 1 ≡ length kept + 1 =
-    ap (λ n. n + 1) (c.len.ensures ∙ c.trim-bytes.new.responses.ok.0) in
+returns-clause-ok c = let kept = c.trim-bytes.new.responses.items in
+    let bytes : c.trim-bytes.result + c.args.size ≡ bytes_at c.args.target.now
+    kept + size_at c.args.target.now c.args.new = omega (arith, c.trim-bytes.ensures.bytes, c.requires.size) in
+    let count : c.len.result + 1 ≡ length kept + 1 = ap
+    (λ n. n + 1) (c.len.ensures ∙ c.trim-bytes.new.responses.ok.0) in
     on_ok_weaker _ (inserted _ _ _ _ _ _ _ _ _ _ kept _ _ _ _ c.take_out-responses.ensures.limits
     c.take_out-responses.ensures.contents c.take_out-responses.ensures.taken c.head.ensures c.supersede.ensures.rest
     c.requires.size c.trim-bytes.ensures.trimmed count bytes c.make_room.ensures.kept) c.put_with.ensures.ok

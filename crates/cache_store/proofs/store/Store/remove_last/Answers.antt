@@ -3,15 +3,13 @@ use Rattle.cache_store.proofs.EntryLemmas.{counted-less, counts-last, none-last,
 use Rattle.cache_store.proofs.store.Store.remove_last.Goals as goal
 
 pub overflow_sub-self : goal.overflow_sub-self
-overflow_sub-self c =
-    let counts = counts-last _ _ (ap (λ m. m.entries) c.pop_lru.ensures.entries) (c.in-Some.target, c.in-Some.responses)
-    (sym c.in-Some.ensures.value) in
+overflow_sub-self c = let counts = counts-last _ _ (ap (λ m. m.entries) c.pop_lru.ensures.entries)
+    (c.in-Some.target, c.in-Some.responses) (sym c.in-Some.ensures.value) in
     omega (arith, counts (λ entry. length entry.1), c.len.ensures, c.in-Some.responses.ok.0, c.args.self.now.counted)
 
 pub bytes_at-requires : goal.bytes_at-requires
-bytes_at-requires c =
-    let counts = counts-last _ _ (ap (λ m. m.entries) c.pop_lru.ensures.entries) (c.in-Some.target, c.in-Some.responses)
-    (sym c.in-Some.ensures.value) in
+bytes_at-requires c = let counts = counts-last _ _ (ap (λ m. m.entries) c.pop_lru.ensures.entries)
+    (c.in-Some.target, c.in-Some.responses) (sym c.in-Some.ensures.value) in
     rw (c.as_str.ensures.value, c.deref.ensures.value)
     (omega (arith, counts (λ entry. bytes_at entry.0 entry.1), c.args.self.now.counted))
 

@@ -49,12 +49,10 @@ returns-in-Ok-clause-step c =
     let put = returns-in-Ok-clause-stored c c.in_ok-number.number refl in inr (inl (put.0, put.1, put.2, put.4))
 
 pub returns-in-Ok-clause-numbers : goal.returns-in-Ok-clause-numbers
-returns-in-Ok-clause-numbers c =
-    let put = returns-in-Ok-clause-stored c c.in_ok-number.number refl in
+returns-in-Ok-clause-numbers c = let put = returns-in-Ok-clause-stored c c.in_ok-number.number refl in
     goes-inserted _ _ _ _ (omega (arith, c.insert.ensures.next, c.in_ok-number.ensures.ok)) _ _ put.0 put.4
     (omega (arith, put.3, c.in_ok-number.ensures.ok))
 
 pub returns-in-Err-clause-numbers : goal.returns-in-Err-clause-numbers
-returns-in-Err-clause-numbers c =
-    goes-front _ _ _ _ (omega (arith, c.insert.ensures.next, c.in_ok-number.ensures.ok)) _
+returns-in-Err-clause-numbers c = goes-front _ _ _ _ (omega (arith, c.insert.ensures.next, c.in_ok-number.ensures.ok)) _
     (rw c.take_numbers.ensures.contents at c.in-Err.ensures.err)
