@@ -6,8 +6,7 @@ use Rattle.server_stream.specs.declared.{event.StreamEvent.StreamEvent, rejectio
 use Rattle.server_stream.specs.declared.event.StreamEvent.TheVariants as Is
 
 -- what isn't rejected has no answer
-pub closes : (old : GatewayConnection) (event : StreamEvent) (new : GatewayConnection)
-    → ((why : StreamRejection) → event ≡ Is.Rejected why → ⊥) → new ≡ record old { stage = At.Closed }
-    → EndsIdleAs old event new
+pub closes : (old : GatewayConnection) (event : StreamEvent) (new : GatewayConnection) → ((why : StreamRejection)
+    → event ≡ Is.Rejected why → ⊥) → new ≡ record old { stage = At.Closed } → EndsIdleAs old event new
 closes old (Is.Rejected why) new other is = absurd (other why refl)
 closes old event new other is = is

@@ -2,9 +2,8 @@
 use Rattle.std.proofs.Common.{◌≡◌, ◌⊎◌, ◌∷◌, ℕ, ◌≤◌, inl, inr, Bool, true, false, List, [], ◌++◌, length, take, min}
 use Rattle.std.proofs.Common.{Option, Some, None, codes, sym, refl, ap, ◌∙◌, subst, arith, append-nil, append_assoc}
 use Rattle.std.{proofs.{Common.not, lemmas.{List.Folds.concat-append, Bool.and_parts}}, specs.List.concat}
-use Rattle.{std.specs.Prelude.{◌==◌, nat_le, nat_lt}, headers.specs.LineMap.lines_at}
-use Rattle.{http_header.specs.{FieldValue.FieldValue, HeaderMap.Entries}, http1.specs.Fields.Header}
-use Rattle.http1.specs.declared.{conn.{BodySize.BodySize, Limits.Limits}, error.WriteError.WriteError}
+use Rattle.{std.specs.Prelude.{◌==◌, nat_le, nat_lt}, http_header.specs.{FieldValue.FieldValue, HeaderMap.Entries}}
+use Rattle.http1.specs.{Fields.Header, declared.{conn.{BodySize.BodySize, Limits.Limits}, error.WriteError.WriteError}}
 use Rattle.gateway_connection.specs.History as Origin
 use Rattle.gateway_connection.specs.Steps as OriginSteps
 use Rattle.gateway_connection.specs.declared.{origin.OriginConnection.OriginConnection, event.OriginEvent.OriginEvent}
@@ -13,36 +12,32 @@ use Rattle.gateway_connection.{specs.Exchanges.Request, proofs.HistoryLemmas.{co
 use Rattle.gateway_connection.proofs.HistoryLemmas.{interim_late, says_final, switch_late}
 use Rattle.http1.specs.Client as Http
 use Rattle.gateway_messages.specs.Responses as Responses
-use Rattle.gateway_exchange.specs.Passing.{IsSwitched, IsTrailers, PutsResponse, answered, with_conditions}
-use Rattle.gateway_exchange.specs.{Decisions.IsDecision, declared.decision.Outgoing.Outgoing}
+use Rattle.gateway_exchange.specs.{Passing.{IsSwitched, answered}, Decisions.IsDecision}
 use Rattle.gateway_messages.specs.{Responses.{IsForwardedResponse, is_known_to}, declared.protocol.Protocol.Protocol}
 use Rattle.gateway_messages.specs.declared.protocol.Protocol.TheVariants as Speaks
 use Rattle.gateway_parts.specs.Messages.{protocol_of}
-use Rattle.server_stream.specs.Exchanges.{Answer, Bare, Begun, Due, Exchange, Final, Response, Switched}
+use Rattle.server_stream.specs.Exchanges.{Answer, Bare, Begun, Exchange, Final, Response, Switched}
 use Rattle.server_stream.specs.History as Stream
 use Rattle.server_stream.specs.Steps as StreamSteps
 use Rattle.server_stream.specs.declared.connection.StreamConnection.{StreamConnection}
 use Rattle.server_stream.specs.declared.event.{StreamRequest.StreamRequest, StreamEvent.StreamEvent}
-use Rattle.gateway_exchange.specs.History.{AreServed, HasHead, IsFor, IsGiven, IsHeard, IsIn, IsPassedOn, IsServed}
-use Rattle.gateway_exchange.specs.History.{AreFieldsOf, AreInterim, AreInterimNow, IsInterim, IsSwitch, own_interim}
-use Rattle.gateway_exchange.specs.History.{EndsAs, GivenHead, IsDecided, IsFrontOf, IsServedNow, Served, Traffic, Uses}
-use Rattle.gateway_exchange.specs.History.{WentOver, goes_over, head_of, no_past, on_last, receives, traffic_of}
-use Rattle.gateway_exchange.specs.History.{with_given, with_rules, with_traffic, writes, written_of, IsOriginReached}
-use Rattle.gateway_exchange.specs.History.{IsReached, OriginIn, Past, Opened, Received, Finished, Written}
+use Rattle.gateway_exchange.specs.History.{AreServed, HasHead, IsFor, IsGiven, IsHeard, IsIn, IsPassedOn, AreFieldsOf}
+use Rattle.gateway_exchange.specs.History.{AreInterim, AreInterimNow, IsInterim, IsSwitch, own_interim, EndsAs}
+use Rattle.gateway_exchange.specs.History.{GivenHead, IsDecided, IsFrontOf, IsServedNow, Served, Traffic, Uses}
+use Rattle.gateway_exchange.specs.History.{WentOver, head_of, no_past, on_last, receives, traffic_of, writes}
+use Rattle.gateway_exchange.specs.History.{written_of, IsReached, OriginIn, Past, Opened, Received, Finished, Written}
 use Rattle.gateway_exchange.specs.History.{OriginReceived, OriginFinished, OriginWritten, Said, Sent, Conditioned}
 use Rattle.gateway_exchange.specs.History.{Answered, Again, Connected, Given, GivenPiece, GivenEnd, NotGiven, NotBegun}
 use Rattle.gateway_exchange.specs.{History.{Passed, TimedOut, Taken, Dated, Closing}, Own.{PutsOwn, RefusesOwn}}
-use Rattle.gateway_exchange.specs.{Own.{closing, own_fields, own_status}, Passing.{EndsResponse, PutsInterim}}
-use Rattle.gateway_exchange.specs.Passing.{PutsRequest, RefusesInterim, RefusesRequest, RefusesResponse, RefusesSwitch}
+use Rattle.gateway_exchange.specs.{Own.{closing, own_fields, own_status}, Passing.{EndsResponse, PutsRequest}}
 use Rattle.gateway_exchange.specs.{Passing.{RefusesRequestEnd, RefusesResponseEnd}, Steps.{Answers, AsksAgain, Awaits}}
-use Rattle.gateway_exchange.specs.Steps.{Begins, BeginsAt, ChangesClient, ChangesOrigin, IsNext, PutsContent}
-use Rattle.gateway_exchange.specs.Steps.{PutsRequestEnd, is_origin_open, is_passing, Conditions, Connects, ConnectsAs}
-use Rattle.gateway_exchange.specs.Steps.{Considers, ContinuesIf, Drops, EndsIdle, EndsIdleAs, EndsIf, Follows}
-use Rattle.gateway_exchange.specs.Steps.{EndsGiving, Fails, Faulted, Gives, HandsOutOrigin, OfAsked, OnOrigin, Passes}
-use Rattle.gateway_exchange.specs.Steps.{PassesDown, PassesEnd, PassesHead, PassesInterim, PassesPiece, PassesSwitch}
-use Rattle.gateway_exchange.specs.Steps.{PassesUp, PutsHead, ReceivesOrigin, RefusesBegin, RefusesBeginAt}
-use Rattle.gateway_exchange.specs.Steps.{RefusesContent, RefusesEnd, RefusesGiving, RefusesInGiving, Rests, Runs, Went}
-use Rattle.gateway_exchange.specs.Steps.{Says, SaysIn, Sends, Settles, Steps, StepsAt, SwitchesTo, TakesOrigin}
+use Rattle.gateway_exchange.specs.Steps.{Begins, BeginsAt, ChangesOrigin, IsNext, PutsContent, PutsRequestEnd}
+use Rattle.gateway_exchange.specs.Steps.{is_origin_open, is_passing, Conditions, Connects, ConnectsAs, Considers}
+use Rattle.gateway_exchange.specs.Steps.{ContinuesIf, EndsIdle, EndsIdleAs, EndsIf, Follows, EndsGiving, Fails, Faulted}
+use Rattle.gateway_exchange.specs.Steps.{Gives, HandsOutOrigin, OnOrigin, Passes, PassesDown, PassesHead, PassesInterim}
+use Rattle.gateway_exchange.specs.Steps.{PassesPiece, PassesSwitch, PassesUp, PutsHead, ReceivesOrigin, RefusesBegin}
+use Rattle.gateway_exchange.specs.Steps.{RefusesBeginAt, RefusesContent, RefusesEnd, RefusesGiving, RefusesInGiving}
+use Rattle.gateway_exchange.specs.Steps.{Rests, Runs, Went, Says, SaysIn, Sends, Settles, Steps, StepsAt, TakesOrigin}
 use Rattle.gateway_exchange.specs.Steps.{TellsHead, TimesOutAt, Transfers, begun, phase_of, sent_fields, taking}
 use Rattle.gateway_exchange.specs.Steps.{with_client, with_origin}
 use Rattle.gateway_exchange.specs.declared.connection.{GatewayConnection.GatewayConnection, Stage.Stage}
@@ -61,625 +56,29 @@ use Rattle.gateway_exchange.specs.declared.connection.Stage.TheVariants as At
 use Rattle.gateway_exchange.specs.declared.decision.RequestDecision.TheVariants as Decides
 use Rattle.gateway_exchange.specs.declared.event.ExchangePhase.TheVariants as Does
 use Rattle.server_stream.specs.declared.event.StreamEvent.TheVariants as Is
+use Rattle.gateway_exchange.specs.{History.{now_of}, Steps.{FinishesClient}}
 
 -- ---- what was told and put
 
-reject_received : (h : Stream.Heard) (p : Stream.Past) → (Stream.reject_at h p).received ≡ p.received
-reject_received Stream.Nothing p = refl
-reject_received (Stream.Part head content) p = refl
-reject_received (Stream.Whole head content trailers) p = refl
-
-reject_sent : (h : Stream.Heard) (p : Stream.Past) → (Stream.reject_at h p).sent ≡ p.sent
-reject_sent Stream.Nothing p = refl
-reject_sent (Stream.Part head content) p = refl
-reject_sent (Stream.Whole head content trailers) p = refl
-
-tell_received : (event : StreamEvent) (p : Stream.Past) → (Stream.tell event p).received ≡ p.received
-tell_received Is.NeedsInput p = refl
-tell_received (Is.Head head) p = refl
-tell_received (Is.Content piece) p = refl
-tell_received (Is.End trailers) p = refl
-tell_received Is.Waits p = refl
-tell_received Is.Switched p = refl
-tell_received Is.Closed p = refl
-tell_received (Is.Rejected why) p = reject_received p.heard p
-
-tell_sent : (event : StreamEvent) (p : Stream.Past) → (Stream.tell event p).sent ≡ p.sent
-tell_sent Is.NeedsInput p = refl
-tell_sent (Is.Head head) p = refl
-tell_sent (Is.Content piece) p = refl
-tell_sent (Is.End trailers) p = refl
-tell_sent Is.Waits p = refl
-tell_sent Is.Switched p = refl
-tell_sent Is.Closed p = refl
-tell_sent (Is.Rejected why) p = reject_sent p.heard p
-
--- ---- the responses
-
-module _ (limits : Limits) (uses : Uses) where
-  all_append : (es later : List Exchange) → AreServed limits uses es → AreServed limits uses later
-      → AreServed limits uses (es ++ later)
-  all_append [] later before after = after
-  all_append (e ∷ es) later before after = (before.0, before.1, all_append es later before.2 after)
-
-  over_with_served : (head : StreamRequest) (content : List ℕ) (trailers : Entries FieldValue) (interim : List Bare)
-      (final : Final) → AreInterim limits uses head interim → IsServedNow limits uses (Some head) final
-      → AreServed limits uses (Stream.over_with head content trailers interim final)
-  over_with_served head content trailers interim (Begun r) first served = (served, first, tt)
-  over_with_served head content trailers interim Due first served = tt
-  over_with_served head content trailers interim (Switched b) first served = tt
-
-  over_served : (heard : Stream.Heard) (a : Answer) → AreInterimNow limits uses (head_of heard) a.interim
-      → IsServedNow limits uses (head_of heard) a.final → AreServed limits uses (Stream.over heard a)
-  over_served (Stream.Whole head content trailers) a first served =
-      over_with_served head content trailers a.interim a.final first served
-  over_served Stream.Nothing a first served = tt
-  over_served (Stream.Part head content) a first served = tt
-
-  -- the responses up to the one now
-  before_next : (p : Stream.Past) → Served limits uses p
-      → AreServed limits uses (p.before ++ Stream.over p.heard p.answer)
-  before_next p served = all_append p.before _ served.before (over_served p.heard p.answer served.interim served.now)
-
-  reject_served : (heard : Stream.Heard) (p : Stream.Past) → Served limits uses p
-      → Served limits uses (Stream.reject_at heard p)
-  reject_served Stream.Nothing p served = served
-  reject_served (Stream.Part head content) p served = served
-  reject_served (Stream.Whole head content trailers) p served =
-      record { before = before_next p served; interim = tt; now = tt }
-
-  now_stays : (old new : Option StreamRequest) (final : Final) → new ≡ old → IsServedNow limits uses old final
-      → IsServedNow limits uses new final
-  now_stays old new final is served =
-      subst (λ (head : Option StreamRequest). IsServedNow limits uses head final) (sym is) served
-
-  interim_stays : (old new : Option StreamRequest) (interim : List Bare) → new ≡ old
-      → AreInterimNow limits uses old interim → AreInterimNow limits uses new interim
-  interim_stays old new interim is told =
-      subst (λ (head : Option StreamRequest). AreInterimNow limits uses head interim) (sym is) told
-
-  interim_append : (head : StreamRequest) (interim : List Bare) (b : Bare) → AreInterim limits uses head interim
-      → IsInterim limits uses head b → AreInterim limits uses head (interim ++ b ∷ [])
-  interim_append head [] b before is = (is, tt)
-  interim_append head (first ∷ later) b before is = (before.0, interim_append head later b before.1 is)
-
-  interim_more : (head : Option StreamRequest) (interim : List Bare) (b : Bare) → AreInterimNow limits uses head interim
-      → ((asked : StreamRequest) → head ≡ Some asked → IsInterim limits uses asked b)
-      → AreInterimNow limits uses head (interim ++ b ∷ [])
-  interim_more (Some head) interim b before is = interim_append head interim b before (is head refl)
-  interim_more None interim b before is = tt
-
-  content_head : (piece : List ℕ) (heard : Stream.Heard) → head_of (Stream.with_content piece heard) ≡ head_of heard
-  content_head piece Stream.Nothing = refl
-  content_head piece (Stream.Part head content) = refl
-  content_head piece (Stream.Whole head content trailers) = refl
-
-  end_head : (trailers : Entries FieldValue) (heard : Stream.Heard)
-      → head_of (Stream.with_end trailers heard) ≡ head_of heard
-  end_head trailers Stream.Nothing = refl
-  end_head trailers (Stream.Part head content) = refl
-  end_head trailers (Stream.Whole head content before) = refl
-
-  tell_served : (event : StreamEvent) (p : Stream.Past) → Served limits uses p
-      → Served limits uses (Stream.tell event p)
-  tell_served Is.NeedsInput p served = served
-  tell_served (Is.Head head) p served =
-      record { before = before_next p served; interim = tt; now = tt }
-  tell_served (Is.Content piece) p served = record {
-    before = served.before;
-    interim = interim_stays (head_of p.heard) (head_of (Stream.with_content piece p.heard)) p.answer.interim
-        (content_head piece p.heard) served.interim;
-    now = now_stays (head_of p.heard) (head_of (Stream.with_content piece p.heard)) p.answer.final
-        (content_head piece p.heard) served.now;
-  }
-  tell_served (Is.End trailers) p served = record {
-    before = served.before;
-    interim = interim_stays (head_of p.heard) (head_of (Stream.with_end trailers p.heard)) p.answer.interim
-        (end_head trailers p.heard) served.interim;
-    now = now_stays (head_of p.heard) (head_of (Stream.with_end trailers p.heard)) p.answer.final
-        (end_head trailers p.heard) served.now;
-  }
-  tell_served Is.Waits p served = served
-  tell_served Is.Switched p served = served
-  tell_served Is.Closed p served = served
-  tell_served (Is.Rejected why) p served = reject_served p.heard p served
-
-  now_switched : (head : Option StreamRequest) (b : Bare)
-      → ((asked : StreamRequest) → head ≡ Some asked → IsSwitch limits uses asked b)
-      → IsServedNow limits uses head (Switched b)
-  now_switched (Some head) b is = is head refl
-  now_switched None b is = tt
-
-  now_begun : (head : Option StreamRequest) (r : Response)
-      → ((asked : StreamRequest) → head ≡ Some asked → IsServed limits uses asked r)
-      → IsServedNow limits uses head (Begun r)
-  now_begun (Some head) r served = served head refl
-  now_begun None r served = tt
-
-  -- the response now is this one
-  now_is : (head : Option StreamRequest) (final : Final) (r : Response) → final ≡ Begun r
-      → ((asked : StreamRequest) → head ≡ Some asked → IsServed limits uses asked r)
-      → IsServedNow limits uses head final
-  now_is head final r is served =
-      subst (λ (f : Final). IsServedNow limits uses head f) (sym is) (now_begun head r served)
-
--- ---- the client's connection
-
-record ClientAfter (limits : Limits) (uses : Uses) (m : StreamConnection) (p : Stream.Past) : Type 0 where
-  past : Stream.Past
-  reached : Stream.IsReached limits m past
-  served : Served limits uses past
-  received : past.received ≡ p.received
-  sent : past.sent ≡ p.sent
-
--- calls of its own lead from one state to the other, and no byte is received or written
-abbrev ClientGoes : Limits → Uses → StreamConnection → StreamConnection → Type 0
-ClientGoes limits uses old new =
-    (p : Stream.Past) → Stream.IsReached limits old p → Served limits uses p → ClientAfter limits uses new p
-
-client_same : {limits : Limits} {uses : Uses} {old new : StreamConnection} → new ≡ old → ClientGoes limits uses old new
-client_same {limits} same = λ p r s. record {
-  past = p;
-  reached = subst (λ (m : StreamConnection). Stream.IsReached limits m p) (sym same) r;
-  served = s;
-  received = refl;
-  sent = refl;
-}
-
-client_then : {limits : Limits} {uses : Uses} {a b c : StreamConnection} → ClientGoes limits uses a b
-    → ClientGoes limits uses b c → ClientGoes limits uses a c
-client_then f g = λ p r s.
-    let x = f p r s in
-    let y = g x.past x.reached x.served in
-    record {
-      past = y.past;
-      reached = y.reached;
-      served = y.served;
-      received = y.received ∙ x.received;
-      sent = y.sent ∙ x.sent;
-    }
-
-abbrev client_says : {limits : Limits} {uses : Uses} (old new : StreamConnection) (event : StreamEvent)
-    → StreamSteps.Says old event new → ClientGoes limits uses old new
-client_says {limits} {uses} old new event says = λ p r s. record {
-  past = Stream.tell event p;
-  reached = Stream.Said old new p event r says;
-  served = tell_served limits uses event p s;
-  received = tell_received event p;
-  sent = tell_sent event p;
-}
-
-abbrev client_continues : {limits : Limits} {uses : Uses} (old new : StreamConnection)
-    → StreamSteps.Informs old 100 (codes "Continue") [] new → ClientGoes limits uses old new
-client_continues {limits} {uses} old new informs = λ p r s. record {
-  past = Stream.informs own_interim p;
-  reached = Stream.Informed old new p 100 (codes "Continue") [] r informs;
-  served = record {
-    before = s.before;
-    interim = interim_more limits uses (head_of p.heard) p.answer.interim own_interim s.interim (λ head is. inl refl);
-    now = s.now;
-  };
-  received = refl;
-  sent = refl;
-}
-
-client_connects : {limits : Limits} {uses : Uses} (old new : StreamConnection)
-    → StreamSteps.Switches old 200 (codes "OK") [] new → ClientGoes limits uses old new
-client_connects {limits} {uses} old new switches = λ p r s.
-    let b : Bare = record { minor = old.server.request.minor; status = 200; reason = codes "OK"; headers = [] } in
-    record {
-      past = Stream.answers (Switched b) p;
-      reached = Stream.Handed old new p 200 (codes "OK") [] r switches;
-      served = record {
-        before = s.before;
-        interim = s.interim;
-        now = now_switched limits uses (head_of p.heard) b (λ head is. inl (refl, refl, refl));
-      };
-      received = refl;
-      sent = refl;
-    }
-
-abbrev client_refuses : {limits : Limits} {uses : Uses} {old new : StreamConnection} → StreamSteps.PutsNothing old new
-    → ClientGoes limits uses old new
-client_refuses {limits} {uses} {old} {new} nothing = λ p r s. record {
-  past = p;
-  reached = Stream.Refused old new p r nothing;
-  served = s;
-  received = refl;
-  sent = refl;
-}
-
-abbrev own_response : List Header → StreamConnection → Own → Response
-own_response fields m own = Stream.begins m.server (own_status own) (reason_of (own_status own)) fields (Known 0)
-
-own_begins : {limits : Limits} {uses : Uses} (is_last : Bool) (date : Option OwnDate) (old new : StreamConnection)
-    (own : Own)
-    → StreamSteps.Responds old (own_status own) (reason_of (own_status own)) (own_fields is_last date own) (Known 0) new
-    → ClientGoes limits uses old new
-own_begins {limits} {uses} is_last date old new own responds = λ p r s.
-    let fields = own_fields is_last date own in
-    let b : Response = own_response fields old own in
-    record {
-      past = Stream.answers (Begun b) p;
-      reached = Stream.Responded old new p (own_status own) (reason_of (own_status own)) fields (Known 0) r responds;
-      served = record {
-        before = s.before;
-        interim = s.interim;
-        now = now_begun limits uses (head_of p.heard) b
-            (λ head is. inl (own, is_last, date, refl, refl, refl, refl, refl));
-      };
-      received = refl;
-      sent = refl;
-    }
-
-own_goes : {limits : Limits} {uses : Uses} (is_last : Bool) (date : Option OwnDate) (old new : StreamConnection)
-    (own : Own) → PutsOwn is_last date old own new → ClientGoes limits uses old new
-own_goes {limits} {uses} is_last date old new own h = λ p r s.
-    let fields = own_fields is_last date own in
-    let first : Response = own_response fields old own in
-    let b : Response = Stream.with_trailers [] first in
-    record {
-      past = Stream.answers (Begun b) (Stream.answers (Begun first) p);
-      reached = Stream.Ended h.0 new (Stream.answers (Begun first) p) []
-          (Stream.Responded old h.0 p (own_status own) (reason_of (own_status own)) fields (Known 0) r h.1) h.2;
-      served = record {
-        before = s.before;
-        interim = s.interim;
-        now = now_begun limits uses (head_of p.heard) b
-            (λ head is. inl (own, is_last, date, refl, refl, refl, refl, refl));
-      };
-      received = refl;
-      sent = refl;
-    }
-
-own_fails : {limits : Limits} {uses : Uses} (is_last : Bool) (date : Option OwnDate) (old new : StreamConnection)
-    (own : Own) (error : WriteError) → RefusesOwn is_last date old own error new → ClientGoes limits uses old new
-own_fails is_last date old new own error (inl h) = client_refuses h.0
-own_fails is_last date old new own error (inr h) =
-    client_then (own_begins is_last date old h.0 own h.1) (client_refuses h.2.0)
-
--- ---- the origin's connection
-
-record OriginGoes (limits : Limits) (old new : Option OriginConnection) : Type 0 where
-  step : OriginIn limits old → OriginIn limits new
-
-origin_same : {limits : Limits} {old new : Option OriginConnection} → new ≡ old → OriginGoes limits old new
-origin_same {limits} same = record { step = λ held. subst (OriginIn limits) (sym same) held }
-
--- a step of the connection that there is
-origin_step : {limits : Limits} {old new : Option OriginConnection} {before after : OriginConnection}
-    → old ≡ Some before → new ≡ Some after → (IsOriginReached limits before → IsOriginReached limits after)
-    → OriginGoes limits old new
-origin_step {limits} is is_now step =
-    record { step = λ held. subst (OriginIn limits) (sym is_now) (step (subst (OriginIn limits) is held)) }
-
--- nothing is put to it
-origin_refuses : {limits : Limits} {before after : OriginConnection} → OriginSteps.PutsNothing before after
-    → IsOriginReached limits before → IsOriginReached limits after
-origin_refuses {limits} {before} {after} nothing =
-    λ r. (r.0, Origin.Refused before after r.0 r.1 nothing)
-
-origin_says : {limits : Limits} (old new : Option OriginConnection) (event : OriginEvent) → SaysIn old event new
-    → OriginGoes limits old new
-origin_says (Some old) (Some new) event says =
-    record { step = λ r. (_, Origin.Said old new r.0 event r.1 says) }
-origin_says None None event says = record { step = λ r. r }
-origin_says (Some old) None event says = absurd says
-origin_says None (Some new) event says = absurd says
-
--- ---- both
-
--- calls of their own lead each part from one state to the other, and no byte of the client is received or written
-record Goes (limits : Limits) (uses : Uses) (old new : GatewayConnection) : Type 0 where
-  client : ClientGoes limits uses old.client new.client
-  origin : OriginGoes limits old.origin new.origin
-  peer : new.peer ≡ old.peer
-
-goes_then : {limits : Limits} {uses : Uses} {a b c : GatewayConnection} → Goes limits uses a b → Goes limits uses b c
-    → Goes limits uses a c
-goes_then f g = record {
-  client = client_then f.client g.client;
-  origin = record { step = λ held. g.origin.step (f.origin.step held) };
-  peer = g.peer ∙ f.peer;
-}
-
--- the parts stay as they are
-stays : {limits : Limits} {uses : Uses} {old new : GatewayConnection} → new.client ≡ old.client
-    → new.origin ≡ old.origin → new.peer ≡ old.peer → Goes limits uses old new
-stays client origin peer = record { client = client_same client; origin = origin_same origin; peer = peer }
-
-same_client : {a b : GatewayConnection} → a ≡ b → a.client ≡ b.client
-same_client is = ap (λ (m : GatewayConnection). m.client) is
-
-same_origin : {a b : GatewayConnection} → a ≡ b → a.origin ≡ b.origin
-same_origin is = ap (λ (m : GatewayConnection). m.origin) is
-
-same_peer : {a b : GatewayConnection} → a ≡ b → a.peer ≡ b.peer
-same_peer is = ap (λ (m : GatewayConnection). m.peer) is
-
--- the new state is one with the same parts
-kept : {limits : Limits} {uses : Uses} {old new now : GatewayConnection} → new ≡ now → now.client ≡ old.client
-    → now.origin ≡ old.origin → now.peer ≡ old.peer → Goes limits uses old new
-kept is client origin peer = stays (same_client is ∙ client) (same_origin is ∙ origin) (same_peer is ∙ peer)
-
-same : {limits : Limits} {uses : Uses} {old new : GatewayConnection} → new ≡ old → Goes limits uses old new
-same is = kept is refl refl refl
-
--- the client's connection alone goes
-client_alone : {limits : Limits} {uses : Uses} {old new : GatewayConnection}
-    → ClientGoes limits uses old.client new.client → new.origin ≡ old.origin → new.peer ≡ old.peer
-    → Goes limits uses old new
-client_alone client origin peer = record { client = client; origin = origin_same origin; peer = peer }
-
--- the origin's connection alone goes
-origin_alone : {limits : Limits} {uses : Uses} {old new : GatewayConnection} → OriginGoes limits old.origin new.origin
-    → new.client ≡ old.client → new.peer ≡ old.peer → Goes limits uses old new
-origin_alone origin client peer = record { client = client_same client; origin = origin; peer = peer }
-
-heard_client : {limits : Limits} {uses : Uses} (old : GatewayConnection) (client : StreamConnection)
-    (event : StreamEvent) → StreamSteps.Says old.client event client
-    → Goes limits uses old (with_client old client)
-heard_client old client event says = client_alone (client_says old.client client event says) refl refl
-
--- ---- answers
-
-answers : {limits : Limits} {uses : Uses} (old new : GatewayConnection) (own : Own) → Answers old own new
-    → Goes limits uses old new
-answers old new own (inl h) =
-    client_alone (own_goes old.is_last old.date old.client new.client own h.0) (same_origin h.1) (same_peer h.1)
-answers old new own (inr h) =
-    client_alone (own_fails old.is_last old.date old.client new.client own h.0 h.1) (same_origin h.2) (same_peer h.2)
-
--- after a change of the client's connection
-answers_after : {limits : Limits} {uses : Uses} (old new : GatewayConnection) (client : StreamConnection) (own : Own)
-    → ClientGoes limits uses old.client client → Answers (with_client old client) own new → Goes limits uses old new
-answers_after old new client own goes h =
-    goes_then {b = with_client old client} (client_alone goes refl refl) (answers (with_client old client) new own h)
-
-fails : {limits : Limits} {uses : Uses} (old new : GatewayConnection) (own : Own) → Fails old own new
-    → Goes limits uses old new
-fails old new own (inl h) = kept h.1 refl refl refl
-fails old new own (inr h) = answers old new own h.1
-
-fails_after : {limits : Limits} {uses : Uses} (old new : GatewayConnection) (client : StreamConnection) (own : Own)
-    → ClientGoes limits uses old.client client → Fails (with_client old client) own new → Goes limits uses old new
-fails_after old new client own goes h =
-    goes_then {b = with_client old client} (client_alone goes refl refl) (fails (with_client old client) new own h)
-
--- ---- requests
-
-follows : {limits : Limits} {uses : Uses} (old new : GatewayConnection) (head : StreamRequest)
-    (decision : RequestDecision)
-    → Follows old head decision new → Goes limits uses old new
-follows old new head (Decides.Send outgoing) is = kept is refl refl refl
-follows old new head (Decides.Answer own) h = answers old new own h
-
--- ---- sending
-
--- the request was begun, and nothing came of a response; no byte was received or written
-abbrev Asked : Limits → Traffic → AskedRequest → OriginConnection → Type 0
-Asked limits t a m =
-    (p : Origin.Past) × Origin.IsReached limits m p × (request : Request) × IsFor a request
-    × (p.now ≡ Origin.Asked request []) × (traffic_of p ≡ t)
-
-puts_request : {limits : Limits} (a : AskedRequest) (fields : List Header) (old new : OriginConnection)
-    → AreFieldsOf a fields → PutsRequest a fields old new → (r : IsOriginReached limits old)
-    → Asked limits (traffic_of r.0) a new
-puts_request a fields old new are puts = λ r. (
-  _,
-  Origin.Begun old new r.0 a.head.method a.outgoing.target fields (request_size a.outgoing.framing) r.1 puts,
-  Origin.asks a.head.method a.outgoing.target fields (request_size a.outgoing.framing),
-  (refl, refl, are),
-  refl,
-  refl,
-)
-
-reached_of : {limits : Limits} (t : Traffic) (a : AskedRequest) {m : OriginConnection} → Asked limits t a m
-    → IsOriginReached limits m
-reached_of t a x = (x.0, x.1)
-
-ends_origin : {limits : Limits} (old new : OriginConnection) (trailers : List Header)
-    → OriginSteps.Ends old trailers new → IsOriginReached limits old → IsOriginReached limits new
-ends_origin old new trailers ends = λ r. (_, Origin.Closed old new r.0 trailers r.1 ends)
-
-origin_stays : {limits : Limits} {old new : OriginConnection} → new ≡ old → IsOriginReached limits old
-    → IsOriginReached limits new
-origin_stays {limits} is = λ r. subst (IsOriginReached limits) (sym is) r
-
-ends_if : {limits : Limits} (t : Traffic) (a : AskedRequest) (whole : Bool) (old new : OriginConnection)
-    → EndsIf whole old new → Asked limits t a old → Asked limits t a new
-ends_if t a true old new h = λ x. (
-  _,
-  Origin.Closed old new x.0 [] x.1 h,
-  Origin.with_trailers [] x.2,
-  (x.3.0, x.3.1, x.3.2),
-  ap (Origin.change (Origin.with_trailers [])) x.4,
-  x.5,
-)
-ends_if {limits} t a false old new h = λ x. subst (Asked limits t a) (sym h) x
-
-begins : {limits : Limits} (a : AskedRequest) (fields : List Header) (whole : Bool) (old new : OriginConnection)
-    → AreFieldsOf a fields → Begins a fields whole old new → (r : IsOriginReached limits old)
-    → Asked limits (traffic_of r.0) a new
-begins a fields whole old new are h = λ r.
-    ends_if (traffic_of r.0) a whole h.0 new h.2 (puts_request a fields old h.0 are h.1 r)
-
-refuses_request : {limits : Limits} (a : AskedRequest) (fields : List Header) (old new : OriginConnection)
-    (error : WriteError) → RefusesRequest a fields old error new → IsOriginReached limits old
-    → IsOriginReached limits new
-refuses_request a fields old new error (inl h) = origin_stays h.0
-refuses_request a fields old new error (inr h) = origin_refuses h.0
-
-refuses_begin : {limits : Limits} (a : AskedRequest) (fields : List Header) (old new : OriginConnection)
-    (error : WriteError) → RefusesBegin a fields old error new → IsOriginReached limits old
-    → IsOriginReached limits new
-refuses_begin a fields old new error (inl h) = refuses_request a fields old new error h
-refuses_begin a fields old new error (inr h) = λ r. origin_refuses h.2.0 (
-  _,
-  Origin.Begun old h.0 r.0 a.head.method a.outgoing.target fields
-      (request_size a.outgoing.framing) r.1 h.1,
-)
-
-begins_at : {limits : Limits} (asked : Option AskedRequest) (a : AskedRequest) (m : GatewayConnection)
-    (old new : OriginConnection) (goes : Bool) → asked ≡ Some a → AreFieldsOf a (sent_fields m a)
-    → BeginsAt asked m old new goes → (r : IsOriginReached limits old) → Asked limits (traffic_of r.0) a new
-begins_at {limits} (Some b) a m old new goes is are h =
-    let same : b ≡ a = cc in
-    let are_b = subst (λ (x : AskedRequest). AreFieldsOf x (sent_fields m x)) (sym same) are in
-    λ r. subst (λ (x : AskedRequest). Asked limits (traffic_of r.0) x new) same
-    (begins b (sent_fields m b) m.whole old new are_b h.0 r)
-begins_at None a m old new goes is are h = absurd (cc)
-
-refuses_begin_at : {limits : Limits} (asked : Option AskedRequest) (m : GatewayConnection)
-    (old new : OriginConnection) (error : WriteError) → RefusesBeginAt asked m old error new
-    → IsOriginReached limits old → IsOriginReached limits new
-refuses_begin_at (Some a) m old new error h = refuses_begin a (sent_fields m a) old new error h
-refuses_begin_at None m old new error h = origin_stays h.1
-
--- ---- both directions
-
-refuses_content : {limits : Limits} {uses : Uses} (old new : GatewayConnection) (piece : List ℕ) (error : WriteError)
-    → RefusesContent old piece error new → Goes limits uses old new
-refuses_content old new piece error (inl h) = same h.2
-refuses_content old new piece error (inr h) =
-    origin_alone (origin_step h.2 (same_origin h.4) (origin_refuses h.3.0)) (same_client h.4) (same_peer h.4)
-
-refuses_request_end : {limits : Limits} (gateway : Gateway) (a : AskedRequest) (trailers : Entries FieldValue)
-    (old new : OriginConnection) (error : WriteError) → RefusesRequestEnd gateway a trailers old error new
-    → IsOriginReached limits old → IsOriginReached limits new
-refuses_request_end gateway a trailers old new error (inl h) = origin_stays h.0
-refuses_request_end gateway a trailers old new error (inr h) = origin_refuses h.2.0
-
-refuses_end : {limits : Limits} {uses : Uses} (rules : GatewayRules) (old new : GatewayConnection)
-    (trailers : Entries FieldValue)
-    (error : WriteError) → RefusesEnd rules old trailers error new → Goes limits uses old new
-refuses_end rules old new trailers error (inl h) = same h.1
-refuses_end rules old new trailers error (inr h) =
-    origin_alone (origin_step h.4 (same_origin h.6)
-    (refuses_request_end rules.gateway h.0 trailers h.1 h.2 error h.5)) (same_client h.6) (same_peer h.6)
-
-passes_up : {limits : Limits} {uses : Uses} (rules : GatewayRules) (old new : GatewayConnection) (event : StreamEvent)
-    → PassesUp rules old event new → Goes limits uses old new
-passes_up rules old new Is.NeedsInput is = kept is refl refl refl
-passes_up rules old new (Is.Content piece) (inl h) =
-    origin_alone (origin_step h.2 (same_origin h.4) (λ r. (_, Origin.Put h.0 h.1 r.0 piece r.1 h.3))) (same_client h.4)
-    (same_peer h.4)
-passes_up rules old new (Is.Content piece) (inr h) =
-    goes_then (refuses_content old h.1 piece h.0 h.2) (fails h.1 new (Because.Unsent h.0) h.3)
-passes_up rules old new (Is.End trailers) (inl h) =
-    origin_alone (origin_step h.4 (same_origin h.6) (ends_origin h.1 h.2 h.5.0 h.5.2)) (same_client h.6) (same_peer h.6)
-passes_up rules old new (Is.End trailers) (inr h) =
-    goes_then (refuses_end rules old h.1 trailers h.0 h.2) (fails h.1 new (Because.Unsent h.0) h.3)
-passes_up rules old new (Is.Rejected why) h = fails old new (Because.Unread why) h
-passes_up rules old new (Is.Head head) is = kept is refl refl refl
-passes_up rules old new Is.Waits is = kept is refl refl refl
-passes_up rules old new Is.Switched is = kept is refl refl refl
-passes_up rules old new Is.Closed is = kept is refl refl refl
-
--- ---- responses
-
-response_fails : {limits : Limits} {uses : Uses} (old : GatewayConnection) (client : StreamConnection) (h : Heard)
-    (error : WriteError) → RefusesResponse old.is_last h old.client error client
-    → ClientGoes limits uses old.client client
-response_fails old client h error (inl p) = client_same p.0
-response_fails old client h error (inr p) = client_refuses p.0
-
-interim_fails : {limits : Limits} {uses : Uses} (old : GatewayConnection) (client : StreamConnection)
-    (response : OriginResponse)
-    (sent : ForwardedResponse) (error : WriteError) → RefusesInterim response sent old.client error client
-    → ClientGoes limits uses old.client client
-interim_fails old client response sent error (inl p) = client_same p.0
-interim_fails old client response sent error (inr p) = client_refuses p.0
-
-switch_fails : {limits : Limits} {uses : Uses} (old : GatewayConnection) (client : StreamConnection)
-    (response : OriginResponse)
-    (fields : List Header) (error : WriteError) → RefusesSwitch response fields old.client error client
-    → ClientGoes limits uses old.client client
-switch_fails old client response fields error (inl p) = client_same p.0
-switch_fails old client response fields error (inr p) = client_refuses p.0
-
--- ---- the caller's calls
-
-settles : {limits : Limits} {uses : Uses} (old new : GatewayConnection) → Settles old new → Goes limits uses old new
-settles old new (inl h) = same h.1
-settles old new (inr h) = origin_alone (origin_says old.origin new.origin h.1 h.2) (same_client h.3) (same_peer h.3)
-
-connects_as : {limits : Limits} {uses : Uses} (old new : GatewayConnection) → ConnectsAs old new
-    → Goes limits uses old new
-connects_as old new (inl h) =
-    client_alone (client_connects old.client new.client h.0) (same_origin h.1) (same_peer h.1)
-connects_as old new (inr h) = answers_after old new h.1 (Because.Unsendable h.0) (client_refuses h.2.0) h.3
-
-ends_idle_as : {limits : Limits} {uses : Uses} (old new : GatewayConnection) (event : StreamEvent)
-    → EndsIdleAs old event new
-    → Goes limits uses old new
-ends_idle_as old new (Is.Rejected why) h = answers old new Because.LateRequest h
-ends_idle_as old new Is.NeedsInput is = kept is refl refl refl
-ends_idle_as old new (Is.Head head) is = kept is refl refl refl
-ends_idle_as old new (Is.Content piece) is = kept is refl refl refl
-ends_idle_as old new (Is.End trailers) is = kept is refl refl refl
-ends_idle_as old new Is.Waits is = kept is refl refl refl
-ends_idle_as old new Is.Switched is = kept is refl refl refl
-ends_idle_as old new Is.Closed is = kept is refl refl refl
-
-abbrev client_finishes : {limits : Limits} {uses : Uses} (old new : StreamConnection) → StreamSteps.Finishes old new
-    → ClientGoes limits uses old new
-client_finishes {limits} old new is = λ p r s. record {
-  past = p;
-  reached = Stream.Finished old new p r is;
-  served = s;
-  received = refl;
-  sent = refl;
-}
-
-ends_idle : {limits : Limits} {uses : Uses} (old new : GatewayConnection) → EndsIdle old new → Goes limits uses old new
-ends_idle old new h =
-    goes_then {b = with_client old h.2} (client_alone
-    (client_then (client_finishes old.client h.0 h.3) (client_says h.0 h.2 h.1 h.4)) refl refl)
-    (ends_idle_as (with_client old h.2) new h.1 h.5)
-
-origin_gone : {limits : Limits} {old new : Option OriginConnection} → new ≡ None → OriginGoes limits old new
-origin_gone {limits} is = record { step = λ held. subst (OriginIn limits) (sym is) tt }
-
-on_origin : {limits : Limits} (P : OriginConnection → OriginConnection → Type 0) (old new : Option OriginConnection)
-    → ((before after : OriginConnection) → P before after → IsOriginReached limits before
-    → IsOriginReached limits after) → OnOrigin P old new → OriginGoes limits old new
-on_origin P (Some old) (Some new) step h = record { step = step old new h }
-on_origin P None None step h = record { step = λ held. held }
-on_origin P (Some old) None step h = absurd h
-on_origin P None (Some new) step h = absurd h
-
--- ---- stages
-
--- no exchange goes on at this stage
-abbrev IsFree : Stage → Type 0
-IsFree At.Asking = ⊥
-IsFree At.Repeating = ⊥
-IsFree At.Forwarding = ⊥
-IsFree At.Judging = ⊥
-IsFree At.Passing = ⊥
-IsFree At.Giving = ⊥
-IsFree stage = Unit {0}
-
-free_at : {a s : Stage} → a ≡ s → IsFree s → IsFree a
-free_at is free = subst IsFree (sym is) free
-
-same_stage : {a b : GatewayConnection} → a ≡ b → a.stage ≡ b.stage
-same_stage is = ap (λ (m : GatewayConnection). m.stage) is
-
-same_asked : {a b : GatewayConnection} → a ≡ b → a.asked ≡ b.asked
-same_asked is = ap (λ (m : GatewayConnection). m.asked) is
-
-same_heard : {a b : GatewayConnection} → a ≡ b → a.heard ≡ b.heard
-same_heard is = ap (λ (m : GatewayConnection). m.heard) is
-
-answers_free : (old new : GatewayConnection) (own : Own) → Answers old own new → IsFree new.stage
-answers_free old new own (inl h) = free_at (same_stage h.1) tt
-answers_free old new own (inr h) = free_at (same_stage h.2) tt
-
-fails_free : (old new : GatewayConnection) (own : Own) → Fails old own new → IsFree new.stage
-fails_free old new own (inl h) = free_at (same_stage h.1) tt
-fails_free old new own (inr h) = answers_free old new own h.1
+-- no byte is received or written by what is said
+reject_same : (h : Stream.Heard) (p : Stream.Past)
+    → ((Stream.reject_at h p).received ≡ p.received) × ((Stream.reject_at h p).sent ≡ p.sent)
+reject_same (Stream.Whole head content trailers) p = (refl, refl)
+reject_same h p = (refl, refl)
+
+tell_same : (event : StreamEvent) (p : Stream.Past)
+    → ((Stream.tell event p).received ≡ p.received) × ((Stream.tell event p).sent ≡ p.sent)
+tell_same (Is.Rejected why) p = reject_same p.heard p
+tell_same event p = (refl, refl)
+
+content_head : (piece : List ℕ) (heard : Stream.Heard) → head_of (Stream.with_content piece heard) ≡ head_of heard
+content_head piece Stream.Nothing = refl
+content_head piece heard = refl
+
+end_head : (trailers : Entries FieldValue) (heard : Stream.Heard)
+    → head_of (Stream.with_end trailers heard) ≡ head_of heard
+end_head trailers Stream.Nothing = refl
+end_head trailers heard = refl
 
 -- ---- the exchange now
 
@@ -692,237 +91,1412 @@ abbrev now_in : Told → Request → List OriginResponse → Origin.Now
 now_in Silent request interim = Origin.Asked request interim
 now_in (Telling response content) request interim = Origin.Hears request interim response content
 
--- the request that was told of the client was sent to the origin, which told this of its response
-record Carries (limits : Limits) (uses : Uses) (m : GatewayConnection) (p : Stream.Past) (a : AskedRequest) (t : Told)
-    : Type 0 where
-  asked : m.asked ≡ Some a
-  head : head_of p.heard ≡ Some a.head
-  decided : IsDecided uses a
-  origin : OriginConnection
-  is : m.origin ≡ Some origin
-  past : Origin.Past
-  reached : Origin.IsReached limits origin past
+-- the request was sent to the origin, whose connection told this of its response
+record Carries (origin : Option OriginConnection) (now : Origin.Now) (a : AskedRequest) (t : Told) : Type 0 where
+  connection : OriginConnection
+  is : origin ≡ Some connection
   request : Request
   sends : IsFor a request
   interim : List OriginResponse
-  now : past.now ≡ now_in t request interim
-  older : List Traffic
-  traffic : uses.traffic ≡ traffic_of past ∷ older
+  told : now ≡ now_in t request interim
 
--- the request that was told of the client waits
-record Waiting (uses : Uses) (m : GatewayConnection) (p : Stream.Past) : Type 0 where
-  a : AskedRequest
-  asked : m.asked ≡ Some a
-  head : head_of p.heard ≡ Some a.head
-  decided : IsDecided uses a
-  fields : AreFieldsOf a (sent_fields m a)
+carries_on : {old new : Option OriginConnection} {now : Origin.Now} {a : AskedRequest} {t next : Told}
+    (g : Origin.Now → Origin.Now) (after : OriginConnection) → new ≡ Some after → (c : Carries old now a t)
+    (request : Request) (interim : List OriginResponse) → IsFor a request
+    → g (now_in t c.request c.interim) ≡ now_in next request interim → Carries new (g now) a next
+carries_on g after is c request interim sends turns = record {
+  connection = after;
+  is = is;
+  request = request;
+  sends = sends;
+  interim = interim;
+  told = ap g c.told ∙ turns;
+}
 
--- the head of its response waits
-record Judged (limits : Limits) (uses : Uses) (m : GatewayConnection) (p : Stream.Past) : Type 0 where
-  a : AskedRequest
-  heard : Heard
-  is : m.heard ≡ Some heard
-  forwarded : IsHeard uses a heard
-  carries : Carries limits uses m p a (Telling heard.response [])
+-- what an exchange is made of
+record Parts : Type 0 where
+  asked : Option AskedRequest
+  fields : AskedRequest → List Header
+  heard : Option Heard
+  origin : Option OriginConnection
+  head : Option StreamRequest
+  final : Final
+  now : Origin.Now
 
--- its response is passed on
-record Passing (limits : Limits) (uses : Uses) (m : GatewayConnection) (p : Stream.Past) : Type 0 where
-  a : AskedRequest
-  heard : Heard
-  is : m.heard ≡ Some heard
-  forwarded : IsHeard uses a heard
+abbrev parts_of : GatewayConnection → Stream.Past → Origin.Past → Parts
+parts_of m p o = record {
+  asked = m.asked;
+  fields = sent_fields m;
+  heard = m.heard;
+  origin = m.origin;
+  head = head_of p.heard;
+  final = p.answer.final;
+  now = o.now;
+}
+
+-- the response that is put, as far as it is
+record Shows (final : Final) (h : Heard) : Type 0 where
   content : List ℕ
   response : Response
-  final : p.answer.final ≡ Begun response
+  is : final ≡ Begun response
   whole : response.trailers ≡ None
-  puts : HasHead heard content response
-  carries : Carries limits uses m p a (Telling heard.response content)
+  puts : HasHead h content response
 
--- a response of the caller is put
-record Giving (uses : Uses) (p : Stream.Past) : Type 0 where
-  response : Response
-  final : p.answer.final ≡ Begun response
-  given : IsGiven uses response
+module _ (uses : Uses) where
+  -- this request was told of the client, and may be sent
+  record IsAsked (asked : Option AskedRequest) (head : Option StreamRequest) (a : AskedRequest) : Type 0 where
+    is : asked ≡ Some a
+    head_is : head ≡ Some a.head
+    decided : IsDecided uses a
 
-abbrev TiedAt : Limits → Uses → Stage → GatewayConnection → Stream.Past → Type 0
-TiedAt limits uses At.Asking m p = Waiting uses m p
-TiedAt limits uses At.Repeating m p = Waiting uses m p
-TiedAt limits uses At.Forwarding m p =
-    (a : AskedRequest) × Carries limits uses m p a Silent × AreFieldsOf a (sent_fields m a)
-TiedAt limits uses At.Judging m p = Judged limits uses m p
-TiedAt limits uses At.Passing m p = Passing limits uses m p
-TiedAt limits uses At.Giving m p = Giving uses p
-TiedAt limits uses stage m p = Unit {0}
+  -- a request waits
+  record Waiting (asked : Option AskedRequest) (fields : AskedRequest → List Header) (head : Option StreamRequest)
+      : Type 0 where
+    a : AskedRequest
+    asked_is : IsAsked asked head a
+    are : AreFieldsOf a (fields a)
 
--- the parts were reached by calls of their own
-record Loose (limits : Limits) (uses : Uses) (m : GatewayConnection) (p : Stream.Past) : Type 0 where
-  peer : m.peer ≡ uses.peer
-  reached : Stream.IsReached limits m.client p
-  served : Served limits uses p
-  origin : OriginIn limits m.origin
+  -- the head of its response came
+  record Judged (asked : Option AskedRequest) (head : Option StreamRequest) (heard : Option Heard) : Type 0 where
+    a : AskedRequest
+    asked_is : IsAsked asked head a
+    h : Heard
+    is : heard ≡ Some h
+    forwarded : IsHeard uses a h
 
--- and what they told is of one exchange
-record Held (limits : Limits) (uses : Uses) (m : GatewayConnection) (p : Stream.Past) : Type 0 where
-  loose : Loose limits uses m p
-  tied : TiedAt limits uses m.stage m p
+  abbrev TiedAt : Stage → Parts → Type 0
+  TiedAt At.Asking v = Waiting v.asked v.fields v.head
+  TiedAt At.Repeating v = Waiting v.asked v.fields v.head
+  TiedAt At.Forwarding v = (w : Waiting v.asked v.fields v.head) × Carries v.origin v.now w.a Silent
+  TiedAt At.Judging v = (j : Judged v.asked v.head v.heard) × Carries v.origin v.now j.a (Telling j.h.response [])
+  TiedAt At.Passing v = (j : Judged v.asked v.head v.heard)
+      × (s : Shows v.final j.h) × Carries v.origin v.now j.a (Telling j.h.response s.content)
+  TiedAt At.Giving v = (response : Response) × (v.final ≡ Begun response) × IsGiven uses response
+  TiedAt stage v = Unit {0}
 
--- and no byte of the client was received or written since
-record After (limits : Limits) (uses : Uses) (m : GatewayConnection) (p : Stream.Past) : Type 0 where
-  past : Stream.Past
-  held : Held limits uses m past
-  received : past.received ≡ p.received
-  sent : past.sent ≡ p.sent
+  -- the origin's connection goes on, and what it told
+  tied_on : (stage : Stage) (v : Parts) (origin : Option OriginConnection) (now : Origin.Now)
+      → ((a : AskedRequest) (t : Told) → Carries v.origin v.now a t → Carries origin now a t) → TiedAt stage v
+      → TiedAt stage (record v { origin = origin; now = now })
+  tied_on At.Forwarding v origin now carry x = (x.0, carry x.0.a Silent x.1)
+  tied_on At.Judging v origin now carry x = (x.0, carry x.0.a (Telling x.0.h.response []) x.1)
+  tied_on At.Passing v origin now carry x = (x.0, x.1, carry x.0.a (Telling x.0.h.response x.1.content) x.2)
+  tied_on stage v origin now carry x = x
 
-abbrev Leads : Limits → Uses → GatewayConnection → GatewayConnection → Type 0
-Leads limits uses old new = (p : Stream.Past) → Held limits uses old p → After limits uses new p
+  -- it is taken while none is needed
+  tied_without : (stage : Stage) (v : Parts) → is_passing stage ≡ false → TiedAt stage v
+      → TiedAt stage (record v { origin = None })
+  tied_without At.Forwarding v still x = absurd (cc)
+  tied_without At.Judging v still x = absurd (cc)
+  tied_without At.Passing v still x = absurd (cc)
+  tied_without stage v still x = x
 
-leads_then : {limits : Limits} {uses : Uses} {a b c : GatewayConnection} → Leads limits uses a b
-    → Leads limits uses b c → Leads limits uses a c
-leads_then f g = λ p h.
-    let x = f p h in
-    let y = g x.past x.held in
-    record { past = y.past; held = y.held; received = y.received ∙ x.received; sent = y.sent ∙ x.sent }
+  -- other fields are sent of the request that waits
+  tied_as : (stage : Stage) (v : Parts) (fields : AskedRequest → List Header) → ((a : AskedRequest)
+      → v.asked ≡ Some a → AreFieldsOf a (fields a)) → TiedAt stage v → TiedAt stage (record v { fields = fields })
+  tied_as At.Asking v fields are x = record { a = x.a; asked_is = x.asked_is; are = are x.a x.asked_is.is }
+  tied_as At.Repeating v fields are x = record { a = x.a; asked_is = x.asked_is; are = are x.a x.asked_is.is }
+  tied_as At.Forwarding v fields are x =
+      (record { a = x.0.a; asked_is = x.0.asked_is; are = are x.0.a x.0.asked_is.is }, x.1)
+  tied_as stage v fields are x = x
 
-unchanged : {limits : Limits} {uses : Uses} {old new : GatewayConnection} → new ≡ old → Leads limits uses old new
-unchanged {limits} {uses} is = λ p h. record {
-  past = p;
-  held = subst (λ (m : GatewayConnection). Held limits uses m p) (sym is) h;
-  received = refl;
-  sent = refl;
-}
+module _ (limits : Limits) (uses : Uses) (lines : List Traffic) where
+  -- ---- the responses
 
-free_tied : (limits : Limits) (uses : Uses) (stage : Stage) (m : GatewayConnection) (p : Stream.Past) → IsFree stage
-    → TiedAt limits uses stage m p
-free_tied limits uses At.Asking m p free = absurd free
-free_tied limits uses At.Repeating m p free = absurd free
-free_tied limits uses At.Forwarding m p free = absurd free
-free_tied limits uses At.Judging m p free = absurd free
-free_tied limits uses At.Passing m p free = absurd free
-free_tied limits uses At.Giving m p free = absurd free
-free_tied limits uses At.Idle m p free = tt
-free_tied limits uses At.Ended m p free = tt
-free_tied limits uses At.Switched m p free = tt
-free_tied limits uses At.Closed m p free = tt
-free_tied limits uses At.Aborted m p free = tt
+  all_append : (es later : List Exchange) → AreServed limits uses es → AreServed limits uses later
+      → AreServed limits uses (es ++ later)
+  all_append [] later before after = after
+  all_append (e ∷ es) later before after = (before.0, before.1, all_append es later before.2 after)
 
--- where no exchange goes on afterwards
-to_free : {limits : Limits} {uses : Uses} {old new : GatewayConnection} (p : Stream.Past) → Goes limits uses old new
-    → IsFree new.stage → Loose limits uses old p → After limits uses new p
-to_free {limits} {uses} {old} {new} p g free h =
-    let x = g.client p h.reached h.served in
-    record {
-      past = x.past;
-      held = record {
-        loose = record {
-          peer = g.peer ∙ h.peer;
-          reached = x.reached;
-          served = x.served;
-          origin = g.origin.step h.origin;
-        };
-        tied = free_tied limits uses new.stage new x.past free;
-      };
-      received = x.received;
-      sent = x.sent;
-    }
+  over_with_served : (head : StreamRequest) (content : List ℕ) (trailers : Entries FieldValue) (interim : List Bare)
+      (final : Final) → AreInterim limits uses head interim → IsServedNow limits uses (Some head) final
+      → AreServed limits uses (Stream.over_with head content trailers interim final)
+  over_with_served head content trailers interim (Begun r) first served = (served, first, tt)
+  over_with_served head content trailers interim final first served = tt
 
-freely : {limits : Limits} {uses : Uses} {old new : GatewayConnection} → Goes limits uses old new → IsFree new.stage
-    → Leads limits uses old new
-freely g free = λ p h. to_free p g free h.loose
+  over_served : (heard : Stream.Heard) (a : Answer) → AreInterimNow limits uses (head_of heard) a.interim
+      → IsServedNow limits uses (head_of heard) a.final → AreServed limits uses (Stream.over heard a)
+  over_served (Stream.Whole head content trailers) a first served =
+      over_with_served head content trailers a.interim a.final first served
+  over_served heard a first served = tt
 
-carries_to : {limits : Limits} {uses : Uses} {old new : GatewayConnection} {p q : Stream.Past} {a : AskedRequest}
-    {t now : Told} {after : OriginConnection} (g : Origin.Now → Origin.Now) (c : Carries limits uses old p a t)
-    → new.asked ≡ old.asked → head_of q.heard ≡ head_of p.heard → new.origin ≡ Some after → (n : Origin.Past)
-    → Origin.IsReached limits after n → n.now ≡ g c.past.now → traffic_of n ≡ traffic_of c.past → (s : Request)
-    → (later : List OriginResponse) → IsFor a s → g (now_in t c.request c.interim) ≡ now_in now s later
-    → Carries limits uses new q a now
-carries_to {limits} {uses} {old} {new} {p} {q} {a} {t} {now} {after} g c asked head is n reached goes line s later
-    is_for turns = record {
-      asked = asked ∙ c.asked;
-      head = head ∙ c.head;
-      decided = c.decided;
-      origin = after;
-      is = is;
-      past = n;
-      reached = reached;
-      request = s;
-      sends = is_for;
-      interim = later;
-      now = goes ∙ (ap g c.now ∙ turns);
-      older = c.older;
-      traffic = c.traffic ∙ ap (λ (l : Traffic). l ∷ c.older) (sym line);
-    }
+  -- the responses up to the one now
+  before_next : (p : Stream.Past) → Served limits uses p
+      → AreServed limits uses (p.before ++ Stream.over p.heard p.answer)
+  before_next p served = all_append p.before _ served.before (over_served p.heard p.answer served.interim served.now)
 
-carries_by : {limits : Limits} {uses : Uses} {old new : GatewayConnection} {p q : Stream.Past} {a : AskedRequest}
-    {t now : Told}
-    {before after : OriginConnection} (g : Origin.Now → Origin.Now) → Carries limits uses old p a t
-    → new.asked ≡ old.asked → head_of q.heard ≡ head_of p.heard → old.origin ≡ Some before → new.origin ≡ Some after
-    → ((o : Origin.Past) → Origin.IsReached limits before o
-    → (n : Origin.Past) × Origin.IsReached limits after n × (n.now ≡ g o.now) × (traffic_of n ≡ traffic_of o))
-    → ((r : Request) (interim : List OriginResponse) → IsFor a r
-    → (s : Request) × (later : List OriginResponse) × IsFor a s × (g (now_in t r interim) ≡ now_in now s later))
-    → Carries limits uses new q a now
-carries_by {limits} {uses} {old} {new} {p} {q} {a} {t} {now} {before} {after} g c asked head is is_now step turns =
-    let same : c.origin ≡ before = cc (sym c.is ∙ is) in
-    let x = step c.past (subst (λ (o : OriginConnection). Origin.IsReached limits o c.past) same c.reached) in
-    let y = turns c.request c.interim c.sends in
-    carries_to g c asked head is_now x.0 x.1 x.2 x.3 y.0 y.1 y.2 y.3
+  reject_served : (heard : Stream.Heard) (p : Stream.Past) → Served limits uses p
+      → Served limits uses (Stream.reject_at heard p)
+  reject_served (Stream.Whole head content trailers) p served =
+      record { before = before_next p served; interim = tt; now = tt }
+  reject_served heard p served = served
 
-carries_kept : {limits : Limits} {uses : Uses} {old new : GatewayConnection} {p q : Stream.Past} {a : AskedRequest}
-    {t : Told}
-    → new.asked ≡ old.asked → head_of q.heard ≡ head_of p.heard → new.origin ≡ old.origin
-    → Carries limits uses old p a t
-    → Carries limits uses new q a t
-carries_kept asked head origin c = record {
-  asked = asked ∙ c.asked;
-  head = head ∙ c.head;
-  decided = c.decided;
-  origin = c.origin;
-  is = origin ∙ c.is;
-  past = c.past;
-  reached = c.reached;
-  request = c.request;
-  sends = c.sends;
-  interim = c.interim;
-  now = c.now;
-  older = c.older;
-  traffic = c.traffic;
-}
+  -- more of the same request was told
+  heard_served : (heard : Stream.Heard) (p : Stream.Past) → head_of heard ≡ head_of p.heard → Served limits uses p
+      → Served limits uses (record p { heard = heard })
+  heard_served heard p same served = record {
+    before = served.before;
+    interim = subst (λ (head : Option StreamRequest). AreInterimNow limits uses head p.answer.interim) (sym same)
+        served.interim;
+    now = subst (λ (head : Option StreamRequest). IsServedNow limits uses head p.answer.final) (sym same) served.now;
+  }
 
--- ---- more is passed in
+  tell_served : (event : StreamEvent) (p : Stream.Past) → Served limits uses p
+      → Served limits uses (Stream.tell event p)
+  tell_served (Is.Head head) p served = record { before = before_next p served; interim = tt; now = tt }
+  tell_served (Is.Content piece) p served =
+      heard_served (Stream.with_content piece p.heard) p (content_head piece p.heard) served
+  tell_served (Is.End trailers) p served =
+      heard_served (Stream.with_end trailers p.heard) p (end_head trailers p.heard) served
+  tell_served (Is.Rejected why) p served = reject_served p.heard p served
+  tell_served event p served = served
+
+  interim_append : (head : StreamRequest) (interim : List Bare) (b : Bare) → AreInterim limits uses head interim
+      → IsInterim limits uses head b → AreInterim limits uses head (interim ++ b ∷ [])
+  interim_append head [] b before is = (is, tt)
+  interim_append head (first ∷ later) b before is = (before.0, interim_append head later b before.1 is)
+
+  interim_more : (head : Option StreamRequest) (interim : List Bare) (b : Bare) → AreInterimNow limits uses head interim
+      → ((asked : StreamRequest) → head ≡ Some asked → IsInterim limits uses asked b)
+      → AreInterimNow limits uses head (interim ++ b ∷ [])
+  interim_more (Some head) interim b before is = interim_append head interim b before (is head refl)
+  interim_more None interim b before is = tt
+
+  informed_served : (b : Bare) (p : Stream.Past) → Served limits uses p → ((asked : StreamRequest)
+      → head_of p.heard ≡ Some asked → IsInterim limits uses asked b) → Served limits uses (Stream.informs b p)
+  informed_served b p s is =
+      record { before = s.before; interim = interim_more (head_of p.heard) p.answer.interim b s.interim is; now = s.now }
+
+  now_is : (head : Option StreamRequest) (final : Final) → ((asked : StreamRequest)
+      → head ≡ Some asked → IsServedNow limits uses (Some asked) final) → IsServedNow limits uses head final
+  now_is (Some head) final is = is head refl
+  now_is None final is = tt
+
+  -- a final response is put
+  put_served : (final : Final) (p : Stream.Past) → Served limits uses p → ((asked : StreamRequest) → head_of
+      p.heard ≡ Some asked → IsServedNow limits uses (Some asked) final) → Served limits uses (Stream.answers final p)
+  put_served final p s is = record { before = s.before; interim = s.interim; now = now_is (head_of p.heard) final is }
+
+  -- the request now is this one
+  put_for : (asked : StreamRequest) (final : Final) (p : Stream.Past) → Served limits uses p → head_of
+      p.heard ≡ Some asked → IsServedNow limits uses (Some asked) final → Served limits uses (Stream.answers final p)
+  put_for asked final p s is now = record {
+    before = s.before;
+    interim = s.interim;
+    now = subst (λ (head : Option StreamRequest). IsServedNow limits uses head final) (sym is) now;
+  }
+
+  -- the final response goes on
+  on_served : (f : Response → Response) (r : Response) (p : Stream.Past) → p.answer.final ≡ Begun r → Served limits uses
+      (Stream.answers (Begun (f r)) p) → Served limits uses (Stream.answers (Stream.change f p.answer.final) p)
+  on_served f r p is s =
+      subst (λ (final : Final). Served limits uses (Stream.answers final p)) (sym (ap (Stream.change f) is)) s
+
+  -- ---- the client's connection
+
+  -- it was reached, and no byte was received or written since
+  abbrev ClientAfter : StreamConnection → Stream.Past → Type 0
+  ClientAfter m p = (q : Stream.Past)
+      × Stream.IsReached limits m q × Served limits uses q × (q.received ≡ p.received) × (q.sent ≡ p.sent)
+
+  -- calls of its own lead from one state to the other
+  abbrev ClientGoes : StreamConnection → StreamConnection → Type 0
+  ClientGoes old new = (p : Stream.Past) → Stream.IsReached limits old p → Served limits uses p → ClientAfter new p
+
+  client_same : {old new : StreamConnection} → new ≡ old → ClientGoes old new
+  client_same same = λ p r s.
+      (p, subst (λ (m : StreamConnection). Stream.IsReached limits m p) (sym same) r, s, refl, refl)
+
+  client_then : {a b c : StreamConnection} → ClientGoes a b → ClientGoes b c → ClientGoes a c
+  client_then f g = λ p r s. let x = f p r s in let y = g x.0 x.1 x.2 in (y.0, y.1, y.2, y.3 ∙ x.3, y.4 ∙ x.4)
+
+  abbrev client_says : (old new : StreamConnection) (event : StreamEvent) → StreamSteps.Says old event new
+      → ClientGoes old new
+  client_says old new event says = λ p r s. (
+    Stream.tell event p,
+    Stream.Said old new p event r says,
+    tell_served event p s,
+    (tell_same event p).0,
+    (tell_same event p).1,
+  )
+
+  abbrev client_continues : (old new : StreamConnection) → StreamSteps.Informs old 100 (codes "Continue") [] new
+      → ClientGoes old new
+  client_continues old new informs = λ p r s. (
+    Stream.informs own_interim p,
+    Stream.Informed old new p 100 (codes "Continue") [] r informs,
+    informed_served own_interim p s (λ head is. inl refl),
+    refl,
+    refl,
+  )
+
+  client_connects : (old new : StreamConnection) → StreamSteps.Switches old 200 (codes "OK") [] new
+      → ClientGoes old new
+  client_connects old new switches = λ p r s.
+      let b : Bare = record { minor = old.server.request.minor; status = 200; reason = codes "OK"; headers = [] } in (
+        Stream.answers (Switched b) p,
+        Stream.Handed old new p 200 (codes "OK") [] r switches,
+        put_served (Switched b) p s (λ head is. inl (refl, refl, refl)),
+        refl,
+        refl,
+      )
+
+  abbrev client_finishes : (old new : StreamConnection) → StreamSteps.Finishes old new → ClientGoes old new
+  client_finishes old new is = λ p r s. (p, Stream.Finished old new p r is, s, refl, refl)
+
+  abbrev client_refuses : (old new : StreamConnection) → StreamSteps.PutsNothing old new → ClientGoes old new
+  client_refuses old new nothing = λ p r s. (p, Stream.Refused old new p r nothing, s, refl, refl)
+
+  -- memory ran out, or nothing is put
+  client_fails : {A B : Type 0} (old new : StreamConnection)
+      → ((new ≡ old) × A) ⊎ (StreamSteps.PutsNothing old new × B) → ClientGoes old new
+  client_fails old new (inl h) = client_same h.0
+  client_fails old new (inr h) = client_refuses old new h.0
+
+  -- the gateway's own response, as far as it is put
+  abbrev own_response : Bool → Option OwnDate → StreamConnection → Own → Option (List Header) → Response
+  own_response is_last date m own trailers =
+      let begun : Response =
+      Stream.begins m.server (own_status own) (reason_of (own_status own)) (own_fields is_last date own) (Known 0) in
+      record begun { trailers = trailers }
+
+  own_served : (is_last : Bool) (date : Option OwnDate) (m : StreamConnection) (own : Own)
+      (trailers : Option (List Header)) (p : Stream.Past) → Served limits uses p
+      → Served limits uses (Stream.answers (Begun (own_response is_last date m own trailers)) p)
+  own_served is_last date m own trailers p s = put_served (Begun (own_response is_last date m own trailers)) p s
+      (λ head is. inl (own, is_last, date, refl, refl, refl, refl, refl))
+
+  own_begins : (is_last : Bool) (date : Option OwnDate) (old new : StreamConnection) (own : Own) → StreamSteps.Responds
+      old (own_status own) (reason_of (own_status own)) (own_fields is_last date own) (Known 0) new → ClientGoes old new
+  own_begins is_last date old new own responds = λ p r s. (
+    Stream.answers (Begun (own_response is_last date old own None)) p,
+    Stream.Responded old new p (own_status own) (reason_of (own_status own)) (own_fields is_last date own) (Known 0) r
+        responds,
+    own_served is_last date old own None p s,
+    refl,
+    refl,
+  )
+
+  own_goes : (is_last : Bool) (date : Option OwnDate) (old new : StreamConnection) (own : Own)
+      → PutsOwn is_last date old own new → ClientGoes old new
+  own_goes is_last date old new own h = λ p r s. (
+    Stream.answers (Begun (own_response is_last date old own (Some []))) p,
+    Stream.Ended h.0 new (Stream.answers (Begun (own_response is_last date old own None)) p) [] (Stream.Responded
+        old h.0 p (own_status own) (reason_of (own_status own)) (own_fields is_last date own) (Known 0) r h.1) h.2,
+    own_served is_last date old own (Some []) p s,
+    refl,
+    refl,
+  )
+
+  own_fails : (is_last : Bool) (date : Option OwnDate) (old new : StreamConnection) (own : Own) (error : WriteError)
+      → RefusesOwn is_last date old own error new → ClientGoes old new
+  own_fails is_last date old new own error (inl h) = client_refuses old new h.0
+  own_fails is_last date old new own error (inr h) =
+      client_then (own_begins is_last date old h.0 own h.1) (client_refuses h.0 new h.2.0)
+
+  -- ---- both connections
+
+  -- the origin's connection, if there is one, was reached, and is the last that was handed in
+  abbrev Origins : Option OriginConnection → Origin.Past → Type 0
+  Origins (Some m) o = Origin.IsReached limits m o
+      × (WentOver (traffic_of o) uses.traffic × (older : List Traffic) × (lines ≡ traffic_of o ∷ older))
+  Origins None o = Unit {0}
+
+  -- the parts were reached by calls of their own
+  abbrev Loose : GatewayConnection → Stream.Past → Origin.Past → Type 0
+  Loose m p o = (m.peer ≡ uses.peer) × Stream.IsReached limits m.client p × Served limits uses p × Origins m.origin o
+
+  -- and what they told is of one exchange
+  abbrev Held : GatewayConnection → Stream.Past → Origin.Past → Type 0
+  Held m p o = Loose m p o × TiedAt uses m.stage (parts_of m p o)
+
+  -- and no byte of the client was received or written since
+  abbrev Since : (Stream.Past → Origin.Past → Type 0) → Stream.Past → Type 0
+  Since P p = (q : Stream.Past) × (n : Origin.Past) × P q n × (q.received ≡ p.received) × (q.sent ≡ p.sent)
+
+  since_then : (P Q : Stream.Past → Origin.Past → Type 0) (p : Stream.Past) → Since P p
+      → ((q : Stream.Past) (n : Origin.Past) → P q n → Since Q q) → Since Q p
+  since_then P Q p x f = let y = f x.0 x.1 x.2 in (y.0, y.1, y.2, y.3 ∙ x.3, y.4 ∙ x.4)
+
+  record Goes (old new : GatewayConnection) : Type 0 where
+    step : (p : Stream.Past) (o : Origin.Past) → Loose old p o → Since (Loose new) p
+
+  -- the exchange is over, or is another one
+  record Ends (old new : GatewayConnection) : Type 0 where
+    step : (p : Stream.Past) (o : Origin.Past) → Loose old p o → Since (Held new) p
+
+  record Leads (old new : GatewayConnection) : Type 0 where
+    step : (p : Stream.Past) (o : Origin.Past) → Held old p o → Since (Held new) p
+
+  goes_then : {a b c : GatewayConnection} → Goes a b → Goes b c → Goes a c
+  goes_then {a} {b} {c} f g = record { step = λ p o x. since_then (Loose b) (Loose c) p (f.step p o x) g.step }
+
+  goes_end : {a b c : GatewayConnection} → Goes a b → Ends b c → Ends a c
+  goes_end {a} {b} {c} f g = record { step = λ p o x. since_then (Loose b) (Held c) p (f.step p o x) g.step }
+
+  leads_then : {a b c : GatewayConnection} → Leads a b → Leads b c → Leads a c
+  leads_then {a} {b} {c} f g = record { step = λ p o h. since_then (Held b) (Held c) p (f.step p o h) g.step }
+
+  freely : {old new : GatewayConnection} → Ends old new → Leads old new
+  freely e = record { step = λ p o h. e.step p o h.0 }
+
+  -- the new state is this one
+  after : {new now : GatewayConnection} (p : Stream.Past) → new ≡ now → Since (Held now) p → Since (Held new) p
+  after p is x = subst (λ (m : GatewayConnection). Since (Held m) p) (sym is) x
+
+  kept : {old new now : GatewayConnection} → new ≡ now
+      → ((p : Stream.Past) (o : Origin.Past) → Loose old p o → Loose now p o) → Goes old new
+  kept {old} is same = subst (λ (m : GatewayConnection). Goes old m) (sym is)
+      (record { step = λ p o x. (p, o, same p o x, refl, refl) })
+
+  ends : {old new now : GatewayConnection} → new ≡ now
+      → ((p : Stream.Past) (o : Origin.Past) → Loose old p o → Held now p o) → Ends old new
+  ends is same = record { step = λ p o x. after p is (p, o, same p o x, refl, refl) }
+
+  stays : {old new now : GatewayConnection} → new ≡ now
+      → ((p : Stream.Past) (o : Origin.Past) → Held old p o → Held now p o) → Leads old new
+  stays is same = record { step = λ p o h. after p is (p, o, same p o h, refl, refl) }
+
+  unchanged : {old new : GatewayConnection} → new ≡ old → Leads old new
+  unchanged is = stays is (λ p o h. h)
+
+  tied_at : (m : GatewayConnection) (p : Stream.Past) (o : Origin.Past) (stage : Stage) → m.stage ≡ stage → Held m p o
+      → TiedAt uses stage (parts_of m p o)
+  tied_at m p o stage is h = subst (λ (s : Stage). TiedAt uses s (parts_of m p o)) is h.1
+
+  -- the client's connection alone goes
+  client_alone : (old : GatewayConnection) (client : StreamConnection) → ClientGoes old.client client
+      → Goes old (with_client old client)
+  client_alone old client goes = record {
+    step = λ p o x. let y = goes p x.1 x.2 in (y.0, o, (x.0, y.1, y.2, x.3), y.3, y.4);
+  }
+
+  heard_client : (old : GatewayConnection) (client : StreamConnection) (event : StreamEvent)
+      → StreamSteps.Says old.client event client → Goes old (with_client old client)
+  heard_client old client event says = client_alone old client (client_says old.client client event says)
+
+  -- and what was told and put of the exchange stays as it is
+  client_leads : (old : GatewayConnection) (client : StreamConnection) (goes : ClientGoes old.client client)
+      → ((p : Stream.Past) (r : Stream.IsReached limits old.client p) (s : Served limits uses p)
+      → (head_of (goes p r s).0.heard ≡ head_of p.heard) × ((goes p r s).0.answer.final ≡ p.answer.final))
+      → Leads old (with_client old client)
+  client_leads old client goes keeps = record {
+    step = λ p o h.
+        let y = goes p h.0.1 h.0.2 in
+        let k = keeps p h.0.1 h.0.2 in
+        let v : Parts = parts_of old p o in
+        let headed = subst (λ (head : Option StreamRequest). TiedAt uses old.stage (record v { head = head }))
+        (sym k.0) h.1 in
+        let tied = subst (λ (final : Final). TiedAt uses old.stage (record v {
+          head = head_of y.0.heard;
+          final = final;
+        })) (sym k.1) headed in
+        (y.0, o, ((h.0.0, y.1, y.2, h.0.3), tied), y.3, y.4);
+  }
+
+  -- the origin's connection alone goes, by which what it told becomes this
+  origin_goes : (g : Origin.Now → Origin.Now) (old : GatewayConnection) (origin : Option OriginConnection)
+      → ((o : Origin.Past) → Origins old.origin o → Origins origin (record o { now = g o.now }))
+      → Goes old (with_origin old origin)
+  origin_goes g old origin goes = record {
+    step = λ p o x. (p, record o { now = g o.now }, (x.0, x.1, x.2, goes o x.3), refl, refl);
+  }
+
+  origin_held : (g : Origin.Now → Origin.Now) (old : GatewayConnection) (origin : Option OriginConnection)
+      → ((o : Origin.Past) → Origins old.origin o → Origins origin (record o { now = g o.now })) → (p : Stream.Past)
+      (o : Origin.Past) → ((a : AskedRequest) (t : Told) → Carries old.origin o.now a t → Carries origin (g o.now) a t)
+      → Held old p o → Held (with_origin old origin) p (record o { now = g o.now })
+  origin_held g old origin goes p o carry h = (
+    (h.0.0, h.0.1, h.0.2, goes o h.0.3),
+    tied_on uses old.stage (parts_of old p o) origin (g o.now) carry h.1,
+  )
+
+  -- a step of the connection that there is
+  origin_at : (g : Origin.Now → Origin.Now) (old : Option OriginConnection) (before after : OriginConnection)
+      → old ≡ Some before → ((o : Origin.Past)
+      → Origin.IsReached limits before o → Origin.IsReached limits after (record o { now = g o.now }))
+      → (o : Origin.Past) → Origins old o → Origins (Some after) (record o { now = g o.now })
+  origin_at g old before after is step o x =
+      let y = subst (λ (m : Option OriginConnection). Origins m o) is x in (step o y.0, y.1)
+
+  -- nothing is put to it
+  origin_refuses : (old : GatewayConnection) (before after : OriginConnection) → old.origin ≡ Some before
+      → OriginSteps.PutsNothing before after → Goes old (with_origin old (Some after))
+  origin_refuses old before after is nothing = origin_goes (λ now. now) old
+      (Some after) (origin_at (λ now. now) old.origin before after is (λ o r. Origin.Refused before after o r nothing))
+
+  origin_says : (old new : Option OriginConnection) (event : OriginEvent) → SaysIn old event new → (o : Origin.Past)
+      → Origins old o → Origins new (record o { now = Origin.tell event o.now })
+  origin_says (Some old) (Some new) event says o x = (Origin.Said old new o event x.0 says, x.1)
+  origin_says None None event says o x = tt
+  origin_says old new event says o x = absurd says
+
+  heard_origin : (old : GatewayConnection) (origin : Option OriginConnection) (event : OriginEvent)
+      → SaysIn old.origin event origin → Goes old (with_origin old origin)
+  heard_origin old origin event says =
+      origin_goes (Origin.tell event) old origin (origin_says old.origin origin event says)
+
+  -- ---- answers
+
+  answers_with : (old between new : GatewayConnection) (own : Own) (heard : Option Heard) → Answers old own between
+      → new ≡ record between { heard = heard } → Ends old new
+  answers_with old between new own heard (inl h) last =
+      goes_end (client_alone old between.client (own_goes old.is_last old.date old.client between.client own h.0))
+      (ends (last ∙ ap (λ (m : GatewayConnection). record m { heard = heard }) h.1) (λ p o x. (x, tt)))
+  answers_with old between new own heard (inr h) last =
+      goes_end (client_alone old between.client (own_fails old.is_last old.date old.client between.client own h.0 h.1))
+      (ends (last ∙ ap (λ (m : GatewayConnection). record m { heard = heard }) h.2) (λ p o x. (x, tt)))
+
+  answers : (old new : GatewayConnection) (own : Own) → Answers old own new → Ends old new
+  answers old new own h = answers_with old new new own new.heard h refl
+
+  -- after a change of the client's connection
+  answers_after : (old new : GatewayConnection) (client : StreamConnection) (own : Own) → ClientGoes old.client client
+      → Answers (with_client old client) own new → Ends old new
+  answers_after old new client own goes h =
+      goes_end (client_alone old client goes) (answers (with_client old client) new own h)
+
+  fails : (old new : GatewayConnection) (own : Own) → Fails old own new → Ends old new
+  fails old new own (inl h) = ends h.1 (λ p o x. (x, tt))
+  fails old new own (inr h) = answers old new own h.1
+
+  fails_after : (old new : GatewayConnection) (client : StreamConnection) (own : Own) → ClientGoes old.client client
+      → Fails (with_client old client) own new → Ends old new
+  fails_after old new client own goes h =
+      goes_end (client_alone old client goes) (fails (with_client old client) new own h)
+
+  -- ---- what the client said
+
+  hears_nothing : (old : GatewayConnection) (client : StreamConnection)
+      → StreamSteps.Says old.client Is.NeedsInput client → Leads old (with_client old client)
+  hears_nothing old client says =
+      client_leads old client (client_says old.client client Is.NeedsInput says) (λ p r s. (refl, refl))
+
+  hears_content : (old : GatewayConnection) (client : StreamConnection) (piece : List ℕ)
+      → StreamSteps.Says old.client (Is.Content piece) client → Leads old (with_client old client)
+  hears_content old client piece says = client_leads old client
+      (client_says old.client client (Is.Content piece) says) (λ p r s. (content_head piece p.heard, refl))
+
+  hears_end : (old : GatewayConnection) (client : StreamConnection) (trailers : Entries FieldValue)
+      → StreamSteps.Says old.client (Is.End trailers) client → Leads old (with_client old client)
+  hears_end old client trailers says = client_leads old client
+      (client_says old.client client (Is.End trailers) says) (λ p r s. (end_head trailers p.heard, refl))
+
+  change_in : (f : Request → Request) (t : Told) (r : Request) (interim : List OriginResponse)
+      → Origin.change f (now_in t r interim) ≡ now_in t (f r) interim
+  change_in f Silent r interim = refl
+  change_in f (Telling response content) r interim = refl
+
+  -- the request goes on
+  puts_on : (f : Request → Request) (old : GatewayConnection) (before after : OriginConnection)
+      → old.origin ≡ Some before → ((o : Origin.Past)
+      → Origin.IsReached limits before o → Origin.IsReached limits after (record o { now = Origin.change f o.now }))
+      → ((a : AskedRequest) (r : Request) → IsFor a r → IsFor a (f r)) → Leads old (with_origin old (Some after))
+  puts_on f old before after is step sends = record {
+    step = λ p o h. (
+      p,
+      record o { now = Origin.change f o.now },
+      origin_held (Origin.change f) old (Some after) (origin_at (Origin.change f) old.origin before after is step) p o
+          (λ a t c. carries_on (Origin.change f) after refl c
+          (f c.request) c.interim (sends a c.request c.sends) (change_in f t c.request c.interim)) h,
+      refl,
+      refl,
+    );
+  }
+
+  puts_content : (old new : GatewayConnection) (piece : List ℕ) → PutsContent old piece new → Leads old new
+  puts_content old new piece h = leads_then (puts_on (Origin.with_piece piece) old h.0 h.1 h.2
+      (λ o r. Origin.Put h.0 h.1 o piece r h.3) (λ a r is. is)) (stays h.4 (λ p o x. x))
+
+  puts_request_end : (rules : GatewayRules) (old new : GatewayConnection) (trailers : Entries FieldValue)
+      → PutsRequestEnd rules old trailers new → Leads old new
+  puts_request_end rules old new trailers h = leads_then (puts_on (Origin.with_trailers h.5.0) old h.1 h.2 h.4
+      (λ o r. Origin.Closed h.1 h.2 o h.5.0 r h.5.2) (λ a r is. is)) (stays h.6 (λ p o x. x))
+
+  refuses_content : (old new : GatewayConnection) (piece : List ℕ) (error : WriteError)
+      → RefusesContent old piece error new → Goes old new
+  refuses_content old new piece error (inl h) = kept h.2 (λ p o x. x)
+  refuses_content old new piece error (inr h) = goes_then (origin_refuses old h.0 h.1 h.2 h.3.0) (kept h.4 (λ p o x. x))
+
+  refuses_request_end : (gateway : Gateway) (a : AskedRequest) (trailers : Entries FieldValue)
+      (old : GatewayConnection) (before after : OriginConnection) (error : WriteError) → old.origin ≡ Some before
+      → RefusesRequestEnd gateway a trailers before error after → Goes old (with_origin old (Some after))
+  refuses_request_end gateway a trailers old before after error is (inl h) = origin_goes (λ now. now) old (Some after)
+      (λ o x. subst (λ (m : Option OriginConnection). Origins m o) (is ∙ ap Some (sym h.0)) x)
+  refuses_request_end gateway a trailers old before after error is (inr h) = origin_refuses old before after is h.2.0
+
+  refuses_end : (rules : GatewayRules) (old new : GatewayConnection) (trailers : Entries FieldValue)
+      (error : WriteError) → RefusesEnd rules old trailers error new → Goes old new
+  refuses_end rules old new trailers error (inl h) = kept h.1 (λ p o x. x)
+  refuses_end rules old new trailers error (inr h) =
+      goes_then (refuses_request_end rules.gateway h.0 trailers old h.1 h.2 error h.4 h.5) (kept h.6 (λ p o x. x))
+
+  hears_client : (rules : GatewayRules) (old new : GatewayConnection) (client : StreamConnection) (event : StreamEvent)
+      → StreamSteps.Says old.client event client → PassesUp rules (with_client old client) event new → Leads old new
+  hears_client rules old new client Is.NeedsInput says is =
+      leads_then (hears_nothing old client says) (stays is (λ p o h. h))
+  hears_client rules old new client (Is.Content piece) says (inl h) =
+      leads_then (hears_content old client piece says) (puts_content (with_client old client) new piece h)
+  hears_client rules old new client (Is.Content piece) says (inr h) =
+      leads_then (hears_content old client piece says) (freely
+      (goes_end (refuses_content (with_client old client) h.1 piece h.0 h.2) (fails h.1 new (Because.Unsent h.0) h.3)))
+  hears_client rules old new client (Is.End trailers) says (inl h) =
+      leads_then (hears_end old client trailers says) (puts_request_end rules (with_client old client) new trailers h)
+  hears_client rules old new client (Is.End trailers) says (inr h) =
+      leads_then (hears_end old client trailers says) (freely (goes_end
+      (refuses_end rules (with_client old client) h.1 trailers h.0 h.2) (fails h.1 new (Because.Unsent h.0) h.3)))
+  hears_client rules old new client (Is.Rejected why) says h = freely (goes_end
+      (heard_client old client (Is.Rejected why) says) (fails (with_client old client) new (Because.Unread why) h))
+  hears_client rules old new client event says is =
+      freely (goes_end (heard_client old client event says) (ends is (λ p o x. (x, tt))))
+
+  -- ---- what the origin said
+
+  says_in : (old new : Option OriginConnection) (before : OriginConnection) (event : OriginEvent) → old ≡ Some before
+      → SaysIn old event new → (after : OriginConnection) × (new ≡ Some after) × OriginSteps.Says before event after
+  says_in (Some old) (Some new) before event is says = let same : old ≡ before = cc in
+      (new, refl, subst (λ (o : OriginConnection). OriginSteps.Says o event new) same says)
+  says_in None new before event is says = absurd (cc)
+  says_in (Some old) None before event is says = absurd says
+
+  -- the exchange goes on by what the origin's connection said
+  carries_said : {old new : Option OriginConnection} {now : Origin.Now} {a : AskedRequest} {t next : Told} (event
+      : OriginEvent) → SaysIn old event new → (c : Carries old now a t) (interim : List OriginResponse) → Origin.tell
+      event (now_in t c.request c.interim) ≡ now_in next c.request interim → Carries new (Origin.tell event now) a next
+  carries_said {old} {new} event says c interim turns = let s = says_in old new c.connection event c.is says in
+      carries_on (Origin.tell event) s.0 s.1 c c.request interim c.sends turns
+
+  -- the connection of an exchange was reached, and so was what it said
+  reached_in : {origin : Option OriginConnection} {now : Origin.Now} {a : AskedRequest} {t : Told}
+      (c : Carries origin now a t) (o : Origin.Past) → Origins origin o → Origins (Some (c.connection)) o
+  reached_in c o x = subst (λ (m : Option OriginConnection). Origins m o) c.is x
+
+  -- what begins, carries and ends no response
+  abbrev IsQuiet : OriginEvent → Type 0
+  IsQuiet Comes.NeedsInput = Unit {0}
+  IsQuiet (Comes.Interim response) = Unit {0}
+  IsQuiet (Comes.Broken fault) = Unit {0}
+  IsQuiet event = ⊥
+
+  quiet_turns : (event : OriginEvent) (t : Told) → IsQuiet event → (r : Request) (interim : List OriginResponse)
+      → (later : List OriginResponse) × (Origin.tell event (now_in t r interim) ≡ now_in t r later)
+  quiet_turns Comes.NeedsInput t quiet r interim = (interim, refl)
+  quiet_turns (Comes.Broken fault) t quiet r interim = (interim, refl)
+  quiet_turns (Comes.Interim next) Silent quiet r interim = (interim ++ next ∷ [], refl)
+  quiet_turns (Comes.Interim next) (Telling response content) quiet r interim = (interim, refl)
+  quiet_turns event t quiet r interim = absurd quiet
+
+  said_quietly : (old : GatewayConnection) (origin : Option OriginConnection) (event : OriginEvent) → IsQuiet event
+      → SaysIn old.origin event origin → (p : Stream.Past) (o : Origin.Past) → Held old p o
+      → Held (with_origin old origin) p (record o { now = Origin.tell event o.now })
+  said_quietly old origin event quiet says p o h =
+      origin_held (Origin.tell event) old origin (origin_says old.origin origin event says) p o (λ a t c.
+      let turns = quiet_turns event t quiet c.request c.interim in carries_said event says c turns.0 turns.1) h
+
+  -- a response without content
+  abbrev bare_of : ℕ → OriginResponse → List Header → Bare
+  bare_of minor response fields =
+      record { minor = minor; status = response.status; reason = response.reason; headers = fields }
+
+  -- what an origin's connection tells of an interim response
+  interim_passed : (old new : Option OriginConnection) (rules : GatewayRules) (date : ℕ) (a : AskedRequest)
+      (response : OriginResponse) (sent : ForwardedResponse) (o : Origin.Past) → IsIn rules uses.rules
+      → IsDecided uses a → Origins old o → Carries old o.now a Silent → SaysIn old (Comes.Interim response) new
+      → IsForwardedResponse rules.gateway date (answered a response.status response) sent
+      → IsInterim limits uses a.head (bare_of 1 response (fields_of sent.fields.items))
+  interim_passed old new rules date a response sent o among decided x c says forwards =
+      let s = says_in old new c.connection (Comes.Interim response) c.is says in
+      let y = reached_in c o x in
+      inr (record {
+        asked = a;
+        head_is = refl;
+        decided = decided;
+        heard = record { response = response; sent = sent };
+        forwarded = (rules, among, date, forwards);
+        puts = refl;
+        origin = s.0;
+        past = record o { now = Origin.tell (Comes.Interim response) o.now };
+        reached = Origin.Said c.connection s.0 o (Comes.Interim response) y.0 s.2;
+        traffic = y.1.0;
+        request = c.request;
+        sends = c.sends;
+        before = c.interim;
+        told = ap (Origin.tell (Comes.Interim response)) c.told;
+      })
+
+  passes_interim : (rules : GatewayRules) (date : ℕ) (m new : GatewayConnection)
+      (a : AskedRequest) (response : OriginResponse) (p : Stream.Past) (o : Origin.Past) → head_of p.heard ≡ Some a.head
+      → ((sent : ForwardedResponse) → IsForwardedResponse rules.gateway date (answered a response.status response) sent
+      → IsInterim limits uses a.head (bare_of 1 response (fields_of sent.fields.items)))
+      → PassesInterim rules date m a response new → Held m p o → Since (Held new) p
+  passes_interim rules date m new a response p o head is (inl (sent, forwards, inl h)) x =
+      let b : Bare = bare_of 1 response (fields_of sent.fields.items) in
+      let served = informed_served b p x.0.2 (λ (asked : StreamRequest)
+      (is_asked : head_of p.heard ≡ Some asked). let same : a.head ≡ asked = cc (sym head ∙ is_asked) in
+      subst (λ (g : StreamRequest). IsInterim limits uses g b) same (is sent forwards)) in
+      let reached = Stream.Informed m.client new.client p response.status response.reason (fields_of sent.fields.items)
+      x.0.1 h.0 in after p h.1 (Stream.informs b p, o, ((x.0.0, reached, served, x.0.3), x.1), refl, refl)
+  passes_interim rules date m new a response p o head is (inl (sent, forwards, inr h)) x =
+      (fails_after m new h.1 (Because.Unsendable h.0) (client_fails m.client h.1 h.2) h.3).step p o x.0
+  passes_interim rules date m new a response p o head is (inr (inl h)) x = (unchanged h.1).step p o x
+  passes_interim rules date m new a response p o head is (inr (inr (inl h))) x =
+      (fails m new (Because.Response h.0) h.2).step p o x.0
+  passes_interim rules date m new a response p o head is (inr (inr (inr h))) x =
+      (fails m new Because.OutOfMemory h).step p o x.0
+
+  faulted : (old new : GatewayConnection) (fault : OriginFault) (p : Stream.Past) (o : Origin.Past)
+      → Faulted old fault new → Held old p o → Since (Held new) p
+  faulted old new fault p o (inl h) x =
+      let t = tied_at old p o At.Forwarding h.0.1 x in after p h.1 (p, o, (x.0, t.0), refl, refl)
+  faulted old new fault p o (inr h) x = (fails old new (Because.Origin fault) h.1).step p o x.0
+
+  -- ---- the head of a response
+
+  -- what an origin's connection tells of a response, as far as it is put
+  passed_on : (connection : OriginConnection) (o : Origin.Past) (a : AskedRequest) (h : Heard) (content : List ℕ)
+      (r : Response) (trailers : Option (Entries FieldValue)) (request : Request) (interim : List OriginResponse)
+      → IsDecided uses a → IsHeard uses a h → HasHead h content r → EndsAs uses h trailers r.trailers
+      → Origins (Some connection) o → IsFor a request
+      → o.now ≡ now_of trailers request interim h.response content → IsPassedOn limits uses a.head r
+  passed_on connection o a h content r trailers request interim decided forwarded puts ends x sends told = record {
+    asked = a;
+    head_is = refl;
+    decided = decided;
+    heard = h;
+    forwarded = forwarded;
+    content = content;
+    puts = puts;
+    trailers = trailers;
+    ends = ends;
+    origin = connection;
+    past = o;
+    reached = x.0;
+    traffic = x.1.0;
+    request = request;
+    sends = sends;
+    interim = interim;
+    told = told;
+  }
+
+  shows : (m between new : GatewayConnection) (h : Heard) (a : AskedRequest) (p : Stream.Past) (o : Origin.Past)
+      → IsAsked uses m.asked (head_of p.heard) a → PutsHead m h between → new ≡ record between { heard = Some h }
+      → Loose m p o → Carries m.origin o.now a (Telling h.response []) → IsHeard uses a h → Since (Held new) p
+  shows m between new h a p o asked (inl put) last x c forwarded =
+      let fields = closing m.is_last (fields_of h.sent.fields.items) in
+      let r : Response = Stream.begins m.client.server h.response.status h.response.reason fields
+      (response_size h.sent.content) in
+      let puts : HasHead h [] r = record {
+        status = refl;
+        reason = refl;
+        is_last = m.is_last;
+        headers = refl;
+        size = refl;
+        content_is = refl;
+      } in
+      let reached = Stream.Responded m.client between.client p h.response.status h.response.reason fields
+      (response_size h.sent.content) x.1 put.0 in
+      let served = put_for a.head (Begun r) p x.2 asked.head_is (inr (inr (passed_on c.connection o a h [] r None
+      c.request c.interim asked.decided forwarded puts tt (reached_in c o x.3) c.sends c.told))) in
+      let judged : Judged uses m.asked (head_of p.heard) (Some h) =
+      record { a = a; asked_is = asked; h = h; is = refl; forwarded = forwarded } in
+      let shown : Shows (Begun r) h =
+      record { content = []; response = r; is = refl; whole = refl; puts = puts } in
+      after p (last ∙ ap (λ (g : GatewayConnection). record g { heard = Some h }) put.1)
+      (Stream.answers (Begun r) p, o, ((x.0, reached, served, x.3), (judged, shown, c)), refl, refl)
+  shows m between new h a p o asked (inr f) last x c forwarded =
+      (goes_end (client_alone m f.1 (client_fails m.client f.1 f.2))
+      (answers_with (with_client m f.1) between new (Because.Unsendable f.0) (Some h) f.3 last)).step p o x
+
+  tells_head : (watches : Bool) (m new : GatewayConnection) (h : Heard) (a : AskedRequest) (p : Stream.Past)
+      (o : Origin.Past) → IsAsked uses m.asked (head_of p.heard) a → TellsHead watches m h new → Loose m p o
+      → Carries m.origin o.now a (Telling h.response []) → IsHeard uses a h → Since (Held new) p
+  tells_head true m new h a p o asked is x c forwarded = let judged : Judged uses m.asked
+      (head_of p.heard) (Some h) = record { a = a; asked_is = asked; h = h; is = refl; forwarded = forwarded } in
+      after p is (p, o, (x, (judged, c)), refl, refl)
+  tells_head false m new h a p o asked shown x c forwarded =
+      shows m shown.0 new h a p o asked shown.1 shown.2 x c forwarded
+
+  not-false : (b : Bool) → not b ≡ false → b ≡ true
+  not-false true is = refl
+  not-false false is = absurd (cc)
+
+  -- a final response is known to every client
+  known_final : (client : Protocol) (status : ℕ) → is_known_to client status ≡ false → (status == 101) ≡ false
+      → Http.is_interim status ≡ false → ⊥
+  known_final Speaks.Http10 status unknown other final =
+      let interim : Responses.is_interim status ≡ true = not-false (Responses.is_interim status) unknown in
+      let low = and_parts (nat_le 100 status) (nat_lt status 200) interim in
+      let clash : true ≡ false = rw (low.1, other) at final in absurd (cc)
+  known_final Speaks.Http11 status unknown other final = absurd (cc)
+
+  passes_head : (rules : GatewayRules) (date : ℕ) (m new : GatewayConnection)
+      (a : AskedRequest) (response : OriginResponse) (p : Stream.Past) (o : Origin.Past) → IsIn rules uses.rules
+      → Http.is_interim response.status ≡ false → IsAsked uses m.asked (head_of p.heard) a → PassesHead
+      rules date m a response new → Loose m p o → Carries m.origin o.now a (Telling response []) → Since (Held new) p
+  passes_head rules date m new a response p o among final asked (inl h) x c = tells_head m.watches m new
+      (record { response = response; sent = h.0 }) a p o asked h.2 x c (rules, among, date, h.1)
+  passes_head rules date m new a response p o among final asked (inr (inl h)) x c =
+      absurd (known_final (protocol_of a.head.minor) response.status h.0.unknown h.0.accepted.same_protocol final)
+  passes_head rules date m new a response p o among final asked (inr (inr (inl h))) x c =
+      (fails m new (Because.Response h.0) h.2).step p o x
+  passes_head rules date m new a response p o among final asked (inr (inr (inr h))) x c =
+      (fails m new Because.OutOfMemory h).step p o x
+
+  -- what an origin's connection tells of a response that ends HTTP
+  switch_passed : (old new : Option OriginConnection) (rules : GatewayRules) (date : ℕ) (a : AskedRequest)
+      (response : OriginResponse) (fields : List Header) (minor : ℕ) (o : Origin.Past) → IsIn rules uses.rules
+      → IsDecided uses a → Origins old o → Carries old o.now a Silent → SaysIn old (Comes.Switched response) new
+      → IsSwitched rules.gateway date a response fields → IsSwitch limits uses a.head (bare_of minor response fields)
+  switch_passed old new rules date a response fields minor o among decided x c says switches =
+      let s = says_in old new c.connection (Comes.Switched response) c.is says in
+      let y = reached_in c o x in
+      inr (record {
+        asked = a;
+        head_is = refl;
+        decided = decided;
+        rules = rules;
+        among = among;
+        date = date;
+        response = response;
+        fields = fields;
+        switches = switches;
+        status = refl;
+        reason = refl;
+        headers = refl;
+        origin = s.0;
+        past = record o { now = Origin.tell (Comes.Switched response) o.now };
+        reached = Origin.Said c.connection s.0 o (Comes.Switched response) y.0 s.2;
+        traffic = y.1.0;
+        request = c.request;
+        sends = c.sends;
+        interim = c.interim;
+        told = ap (Origin.tell (Comes.Switched response)) c.told;
+      })
+
+  passes_switch : (rules : GatewayRules) (date : ℕ) (m new : GatewayConnection) (a : AskedRequest)
+      (response : OriginResponse) (p : Stream.Past) (o : Origin.Past) → head_of p.heard ≡ Some a.head
+      → ((fields : List Header) → IsSwitched rules.gateway date a response fields
+      → IsSwitch limits uses a.head (bare_of m.client.server.request.minor response fields))
+      → PassesSwitch rules date m a response new → Loose m p o → Since (Held new) p
+  passes_switch rules date m new a response p o head is (inl (fields, switches, inl h)) x =
+      let b : Bare = bare_of m.client.server.request.minor response fields in
+      let reached = Stream.Handed m.client new.client p response.status response.reason fields x.1 h.0 in
+      let served = put_for a.head (Switched b) p x.2 head (is fields switches) in
+      after p h.1 (Stream.answers (Switched b) p, o, ((x.0, reached, served, x.3), tt), refl, refl)
+  passes_switch rules date m new a response p o head is (inl (fields, switches, inr h)) x =
+      (fails_after m new h.1 (Because.Unsendable h.0) (client_fails m.client h.1 h.2) h.3).step p o x
+  passes_switch rules date m new a response p o head is (inr h) x = (fails m new h.0 h.2).step p o x
+
+  -- ---- content, and the end
+
+  head_on : (h : Heard) (content : List ℕ) (r : Response) (more : List ℕ) (pieces : List (List ℕ))
+      (trailers : Option (List Header)) → HasHead h content r → concat pieces ≡ more
+      → HasHead h more (record r { pieces = pieces; trailers = trailers })
+  head_on h content r more pieces trailers puts is = record {
+    status = puts.status;
+    reason = puts.reason;
+    is_last = puts.is_last;
+    headers = puts.headers;
+    size = puts.size;
+    content_is = is;
+  }
+
+  shown : (m new : GatewayConnection) (piece : List ℕ) (p : Stream.Past) (o : Origin.Past) → m.stage ≡ At.Passing
+      → (j : Judged uses m.asked (head_of p.heard) m.heard) (s : Shows p.answer.final j.h)
+      → Carries m.origin o.now j.a (Telling j.h.response (s.content ++ piece))
+      → StreamSteps.Puts m.client piece new.client → Loose m p o → Since (Held (with_client m new.client)) p
+  shown m new piece p o at j s c put x =
+      let r : Response = Stream.with_piece piece s.response in
+      let puts : HasHead j.h (s.content ++ piece) r = head_on j.h s.content s.response (s.content ++ piece) r.pieces
+      r.trailers s.puts
+      (concat-append s.response.pieces (piece ∷ [])
+      ∙ ap (λ (t : List ℕ). concat s.response.pieces ++ t) (append-nil piece)
+      ∙ ap (λ (t : List ℕ). t ++ piece) s.puts.content_is) in
+      let q : Stream.Past = Stream.answers (Stream.change (Stream.with_piece piece) p.answer.final) p in
+      let unended = subst (λ (t : Option (List Header)). EndsAs uses j.h None t) (sym s.whole) tt in
+      let served = on_served (Stream.with_piece piece) s.response p s.is
+      (put_for j.a.head (Begun r) p x.2 j.asked_is.head_is (inr (inr (passed_on c.connection o j.a j.h
+      (s.content ++ piece) r None c.request c.interim j.asked_is.decided j.forwarded puts unended (reached_in c o x.3)
+      c.sends c.told)))) in
+      let shows : Shows q.answer.final j.h = record {
+        content = s.content ++ piece;
+        response = r;
+        is = ap (Stream.change (Stream.with_piece piece)) s.is;
+        whole = s.whole;
+        puts = puts;
+      } in
+      let tied = subst (λ (stage : Stage). TiedAt uses stage (parts_of (with_client m new.client) q o)) (sym at)
+      (j, shows, c) in
+      (q, o, ((x.0, Stream.Put m.client new.client p piece x.1 put, served, x.3), tied), refl, refl)
+
+  passes_piece : (m new : GatewayConnection) (piece : List ℕ) (told : Option GatewayEvent) (p : Stream.Past)
+      (o : Origin.Past) → m.stage ≡ At.Passing → (j : Judged uses m.asked (head_of p.heard) m.heard)
+      (s : Shows p.answer.final j.h) → Carries m.origin o.now j.a (Telling j.h.response (s.content ++ piece))
+      → PassesPiece m piece told new → Loose m p o → Since (Held new) p
+  passes_piece m new piece told p o at j s c (inl (put, inl w)) x = after p w.2 (shown m new piece p o at j s c put x)
+  passes_piece m new piece told p o at j s c (inl (put, inr w)) x = after p w.2 (shown m new piece p o at j s c put x)
+  passes_piece m new piece told p o at j s c (inr h) x = (goes_end
+      (client_alone m new.client (client_refuses m.client new.client h.1.0)) (ends h.3 (λ p o x. (x, tt)))).step p o x
+
+  end_refused : (gateway : Gateway) (h : Heard) (trailers : Entries FieldValue) (old new : StreamConnection)
+      (error : WriteError) → RefusesResponseEnd gateway h trailers old error new → ClientGoes old new
+  end_refused gateway h trailers old new error (inl f) = client_same f.0
+  end_refused gateway h trailers old new error (inr f) = client_refuses old new f.2.0
+
+  passes_end : (rules : GatewayRules) (old new : GatewayConnection) (origin : Option OriginConnection)
+      (trailers : Entries FieldValue) (p : Stream.Past) (o : Origin.Past) → IsIn rules uses.rules
+      → SaysIn old.origin (Comes.End trailers) origin → (j : Judged uses old.asked (head_of p.heard) old.heard)
+      (s : Shows p.answer.final j.h) → Carries old.origin o.now j.a (Telling j.h.response s.content)
+      → ((EndsResponse rules.gateway j.h trailers old.client new.client
+      × (new ≡ record (with_origin old origin) { client = new.client; stage = At.Ended }))
+      ⊎ ((error : WriteError) × RefusesResponseEnd rules.gateway j.h trailers old.client error new.client
+      × (new ≡ record (with_origin old origin) { client = new.client; stage = At.Aborted })))
+      → Loose old p o → Since (Held new) p
+  passes_end rules old new origin trailers p o among says j s c (inl (e, over)) x =
+      let r : Response = Stream.with_trailers e.0 s.response in
+      let puts : HasHead j.h s.content r =
+      head_on j.h s.content s.response s.content r.pieces r.trailers s.puts s.puts.content_is in
+      let t = says_in old.origin origin c.connection (Comes.End trailers) c.is says in
+      let y = reached_in c o x.3 in
+      let n : Origin.Past = record o { now = Origin.tell (Comes.End trailers) o.now } in
+      let passed = passed_on t.0 n j.a j.h s.content r (Some trailers) c.request c.interim j.asked_is.decided
+      j.forwarded puts (rules, among, e.1) (Origin.Said c.connection t.0 o (Comes.End trailers) y.0 t.2, y.1) c.sends
+      (ap (Origin.tell (Comes.End trailers)) c.told) in
+      let served = on_served (Stream.with_trailers e.0) s.response p s.is
+      (put_for j.a.head (Begun r) p x.2 j.asked_is.head_is (inr (inr passed))) in
+      let reached = Stream.Ended old.client new.client p e.0 x.1 e.2 in
+      let origins = origin_says old.origin origin (Comes.End trailers) says o x.3 in
+      let q : Stream.Past = Stream.answers (Stream.change (Stream.with_trailers e.0) p.answer.final) p in
+      after p over (q, n, ((x.0, reached, served, origins), tt), refl, refl)
+  passes_end rules old new origin trailers p o among says j s c (inr e) x =
+      (goes_end (heard_origin old origin (Comes.End trailers) says)
+      (goes_end (client_alone (with_origin old origin) new.client
+      (end_refused rules.gateway j.h trailers old.client new.client e.0 e.1))
+      (ends e.2 (λ p o x. (x, tt))))).step p o x
+
+  -- ---- steps
+
+  -- what is said of what there is
+  of_known : {A N : Type 0} {P : A → Type 0} {known : Option A} (a : A) → known ≡ Some a
+      → ((b : A) × (known ≡ Some b) × P b) ⊎ ((known ≡ None) × N) → P a
+  of_known {P = P} a is (inl h) = let same : h.0 ≡ a = cc (sym h.1 ∙ is) in subst P same h.2
+  of_known a is (inr h) = absurd (cc (sym h.0 ∙ is))
+
+  hears_forwarding : (rules : GatewayRules) (date : ℕ) (old new : GatewayConnection) (told : Option GatewayEvent)
+      → old.stage ≡ At.Forwarding → IsIn rules uses.rules → (origin : Option OriginConnection) (event : OriginEvent)
+      → SaysIn old.origin event origin → PassesDown rules date (with_origin old origin) event told new
+      → (p : Stream.Past) (o : Origin.Past) → Held old p o → Since (Held new) p
+  hears_forwarding rules date old new told at among origin Comes.NeedsInput says d p o h =
+      let n : Origin.Past = record o { now = Origin.tell Comes.NeedsInput o.now } in
+      after p d.1 (p, n, said_quietly old origin Comes.NeedsInput tt says p o h, refl, refl)
+  hears_forwarding rules date old new told at among origin (Comes.Interim response) says d p o h =
+      let t = tied_at old p o At.Forwarding at h in
+      passes_interim rules date (with_origin old origin) new t.0.a response p
+      (record o { now = Origin.tell (Comes.Interim response) o.now }) t.0.asked_is.head_is
+      (λ sent forwards. interim_passed old.origin origin rules date t.0.a response sent o among t.0.asked_is.decided h.0.3 t.1 says
+      forwards) (of_known t.0.a t.0.asked_is.is d.1) (said_quietly old origin (Comes.Interim response) tt says p o h)
+  hears_forwarding rules date old new told at among origin (Comes.Head response) says d p o h =
+      let t = tied_at old p o At.Forwarding at h in
+      let s = says_in old.origin origin t.1.connection (Comes.Head response) t.1.is says in
+      passes_head rules date (with_origin old origin) new t.0.a response p (record o {
+        now = Origin.tell
+            (Comes.Head response) o.now;
+      }) among (says_final t.1.connection s.0 response s.2) t.0.asked_is (of_known
+      t.0.a t.0.asked_is.is d.1) (h.0.0, h.0.1, h.0.2, origin_says old.origin origin (Comes.Head response) says o h.0.3)
+      (carries_said (Comes.Head response) says t.1 t.1.interim refl)
+  hears_forwarding rules date old new told at among origin (Comes.Content piece) says d p o h =
+      let t = tied_at old p o At.Forwarding at h in
+      let s = says_in old.origin origin t.1.connection (Comes.Content piece) t.1.is says in
+      absurd (content_late s.0 t.1.request t.1.interim piece (reached_in t.1 o h.0.3).0 t.1.told s.2)
+  hears_forwarding rules date old new told at among origin (Comes.End trailers) says d p o h =
+      let t = tied_at old p o At.Forwarding at h in
+      let s = says_in old.origin origin t.1.connection (Comes.End trailers) t.1.is says in
+      absurd (end_late s.0 t.1.request t.1.interim trailers (reached_in t.1 o h.0.3).0 t.1.told s.2)
+  hears_forwarding rules date old new told at among origin (Comes.Switched response) says d p o h =
+      let t = tied_at old p o At.Forwarding at h in
+      passes_switch rules date (with_origin old origin) new t.0.a response p
+      (record o { now = Origin.tell (Comes.Switched response) o.now }) t.0.asked_is.head_is
+      (λ fields switches. switch_passed old.origin origin rules date t.0.a response fields old.client.server.request.minor o among
+      t.0.asked_is.decided h.0.3 t.1 says switches) (of_known t.0.a t.0.asked_is.is d.1)
+      (h.0.0, h.0.1, h.0.2, origin_says old.origin origin (Comes.Switched response) says o h.0.3)
+  hears_forwarding rules date old new told at among origin Comes.Closed says d p o h =
+      (goes_end (heard_origin old origin Comes.Closed says)
+      (fails (with_origin old origin) new (Because.Origin Faults.CutShort) d.1)).step p o h.0
+  hears_forwarding rules date old new told at among origin (Comes.Broken fault) says d p o h =
+      faulted (with_origin old origin) new fault p (record o { now = Origin.tell (Comes.Broken fault) o.now }) d.1
+      (said_quietly old origin (Comes.Broken fault) tt says p o h)
+
+  hears_passing : (rules : GatewayRules) (date : ℕ) (old new : GatewayConnection) (told : Option GatewayEvent)
+      → old.stage ≡ At.Passing → IsIn rules uses.rules → (origin : Option OriginConnection) (event : OriginEvent)
+      → SaysIn old.origin event origin → PassesDown rules date (with_origin old origin) event told new
+      → (p : Stream.Past) (o : Origin.Past) → Held old p o → Since (Held new) p
+  hears_passing rules date old new told at among origin Comes.NeedsInput says d p o h =
+      let n : Origin.Past = record o { now = Origin.tell Comes.NeedsInput o.now } in
+      after p d.1 (p, n, said_quietly old origin Comes.NeedsInput tt says p o h, refl, refl)
+  hears_passing rules date old new told at among origin (Comes.Interim response) says d p o h =
+      let t = tied_at old p o At.Passing at h in
+      let s = says_in old.origin origin t.2.connection (Comes.Interim response) t.2.is says in
+      absurd (interim_late s.0 t.2.request t.2.interim t.0.h.response response t.1.content
+      (reached_in t.2 o h.0.3).0 t.2.told s.2)
+  hears_passing rules date old new told at among origin (Comes.Head response) says d p o h =
+      let t = tied_at old p o At.Passing at h in
+      let s = says_in old.origin origin t.2.connection (Comes.Head response) t.2.is says in
+      absurd (heads_once s.0 t.2.request t.2.interim t.0.h.response response t.1.content (reached_in t.2 o h.0.3).0
+      t.2.told s.2)
+  hears_passing rules date old new told at among origin (Comes.Content piece) says d p o h =
+      let t = tied_at old p o At.Passing at h in
+      passes_piece (with_origin old origin) new piece told p
+      (record o { now = Origin.tell (Comes.Content piece) o.now }) at t.0 t.1 (carries_said (Comes.Content piece) says
+      t.2 t.2.interim refl) d (h.0.0, h.0.1, h.0.2, origin_says old.origin origin (Comes.Content piece) says o h.0.3)
+  hears_passing rules date old new told at among origin (Comes.End trailers) says d p o h =
+      let t = tied_at old p o At.Passing at h in
+      passes_end rules old new origin trailers p o among says t.0 t.1 t.2 (of_known t.0.h t.0.is d.1) h.0
+  hears_passing rules date old new told at among origin (Comes.Switched response) says d p o h =
+      let t = tied_at old p o At.Passing at h in
+      let s = says_in old.origin origin t.2.connection (Comes.Switched response) t.2.is says in
+      absurd (switch_late s.0 t.2.request t.2.interim t.0.h.response response t.1.content
+      (reached_in t.2 o h.0.3).0 t.2.told s.2)
+  hears_passing rules date old new told at among origin Comes.Closed says d p o h =
+      (goes_end (heard_origin old origin Comes.Closed says)
+      (fails (with_origin old origin) new (Because.Origin Faults.CutShort) d.1)).step p o h.0
+  hears_passing rules date old new told at among origin (Comes.Broken fault) says d p o h =
+      faulted (with_origin old origin) new fault p (record o { now = Origin.tell (Comes.Broken fault) o.now }) d.1
+      (said_quietly old origin (Comes.Broken fault) tt says p o h)
+
+  transfers : (rules : GatewayRules) (date : ℕ) (old new : GatewayConnection) (told : Option GatewayEvent)
+      → ((origin : Option OriginConnection) (event : OriginEvent) → SaysIn old.origin event origin
+      → PassesDown rules date (with_origin old origin) event told new → (p : Stream.Past) (o : Origin.Past)
+      → Held old p o → Since (Held new) p) → Transfers rules date old told new → Leads old new
+  transfers rules date old new told hears (inl h) =
+      let x = h.1 in record { step = λ p o y. hears x.1 x.0 x.2 x.3 p o y }
+  transfers rules date old new told hears (inr (inl h)) = let x = h.2 in hears_client rules old new x.1 x.0 x.2 x.3
+  transfers rules date old new told hears (inr (inr h)) = unchanged h.1
+
+  answers_head : (old new : GatewayConnection) (client : StreamConnection) (head : StreamRequest) (own : Own)
+      → StreamSteps.Says old.client (Is.Head head) client → Answers (begun (with_client old client)) own new
+      → Ends old new
+  answers_head old new client head own says h =
+      goes_end {b = begun (with_client old client)} (goes_then (heard_client old client (Is.Head head) says)
+      (kept refl (λ p o x. x))) (answers (begun (with_client old client)) new own h)
+
+  follows_head : (old new : GatewayConnection) (client : StreamConnection) (head : StreamRequest) (rules : GatewayRules)
+      (decision : RequestDecision) → IsIn rules uses.rules → IsDecision rules old.peer head decision → StreamSteps.Says
+      old.client (Is.Head head) client → Follows (begun (with_client old client)) head decision new → Ends old new
+  follows_head old new client head rules (Decides.Send outgoing) among decided says is = record {
+    step = λ p o x.
+        let a : AskedRequest = record { head = head; outgoing = outgoing } in
+        let is_decided : IsDecided uses a =
+        (rules, among, subst (λ (peer : Peer). IsDecision rules peer head (Decides.Send outgoing)) x.0 decided) in
+        let asked : IsAsked uses (Some a) (Some head) a =
+        record { is = refl; head_is = refl; decided = is_decided } in
+        let waits : Waiting uses (Some a) (sent_fields (begun old)) (Some head) =
+        record { a = a; asked_is = asked; are = inl refl } in
+        let reached = Stream.Said old.client client p (Is.Head head) x.1 says in
+        let q : Stream.Past = Stream.tell (Is.Head head) p in
+        after p is (q, o, ((x.0, reached, tell_served (Is.Head head) p x.2, x.3), waits), refl, refl);
+  }
+  follows_head old new client head rules (Decides.Answer own) among decided says h =
+      answers_head old new client head own says h
+
+  considers_head : (rules : GatewayRules) (old new : GatewayConnection) (client : StreamConnection)
+      (head : StreamRequest) → IsIn rules uses.rules → StreamSteps.Says old.client (Is.Head head) client
+      → Considers rules (with_client old client) head new → Ends old new
+  considers_head rules old new client head among says (inl h) =
+      follows_head old new client head rules h.0 among h.1 says h.2
+  considers_head rules old new client head among says (inr h) =
+      answers_head old new client head Because.OutOfMemory says h
+
+  awaits_request : (rules : GatewayRules) (old new : GatewayConnection)
+      (told : Option GatewayEvent) (client : StreamConnection) (event : StreamEvent) → IsIn rules uses.rules
+      → StreamSteps.Says old.client event client → Awaits rules (with_client old client) event told new → Leads old new
+  awaits_request rules old new told client Is.NeedsInput among says h =
+      leads_then (hears_nothing old client says) (stays h.1 (λ p o h. h))
+  awaits_request rules old new told client (Is.Head head) among says h =
+      freely (considers_head rules old new client head among says h.1)
+  awaits_request rules old new told client (Is.Content piece) among says h =
+      leads_then (hears_content old client piece says) (unchanged h.1)
+  awaits_request rules old new told client (Is.End trailers) among says h =
+      leads_then (hears_end old client trailers says) (stays h.1 (λ p o h. h))
+  awaits_request rules old new told client (Is.Rejected why) among says h = freely (goes_end
+      (heard_client old client (Is.Rejected why) says) (answers (with_client old client) new (Because.Unread why) h.1))
+  awaits_request rules old new told client event among says h =
+      freely (goes_end (heard_client old client event says) (ends h.1 (λ p o x. (x, tt))))
+
+  next_tied : (m : GatewayConnection) (stage : Stage) (v : Parts) → IsNext m stage → TiedAt uses stage v
+  next_tied m stage v (inl h) = subst (λ (s : Stage). TiedAt uses s v) (sym h.1) tt
+  next_tied m stage v (inr h) = subst (λ (s : Stage). TiedAt uses s v) (sym h.1) tt
+
+  steps : (rules : GatewayRules) (date : ℕ) (stage : Stage) (old new : GatewayConnection) (told : Option GatewayEvent)
+      → old.stage ≡ stage → IsIn rules uses.rules → StepsAt stage rules date old told new → Leads old new
+  steps rules date At.Idle old new told is among h = awaits_request rules old new told h.1 h.0 among h.2 h.3
+  steps rules date At.Forwarding old new told is among h =
+      transfers rules date old new told (hears_forwarding rules date old new told is among) h
+  steps rules date At.Passing old new told is among h =
+      transfers rules date old new told (hears_passing rules date old new told is among) h
+  steps rules date At.Ended old new told is among h =
+      freely (ends h.2 (λ p o x. (x, next_tied old new.stage (parts_of old p o) h.1)))
+  steps rules date At.Repeating old new told is among h =
+      record { step = λ p o x. after p h.1 (p, o, (x.0, tied_at old p o At.Repeating is x), refl, refl) }
+  steps rules date stage old new told is among h = unchanged h.1
+
+  runs_on : {rules : GatewayRules} {date : ℕ} {old new : GatewayConnection} → IsIn rules uses.rules
+      → Runs rules date old new → Leads old new
+  runs_on among Rests = unchanged refl
+  runs_on {rules} {date} among (Went between last before step) =
+      leads_then (runs_on among before) (steps rules date between.stage between last None refl among step)
+
+  says_at : (rules : GatewayRules) (date : ℕ) (between new : GatewayConnection) (event : GatewayEvent)
+      → IsIn rules uses.rules
+      → (Steps rules date between (Some event) new ⊎ ((event ≡ Tells.Waits) × (new ≡ between))) → Leads between new
+  says_at rules date between new event among (inl h) =
+      steps rules date between.stage between new (Some event) refl among h
+  says_at rules date between new event among (inr h) = unchanged h.1
+
+  says : (rules : GatewayRules) (date : ℕ) (old new : GatewayConnection) (event : GatewayEvent)
+      → IsIn rules uses.rules → Says rules date old event new → Leads old new
+  says rules date old new event among h = leads_then (runs_on among h.1) (says_at rules date h.0 new event among h.2)
+
+  -- ---- the caller's calls
+
+  -- the request was begun, and nothing came of a response
+  abbrev IsSentTo : AskedRequest → OriginConnection → Type 0
+  IsSentTo a m =
+      (n : Origin.Past) × Origins (Some m) n × (request : Request) × IsFor a request × (n.now ≡ Origin.Asked request [])
+
+  puts_request : (a : AskedRequest) (fields : List Header) (old new : OriginConnection) (o : Origin.Past)
+      → AreFieldsOf a fields → PutsRequest a fields old new → Origins (Some old) o → IsSentTo a new
+  puts_request a fields old new o are puts x = (
+    _,
+    (
+      Origin.Begun old new o a.head.method a.outgoing.target fields (request_size a.outgoing.framing) x.0 puts,
+      x.1,
+    ),
+    Origin.asks a.head.method a.outgoing.target fields (request_size a.outgoing.framing),
+    (refl, refl, are),
+    refl,
+  )
+
+  ends_if : (a : AskedRequest) (whole : Bool) (old new : OriginConnection) → EndsIf whole old new → IsSentTo a old
+      → IsSentTo a new
+  ends_if a true old new h x = (
+    _,
+    (Origin.Closed old new x.0 [] x.1.0 h, x.1.1),
+    Origin.with_trailers [] x.2,
+    x.3,
+    ap (Origin.change (Origin.with_trailers [])) x.4,
+  )
+  ends_if a false old new h x = subst (λ (m : OriginConnection). IsSentTo a m) (sym h) x
+
+  begins_at : (asked : Option AskedRequest) (a : AskedRequest) (m : GatewayConnection) (old new : OriginConnection)
+      (goes : Bool) (o : Origin.Past) → asked ≡ Some a → AreFieldsOf a (sent_fields m a)
+      → BeginsAt asked m old new goes → Origins (Some old) o → IsSentTo a new
+  begins_at (Some b) a m old new goes o is are h x = let same : b ≡ a = cc in
+      let begins = subst (λ (r : AskedRequest). Begins r (sent_fields m r) m.whole old new) same h.0 in
+      ends_if a m.whole begins.0 new begins.2 (puts_request a (sent_fields m a) old begins.0 o are begins.1 x)
+  begins_at None a m old new goes o is are h x = absurd (cc)
+
+  refuses_begin : (a : AskedRequest) (fields : List Header) (old new : OriginConnection) (error : WriteError)
+      (o : Origin.Past) → RefusesBegin a fields old error new → Origins (Some old) o
+      → (n : Origin.Past) × Origins (Some new) n
+  refuses_begin a fields old new error o (inl (inl h)) x =
+      (o, subst (λ (m : OriginConnection). Origins (Some m) o) (sym h.0) x)
+  refuses_begin a fields old new error o (inl (inr h)) x = (o, (Origin.Refused old new o x.0 h.0, x.1))
+  refuses_begin a fields old new error o (inr h) x = (
+    _,
+    (
+      Origin.Refused h.0 new _ (Origin.Begun old h.0 o a.head.method a.outgoing.target fields
+          (request_size a.outgoing.framing) x.0 h.1) h.2.0,
+      x.1,
+    ),
+  )
+
+  refuses_begin_at : (asked : Option AskedRequest) (m : GatewayConnection) (old new : OriginConnection)
+      (error : WriteError) (o : Origin.Past) → RefusesBeginAt asked m old error new → Origins (Some old) o
+      → (n : Origin.Past) × Origins (Some new) n
+  refuses_begin_at (Some a) m old new error o h x = refuses_begin a (sent_fields m a) old new error o h x
+  refuses_begin_at None m old new error o h x = (o, subst (λ (m : OriginConnection). Origins (Some m) o) (sym h.1) x)
+
+  continues_if : (goes : Bool) (old new : GatewayConnection) → ContinuesIf goes old new → Leads old new
+  continues_if false old new h = unchanged h
+  continues_if true old new (inl h) = leads_then (client_leads old new.client
+      (client_continues old.client new.client h.0) (λ p r s. (refl, refl))) (stays h.1 (λ p o h. h))
+  continues_if true old new (inr h) =
+      freely (answers_after old new h.1 (Because.Unsendable h.0) (client_refuses old.client h.1 h.2.0) h.3)
+
+  -- the request that waits is sent over this connection, which was reached
+  sends : (old new : GatewayConnection) (origin : OriginConnection) (watches : Bool) (p : Stream.Past)
+      (o : Origin.Past) → Waiting uses old.asked (sent_fields old) (head_of p.heard)
+      → Loose (with_origin old None) p o → Origins (Some origin) o → Sends old origin watches new → Since (Held new) p
+  sends old new origin watches p o w x y (inl h) =
+      let b = begins_at old.asked w.a old origin h.0 h.1 o w.asked_is.is w.are h.2 y in
+      let c : Carries (Some (h.0)) b.0.now w.a Silent = record {
+        connection = h.0;
+        is = refl;
+        request = b.2;
+        sends = b.3;
+        interim = [];
+        told = b.4;
+      } in
+      let leads = continues_if h.1 (record (taking old h.0 watches) { stage = At.Forwarding }) new h.3 in
+      leads.step p b.0 ((x.0, x.1, x.2, b.1), (w, c))
+  sends old new origin watches p o w x y (inr h) = let n = refuses_begin_at old.asked old origin h.0 h.1 o h.2 y in
+      (answers (taking old h.0 watches) new (Because.Unsent h.1) h.3).step p n.0 (x.0, x.1, x.2, n.1)
+
+  -- the response that waits may be read to its end
+  settles_as : (old new : GatewayConnection) → Settles old new → (new ≡ record old { origin = new.origin })
+      × ((o : Origin.Past) → Origins old.origin o → (n : Origin.Past) × Origins new.origin n)
+  settles_as old new (inl h) = (
+    subst (λ (m : GatewayConnection). m ≡ record old { origin = m.origin }) (sym h.1) refl,
+    λ o x. (o, subst (λ (m : GatewayConnection). Origins m.origin o) (sym h.1) x),
+  )
+  settles_as old new (inr h) = (
+    h.3,
+    λ o x. (record o { now = Origin.tell h.1 o.now }, origin_says old.origin new.origin h.1 h.2 o x),
+  )
+
+  settles : (old new : GatewayConnection) → Settles old new → Goes old new
+  settles old new h = let s = settles_as old new h in
+      goes_then {b = record old { origin = new.origin }} (record
+      { step = λ p o x. let n = s.1 o x.3 in (p, n.0, (x.0, x.1, x.2, n.1), refl, refl) }) (kept s.0 (λ p o x. x))
+
+  answers_settled : (old between new : GatewayConnection) (own : Own) → Settles old between → Answers between own new
+      → Leads old new
+  answers_settled old between new own settled h = freely (goes_end (settles old between settled)
+      (answers between new own h))
+
+  asks_again : (old new : GatewayConnection) → AsksAgain old new → Leads old new
+  asks_again old new (inl h) = unchanged h.1
+  asks_again old new (inr (at, between, settled, inl h)) =
+      answers_settled old between new (Because.Chosen 502) settled h.1
+  asks_again old new (inr (at, between, settled, inr h)) = record {
+    step = λ p o x.
+        let j = (tied_at old p o At.Judging at x).0 in
+        let s = settles_as old between settled in
+        let n = s.1 o x.0.3 in
+        let w : Waiting uses old.asked (λ a. fields_of a.outgoing.fields.items) (head_of p.heard) =
+        record { a = j.a; asked_is = j.asked_is; are = inl refl } in
+        after p (h.1 ∙ ap (λ (m : GatewayConnection). record m {
+          heard = None;
+          conditional = None;
+          repeats = true;
+          stage = At.Repeating;
+        }) s.0) (p, n.0, ((x.0.0, x.0.1, x.0.2, n.1), w), refl, refl);
+  }
+
+  connects_as : (old new : GatewayConnection) → ConnectsAs old new → Ends old new
+  connects_as old new (inl h) =
+      goes_end (client_alone old new.client (client_connects old.client new.client h.0)) (ends h.1 (λ p o x. (x, tt)))
+  connects_as old new (inr h) =
+      answers_after old new h.1 (Because.Unsendable h.0) (client_refuses old.client h.1 h.2.0) h.3
+
+  connects : (old new : GatewayConnection) → Connects old new → Leads old new
+  connects old new (inl h) = unchanged h.1
+  connects old new (inr (asks, (event, client, says, goes))) =
+      freely (goes_end (heard_client old client event says) (connects_as (with_client old client) new goes))
+
+  gives : (old new : GatewayConnection) (status : ℕ) (reason : List ℕ) (fields : List Header) (size : BodySize)
+      → IsIn (record { status = status; reason = reason; fields = fields; size = size }) uses.given
+      → Gives old status reason fields size new → Ends old new
+  gives old new status reason fields size among h = record {
+    step = λ p o x.
+        let r : Response = Stream.begins old.client.server status reason (closing old.is_last fields) size in
+        let given : IsGiven uses r = (old.is_last, fields, refl, among) in
+        let reached = Stream.Responded old.client h.1 p status reason (closing old.is_last fields) size x.1 h.2 in
+        let served = put_served (Begun r) p x.2 (λ head is. inr (inl given)) in
+        let s = settles_as (with_client old h.1) h.3 h.4 in
+        let n = s.1 o x.3 in
+        after p (h.5 ∙ ap (λ (m : GatewayConnection). record m { stage = At.Giving }) s.0)
+        (Stream.answers (Begun r) p, n.0, ((x.0, reached, served, n.1), (r, refl, given)), refl, refl);
+  }
+
+  gives_piece : (old new : GatewayConnection) (piece : List ℕ) → old.stage ≡ At.Giving
+      → StreamSteps.Puts old.client piece new.client → new ≡ record old { client = new.client } → Leads old new
+  gives_piece old new piece at puts is = record {
+    step = λ p o x.
+        let g = tied_at old p o At.Giving at x in
+        let r : Response = Stream.with_piece piece g.0 in
+        let q : Stream.Past = Stream.answers (Stream.change (Stream.with_piece piece) p.answer.final) p in
+        let served = on_served (Stream.with_piece piece) g.0 p g.1
+        (put_served (Begun r) p x.0.2 (λ head is. inr (inl g.2))) in
+        let reached = Stream.Put old.client new.client p piece x.0.1 puts in
+        let tied = subst (λ (s : Stage). TiedAt uses s (parts_of (with_client old new.client) q o)) (sym at)
+        (r, ap (Stream.change (Stream.with_piece piece)) g.1, g.2) in
+        after p is (q, o, ((x.0.0, reached, served, x.0.3), tied), refl, refl);
+  }
+
+  gives_end : (old new : GatewayConnection) (trailers : List Header) → EndsGiving old trailers new → Leads old new
+  gives_end old new trailers h = record {
+    step = λ p o x.
+        let g = tied_at old p o At.Giving h.0 x in
+        let r : Response = Stream.with_trailers trailers g.0 in
+        let q : Stream.Past = Stream.answers (Stream.change (Stream.with_trailers trailers) p.answer.final) p in
+        let served = on_served (Stream.with_trailers trailers) g.0 p g.1
+        (put_served (Begun r) p x.0.2 (λ head is. inr (inl g.2))) in
+        let reached = Stream.Ended old.client new.client p trailers x.0.1 h.1 in
+        after p h.2 (q, o, ((x.0.0, reached, served, x.0.3), tt), refl, refl);
+  }
+
+  -- nothing is put
+  nothing_put : (old new : GatewayConnection) → StreamSteps.PutsNothing old.client new.client
+      → new ≡ record old { client = new.client } → Leads old new
+  nothing_put old new nothing is = leads_then (client_leads old new.client
+      (client_refuses old.client new.client nothing) (λ p r s. (refl, refl))) (stays is (λ p o h. h))
+
+  refuses_giving : (old new : GatewayConnection) (status : ℕ) (reason : List ℕ) (fields : List Header)
+      (size : BodySize) (error : WriteError) → RefusesGiving old status reason fields size error new → Leads old new
+  refuses_giving old new status reason fields size error (inl h) = unchanged h.2
+  refuses_giving old new status reason fields size error (inr (inl h)) = unchanged h.1
+  refuses_giving old new status reason fields size error (inr (inr h)) = nothing_put old new h.0.0 h.1
+
+  refuses_in_giving : (old new : GatewayConnection) (refusal : Option WriteError) (error : WriteError)
+      → RefusesInGiving refusal old error new → Leads old new
+  refuses_in_giving old new refusal error (inl h) = unchanged h.2
+  refuses_in_giving old new refusal error (inr h) = nothing_put old new h.0.0 h.1
+
+  passes : (old new : GatewayConnection) → Passes old new → Leads old new
+  passes old new (inl h) = record {
+    step = λ p o x.
+        let t = tied_at old p o At.Judging h.0 x in
+        let same : t.0.h ≡ h.1 = cc (sym t.0.is ∙ h.2) in
+        let c = subst (λ (g : Heard). Carries old.origin o.now t.0.a (Telling g.response [])) same t.1 in
+        let forwarded = subst (λ (g : Heard). IsHeard uses t.0.a g) same t.0.forwarded in
+        shows (record old { heard = None }) h.3.0 new h.1 t.0.a p o t.0.asked_is h.3.1 h.3.2 x.0 c forwarded;
+  }
+  passes old new (inr h) = unchanged h.1
+
+  ends_idle_as : (old new : GatewayConnection) (event : StreamEvent) → EndsIdleAs old event new → Ends old new
+  ends_idle_as old new (Is.Rejected why) h = answers old new Because.LateRequest h
+  ends_idle_as old new event is = ends is (λ p o x. (x, tt))
+
+  ends_idle : (old new : GatewayConnection) → EndsIdle old new → Leads old new
+  ends_idle old new h =
+      freely (goes_end (client_alone old h.2 (client_then (client_finishes old.client h.0 h.3)
+      (client_says h.0 h.2 h.1 h.4))) (ends_idle_as (with_client old h.2) new h.1 h.5))
+
+  times_out : (phase : ExchangePhase) (old new : GatewayConnection) → TimesOutAt phase old new → Leads old new
+  times_out Does.Idle old new h = ends_idle old new h
+  times_out Does.Head old new h = ends_idle old new h
+  times_out Does.Asking old new h = freely (answers old new Because.LateResponse h)
+  times_out Does.Content old new h = freely (answers old new Because.LateRequest h)
+  times_out Does.Response old new h = freely (answers old new Because.LateResponse h)
+  times_out Does.Over old new is = unchanged is
+  times_out phase old new is = freely (ends is (λ p o x. (x, tt)))
+
+  -- the origin's connection is taken while none is needed
+  taken : (old new : GatewayConnection) → is_passing old.stage ≡ false
+      → new ≡ record old { origin = None; origin_hungry = false } → Leads old new
+  taken old new still is =
+      stays is (λ p o h. ((h.0.0, h.0.1, h.0.2, tt), tied_without uses old.stage (parts_of old p o) still h.1))
+
+  takes : (old new : GatewayConnection) (origin : Option OriginConnection) → TakesOrigin old origin new → Leads old new
+  takes old new (Some origin) h = taken old new h.0 h.3
+  takes old new None (inl h) = unchanged h.1
+  takes old new None (inr h) = taken old new h.0 h.2
+
+  finishes_client : (old new : GatewayConnection) → FinishesClient old new → Leads old new
+  finishes_client old new h = leads_then (client_leads old new.client
+      (client_finishes old.client new.client h.0) (λ p r s. (refl, refl))) (stays h.1 (λ p o h. h))
+
+  -- the conditions of the request that waits are put
+  conditions : (etags since : Option FieldValue) (old new : GatewayConnection) → Conditions etags since old new
+      → Leads old new
+  conditions etags since old new (inl h) = unchanged h.1
+  conditions etags since old new (inr h) = stays h.3 (λ (p : Stream.Past) (o : Origin.Past) (x : Held old p o). (
+    x.0,
+    tied_as uses old.stage (parts_of old p o) (sent_fields new) (λ a is.
+        let same : h.0 ≡ a = cc (sym h.1 ∙ is) in
+        subst (λ (b : AskedRequest). AreFieldsOf b (sent_fields new b)) same (inr (etags, since, h.2))) x.1,
+  ))
+
+-- ---- the origin's bytes
+
+at_most : (a b : ℕ) → min a b ≤ b
+at_most a b = omega arith
+
+went_over : {t : Traffic} {lines older : List Traffic} → lines ≡ t ∷ older → WentOver t lines
+went_over {t} is = subst (WentOver t) (sym is) (inl ([], append-nil t.received, [], append-nil t.sent))
+
+-- what an origin's connection does with its bytes
+abbrev CarriesBytes : Limits → Option OriginConnection → List Traffic → List Traffic → OriginConnection → OriginConnection
+    → Type 0
+CarriesBytes limits old lines more before after =
+    (o : Origin.Past) (older : List Traffic) → old ≡ Some before → Origin.IsReached limits before o
+    → lines ≡ traffic_of o ∷ older → (received : List ℕ) × (sent : List ℕ) × Origin.IsReached limits after
+    (record o { received = received; sent = sent }) × (more ≡ record { received = received; sent = sent } ∷ older)
+
+origin_changes : (limits : Limits) (uses : Uses) (lines more : List Traffic)
+    (P : OriginConnection → OriginConnection → Type 0) (old new : Option OriginConnection) (o : Origin.Past)
+    → ((t : Traffic) → WentOver t more → WentOver t uses.traffic) → ((before after : OriginConnection) → P before after
+    → CarriesBytes limits old lines more before after) → OnOrigin P old new → Origins limits uses lines old o →
+    (received : List ℕ) × (sent : List ℕ) × Origins limits uses more new (record o { received = received; sent = sent })
+    × ((a : AskedRequest) (t : Told) → Carries old o.now a t → Carries new o.now a t)
+origin_changes limits uses lines more P (Some old) (Some new) o grows step h x =
+    let y = step old new h o x.1.1 refl x.0 x.1.2 in (
+      y.0,
+      y.1,
+      (y.2, (grows (record { received = y.0; sent = y.1 }) (went_over y.3), x.1.1, y.3)),
+      λ a t c. carries_on (λ now. now) new refl c c.request c.interim c.sends refl,
+    )
+origin_changes limits uses lines more P None None o grows step h x = (o.received, o.sent, tt, λ a t c. c)
+origin_changes limits uses lines more P old new o grows step h x = absurd h
+
+-- bytes go over the origin's connection, or its input ends
+changes_origin : (limits : Limits) (uses : Uses) (lines more : List Traffic)
+    (P : OriginConnection → OriginConnection → Type 0) (old new : GatewayConnection) (p : Stream.Past) (o : Origin.Past)
+    → ((t : Traffic) → WentOver t more → WentOver t uses.traffic)
+    → ((before after : OriginConnection) → P before after → CarriesBytes limits old.origin lines more before after)
+    → ChangesOrigin P old new → Held limits uses lines old p o → (n : Origin.Past) × Held limits uses more new p n
+changes_origin limits uses lines more P old new p o grows step h held =
+    let x = origin_changes limits uses lines more P old.origin new.origin o grows step h.0 held.0.3 in
+    let tied = tied_on uses old.stage (parts_of old p o) new.origin o.now x.3 held.1 in
+    let n : Origin.Past = record o { received = x.0; sent = x.1 } in (
+      n,
+      subst (λ (m : GatewayConnection). Held limits uses more m p n) (sym h.1)
+          ((held.0.0, held.0.1, held.0.2, x.2), tied),
+    )
+
+origin_receives : (limits : Limits) (old : Option OriginConnection) (lines : List Traffic) (bytes : List ℕ)
+    (before after : OriginConnection) → ReceivesOrigin bytes before after
+    → CarriesBytes limits old lines (on_last (receives (is_origin_open old) bytes) lines) before after
+origin_receives limits old lines bytes before after (inl h) = λ o older is r line. (
+  o.received,
+  o.sent,
+  subst (λ (m : OriginConnection). Origin.IsReached limits m o) (sym h.1) r,
+  ap (on_last (receives (is_origin_open old) bytes)) line
+      ∙ ap (λ (b : Bool). receives b bytes (traffic_of o) ∷ older) (ap is_origin_open is ∙ ap not h.0),
+)
+origin_receives limits old lines bytes before after (inr h) = λ o older is r line. (
+  o.received ++ bytes,
+  o.sent,
+  Origin.Received before after o bytes r h.0 h.1,
+  ap (on_last (receives (is_origin_open old) bytes)) line
+      ∙ ap (λ (b : Bool). receives b bytes (traffic_of o) ∷ older) (ap is_origin_open is ∙ ap not h.0),
+)
+
+origin_writes : (limits : Limits) (old : Option OriginConnection) (lines : List Traffic) (count : ℕ)
+    (before after : OriginConnection) → HandsOutOrigin count before after
+    → CarriesBytes limits old lines (on_last (writes (written_of count old)) lines) before after
+origin_writes limits old lines count before after h = λ o older is r line. (
+  o.received,
+  o.sent ++ take (min count (length before.output.items)) before.output.items,
+  Origin.Written before after o (min count (length before.output.items)) r
+      (at_most count (length before.output.items)) h,
+  ap (on_last (writes (written_of count old))) line
+      ∙ ap (λ (m : Option OriginConnection). writes (written_of count m) (traffic_of o) ∷ older) is,
+)
+
+-- ---- histories
 
 -- what was passed in before is among what was by now
-record Grows (old new : Uses) : Type 0 where
-  peer : new.peer ≡ old.peer
-  rules : (r : GatewayRules) → IsIn r old.rules → IsIn r new.rules
-  given : (head : GivenHead) → IsIn head old.given → IsIn head new.given
-  traffic : (t : Traffic) → WentOver t old.traffic → WentOver t new.traffic
-
-grows_same : (uses : Uses) → Grows uses uses
-grows_same uses = record { peer = refl; rules = λ r h. h; given = λ head h. h; traffic = λ t h. h }
-
-grows_rules : (rules : GatewayRules) (uses : Uses) → Grows uses (with_rules rules uses)
-grows_rules rules uses = record { peer = refl; rules = λ r h. inr h; given = λ head h. h; traffic = λ t h. h }
-
-grows_given : (head : GivenHead) (uses : Uses) → Grows uses (with_given head uses)
-grows_given head uses = record { peer = refl; rules = λ r h. h; given = λ head h. inr h; traffic = λ t h. h }
-
-grows_traffic : (line : Traffic) (uses : Uses) → Grows uses (with_traffic line uses)
-grows_traffic line uses = record { peer = refl; rules = λ r h. h; given = λ head h. h; traffic = λ t h. inr h }
+abbrev Grows : Uses → Uses → Type 0
+Grows old new = (new.peer ≡ old.peer) × ((r : GatewayRules) → IsIn r old.rules → IsIn r new.rules) × ((head : GivenHead)
+    → IsIn head old.given → IsIn head new.given) × ((t : Traffic) → WentOver t old.traffic → WentOver t new.traffic)
 
 on_last_grows : (f : Traffic → Traffic) → ((t all : Traffic) → IsFrontOf t all → IsFrontOf t (f all))
     → (lines : List Traffic) (t : Traffic) → WentOver t lines → WentOver t (on_last f lines)
 on_last_grows f step [] t h = absurd h
 on_last_grows f step (first ∷ older) t (inl h) = inl (step t first h)
 on_last_grows f step (first ∷ older) t (inr h) = inr h
-
-grows_over : (f : Traffic → Traffic) → ((t all : Traffic) → IsFrontOf t all → IsFrontOf t (f all)) → (uses : Uses)
-    → Grows uses (goes_over f uses)
-grows_over f step uses = record {
-  peer = refl;
-  rules = λ r h. h;
-  given = λ head h. h;
-  traffic = on_last_grows f step uses.traffic;
-}
 
 receives_front : (goes : Bool) (bytes : List ℕ) (t all : Traffic) → IsFrontOf t all
     → IsFrontOf t (receives goes bytes all)
@@ -938,1983 +1512,119 @@ writes_front : (bytes : List ℕ) (t all : Traffic) → IsFrontOf t all → IsFr
 writes_front bytes t all h =
     (h.0, h.1, h.2 ++ bytes, sym (append_assoc t.sent h.2 bytes) ∙ ap (λ (l : List ℕ). l ++ bytes) h.3)
 
-decided_grows : {old new : Uses} (a : AskedRequest) → Grows old new → IsDecided old a → IsDecided new a
-decided_grows a grows x = (
-  x.0,
-  grows.rules x.0 x.1,
-  subst (λ (peer : Peer). IsDecision x.0 peer a.head (Decides.Send a.outgoing)) (sym grows.peer) x.2,
-)
-
-heard_grows : {old new : Uses} (a : AskedRequest) (h : Heard) → Grows old new → IsHeard old a h → IsHeard new a h
-heard_grows a h grows x = (x.0, grows.rules x.0 x.1, x.2, x.3)
-
-given_grows : {old new : Uses} (r : Response) → Grows old new → IsGiven old r → IsGiven new r
-given_grows r grows x = (x.0, x.1, x.2, grows.given _ x.3)
-
-ends_grows : {old new : Uses} (h : Heard) (trailers : Option (Entries FieldValue)) (sent : Option (List Header))
-    → Grows old new → EndsAs old h trailers sent → EndsAs new h trailers sent
-ends_grows h None None grows x = tt
-ends_grows h (Some trailers) (Some sent) grows x = (x.0, grows.rules x.0 x.1, x.2)
-ends_grows h None (Some sent) grows x = absurd x
-ends_grows h (Some trailers) None grows x = absurd x
-
-response_grows : {limits : Limits} {old new : Uses} (head : StreamRequest) (r : Response) → Grows old new
-    → IsServed limits old head r → IsServed limits new head r
-response_grows head r grows (inl own) = inl own
-response_grows head r grows (inr (inl given)) = inr (inl (given_grows r grows given))
-response_grows head r grows (inr (inr x)) = inr (inr (record {
-  asked = x.asked;
-  head_is = x.head_is;
-  decided = decided_grows x.asked grows x.decided;
-  heard = x.heard;
-  forwarded = heard_grows x.asked x.heard grows x.forwarded;
-  content = x.content;
-  puts = x.puts;
-  trailers = x.trailers;
-  ends = ends_grows x.heard x.trailers r.trailers grows x.ends;
-  origin = x.origin;
-  past = x.past;
-  reached = x.reached;
-  traffic = grows.traffic (traffic_of x.past) x.traffic;
-  request = x.request;
-  sends = x.sends;
-  interim = x.interim;
-  told = x.told;
-}))
-
-one_grows : (limits : Limits) (old new : Uses) (head : StreamRequest) (b : Bare) → Grows old new
-    → IsInterim limits old head b → IsInterim limits new head b
-one_grows limits old new head b grows (inl own) = inl own
-one_grows limits old new head b grows (inr x) = inr (record {
-  asked = x.asked;
-  head_is = x.head_is;
-  decided = decided_grows x.asked grows x.decided;
-  heard = x.heard;
-  forwarded = heard_grows x.asked x.heard grows x.forwarded;
-  puts = x.puts;
-  origin = x.origin;
-  past = x.past;
-  reached = x.reached;
-  traffic = grows.traffic (traffic_of x.past) x.traffic;
-  request = x.request;
-  sends = x.sends;
-  before = x.before;
-  told = x.told;
-})
-
-interim_grows : (limits : Limits) (old new : Uses) (head : StreamRequest) (interim : List Bare) → Grows old new
-    → AreInterim limits old head interim → AreInterim limits new head interim
-interim_grows limits old new head [] grows told = tt
-interim_grows limits old new head (b ∷ later) grows told =
-    (one_grows limits old new head b grows told.0, interim_grows limits old new head later grows told.1)
-
-interim_now_grows : (limits : Limits) (old new : Uses) (head : Option StreamRequest) (interim : List Bare)
-    → Grows old new → AreInterimNow limits old head interim → AreInterimNow limits new head interim
-interim_now_grows limits old new (Some head) interim grows told = interim_grows limits old new head interim grows told
-interim_now_grows limits old new None interim grows told = tt
-
-all_grow : (limits : Limits) (old new : Uses) (es : List Exchange) → Grows old new → AreServed limits old es
-    → AreServed limits new es
-all_grow limits old new [] grows served = tt
-all_grow limits old new (e ∷ es) grows served = (
-  response_grows e.head e.response grows served.0,
-  interim_grows limits old new e.head e.interim grows served.1,
-  all_grow limits old new es grows served.2,
-)
-
-switch_grows : (limits : Limits) (old new : Uses) (head : StreamRequest) (b : Bare) → Grows old new
-    → IsSwitch limits old head b → IsSwitch limits new head b
-switch_grows limits old new head b grows (inl own) = inl own
-switch_grows limits old new head b grows (inr x) = inr (record {
-  asked = x.asked;
-  head_is = x.head_is;
-  decided = decided_grows x.asked grows x.decided;
-  rules = x.rules;
-  among = grows.rules x.rules x.among;
-  date = x.date;
-  response = x.response;
-  fields = x.fields;
-  switches = x.switches;
-  status = x.status;
-  reason = x.reason;
-  headers = x.headers;
-  origin = x.origin;
-  past = x.past;
-  reached = x.reached;
-  traffic = grows.traffic (traffic_of x.past) x.traffic;
-  request = x.request;
-  sends = x.sends;
-  interim = x.interim;
-  told = x.told;
-})
-
-now_grows : (limits : Limits) (old new : Uses) (head : Option StreamRequest) (final : Final) → Grows old new
-    → IsServedNow limits old head final → IsServedNow limits new head final
-now_grows limits old new (Some head) (Begun r) grows served = response_grows head r grows served
-now_grows limits old new (Some head) Due grows served = tt
-now_grows limits old new (Some head) (Switched b) grows served = switch_grows limits old new head b grows served
-now_grows limits old new None final grows served = tt
-
-served_grows : {limits : Limits} {old new : Uses} {p : Stream.Past} → Grows old new → Served limits old p
-    → Served limits new p
-served_grows {limits} {old} {new} {p} grows served = record {
-  before = all_grow limits old new p.before grows served.before;
-  interim = interim_now_grows limits old new (head_of p.heard) p.answer.interim grows served.interim;
-  now = now_grows limits old new (head_of p.heard) p.answer.final grows served.now;
-}
-
-tied_on : (limits : Limits) (uses now : Uses) (stage : Stage) (old new : GatewayConnection) (p q : Stream.Past)
-    → Grows uses now
-    → ((a : AskedRequest) → old.asked ≡ Some a → AreFieldsOf a (sent_fields old a) → AreFieldsOf a (sent_fields new a))
-    → new.asked ≡ old.asked → new.heard ≡ old.heard → head_of q.heard ≡ head_of p.heard
-    → q.answer.final ≡ p.answer.final
-    → ((a : AskedRequest) (t : Told) → Carries limits uses old p a t → Carries limits now new q a t)
-    → TiedAt limits uses stage old p → TiedAt limits now stage new q
-tied_on limits uses now At.Asking old new p q grows are asked heard head final carry x = record {
-  a = x.a;
-  asked = asked ∙ x.asked;
-  head = head ∙ x.head;
-  decided = decided_grows x.a grows x.decided;
-  fields = are x.a x.asked x.fields;
-}
-tied_on limits uses now At.Repeating old new p q grows are asked heard head final carry x = record {
-  a = x.a;
-  asked = asked ∙ x.asked;
-  head = head ∙ x.head;
-  decided = decided_grows x.a grows x.decided;
-  fields = are x.a x.asked x.fields;
-}
-tied_on limits uses now At.Forwarding old new p q grows are asked heard head final carry x =
-    (x.0, carry x.0 Silent x.1, are x.0 x.1.asked x.2)
-tied_on limits uses now At.Judging old new p q grows are asked heard head final carry x = record {
-  a = x.a;
-  heard = x.heard;
-  is = heard ∙ x.is;
-  forwarded = heard_grows x.a x.heard grows x.forwarded;
-  carries = carry x.a (Telling x.heard.response []) x.carries;
-}
-tied_on limits uses now At.Passing old new p q grows are asked heard head final carry x = record {
-  a = x.a;
-  heard = x.heard;
-  is = heard ∙ x.is;
-  forwarded = heard_grows x.a x.heard grows x.forwarded;
-  content = x.content;
-  response = x.response;
-  final = final ∙ x.final;
-  whole = x.whole;
-  puts = x.puts;
-  carries = carry x.a (Telling x.heard.response x.content) x.carries;
-}
-tied_on limits uses now At.Giving old new p q grows are asked heard head final carry x =
-    record { response = x.response; final = final ∙ x.final; given = given_grows x.response grows x.given }
-tied_on limits uses now At.Idle old new p q grows are asked heard head final carry x = tt
-tied_on limits uses now At.Ended old new p q grows are asked heard head final carry x = tt
-tied_on limits uses now At.Switched old new p q grows are asked heard head final carry x = tt
-tied_on limits uses now At.Closed old new p q grows are asked heard head final carry x = tt
-tied_on limits uses now At.Aborted old new p q grows are asked heard head final carry x = tt
-
--- the stage, the request and the response that waits stay as they are
-record Frame (old new : GatewayConnection) : Type 0 where
-  stage : new.stage ≡ old.stage
-  asked : new.asked ≡ old.asked
-  heard : new.heard ≡ old.heard
-  peer : new.peer ≡ old.peer
-  fields : (a : AskedRequest) → sent_fields new a ≡ sent_fields old a
-
-same_fields : {x y : GatewayConnection} (a : AskedRequest) → x ≡ y → sent_fields x a ≡ sent_fields y a
-same_fields a is = ap (λ (m : GatewayConnection). sent_fields m a) is
-
-frame : {old new now : GatewayConnection} → new ≡ now → now.stage ≡ old.stage → now.asked ≡ old.asked
-    → now.heard ≡ old.heard → now.peer ≡ old.peer → ((a : AskedRequest) → sent_fields now a ≡ sent_fields old a)
-    → Frame old new
-frame is stage asked heard peer fields = record {
-  stage = same_stage is ∙ stage;
-  asked = same_asked is ∙ asked;
-  heard = same_heard is ∙ heard;
-  peer = same_peer is ∙ peer;
-  fields = λ a. same_fields a is ∙ fields a;
-}
-
-frame_fields : {old new : GatewayConnection} → Frame old new → (a : AskedRequest) → old.asked ≡ Some a
-    → AreFieldsOf a (sent_fields old a) → AreFieldsOf a (sent_fields new a)
-frame_fields f a is x = subst (AreFieldsOf a) (sym (f.fields a)) x
-
-tied_by : (limits : Limits) (uses : Uses) (old new : GatewayConnection) (p q : Stream.Past) → Frame old new
-    → head_of q.heard ≡ head_of p.heard → q.answer.final ≡ p.answer.final
-    → ((a : AskedRequest) (t : Told) → Carries limits uses old p a t → Carries limits uses new q a t)
-    → TiedAt limits uses old.stage old p → TiedAt limits uses new.stage new q
-tied_by limits uses old new p q f head final carry x =
-    subst (λ (s : Stage). TiedAt limits uses s new q) (sym f.stage)
-    (tied_on limits uses uses old.stage old new p q (grows_same uses) (frame_fields f) f.asked f.heard head final carry
-    x)
-
--- the origin's connection alone goes
-origin_moves : {limits : Limits} {uses : Uses} {old new : GatewayConnection} → new.client ≡ old.client → Frame old new
-    → OriginGoes limits old.origin new.origin
-    → ((p : Stream.Past) (a : AskedRequest) (t : Told) → Carries limits uses old p a t → Carries limits uses new p a t)
-    → Leads limits uses old new
-origin_moves {limits} {uses} {old} {new} client f goes carry = λ p h. record {
-  past = p;
-  held = record {
-    loose = record {
-      peer = f.peer ∙ h.loose.peer;
-      reached = subst (λ (m : StreamConnection). Stream.IsReached limits m p) (sym client) h.loose.reached;
-      served = h.loose.served;
-      origin = goes.step h.loose.origin;
-    };
-    tied = tied_by limits uses old new p p f refl refl (carry p) h.tied;
-  };
-  received = refl;
-  sent = refl;
-}
-
--- nothing of an exchange changes
-rests : {limits : Limits} {uses : Uses} {old new : GatewayConnection} → new.client ≡ old.client
-    → new.origin ≡ old.origin → Frame old new → Leads limits uses old new
-rests client origin f =
-    origin_moves client f (origin_same origin) (λ p a t c. carries_kept f.asked refl origin c)
-
--- the client's connection alone goes, and what was told and put of the exchange stays as it is
-client_moves : {limits : Limits} {uses : Uses} {old new : GatewayConnection} → new.origin ≡ old.origin → Frame old new
-    → (goes : ClientGoes limits uses old.client new.client)
-    → ((p : Stream.Past) (r : Stream.IsReached limits old.client p) (s : Served limits uses p)
-    → (head_of (goes p r s).past.heard ≡ head_of p.heard) × ((goes p r s).past.answer.final ≡ p.answer.final))
-    → Leads limits uses old new
-client_moves {limits} {uses} {old} {new} origin f goes keeps = λ p h.
-    let x = goes p h.loose.reached h.loose.served in
-    let k = keeps p h.loose.reached h.loose.served in
-    record {
-      past = x.past;
-      held = record {
-        loose = record {
-          peer = f.peer ∙ h.loose.peer;
-          reached = x.reached;
-          served = x.served;
-          origin = subst (OriginIn limits) (sym origin) h.loose.origin;
-        };
-        tied = tied_by limits uses old new p x.past f k.0 k.1 (λ a t c. carries_kept f.asked k.0 origin c) h.tied;
-      };
-      received = x.received;
-      sent = x.sent;
-    }
-
--- nothing is put
-nothing_put : {limits : Limits} {uses : Uses} {old new : GatewayConnection} → new.origin ≡ old.origin → Frame old new
-    → StreamSteps.PutsNothing old.client new.client → Leads limits uses old new
-nothing_put origin f nothing = client_moves origin f (client_refuses nothing) (λ p r s. (refl, refl))
-
--- ---- what the client said
-
-hears_content : {limits : Limits} {uses : Uses} (old : GatewayConnection) (client : StreamConnection)
-    (piece : List ℕ) → StreamSteps.Says old.client (Is.Content piece) client
-    → Leads limits uses old (with_client old client)
-hears_content {limits} {uses} old client piece says =
-    client_moves refl (frame refl refl refl refl refl (λ a. refl))
-    (client_says old.client client (Is.Content piece) says)
-    (λ p r s. (content_head limits uses piece p.heard, refl))
-
-hears_end : {limits : Limits} {uses : Uses} (old : GatewayConnection) (client : StreamConnection)
-    (trailers : Entries FieldValue) → StreamSteps.Says old.client (Is.End trailers) client
-    → Leads limits uses old (with_client old client)
-hears_end {limits} {uses} old client trailers says =
-    client_moves refl (frame refl refl refl refl refl (λ a. refl))
-    (client_says old.client client (Is.End trailers) says)
-    (λ p r s. (end_head limits uses trailers p.heard, refl))
-
-hears_nothing : {limits : Limits} {uses : Uses} (old : GatewayConnection) (client : StreamConnection)
-    → StreamSteps.Says old.client Is.NeedsInput client → Leads limits uses old (with_client old client)
-hears_nothing old client says =
-    client_moves refl (frame refl refl refl refl refl (λ a. refl)) (client_says old.client client Is.NeedsInput says)
-    (λ p r s. (refl, refl))
-
-change_in : (f : Request → Request) (t : Told) (r : Request) (interim : List OriginResponse)
-    → Origin.change f (now_in t r interim) ≡ now_in t (f r) interim
-change_in f Silent r interim = refl
-change_in f (Telling response content) r interim = refl
-
-puts_content : {limits : Limits} {uses : Uses} (old new : GatewayConnection) (piece : List ℕ)
-    → PutsContent old piece new → Leads limits uses old new
-puts_content {limits} old new piece h =
-    origin_moves (same_client h.4) (frame h.4 refl refl refl refl (λ a. refl))
-    (origin_step h.2 (same_origin h.4) (λ r. (_, Origin.Put h.0 h.1 r.0 piece r.1 h.3)))
-    (λ p a t c. carries_by (Origin.change (Origin.with_piece piece)) c (same_asked h.4) refl h.2 (same_origin h.4)
-    (λ o r. (_, Origin.Put h.0 h.1 o piece r h.3, refl, refl))
-    (λ r interim is_for. (
-      Origin.with_piece piece r,
-      interim,
-      (is_for.0, is_for.1, is_for.2),
-      change_in (Origin.with_piece piece) t r
-          interim,
-    )))
-
-puts_request_end : {limits : Limits} {uses : Uses} (rules : GatewayRules) (old new : GatewayConnection)
-    (trailers : Entries FieldValue) → PutsRequestEnd rules old trailers new → Leads limits uses old new
-puts_request_end {limits} rules old new trailers h =
-    let sent = h.5.0 in
-    origin_moves (same_client h.6) (frame h.6 refl refl refl refl (λ a. refl))
-    (origin_step h.4 (same_origin h.6) (ends_origin h.1 h.2 sent h.5.2))
-    (λ p a t c. carries_by (Origin.change (Origin.with_trailers sent)) c (same_asked h.6) refl h.4 (same_origin h.6)
-    (λ o r. (_, Origin.Closed h.1 h.2 o sent r h.5.2, refl, refl))
-    (λ r interim is_for. (
-      Origin.with_trailers sent r,
-      interim,
-      (is_for.0, is_for.1, is_for.2),
-      change_in (Origin.with_trailers sent) t r interim,
-    )))
-
-passes_up_freely : {limits : Limits} {uses : Uses} (rules : GatewayRules) (old new : GatewayConnection)
-    (client : StreamConnection) (event : StreamEvent) → StreamSteps.Says old.client event client
-    → PassesUp rules (with_client old client) event new → IsFree new.stage → Leads limits uses old new
-passes_up_freely rules old new client event says up free =
-    freely (goes_then {b = with_client old client} (heard_client old client event says)
-    (passes_up rules (with_client old client) new event up)) free
-
-hears_client_at : {limits : Limits} {uses : Uses} (rules : GatewayRules) (old new : GatewayConnection)
-    (client : StreamConnection) (event : StreamEvent) → StreamSteps.Says old.client event client
-    → PassesUp rules (with_client old client) event new → Leads limits uses old new
-hears_client_at rules old new client Is.NeedsInput says is =
-    leads_then (hears_nothing old client says)
-    (rests (same_client is) (same_origin is) (frame is refl refl refl refl (λ a. refl)))
-hears_client_at rules old new client (Is.Content piece) says (inl h) =
-    leads_then (hears_content old client piece says) (puts_content (with_client old client) new piece h)
-hears_client_at rules old new client (Is.Content piece) says (inr h) =
-    passes_up_freely rules old new client (Is.Content piece) says (inr h)
-    (fails_free h.1 new (Because.Unsent h.0) h.3)
-hears_client_at rules old new client (Is.End trailers) says (inl h) =
-    leads_then (hears_end old client trailers says) (puts_request_end rules (with_client old client) new trailers h)
-hears_client_at rules old new client (Is.End trailers) says (inr h) =
-    passes_up_freely rules old new client (Is.End trailers) says (inr h)
-    (fails_free h.1 new (Because.Unsent h.0) h.3)
-hears_client_at rules old new client (Is.Rejected why) says h =
-    passes_up_freely rules old new client (Is.Rejected why) says h
-    (fails_free (with_client old client) new (Because.Unread why) h)
-hears_client_at rules old new client (Is.Head head) says is =
-    passes_up_freely rules old new client (Is.Head head) says is (free_at (same_stage is) tt)
-hears_client_at rules old new client Is.Waits says is =
-    passes_up_freely rules old new client Is.Waits says is (free_at (same_stage is) tt)
-hears_client_at rules old new client Is.Switched says is =
-    passes_up_freely rules old new client Is.Switched says is (free_at (same_stage is) tt)
-hears_client_at rules old new client Is.Closed says is =
-    passes_up_freely rules old new client Is.Closed says is (free_at (same_stage is) tt)
-
--- ---- what the origin said
-
-says_in : (old new : Option OriginConnection) (before : OriginConnection) (event : OriginEvent) → old ≡ Some before
-    → SaysIn old event new
-    → (after : OriginConnection) × (new ≡ Some after) × OriginSteps.Says before event after
-says_in (Some old) (Some new) before event is says =
-    let same : old ≡ before = cc in
-    (new, refl, subst (λ (o : OriginConnection). OriginSteps.Says o event new) same says)
-says_in None new before event is says = absurd (cc)
-says_in (Some old) None before event is says = absurd says
-
--- the exchange goes on by what the origin's connection said
-carries_said : {limits : Limits} {uses : Uses} {old : GatewayConnection} {p : Stream.Past} {a : AskedRequest}
-    {t now : Told}
-    (origin : Option OriginConnection) (event : OriginEvent) → SaysIn old.origin event origin
-    → ((r : Request) (interim : List OriginResponse)
-    → (later : List OriginResponse) × (Origin.tell event (now_in t r interim) ≡ now_in now r later))
-    → Carries limits uses old p a t → Carries limits uses (with_origin old origin) p a now
-carries_said {limits} {uses} {old} {p} {a} {t} {now} origin event says turns c =
-    let s = says_in old.origin origin c.origin event c.is says in
-    carries_by (Origin.tell event) c refl refl c.is s.1 (λ o r. (_, Origin.Said c.origin s.0 o event r s.2, refl, refl))
-    (λ r interim is_for. let y = turns r interim in (r, y.0, is_for, y.1))
-
--- the two connections are read
-abbrev IsStreaming : Stage → Type 0
-IsStreaming At.Forwarding = Unit {0}
-IsStreaming At.Passing = Unit {0}
-IsStreaming stage = ⊥
-
--- what begins, carries and ends no response
-abbrev IsQuiet : OriginEvent → Type 0
-IsQuiet Comes.NeedsInput = Unit {0}
-IsQuiet (Comes.Interim response) = Unit {0}
-IsQuiet (Comes.Broken fault) = Unit {0}
-IsQuiet event = ⊥
-
-quiet_turns : (event : OriginEvent) (t : Told) → IsQuiet event → (r : Request) (interim : List OriginResponse)
-    → (later : List OriginResponse) × (Origin.tell event (now_in t r interim) ≡ now_in t r later)
-quiet_turns Comes.NeedsInput Silent quiet r interim = (interim, refl)
-quiet_turns Comes.NeedsInput (Telling response content) quiet r interim = (interim, refl)
-quiet_turns (Comes.Interim next) Silent quiet r interim = (interim ++ next ∷ [], refl)
-quiet_turns (Comes.Interim next) (Telling response content) quiet r interim = (interim, refl)
-quiet_turns (Comes.Broken fault) Silent quiet r interim = (interim, refl)
-quiet_turns (Comes.Broken fault) (Telling response content) quiet r interim = (interim, refl)
-quiet_turns (Comes.Head next) t quiet r interim = absurd quiet
-quiet_turns (Comes.Content piece) t quiet r interim = absurd quiet
-quiet_turns (Comes.End trailers) t quiet r interim = absurd quiet
-quiet_turns (Comes.Switched next) t quiet r interim = absurd quiet
-quiet_turns Comes.Closed t quiet r interim = absurd quiet
-
-said_quietly : {limits : Limits} {uses : Uses} (old : GatewayConnection) (origin : Option OriginConnection)
-    (event : OriginEvent) → IsQuiet event → SaysIn old.origin event origin
-    → Leads limits uses old (with_origin old origin)
-said_quietly old origin event quiet says =
-    origin_moves refl (frame refl refl refl refl refl (λ a. refl)) (origin_says old.origin origin event says)
-    (λ p a t c. carries_said origin event says (quiet_turns event t quiet) c)
-
--- what was heard of the origin, and then ends the exchange
-said_freely : {limits : Limits} {uses : Uses} (old new : GatewayConnection) (origin : Option OriginConnection)
-    (event : OriginEvent) → SaysIn old.origin event origin → Goes limits uses (with_origin old origin) new
-    → IsFree new.stage → Leads limits uses old new
-said_freely old new origin event says goes free =
-    freely (goes_then {b = with_origin old origin} (origin_alone (origin_says old.origin origin event says) refl refl)
-    goes)
-    free
-
-abbrev interim_of : OriginResponse → ForwardedResponse → Bare
-interim_of response sent = record {
-  minor = 1;
-  status = response.status;
-  reason = response.reason;
-  headers = fields_of sent.fields.items;
-}
-
--- an interim response is put to the client
-informs_of : {limits : Limits} {uses : Uses} (old new : GatewayConnection) (a : AskedRequest)
-    (response : OriginResponse) (sent : ForwardedResponse) → old.stage ≡ At.Forwarding → old.asked ≡ Some a
-    → IsInterim limits uses a.head (interim_of response sent)
-    → StreamSteps.Informs old.client response.status response.reason (fields_of sent.fields.items) new.client
-    → new ≡ record old { client = new.client } → Leads limits uses old new
-informs_of {limits} {uses} old new a response sent at asked is informs last = λ p x.
-    let t = subst (λ (s : Stage). TiedAt limits uses s old p) at x.tied in
-    let same : t.0 ≡ a = cc (sym t.1.asked ∙ asked) in
-    let head : head_of p.heard ≡ Some a.head = t.1.head ∙ ap (λ (b : AskedRequest). Some b.head) same in
-    let q : Stream.Past = Stream.informs (interim_of response sent) p in
-    record {
-      past = q;
-      held = record {
-        loose = record {
-          peer = same_peer last ∙ x.loose.peer;
-          reached = Stream.Informed old.client new.client p response.status response.reason
-              (fields_of sent.fields.items) x.loose.reached informs;
-          served = record {
-            before = x.loose.served.before;
-            interim = interim_more limits uses (head_of p.heard) p.answer.interim (interim_of response sent)
-                x.loose.served.interim (λ b is_b.
-                let heads : a.head ≡ b = cc (sym head ∙ is_b) in
-                subst (λ (h : StreamRequest). IsInterim limits uses h (interim_of response sent)) heads is);
-            now = x.loose.served.now;
-          };
-          origin = subst (OriginIn limits) (sym (same_origin last)) x.loose.origin;
-        };
-        tied = tied_by limits uses old new p q (frame last refl refl refl refl (λ b. refl)) refl refl
-            (λ b t c. carries_kept (same_asked last) refl (same_origin last) c) x.tied;
-      };
-      received = refl;
-      sent = refl;
-    }
-
-interim_at : {limits : Limits} {uses : Uses} (old new : GatewayConnection) (a : AskedRequest)
-    (response : OriginResponse) (sent : ForwardedResponse) → old.stage ≡ At.Forwarding → old.asked ≡ Some a
-    → IsInterim limits uses a.head (interim_of response sent)
-    → (ChangesClient (PutsInterim response sent) old new
-    ⊎ ((error : WriteError) × (client : StreamConnection) × RefusesInterim response sent old.client error client
-    × Fails (with_client old client) (Because.Unsendable error) new))
-    → Leads limits uses old new
-interim_at old new a response sent at asked is (inl h) =
-    informs_of old new a response sent at asked is h.0 h.1
-interim_at old new a response sent at asked is (inr h) =
-    freely (fails_after old new h.1 (Because.Unsendable h.0) (interim_fails old h.1 response sent h.0 h.2) h.3)
-    (fails_free (with_client old h.1) new (Because.Unsendable h.0) h.3)
-
-passes_interim : {limits : Limits} {uses : Uses} (rules : GatewayRules) (date : ℕ) (old new : GatewayConnection)
-    (a : AskedRequest) (response : OriginResponse) → old.stage ≡ At.Forwarding → old.asked ≡ Some a
-    → ((sent : ForwardedResponse)
-    → IsForwardedResponse rules.gateway date (answered a response.status response) sent
-    → IsInterim limits uses a.head (interim_of response sent))
-    → PassesInterim rules date old a response new → Leads limits uses old new
-passes_interim rules date old new a response at asked is (inl h) =
-    interim_at old new a response h.0 at asked (is h.0 h.1) h.2
-passes_interim rules date old new a response at asked is (inr (inl h)) = unchanged h.1
-passes_interim rules date old new a response at asked is (inr (inr (inl h))) =
-    freely (fails old new (Because.Response h.0) h.2) (fails_free old new (Because.Response h.0) h.2)
-passes_interim rules date old new a response at asked is (inr (inr (inr h))) =
-    freely (fails old new Because.OutOfMemory h) (fails_free old new Because.OutOfMemory h)
-
-interim_of_asked : {limits : Limits} {uses : Uses} (rules : GatewayRules) (date : ℕ) (old new : GatewayConnection)
-    (response : OriginResponse) → old.stage ≡ At.Forwarding
-    → ((a : AskedRequest) → old.asked ≡ Some a → (sent : ForwardedResponse)
-    → IsForwardedResponse rules.gateway date (answered a response.status response) sent
-    → IsInterim limits uses a.head (interim_of response sent))
-    → OfAsked old (λ a. PassesInterim rules date old a response new) new → Leads limits uses old new
-interim_of_asked rules date old new response at is (inl h) =
-    passes_interim rules date old new h.0 response at h.1 (is h.0 h.1) h.2
-interim_of_asked rules date old new response at is (inr h) =
-    freely (kept h.1 refl refl refl) (free_at (same_stage h.1) tt)
-
-faulted : {limits : Limits} {uses : Uses} (old new : GatewayConnection) (fault : OriginFault) → Faulted old fault new
-    → Leads limits uses old new
-faulted {limits} {uses} old new fault (inl h) = λ p x.
-    let c = subst (λ (s : Stage). TiedAt limits uses s old p) h.0.1 x.tied in
-    let g : Goes limits uses old new = kept h.1 refl refl refl in
-    record {
-      past = p;
-      held = record {
-        loose = record {
-          peer = same_peer h.1 ∙ x.loose.peer;
-          reached = subst (λ (m : StreamConnection). Stream.IsReached limits m p) (sym (same_client h.1))
-              x.loose.reached;
-          served = x.loose.served;
-          origin = g.origin.step x.loose.origin;
-        };
-        tied = subst (λ (s : Stage). TiedAt limits uses s new p) (sym (same_stage h.1))
-            (record {
-              a = c.0;
-              asked = same_asked h.1 ∙ c.1.asked;
-              head = c.1.head;
-              decided = c.1.decided;
-              fields = subst (AreFieldsOf c.0) (sym (same_fields c.0 h.1)) c.2;
-            });
-      };
-      received = refl;
-      sent = refl;
-    }
-faulted old new fault (inr h) =
-    freely (fails old new (Because.Origin fault) h.1) (fails_free old new (Because.Origin fault) h.1)
-
--- ---- the head of a response
-
-went_over : {t : Traffic} {lines older : List Traffic} → lines ≡ t ∷ older → WentOver t lines
-went_over {t} is =
-    subst (WentOver t) (sym is) (inl ([], append-nil t.received, [], append-nil t.sent))
-
--- what an origin's connection tells of a response, as far as it is put
-passed_on : {limits : Limits} {uses : Uses} {m : GatewayConnection} {p : Stream.Past} {a : AskedRequest} (h : Heard)
-    (content : List ℕ) (r : Response) → Carries limits uses m p a (Telling h.response content) → IsHeard uses a h
-    → HasHead h content r → r.trailers ≡ None → IsPassedOn limits uses a.head r
-passed_on {limits} {uses} {m} {p} {a} h content r c forwarded puts whole = record {
-  asked = a;
-  head_is = refl;
-  decided = c.decided;
-  heard = h;
-  forwarded = forwarded;
-  content = content;
-  puts = puts;
-  trailers = None;
-  ends = subst (λ (t : Option (List Header)). EndsAs uses h None t) (sym whole) tt;
-  origin = c.origin;
-  past = c.past;
-  reached = c.reached;
-  traffic = went_over c.traffic;
-  request = c.request;
-  sends = c.sends;
-  interim = c.interim;
-  told = c.now;
-}
-
--- the request now is this one
-now_passed : (limits : Limits) (uses : Uses) (head : Option StreamRequest) (asked : StreamRequest) (final : Final)
-    (r : Response) → head ≡ Some asked → final ≡ Begun r → IsPassedOn limits uses asked r
-    → IsServedNow limits uses head final
-now_passed limits uses head asked final r is begun passed = now_is limits uses head final r begun (λ other is_other.
-    let same : asked ≡ other = cc (sym is ∙ is_other) in
-    inr (inr (subst (λ (h : StreamRequest). IsPassedOn limits uses h r) same passed)))
-
-shows_put : {limits : Limits} {uses : Uses} (old between new : GatewayConnection) (h : Heard) (a : AskedRequest)
-    (p : Stream.Past) → PutsResponse old.is_last h old.client between.client
-    → between ≡ record old { client = between.client; stage = At.Passing } → new ≡ record between { heard = Some h }
-    → Loose limits uses old p → Carries limits uses old p a (Telling h.response []) → IsHeard uses a h
-    → After limits uses new p
-shows_put {limits} {uses} old between new h a p puts is last x c forwarded =
-    let r : Response = Stream.begins old.client.server h.response.status h.response.reason
-    (closing old.is_last (fields_of h.sent.fields.items)) (response_size h.sent.content) in
-    let begins : HasHead h [] r = record {
-      status = refl;
-      reason = refl;
-      is_last = old.is_last;
-      headers = refl;
-      size = refl;
-      content_is = refl;
-    } in
-    let q : Stream.Past = Stream.answers (Begun r) p in
-    let client : new.client ≡ between.client = same_client last in
-    let origin : new.origin ≡ old.origin = same_origin last ∙ same_origin is in
-    record {
-      past = q;
-      held = record {
-        loose = record {
-          peer = same_peer last ∙ (same_peer is ∙ x.peer);
-          reached = subst (λ (m : StreamConnection). Stream.IsReached limits m q) (sym client)
-              (Stream.Responded old.client between.client p h.response.status h.response.reason
-              (closing old.is_last (fields_of h.sent.fields.items)) (response_size h.sent.content) x.reached puts);
-          served = record {
-            before = x.served.before;
-            interim = x.served.interim;
-            now = now_passed limits uses (head_of p.heard) a.head (Begun r) r c.head refl
-                (passed_on h [] r c forwarded begins refl);
-          };
-          origin = subst (OriginIn limits) (sym origin) x.origin;
-        };
-        tied = subst (λ (s : Stage). TiedAt limits uses s new q) (sym (same_stage last ∙ same_stage is))
-            (record {
-              a = a;
-              heard = h;
-              is = same_heard last;
-              forwarded = forwarded;
-              content = [];
-              response = r;
-              final = refl;
-              whole = refl;
-              puts = begins;
-              carries = carries_kept (same_asked last ∙ same_asked is) refl origin c;
-            });
-      };
-      received = refl;
-      sent = refl;
-    }
-
-shows : {limits : Limits} {uses : Uses} (old between new : GatewayConnection) (h : Heard) (a : AskedRequest)
-    (p : Stream.Past) → PutsHead old h between → new ≡ record between { heard = Some h } → Loose limits uses old p
-    → Carries limits uses old p a (Telling h.response []) → IsHeard uses a h → After limits uses new p
-shows old between new h a p (inl puts) last x c forwarded =
-    shows_put old between new h a p puts.0 puts.1 last x c forwarded
-shows old between new h a p (inr f) last x c forwarded =
-    to_free p (goes_then {b = between} (answers_after old between f.1 (Because.Unsendable f.0)
-    (response_fails old f.1 h f.0 f.2) f.3) (kept last refl refl refl))
-    (free_at (same_stage last) (answers_free (with_client old f.1) between (Because.Unsendable f.0) f.3)) x
-
-tells_head : {limits : Limits} {uses : Uses} (watches : Bool) (old new : GatewayConnection) (h : Heard)
-    (a : AskedRequest) (p : Stream.Past) → TellsHead watches old h new → Loose limits uses old p
-    → Carries limits uses old p a (Telling h.response []) → IsHeard uses a h → After limits uses new p
-tells_head {limits} {uses} true old new h a p is x c forwarded = record {
-  past = p;
-  held = record {
-    loose = record {
-      peer = same_peer is ∙ x.peer;
-      reached = subst (λ (m : StreamConnection). Stream.IsReached limits m p) (sym (same_client is)) x.reached;
-      served = x.served;
-      origin = subst (OriginIn limits) (sym (same_origin is)) x.origin;
-    };
-    tied = subst (λ (s : Stage). TiedAt limits uses s new p) (sym (same_stage is)) (record {
-      a = a;
-      heard = h;
-      is = same_heard is;
-      forwarded = forwarded;
-      carries = carries_kept (same_asked is) refl (same_origin is) c;
-    });
-  };
-  received = refl;
-  sent = refl;
-}
-tells_head false old new h a p shown x c forwarded = shows old shown.0 new h a p shown.1 shown.2 x c forwarded
-
-not-false : (b : Bool) → not b ≡ false → b ≡ true
-not-false true is = refl
-not-false false is = absurd (cc)
-
--- a final response is known to every client
-known_final : (client : Protocol) (status : ℕ) → is_known_to client status ≡ false → (status == 101) ≡ false
-    → Http.is_interim status ≡ false → ⊥
-known_final Speaks.Http10 status unknown other final =
-    let interim : Responses.is_interim status ≡ true = not-false (Responses.is_interim status) unknown in
-    let low = and_parts (nat_le 100 status) (nat_lt status 200) interim in
-    let clash : true ≡ false = rw (low.1, other) at final in absurd (cc)
-known_final Speaks.Http11 status unknown other final = absurd (cc)
-
-head_at : {limits : Limits} {uses : Uses} (rules : GatewayRules) (date : ℕ) (old new : GatewayConnection)
-    (a : AskedRequest) (response : OriginResponse) (p : Stream.Past) → IsIn rules uses.rules
-    → Http.is_interim response.status ≡ false → PassesHead rules date old a response new → Loose limits uses old p
-    → Carries limits uses old p a (Telling response []) → After limits uses new p
-head_at rules date old new a response p among final (inl h) x c =
-    tells_head old.watches old new (record { response = response; sent = h.0 }) a p h.2 x c
-    (rules, among, date, h.1)
-head_at rules date old new a response p among final (inr (inl h)) x c =
-    absurd (known_final (protocol_of a.head.minor) response.status h.0.unknown h.0.accepted.same_protocol final)
-head_at rules date old new a response p among final (inr (inr (inl h))) x c =
-    to_free p (fails old new (Because.Response h.0) h.2) (fails_free old new (Because.Response h.0) h.2) x
-head_at rules date old new a response p among final (inr (inr (inr h))) x c =
-    to_free p (fails old new Because.OutOfMemory h) (fails_free old new Because.OutOfMemory h) x
-
-head_of_asked : {limits : Limits} {uses : Uses} (rules : GatewayRules) (date : ℕ) (old new : GatewayConnection)
-    (a : AskedRequest) (response : OriginResponse) (p : Stream.Past) → IsIn rules uses.rules
-    → Http.is_interim response.status ≡ false → OfAsked old (λ b. PassesHead rules date old b response new) new
-    → Loose limits uses old p → Carries limits uses old p a (Telling response []) → After limits uses new p
-head_of_asked rules date old new a response p among final (inl h) x c =
-    let same : h.0 ≡ a = cc (sym h.1 ∙ c.asked) in
-    head_at rules date old new a response p among final
-    (subst (λ (b : AskedRequest). PassesHead rules date old b response new) same h.2) x c
-head_of_asked rules date old new a response p among final (inr h) x c =
-    to_free p (kept h.1 refl refl refl) (free_at (same_stage h.1) tt) x
-
-loose_said : {limits : Limits} {uses : Uses} (old : GatewayConnection) (origin : Option OriginConnection)
-    (event : OriginEvent) (p : Stream.Past) → SaysIn old.origin event origin → Loose limits uses old p
-    → Loose limits uses (with_origin old origin) p
-loose_said {limits} old origin event p says x =
-    let goes : OriginGoes limits old.origin origin = origin_says old.origin origin event says in
-    record { peer = x.peer; reached = x.reached; served = x.served; origin = goes.step x.origin }
-
--- what an origin's connection tells of an interim response
-interim_passed : {limits : Limits} {uses : Uses} {m : GatewayConnection} {p : Stream.Past} (rules : GatewayRules)
-    (date : ℕ)
-    (a : AskedRequest) (response : OriginResponse) (sent : ForwardedResponse) (after : OriginConnection)
-    → IsIn rules uses.rules → (c : Carries limits uses m p a Silent)
-    → OriginSteps.Says c.origin (Comes.Interim response) after
-    → IsForwardedResponse rules.gateway date (answered a response.status response) sent
-    → IsInterim limits uses a.head (interim_of response sent)
-interim_passed rules date a response sent after among c says forwards = inr (record {
-  asked = a;
-  head_is = refl;
-  decided = c.decided;
-  heard = record { response = response; sent = sent };
-  forwarded = (rules, among, date, forwards);
-  puts = refl;
-  origin = after;
-  past = record (c.past) { now = Origin.tell (Comes.Interim response) c.past.now };
-  reached = Origin.Said c.origin after c.past (Comes.Interim response) c.reached says;
-  traffic = went_over c.traffic;
-  request = c.request;
-  sends = c.sends;
-  before = c.interim;
-  told = ap (Origin.tell (Comes.Interim response)) c.now;
-})
-
-hears_interim : {limits : Limits} {uses : Uses} (rules : GatewayRules) (date : ℕ) (stage : Stage)
-    (old new : GatewayConnection) (origin : Option OriginConnection) (response : OriginResponse) → old.stage ≡ stage
-    → IsStreaming stage → IsIn rules uses.rules → SaysIn old.origin (Comes.Interim response) origin
-    → OfAsked (with_origin old origin) (λ a. PassesInterim rules date (with_origin old origin) a response new) new
-    → Leads limits uses old new
-hears_interim {limits} {uses} rules date At.Forwarding old new origin response is streaming among says h = λ p x.
-    let c = subst (λ (s : Stage). TiedAt limits uses s old p) is x.tied in
-    leads_then (said_quietly old origin (Comes.Interim response) tt says)
-    (interim_of_asked rules date (with_origin old origin) new response is (λ a asked sent forwards.
-    let same : c.0 ≡ a = cc (sym c.1.asked ∙ asked) in
-    let d = subst (λ (b : AskedRequest). Carries limits uses old p b Silent) same c.1 in
-    let t = says_in old.origin origin d.origin (Comes.Interim response) d.is says in
-    interim_passed rules date a response sent t.0 among d t.2 forwards) h) p x
-hears_interim {limits} {uses} rules date At.Passing old new origin response is streaming among says h = λ p x.
-    let c = subst (λ (s : Stage). TiedAt limits uses s old p) is x.tied in
-    let s = says_in old.origin origin c.carries.origin (Comes.Interim response) c.carries.is says in
-    absurd (interim_late s.0 c.carries.request c.carries.interim c.heard.response response c.content
-    c.carries.reached c.carries.now s.2)
-hears_interim rules date stage old new origin response is streaming among says h = absurd streaming
-
--- the response that ends HTTP is put to the client
-switched_to : {limits : Limits} {uses : Uses} (old new : GatewayConnection) (a : AskedRequest)
-    (response : OriginResponse) (fields : List Header) (p : Stream.Past) → Loose limits uses old p
-    → head_of p.heard ≡ Some a.head
-    → ((b : Bare) → b.status ≡ response.status → b.reason ≡ response.reason → b.headers ≡ fields
-    → IsSwitch limits uses a.head b)
-    → SwitchesTo old response fields new → After limits uses new p
-switched_to {limits} {uses} old new a response fields p x head is (inl h) =
-    let b : Bare = record {
-      minor = old.client.server.request.minor;
-      status = response.status;
-      reason = response.reason;
-      headers = fields;
-    } in
-    let q : Stream.Past = Stream.answers (Switched b) p in
-    record {
-      past = q;
-      held = record {
-        loose = record {
-          peer = same_peer h.1 ∙ x.peer;
-          reached = Stream.Handed old.client new.client p response.status response.reason fields x.reached h.0;
-          served = record {
-            before = x.served.before;
-            interim = x.served.interim;
-            now = now_switched limits uses (head_of p.heard) b (λ c is_c.
-                let heads : a.head ≡ c = cc (sym head ∙ is_c) in
-                subst (λ (g : StreamRequest). IsSwitch limits uses g b) heads (is b refl refl refl));
-          };
-          origin = subst (OriginIn limits) (sym (same_origin h.1)) x.origin;
-        };
-        tied = free_tied limits uses new.stage new q (free_at (same_stage h.1) tt);
-      };
-      received = refl;
-      sent = refl;
-    }
-switched_to old new a response fields p x head is (inr h) =
-    to_free p (fails_after old new h.1 (Because.Unsendable h.0) (switch_fails old h.1 response fields h.0 h.2) h.3)
-    (fails_free (with_client old h.1) new (Because.Unsendable h.0) h.3) x
-
-switch_of : {limits : Limits} {uses : Uses} (rules : GatewayRules) (date : ℕ) (old new : GatewayConnection)
-    (a : AskedRequest) (response : OriginResponse) (p : Stream.Past) → Loose limits uses old p
-    → head_of p.heard ≡ Some a.head
-    → ((fields : List Header) → IsSwitched rules.gateway date a response fields → (b : Bare)
-    → b.status ≡ response.status → b.reason ≡ response.reason → b.headers ≡ fields
-    → IsSwitch limits uses a.head b)
-    → PassesSwitch rules date old a response new → After limits uses new p
-switch_of rules date old new a response p x head is (inl h) =
-    switched_to old new a response h.0 p x head (is h.0 h.1) h.2
-switch_of rules date old new a response p x head is (inr h) =
-    to_free p (fails old new h.0 h.2) (fails_free old new h.0 h.2) x
-
-switch_of_asked : {limits : Limits} {uses : Uses} (rules : GatewayRules) (date : ℕ) (old new : GatewayConnection)
-    (a : AskedRequest) (response : OriginResponse) (p : Stream.Past) → Loose limits uses old p
-    → old.asked ≡ Some a → head_of p.heard ≡ Some a.head
-    → ((fields : List Header) → IsSwitched rules.gateway date a response fields → (b : Bare)
-    → b.status ≡ response.status → b.reason ≡ response.reason → b.headers ≡ fields
-    → IsSwitch limits uses a.head b)
-    → OfAsked old (λ c. PassesSwitch rules date old c response new) new → After limits uses new p
-switch_of_asked rules date old new a response p x asked head is (inl h) =
-    let same : h.0 ≡ a = cc (sym h.1 ∙ asked) in
-    switch_of rules date old new a response p x head is
-    (subst (λ (b : AskedRequest). PassesSwitch rules date old b response new) same h.2)
-switch_of_asked rules date old new a response p x asked head is (inr h) =
-    to_free p (kept h.1 refl refl refl) (free_at (same_stage h.1) tt) x
-
--- what an origin's connection tells of a response that ends HTTP
-switch_passed : {limits : Limits} {uses : Uses} {m : GatewayConnection} {p : Stream.Past} (rules : GatewayRules)
-    (date : ℕ)
-    (a : AskedRequest) (response : OriginResponse) (after : OriginConnection) → IsIn rules uses.rules
-    → (c : Carries limits uses m p a Silent) → OriginSteps.Says c.origin (Comes.Switched response) after
-    → (fields : List Header) → IsSwitched rules.gateway date a response fields → (b : Bare)
-    → b.status ≡ response.status → b.reason ≡ response.reason → b.headers ≡ fields → IsSwitch limits uses a.head b
-switch_passed rules date a response after among c says fields switches b status reason headers = inr (record {
-  asked = a;
-  head_is = refl;
-  decided = c.decided;
-  rules = rules;
-  among = among;
-  date = date;
-  response = response;
-  fields = fields;
-  switches = switches;
-  status = status;
-  reason = reason;
-  headers = headers;
-  origin = after;
-  past = record (c.past) { now = Origin.tell (Comes.Switched response) c.past.now };
-  reached = Origin.Said c.origin after c.past (Comes.Switched response) c.reached says;
-  traffic = went_over c.traffic;
-  request = c.request;
-  sends = c.sends;
-  interim = c.interim;
-  told = ap (Origin.tell (Comes.Switched response)) c.now;
-})
-
-hears_switch : {limits : Limits} {uses : Uses} (rules : GatewayRules) (date : ℕ) (stage : Stage)
-    (old new : GatewayConnection) (origin : Option OriginConnection) (response : OriginResponse) → old.stage ≡ stage
-    → IsStreaming stage → IsIn rules uses.rules → SaysIn old.origin (Comes.Switched response) origin
-    → OfAsked (with_origin old origin) (λ a. PassesSwitch rules date (with_origin old origin) a response new) new
-    → Leads limits uses old new
-hears_switch {limits} {uses} rules date At.Forwarding old new origin response is streaming among says h = λ p x.
-    let c = subst (λ (s : Stage). TiedAt limits uses s old p) is x.tied in
-    let s = says_in old.origin origin c.1.origin (Comes.Switched response) c.1.is says in
-    switch_of_asked rules date (with_origin old origin) new c.0 response p
-    (loose_said old origin (Comes.Switched response) p says x.loose) c.1.asked c.1.head
-    (switch_passed rules date c.0 response s.0 among c.1 s.2) h
-hears_switch {limits} {uses} rules date At.Passing old new origin response is streaming among says h = λ p x.
-    let c = subst (λ (s : Stage). TiedAt limits uses s old p) is x.tied in
-    let s = says_in old.origin origin c.carries.origin (Comes.Switched response) c.carries.is says in
-    absurd (switch_late s.0 c.carries.request c.carries.interim c.heard.response response c.content c.carries.reached
-    c.carries.now s.2)
-hears_switch rules date stage old new origin response is streaming among says h = absurd streaming
-
-hears_head : {limits : Limits} {uses : Uses} (rules : GatewayRules) (date : ℕ) (stage : Stage)
-    (old new : GatewayConnection)
-    (origin : Option OriginConnection) (response : OriginResponse) → old.stage ≡ stage → IsStreaming stage
-    → IsIn rules uses.rules → SaysIn old.origin (Comes.Head response) origin
-    → OfAsked (with_origin old origin) (λ a. PassesHead rules date (with_origin old origin) a response new) new
-    → Leads limits uses old new
-hears_head {limits} {uses} rules date At.Forwarding old new origin response is streaming among says h = λ p x.
-    let c = subst (λ (s : Stage). TiedAt limits uses s old p) is x.tied in
-    let s = says_in old.origin origin c.1.origin (Comes.Head response) c.1.is says in
-    head_of_asked rules date (with_origin old origin) new c.0 response p among
-    (says_final c.1.origin s.0 response s.2) h (loose_said old origin (Comes.Head response) p says x.loose)
-    (carries_said origin (Comes.Head response) says (λ r interim. (interim, refl)) c.1)
-hears_head {limits} {uses} rules date At.Passing old new origin response is streaming among says h = λ p x.
-    let c = subst (λ (s : Stage). TiedAt limits uses s old p) is x.tied in
-    let s = says_in old.origin origin c.carries.origin (Comes.Head response) c.carries.is says in
-    absurd (heads_once s.0 c.carries.request c.carries.interim c.heard.response response c.content c.carries.reached
-    c.carries.now s.2)
-hears_head rules date stage old new origin response is streaming among says h = absurd streaming
-
--- ---- content
-
-with_piece_put : (h : Heard) (content piece : List ℕ) (r : Response) → HasHead h content r
-    → HasHead h (content ++ piece) (Stream.with_piece piece r)
-with_piece_put h content piece r puts = record {
-  status = puts.status;
-  reason = puts.reason;
-  is_last = puts.is_last;
-  headers = puts.headers;
-  size = puts.size;
-  content_is = concat-append r.pieces (piece ∷ []) ∙ ap (λ (t : List ℕ). concat r.pieces ++ t) (append-nil piece)
-      ∙ ap (λ (t : List ℕ). t ++ piece) puts.content_is;
-}
-
-record Shown (old new : GatewayConnection) : Type 0 where
-  kept : Frame old new
-  origin : new.origin ≡ old.origin
-
-shown : {limits : Limits} {uses : Uses} (old new : GatewayConnection) (origin : Option OriginConnection)
-    (piece : List ℕ) → old.stage ≡ At.Passing → SaysIn old.origin (Comes.Content piece) origin
-    → StreamSteps.Puts old.client piece new.client → Shown (with_origin old origin) new → Leads limits uses old new
-shown {limits} {uses} old new origin piece is says puts f = λ p x.
-    let t = subst (λ (s : Stage). TiedAt limits uses s old p) is x.tied in
-    let said = loose_said old origin (Comes.Content piece) p says x.loose in
-    let c : Carries limits uses (with_origin old origin) p t.a (Telling t.heard.response (t.content ++ piece)) =
-    carries_said origin (Comes.Content piece) says (λ r interim. (interim, refl)) t.carries in
-    let final : Stream.change (Stream.with_piece piece) p.answer.final ≡ Begun (Stream.with_piece piece t.response) =
-    ap (Stream.change (Stream.with_piece piece)) t.final in
-    let put = with_piece_put t.heard t.content piece t.response t.puts in
-    let q : Stream.Past = Stream.answers (Stream.change (Stream.with_piece piece) p.answer.final) p in
-    record {
-      past = q;
-      held = record {
-        loose = record {
-          peer = f.kept.peer ∙ x.loose.peer;
-          reached = Stream.Put old.client new.client p piece x.loose.reached puts;
-          served = record {
-            before = x.loose.served.before;
-            interim = x.loose.served.interim;
-            now = now_passed limits uses (head_of p.heard) t.a.head q.answer.final (Stream.with_piece piece t.response)
-                c.head final (passed_on t.heard (t.content ++ piece) (Stream.with_piece piece t.response) c
-                t.forwarded put t.whole);
-          };
-          origin = subst (OriginIn limits) (sym f.origin) said.origin;
-        };
-        tied = subst (λ (s : Stage). TiedAt limits uses s new q) (sym (f.kept.stage ∙ is)) (record {
-          a = t.a;
-          heard = t.heard;
-          is = f.kept.heard ∙ t.is;
-          forwarded = t.forwarded;
-          content = t.content ++ piece;
-          response = Stream.with_piece piece t.response;
-          final = final;
-          whole = t.whole;
-          puts = put;
-          carries = carries_kept f.kept.asked refl f.origin c;
-        });
-      };
-      received = refl;
-      sent = refl;
-    }
-
-shown_frame : (old new : GatewayConnection) (piece : List ℕ) (told : Option GatewayEvent)
-    → (((old.watches ≡ true) × (told ≡ Some Tells.Piece)
-    × (new ≡ record old { client = new.client; piece = piece }))
-    ⊎ ((old.watches ≡ false) × (told ≡ None) × (new ≡ record old { client = new.client }))) → Shown old new
-shown_frame old new piece told (inl h) =
-    record { kept = frame h.2 refl refl refl refl (λ a. refl); origin = same_origin h.2 }
-shown_frame old new piece told (inr h) =
-    record { kept = frame h.2 refl refl refl refl (λ a. refl); origin = same_origin h.2 }
-
-passes_piece : {limits : Limits} {uses : Uses} (old new : GatewayConnection) (origin : Option OriginConnection)
-    (piece : List ℕ) (told : Option GatewayEvent) → old.stage ≡ At.Passing
-    → SaysIn old.origin (Comes.Content piece) origin → PassesPiece (with_origin old origin) piece told new
-    → Leads limits uses old new
-passes_piece old new origin piece told is says (inl h) =
-    shown old new origin piece is says h.0 (shown_frame (with_origin old origin) new piece told h.1)
-passes_piece old new origin piece told is says (inr h) =
-    said_freely old new origin (Comes.Content piece) says
-    (client_alone (client_refuses h.1.0) (same_origin h.3) (same_peer h.3))
-    (free_at (same_stage h.3) tt)
-
-hears_piece : {limits : Limits} {uses : Uses} (stage : Stage) (old new : GatewayConnection)
-    (origin : Option OriginConnection) (piece : List ℕ) (told : Option GatewayEvent) → old.stage ≡ stage
-    → IsStreaming stage → SaysIn old.origin (Comes.Content piece) origin
-    → PassesPiece (with_origin old origin) piece told new → Leads limits uses old new
-hears_piece {limits} {uses} At.Forwarding old new origin piece told is streaming says h = λ p x.
-    let c = subst (λ (s : Stage). TiedAt limits uses s old p) is x.tied in
-    let s = says_in old.origin origin c.1.origin (Comes.Content piece) c.1.is says in
-    absurd (content_late s.0 c.1.request c.1.interim piece c.1.reached c.1.now s.2)
-hears_piece At.Passing old new origin piece told is streaming says h =
-    passes_piece old new origin piece told is says h
-hears_piece stage old new origin piece told is streaming says h = absurd streaming
-
--- ---- the end
-
-ended : {limits : Limits} {uses : Uses} (rules : GatewayRules) (old new : GatewayConnection)
-    (origin : Option OriginConnection) (trailers : Entries FieldValue) (h : Heard) (sent : List Header)
-    → old.stage ≡ At.Passing → IsIn rules uses.rules → SaysIn old.origin (Comes.End trailers) origin
-    → old.heard ≡ Some h → IsTrailers rules.gateway h.sent.framing (lines_at h.response.fields) trailers sent
-    → StreamSteps.Ends old.client sent new.client
-    → new ≡ record (with_origin old origin) { client = new.client; stage = At.Ended } → Leads limits uses old new
-ended {limits} {uses} rules old new origin trailers h sent is among says heard forwards ends over = λ p x.
-    let t = subst (λ (s : Stage). TiedAt limits uses s old p) is x.tied in
-    let said = loose_said old origin (Comes.End trailers) p says x.loose in
-    let c = t.carries in
-    let s = says_in old.origin origin c.origin (Comes.End trailers) c.is says in
-    let same : h ≡ t.heard = cc (sym heard ∙ t.is) in
-    let last : Response = Stream.with_trailers sent t.response in
-    let final : Stream.change (Stream.with_trailers sent) p.answer.final ≡ Begun last =
-    ap (Stream.change (Stream.with_trailers sent)) t.final in
-    let q : Stream.Past = Stream.answers (Stream.change (Stream.with_trailers sent) p.answer.final) p in
-    let o : Origin.Past = record (c.past) { now = Origin.tell (Comes.End trailers) c.past.now } in
-    let passed : IsPassedOn limits uses t.a.head (Stream.with_trailers sent t.response) = record {
-      asked = t.a;
-      head_is = refl;
-      decided = c.decided;
-      heard = t.heard;
-      forwarded = t.forwarded;
-      content = t.content;
-      puts = record {
-        status = t.puts.status;
-        reason = t.puts.reason;
-        is_last = t.puts.is_last;
-        headers = t.puts.headers;
-        size = t.puts.size;
-        content_is = t.puts.content_is;
-      };
-      trailers = Some trailers;
-      ends = (
-        rules,
-        among,
-        subst (λ (g : Heard). IsTrailers rules.gateway g.sent.framing (lines_at g.response.fields) trailers sent) same
-            forwards,
-      );
-      origin = s.0;
-      past = o;
-      reached = Origin.Said c.origin s.0 c.past (Comes.End trailers) c.reached s.2;
-      traffic = went_over c.traffic;
-      request = c.request;
-      sends = c.sends;
-      interim = c.interim;
-      told = ap (Origin.tell (Comes.End trailers)) c.now;
-    } in
-    record {
-      past = q;
-      held = record {
-        loose = record {
-          peer = same_peer over ∙ x.loose.peer;
-          reached = Stream.Ended old.client new.client p sent x.loose.reached ends;
-          served = record {
-            before = x.loose.served.before;
-            interim = x.loose.served.interim;
-            now = now_passed limits uses (head_of p.heard) t.a.head q.answer.final
-                (Stream.with_trailers sent t.response) c.head final passed;
-          };
-          origin = subst (OriginIn limits) (sym (same_origin over)) said.origin;
-        };
-        tied = free_tied limits uses new.stage new q (free_at (same_stage over) tt);
-      };
-      received = refl;
-      sent = refl;
-    }
-
-end_refused : {limits : Limits} {uses : Uses} (rules : GatewayRules) (h : Heard) (trailers : Entries FieldValue)
-    (old new : StreamConnection) (error : WriteError) → RefusesResponseEnd rules.gateway h trailers old error new
-    → ClientGoes limits uses old new
-end_refused rules h trailers old new error (inl p) = client_same p.0
-end_refused rules h trailers old new error (inr p) = client_refuses p.2.0
-
-passes_end_of : {limits : Limits} {uses : Uses} (rules : GatewayRules) (old new : GatewayConnection)
-    (origin : Option OriginConnection) (trailers : Entries FieldValue) (h : Heard) → old.stage ≡ At.Passing
-    → IsIn rules uses.rules → SaysIn old.origin (Comes.End trailers) origin → old.heard ≡ Some h
-    → ((EndsResponse rules.gateway h trailers old.client new.client
-    × (new ≡ record (with_origin old origin) { client = new.client; stage = At.Ended }))
-    ⊎ ((error : WriteError) × RefusesResponseEnd rules.gateway h trailers old.client error new.client
-    × (new ≡ record (with_origin old origin) { client = new.client; stage = At.Aborted })))
-    → Leads limits uses old new
-passes_end_of rules old new origin trailers h is among says heard (inl e) =
-    ended rules old new origin trailers h e.0.0 is among says heard e.0.1 e.0.2 e.1
-passes_end_of rules old new origin trailers h is among says heard (inr e) =
-    said_freely old new origin (Comes.End trailers) says
-    (client_alone (end_refused rules h trailers old.client new.client e.0 e.1) (same_origin e.2) (same_peer e.2))
-    (free_at (same_stage e.2) tt)
-
-passes_end : {limits : Limits} {uses : Uses} (rules : GatewayRules) (old new : GatewayConnection)
-    (origin : Option OriginConnection) (trailers : Entries FieldValue) → old.stage ≡ At.Passing
-    → IsIn rules uses.rules → SaysIn old.origin (Comes.End trailers) origin
-    → PassesEnd rules (with_origin old origin) trailers new → Leads limits uses old new
-passes_end rules old new origin trailers is among says (inl h) =
-    passes_end_of rules old new origin trailers h.0 is among says h.1 h.2
-passes_end rules old new origin trailers is among says (inr h) =
-    said_freely old new origin (Comes.End trailers) says (kept h.1 refl refl refl) (free_at (same_stage h.1) tt)
-
-hears_response_end : {limits : Limits} {uses : Uses} (rules : GatewayRules) (stage : Stage)
-    (old new : GatewayConnection)
-    (origin : Option OriginConnection) (trailers : Entries FieldValue) → old.stage ≡ stage → IsStreaming stage
-    → IsIn rules uses.rules → SaysIn old.origin (Comes.End trailers) origin
-    → PassesEnd rules (with_origin old origin) trailers new → Leads limits uses old new
-hears_response_end {limits} {uses} rules At.Forwarding old new origin trailers is streaming among says h = λ p x.
-    let c = subst (λ (s : Stage). TiedAt limits uses s old p) is x.tied in
-    let s = says_in old.origin origin c.1.origin (Comes.End trailers) c.1.is says in
-    absurd (end_late s.0 c.1.request c.1.interim trailers c.1.reached c.1.now s.2)
-hears_response_end rules At.Passing old new origin trailers is streaming among says h =
-    passes_end rules old new origin trailers is among says h
-hears_response_end rules stage old new origin trailers is streaming among says h = absurd streaming
-
--- ---- steps
-
-hears_origin_at : {limits : Limits} {uses : Uses} (rules : GatewayRules) (date : ℕ) (old new : GatewayConnection)
-    (told : Option GatewayEvent) (origin : Option OriginConnection) (event : OriginEvent) → IsStreaming old.stage
-    → IsIn rules uses.rules → SaysIn old.origin event origin
-    → PassesDown rules date (with_origin old origin) event told new → Leads limits uses old new
-hears_origin_at rules date old new told origin Comes.NeedsInput streaming among says h =
-    leads_then (said_quietly old origin Comes.NeedsInput tt says)
-    (rests (same_client h.1) (same_origin h.1) (frame h.1 refl refl refl refl (λ a. refl)))
-hears_origin_at rules date old new told origin (Comes.Interim response) streaming among says h =
-    hears_interim rules date old.stage old new origin response refl streaming among says h.1
-hears_origin_at rules date old new told origin (Comes.Head response) streaming among says h =
-    hears_head rules date old.stage old new origin response refl streaming among says h.1
-hears_origin_at rules date old new told origin (Comes.Content piece) streaming among says h =
-    hears_piece old.stage old new origin piece told refl streaming says h
-hears_origin_at rules date old new told origin (Comes.End trailers) streaming among says h =
-    hears_response_end rules old.stage old new origin trailers refl streaming among says h.1
-hears_origin_at rules date old new told origin (Comes.Switched response) streaming among says h =
-    hears_switch rules date old.stage old new origin response refl streaming among says h.1
-hears_origin_at rules date old new told origin Comes.Closed streaming among says h =
-    said_freely old new origin Comes.Closed says
-    (fails (with_origin old origin) new (Because.Origin Faults.CutShort) h.1)
-    (fails_free (with_origin old origin) new (Because.Origin Faults.CutShort) h.1)
-hears_origin_at rules date old new told origin (Comes.Broken fault) streaming among says h =
-    leads_then (said_quietly old origin (Comes.Broken fault) tt says)
-    (faulted (with_origin old origin) new fault h.1)
-
-transfers : {limits : Limits} {uses : Uses} (rules : GatewayRules) (date : ℕ) (old new : GatewayConnection)
-    (told : Option GatewayEvent) → IsStreaming old.stage → IsIn rules uses.rules → Transfers rules date old told new
-    → Leads limits uses old new
-transfers rules date old new told streaming among (inl h) =
-    let x = h.1 in hears_origin_at rules date old new told x.1 x.0 streaming among x.2 x.3
-transfers rules date old new told streaming among (inr (inl h)) =
-    let x = h.2 in hears_client_at rules old new x.1 x.0 x.2 x.3
-transfers rules date old new told streaming among (inr (inr h)) = unchanged h.1
-
--- a request is asked
-asks_for : {limits : Limits} {uses : Uses} (old new : GatewayConnection) (client : StreamConnection)
-    (head : StreamRequest) (outgoing : Outgoing) (rules : GatewayRules) → IsIn rules uses.rules
-    → IsDecision rules old.peer head (Decides.Send outgoing) → StreamSteps.Says old.client (Is.Head head) client
-    → new ≡ record (begun (with_client old client)) {
-      asked = Some (record { head = head; outgoing = outgoing });
-      stage = At.Asking;
-    } → Leads limits uses old new
-asks_for {limits} {uses} old new client head outgoing rules among decided says is = λ p x.
-    let a : AskedRequest = record { head = head; outgoing = outgoing } in
-    let q : Stream.Past = Stream.tell (Is.Head head) p in
-    record {
-      past = q;
-      held = record {
-        loose = record {
-          peer = same_peer is ∙ x.loose.peer;
-          reached = subst (λ (m : StreamConnection). Stream.IsReached limits m q) (sym (same_client is))
-              (Stream.Said old.client client p (Is.Head head) x.loose.reached says);
-          served = tell_served limits uses (Is.Head head) p x.loose.served;
-          origin = subst (OriginIn limits) (sym (same_origin is)) x.loose.origin;
-        };
-        tied = subst (λ (s : Stage). TiedAt limits uses s new q) (sym (same_stage is))
-            (record {
-              a = a;
-              asked = same_asked is;
-              head = refl;
-              decided = (
-                rules,
-                among,
-                subst (λ (peer : Peer). IsDecision rules peer head (Decides.Send outgoing)) x.loose.peer decided,
-              );
-              fields = inl (same_fields a is);
-            });
-      };
-      received = refl;
-      sent = refl;
-    }
-
-answers_head : {limits : Limits} {uses : Uses} (old new : GatewayConnection) (client : StreamConnection)
-    (head : StreamRequest) (own : Own) → StreamSteps.Says old.client (Is.Head head) client
-    → Answers (begun (with_client old client)) own new → Leads limits uses old new
-answers_head old new client head own says h =
-    freely (goes_then {b = with_client old client} (heard_client old client (Is.Head head) says)
-    (goes_then {b = begun (with_client old client)} (stays refl refl refl)
-    (answers (begun (with_client old client)) new own h)))
-    (answers_free (begun (with_client old client)) new own h)
-
-follows_head : {limits : Limits} {uses : Uses} (old new : GatewayConnection) (client : StreamConnection)
-    (head : StreamRequest) (rules : GatewayRules) (decision : RequestDecision) → IsIn rules uses.rules
-    → IsDecision rules old.peer head decision → StreamSteps.Says old.client (Is.Head head) client
-    → Follows (begun (with_client old client)) head decision new → Leads limits uses old new
-follows_head old new client head rules (Decides.Send outgoing) among decided says is =
-    asks_for old new client head outgoing rules among decided says is
-follows_head old new client head rules (Decides.Answer own) among decided says h =
-    answers_head old new client head own says h
-
-considers_head : {limits : Limits} {uses : Uses} (rules : GatewayRules) (old new : GatewayConnection)
-    (client : StreamConnection) (head : StreamRequest) → IsIn rules uses.rules
-    → StreamSteps.Says old.client (Is.Head head) client → Considers rules (with_client old client) head new
-    → Leads limits uses old new
-considers_head rules old new client head among says (inl h) =
-    follows_head old new client head rules h.0 among h.1 says h.2
-considers_head rules old new client head among says (inr h) =
-    answers_head old new client head Because.OutOfMemory says h
-
-awaits_freely : {limits : Limits} {uses : Uses} (rules : GatewayRules) (old new : GatewayConnection)
-    (told : Option GatewayEvent) (client : StreamConnection) (event : StreamEvent)
-    → StreamSteps.Says old.client event client → Goes limits uses (with_client old client) new → IsFree new.stage
-    → Leads limits uses old new
-awaits_freely rules old new told client event says goes free =
-    freely (goes_then {b = with_client old client} (heard_client old client event says) goes) free
-
-awaits_request : {limits : Limits} {uses : Uses} (rules : GatewayRules) (old new : GatewayConnection)
-    (told : Option GatewayEvent) (client : StreamConnection) (event : StreamEvent) → old.stage ≡ At.Idle
-    → IsIn rules uses.rules → StreamSteps.Says old.client event client
-    → Awaits rules (with_client old client) event told new
-    → Leads limits uses old new
-awaits_request rules old new told client Is.NeedsInput is among says h =
-    awaits_freely rules old new told client Is.NeedsInput says (kept h.1 refl refl refl)
-    (free_at (same_stage h.1 ∙ is) tt)
-awaits_request rules old new told client (Is.Head head) is among says h =
-    considers_head rules old new client head among says h.1
-awaits_request rules old new told client (Is.Content piece) is among says h =
-    awaits_freely rules old new told client (Is.Content piece) says (same h.1) (free_at (same_stage h.1 ∙ is) tt)
-awaits_request rules old new told client (Is.End trailers) is among says h =
-    awaits_freely rules old new told client (Is.End trailers) says (kept h.1 refl refl refl)
-    (free_at (same_stage h.1 ∙ is) tt)
-awaits_request rules old new told client (Is.Rejected why) is among says h =
-    awaits_freely rules old new told client (Is.Rejected why) says
-    (answers (with_client old client) new (Because.Unread why) h.1)
-    (answers_free (with_client old client) new (Because.Unread why) h.1)
-awaits_request rules old new told client Is.Waits is among says h =
-    awaits_freely rules old new told client Is.Waits says (kept h.1 refl refl refl) (free_at (same_stage h.1) tt)
-awaits_request rules old new told client Is.Switched is among says h =
-    awaits_freely rules old new told client Is.Switched says (kept h.1 refl refl refl) (free_at (same_stage h.1) tt)
-awaits_request rules old new told client Is.Closed is among says h =
-    awaits_freely rules old new told client Is.Closed says (kept h.1 refl refl refl) (free_at (same_stage h.1) tt)
-
-next_free : (old : GatewayConnection) (stage : Stage) → IsNext old stage → IsFree stage
-next_free old stage (inl h) = free_at h.1 tt
-next_free old stage (inr h) = free_at h.1 tt
-
--- a request waits again
-waits_again : {limits : Limits} {uses : Uses} (old new : GatewayConnection) (p : Stream.Past)
-    → ((new.stage ≡ At.Asking) ⊎ (new.stage ≡ At.Repeating)) → Loose limits uses new p → Waiting uses new p
-    → After limits uses new p
-waits_again {limits} {uses} old new p (inl is) x w = record {
-  past = p;
-  held = record { loose = x; tied = subst (λ (s : Stage). TiedAt limits uses s new p) (sym is) w };
-  received = refl;
-  sent = refl;
-}
-waits_again {limits} {uses} old new p (inr is) x w = record {
-  past = p;
-  held = record { loose = x; tied = subst (λ (s : Stage). TiedAt limits uses s new p) (sym is) w };
-  received = refl;
-  sent = refl;
-}
-
-repeats_again : {limits : Limits} {uses : Uses} (old new : GatewayConnection) → old.stage ≡ At.Repeating
-    → new ≡ record old { stage = At.Asking } → Leads limits uses old new
-repeats_again {limits} {uses} old new at is = λ p x.
-    let w = subst (λ (s : Stage). TiedAt limits uses s old p) at x.tied in
-    waits_again old new p (inl (same_stage is))
-    (record {
-      peer = same_peer is ∙ x.loose.peer;
-      reached = subst (λ (m : StreamConnection). Stream.IsReached limits m p) (sym (same_client is)) x.loose.reached;
-      served = x.loose.served;
-      origin = subst (OriginIn limits) (sym (same_origin is)) x.loose.origin;
-    })
-    (record {
-      a = w.a;
-      asked = same_asked is ∙ w.asked;
-      head = w.head;
-      decided = w.decided;
-      fields = subst (AreFieldsOf w.a) (sym (same_fields w.a is)) w.fields;
-    })
-
-steps : {limits : Limits} {uses : Uses} (rules : GatewayRules) (date : ℕ) (stage : Stage) (old new : GatewayConnection)
-    (told : Option GatewayEvent) → old.stage ≡ stage → IsIn rules uses.rules → StepsAt stage rules date old told new
-    → Leads limits uses old new
-steps rules date At.Idle old new told is among h = awaits_request rules old new told h.1 h.0 is among h.2 h.3
-steps rules date At.Asking old new told is among h = unchanged h.1
-steps rules date At.Forwarding old new told is among h =
-    transfers rules date old new told (subst IsStreaming (sym is) tt) among h
-steps rules date At.Passing old new told is among h =
-    transfers rules date old new told (subst IsStreaming (sym is) tt) among h
-steps rules date At.Judging old new told is among h = unchanged h.1
-steps rules date At.Giving old new told is among h = unchanged h.1
-steps rules date At.Ended old new told is among h = freely (kept h.2 refl refl refl) (next_free old new.stage h.1)
-steps rules date At.Repeating old new told is among h = repeats_again old new is h.1
-steps rules date At.Switched old new told is among h = unchanged h.1
-steps rules date At.Closed old new told is among h = unchanged h.1
-steps rules date At.Aborted old new told is among h = unchanged h.1
-
-runs_on : {limits : Limits} {uses : Uses} {rules : GatewayRules} {date : ℕ} {old new : GatewayConnection}
-    → IsIn rules uses.rules → Runs rules date old new → Leads limits uses old new
-runs_on among Rests = unchanged refl
-runs_on {limits} {uses} {rules} {date} among (Went between last before step) =
-    leads_then (runs_on among before) (steps rules date between.stage between last None refl among step)
-
-says_at : {limits : Limits} {uses : Uses} (rules : GatewayRules) (date : ℕ) (between new : GatewayConnection)
-    (event : GatewayEvent) → IsIn rules uses.rules
-    → (Steps rules date between (Some event) new ⊎ ((event ≡ Tells.Waits) × (new ≡ between)))
-    → Leads limits uses between new
-says_at rules date between new event among (inl h) =
-    steps rules date between.stage between new (Some event) refl among h
-says_at rules date between new event among (inr h) = unchanged h.1
-
-says : {limits : Limits} {uses : Uses} (rules : GatewayRules) (date : ℕ) (old new : GatewayConnection)
-    (event : GatewayEvent) → IsIn rules uses.rules → Says rules date old event new → Leads limits uses old new
-says rules date old new event among h =
-    leads_then (runs_on among h.1) (says_at rules date h.0 new event among h.2)
-
--- ---- the caller's calls
-
--- the request that waits is sent
-sent_on : {limits : Limits} {uses : Uses} (old new : GatewayConnection) (origin after : OriginConnection)
-    (watches : Bool) (t : Traffic) (older : List Traffic) → uses.traffic ≡ t ∷ older → old.stage ≡ At.Asking
-    → ((a : AskedRequest) → old.asked ≡ Some a → AreFieldsOf a (sent_fields old a) → Asked limits t a after)
-    → new ≡ record (taking old after watches) { stage = At.Forwarding } → Leads limits uses old new
-sent_on {limits} {uses} old new origin after watches t older line at asks is = λ p x.
-    let w = subst (λ (s : Stage). TiedAt limits uses s old p) at x.tied in
-    let o = asks w.a w.asked w.fields in
-    record {
-      past = p;
-      held = record {
-        loose = record {
-          peer = same_peer is ∙ x.loose.peer;
-          reached = subst (λ (m : StreamConnection). Stream.IsReached limits m p) (sym (same_client is))
-              x.loose.reached;
-          served = x.loose.served;
-          origin = subst (OriginIn limits) (sym (same_origin is)) (reached_of t w.a o);
-        };
-        tied = subst (λ (s : Stage). TiedAt limits uses s new p) (sym (same_stage is)) (
-          w.a,
-          record {
-            asked = same_asked is ∙ w.asked;
-            head = w.head;
-            decided = w.decided;
-            origin = after;
-            is = same_origin is;
-            past = o.0;
-            reached = o.1;
-            request = o.2;
-            sends = o.3;
-            interim = [];
-            now = o.4;
-            older = older;
-            traffic = line ∙ ap (λ (l : Traffic). l ∷ older) (sym o.5);
-          },
-          subst (AreFieldsOf w.a) (sym (same_fields w.a is)) w.fields,
-        );
-      };
-      received = refl;
-      sent = refl;
-    }
-
-continues_if : {limits : Limits} {uses : Uses} (goes : Bool) (old new : GatewayConnection) → ContinuesIf goes old new
-    → Leads limits uses old new
-continues_if false old new h = unchanged h
-continues_if true old new (inl h) =
-    client_moves (same_origin h.1) (frame h.1 refl refl refl refl (λ a. refl))
-    (client_continues old.client new.client h.0) (λ p r s. (refl, refl))
-continues_if true old new (inr h) =
-    freely (answers_after old new h.1 (Because.Unsendable h.0) (client_refuses h.2.0) h.3)
-    (answers_free (with_client old h.1) new (Because.Unsendable h.0) h.3)
-
-sends : {limits : Limits} {uses : Uses} (old new : GatewayConnection) (origin : OriginConnection) (watches : Bool)
-    (older : List Traffic) → old.stage ≡ At.Asking → (r : IsOriginReached limits origin)
-    → uses.traffic ≡ traffic_of r.0 ∷ older → Sends old origin watches new
-    → Leads limits uses old new
-sends old new origin watches older at r line (inl h) =
-    leads_then {b = record (taking old h.0 watches) { stage = At.Forwarding }}
-    (sent_on old (record (taking old h.0 watches) { stage = At.Forwarding }) origin h.0 watches (traffic_of r.0)
-    older line at (λ a is are. begins_at old.asked a old origin h.0 h.1 is are h.2 r) refl)
-    (continues_if h.1 (record (taking old h.0 watches) { stage = At.Forwarding }) new h.3)
-sends old new origin watches older at r line (inr h) =
-    freely (goes_then {b = taking old h.0 watches}
-    (origin_alone (record { step = λ held. refuses_begin_at old.asked old origin h.0 h.1 h.2 r }) refl refl)
-    (answers (taking old h.0 watches) new (Because.Unsent h.1) h.3))
-    (answers_free (taking old h.0 watches) new (Because.Unsent h.1) h.3)
-
-settles_asked : (old new : GatewayConnection) → Settles old new → new.asked ≡ old.asked
-settles_asked old new (inl h) = same_asked h.1
-settles_asked old new (inr h) = same_asked h.3
-
-settles_peer : (old new : GatewayConnection) → Settles old new → new.peer ≡ old.peer
-settles_peer old new (inl h) = same_peer h.1
-settles_peer old new (inr h) = same_peer h.3
-
-settles_client : (old new : GatewayConnection) → Settles old new → new.client ≡ old.client
-settles_client old new (inl h) = same_client h.1
-settles_client old new (inr h) = same_client h.3
-
-settles_origin : {limits : Limits} (old new : GatewayConnection) → Settles old new
-    → OriginGoes limits old.origin new.origin
-settles_origin old new (inl h) = origin_same (same_origin h.1)
-settles_origin old new (inr h) = origin_says old.origin new.origin h.1 h.2
-
-drops : {limits : Limits} {uses : Uses} (old between new : GatewayConnection) → old.stage ≡ At.Judging
-    → Settles old between → Drops between new → Leads limits uses old new
-drops old between new at settled (inl h) =
-    freely (goes_then {b = between} (settles old between settled) (answers between new (Because.Chosen 502) h.1))
-    (answers_free between new (Because.Chosen 502) h.1)
-drops {limits} {uses} old between new at settled (inr h) = λ p x.
-    let j = subst (λ (s : Stage). TiedAt limits uses s old p) at x.tied in
-    let goes : OriginGoes limits old.origin between.origin = settles_origin old between settled in
-    waits_again old new p (inr (same_stage h.1))
-    (record {
-      peer = same_peer h.1 ∙ (settles_peer old between settled ∙ x.loose.peer);
-      reached = subst (λ (m : StreamConnection). Stream.IsReached limits m p)
-          (sym (same_client h.1 ∙ settles_client old between settled)) x.loose.reached;
-      served = x.loose.served;
-      origin = subst (OriginIn limits) (sym (same_origin h.1)) (goes.step x.loose.origin);
-    })
-    (record {
-      a = j.a;
-      asked = same_asked h.1 ∙ (settles_asked old between settled ∙ j.carries.asked);
-      head = j.carries.head;
-      decided = j.carries.decided;
-      fields = inl (same_fields j.a h.1);
-    })
-
-asks_again : {limits : Limits} {uses : Uses} (old new : GatewayConnection) → AsksAgain old new
-    → Leads limits uses old new
-asks_again old new (inl h) = unchanged h.1
-asks_again old new (inr h) = drops old h.1 new h.0 h.2 h.3
-
-connects_free : (old new : GatewayConnection) → ConnectsAs old new → IsFree new.stage
-connects_free old new (inl h) = free_at (same_stage h.1) tt
-connects_free old new (inr h) = answers_free (with_client old h.1) new (Because.Unsendable h.0) h.3
-
-connects : {limits : Limits} {uses : Uses} (old new : GatewayConnection) → Connects old new
-    → Leads limits uses old new
-connects old new (inl h) = unchanged h.1
-connects old new (inr (asks, (event, client, says, goes))) =
-    freely (goes_then {b = with_client old client} (heard_client old client event says)
-    (connects_as (with_client old client) new goes)) (connects_free (with_client old client) new goes)
-
-given_now : (limits : Limits) (uses : Uses) (head : Option StreamRequest) (final : Final) (r : Response)
-    → final ≡ Begun r → IsGiven uses r → IsServedNow limits uses head final
-given_now limits uses head final r is given =
-    now_is limits uses head final r is (λ asked is_asked. inr (inl given))
-
-gives : {limits : Limits} {uses : Uses} (old new : GatewayConnection) (status : ℕ) (reason : List ℕ)
-    (fields : List Header) (size : BodySize)
-    → IsIn (record { status = status; reason = reason; fields = fields; size = size }) uses.given
-    → Gives old status reason fields size new → Leads limits uses old new
-gives {limits} {uses} old new status reason fields size among h = λ p x.
-    let r : Response = Stream.begins old.client.server status reason (closing old.is_last fields) size in
-    let q : Stream.Past = Stream.answers (Begun r) p in
-    let given : IsGiven uses r = (old.is_last, fields, refl, among) in
-    let goes : OriginGoes limits old.origin h.3.origin = settles_origin (with_client old h.1) h.3 h.4 in
-    record {
-      past = q;
-      held = record {
-        loose = record {
-          peer = same_peer h.5 ∙ (settles_peer (with_client old h.1) h.3 h.4 ∙ x.loose.peer);
-          reached = subst (λ (m : StreamConnection). Stream.IsReached limits m q)
-              (sym (same_client h.5 ∙ settles_client (with_client old h.1) h.3 h.4))
-              (Stream.Responded old.client h.1 p status reason (closing old.is_last fields) size x.loose.reached h.2);
-          served = record {
-            before = x.loose.served.before;
-            interim = x.loose.served.interim;
-            now = given_now limits uses (head_of p.heard) (Begun r) r refl given;
-          };
-          origin = subst (OriginIn limits) (sym (same_origin h.5)) (goes.step x.loose.origin);
-        };
-        tied = subst (λ (s : Stage). TiedAt limits uses s new q) (sym (same_stage h.5))
-            (record { response = r; final = refl; given = given });
-      };
-      received = refl;
-      sent = refl;
-    }
-
-gives_piece : {limits : Limits} {uses : Uses} (old new : GatewayConnection) (piece : List ℕ) → old.stage ≡ At.Giving
-    → StreamSteps.Puts old.client piece new.client → new ≡ record old { client = new.client }
-    → Leads limits uses old new
-gives_piece {limits} {uses} old new piece at puts is = λ p x.
-    let g = subst (λ (s : Stage). TiedAt limits uses s old p) at x.tied in
-    let r : Response = Stream.with_piece piece g.response in
-    let q : Stream.Past = Stream.answers (Stream.change (Stream.with_piece piece) p.answer.final) p in
-    let final : q.answer.final ≡ Begun r = ap (Stream.change (Stream.with_piece piece)) g.final in
-    let given : IsGiven uses r = (g.given.0, g.given.1, g.given.2, g.given.3) in
-    record {
-      past = q;
-      held = record {
-        loose = record {
-          peer = same_peer is ∙ x.loose.peer;
-          reached = Stream.Put old.client new.client p piece x.loose.reached puts;
-          served = record {
-            before = x.loose.served.before;
-            interim = x.loose.served.interim;
-            now = given_now limits uses (head_of p.heard) q.answer.final r final given;
-          };
-          origin = subst (OriginIn limits) (sym (same_origin is)) x.loose.origin;
-        };
-        tied = subst (λ (s : Stage). TiedAt limits uses s new q) (sym (same_stage is ∙ at))
-            (record { response = r; final = final; given = given });
-      };
-      received = refl;
-      sent = refl;
-    }
-
-gives_end : {limits : Limits} {uses : Uses} (old new : GatewayConnection) (trailers : List Header)
-    → EndsGiving old trailers new → Leads limits uses old new
-gives_end {limits} {uses} old new trailers h = λ p x.
-    let g = subst (λ (s : Stage). TiedAt limits uses s old p) h.0 x.tied in
-    let r : Response = Stream.with_trailers trailers g.response in
-    let q : Stream.Past = Stream.answers (Stream.change (Stream.with_trailers trailers) p.answer.final) p in
-    let final : q.answer.final ≡ Begun r = ap (Stream.change (Stream.with_trailers trailers)) g.final in
-    let given : IsGiven uses r = (g.given.0, g.given.1, g.given.2, g.given.3) in
-    record {
-      past = q;
-      held = record {
-        loose = record {
-          peer = same_peer h.2 ∙ x.loose.peer;
-          reached = Stream.Ended old.client new.client p trailers x.loose.reached h.1;
-          served = record {
-            before = x.loose.served.before;
-            interim = x.loose.served.interim;
-            now = given_now limits uses (head_of p.heard) q.answer.final r final given;
-          };
-          origin = subst (OriginIn limits) (sym (same_origin h.2)) x.loose.origin;
-        };
-        tied = free_tied limits uses new.stage new q (free_at (same_stage h.2) tt);
-      };
-      received = refl;
-      sent = refl;
-    }
-
-refuses_giving : {limits : Limits} {uses : Uses} (old new : GatewayConnection) (status : ℕ) (reason : List ℕ)
-    (fields : List Header) (size : BodySize) (error : WriteError)
-    → RefusesGiving old status reason fields size error new → Leads limits uses old new
-refuses_giving old new status reason fields size error (inl h) = unchanged h.2
-refuses_giving old new status reason fields size error (inr (inl h)) = unchanged h.1
-refuses_giving old new status reason fields size error (inr (inr h)) =
-    nothing_put (same_origin h.1) (frame h.1 refl refl refl refl (λ a. refl)) h.0.0
-
-refuses_in_giving : {limits : Limits} {uses : Uses} (old new : GatewayConnection) (refusal : Option WriteError)
-    (error : WriteError) → RefusesInGiving refusal old error new → Leads limits uses old new
-refuses_in_giving old new refusal error (inl h) = unchanged h.2
-refuses_in_giving old new refusal error (inr h) =
-    nothing_put (same_origin h.1) (frame h.1 refl refl refl refl (λ a. refl)) h.0.0
-
-passes : {limits : Limits} {uses : Uses} (old new : GatewayConnection) → Passes old new → Leads limits uses old new
-passes {limits} {uses} old new (inl h) = λ p x.
-    let j = subst (λ (s : Stage). TiedAt limits uses s old p) h.0 x.tied in
-    let same : j.heard ≡ h.1 = cc (sym j.is ∙ h.2) in
-    let taken : GatewayConnection = record old { heard = None } in
-    let c : Carries limits uses taken p j.a (Telling j.heard.response []) = carries_kept refl refl refl j.carries in
-    let loose : Loose limits uses taken p =
-    record {
-      peer = x.loose.peer;
-      reached = x.loose.reached;
-      served = x.loose.served;
-      origin = x.loose.origin;
-    } in
-    shows taken h.3.0 new h.1 j.a p h.3.1 h.3.2 loose
-    (subst (λ (g : Heard). Carries limits uses taken p j.a (Telling g.response [])) same c)
-    (subst (λ (g : Heard). IsHeard uses j.a g) same j.forwarded)
-passes old new (inr h) = unchanged h.1
-
-ends_idle_free : (old new : GatewayConnection) (event : StreamEvent) → EndsIdleAs old event new → IsFree new.stage
-ends_idle_free old new (Is.Rejected why) h = answers_free old new Because.LateRequest h
-ends_idle_free old new Is.NeedsInput is = free_at (same_stage is) tt
-ends_idle_free old new (Is.Head head) is = free_at (same_stage is) tt
-ends_idle_free old new (Is.Content piece) is = free_at (same_stage is) tt
-ends_idle_free old new (Is.End trailers) is = free_at (same_stage is) tt
-ends_idle_free old new Is.Waits is = free_at (same_stage is) tt
-ends_idle_free old new Is.Switched is = free_at (same_stage is) tt
-ends_idle_free old new Is.Closed is = free_at (same_stage is) tt
-
-idles : {limits : Limits} {uses : Uses} (old new : GatewayConnection) → EndsIdle old new → Leads limits uses old new
-idles old new h = freely (ends_idle old new h) (ends_idle_free (with_client old h.2) new h.1 h.5)
-
-times_out : {limits : Limits} {uses : Uses} (phase : ExchangePhase) (old new : GatewayConnection)
-    → TimesOutAt phase old new
-    → Leads limits uses old new
-times_out Does.Idle old new h = idles old new h
-times_out Does.Head old new h = idles old new h
-times_out Does.Asking old new h =
-    freely (answers old new Because.LateResponse h) (answers_free old new Because.LateResponse h)
-times_out Does.Content old new h =
-    freely (answers old new Because.LateRequest h) (answers_free old new Because.LateRequest h)
-times_out Does.Response old new h =
-    freely (answers old new Because.LateResponse h) (answers_free old new Because.LateResponse h)
-times_out Does.Passing old new is = freely (kept is refl refl refl) (free_at (same_stage is) tt)
-times_out Does.Giving old new is = freely (kept is refl refl refl) (free_at (same_stage is) tt)
-times_out Does.Draining old new is = freely (kept is refl refl refl) (free_at (same_stage is) tt)
-times_out Does.Over old new is = unchanged is
-
--- the origin's connection is taken while none is needed
-taken_tied : (limits : Limits) (uses : Uses) (stage : Stage) (old new : GatewayConnection) (p : Stream.Past)
-    → is_passing stage ≡ false → new.asked ≡ old.asked
-    → ((a : AskedRequest) → sent_fields new a ≡ sent_fields old a) → TiedAt limits uses stage old p
-    → TiedAt limits uses stage new p
-taken_tied limits uses At.Asking old new p still asked fields x = record {
-  a = x.a;
-  asked = asked ∙ x.asked;
-  head = x.head;
-  decided = x.decided;
-  fields = subst (AreFieldsOf x.a) (sym (fields x.a)) x.fields;
-}
-taken_tied limits uses At.Repeating old new p still asked fields x = record {
-  a = x.a;
-  asked = asked ∙ x.asked;
-  head = x.head;
-  decided = x.decided;
-  fields = subst (AreFieldsOf x.a) (sym (fields x.a)) x.fields;
-}
-taken_tied limits uses At.Forwarding old new p still asked fields x = absurd (cc)
-taken_tied limits uses At.Judging old new p still asked fields x = absurd (cc)
-taken_tied limits uses At.Passing old new p still asked fields x = absurd (cc)
-taken_tied limits uses At.Giving old new p still asked fields x = x
-taken_tied limits uses At.Idle old new p still asked fields x = tt
-taken_tied limits uses At.Ended old new p still asked fields x = tt
-taken_tied limits uses At.Switched old new p still asked fields x = tt
-taken_tied limits uses At.Closed old new p still asked fields x = tt
-taken_tied limits uses At.Aborted old new p still asked fields x = tt
-
-taken : {limits : Limits} {uses : Uses} (old new : GatewayConnection) → is_passing old.stage ≡ false
-    → new ≡ record old { origin = None; origin_hungry = false } → Leads limits uses old new
-taken {limits} {uses} old new still is = λ p x.
-    let gone : OriginGoes limits old.origin new.origin = origin_gone (same_origin is) in
-    record {
-      past = p;
-      held = record {
-        loose = record {
-          peer = same_peer is ∙ x.loose.peer;
-          reached = subst (λ (m : StreamConnection). Stream.IsReached limits m p) (sym (same_client is))
-              x.loose.reached;
-          served = x.loose.served;
-          origin = gone.step x.loose.origin;
-        };
-        tied = subst (λ (s : Stage). TiedAt limits uses s new p) (sym (same_stage is))
-            (taken_tied limits uses old.stage old new p still (same_asked is) (λ a. same_fields a is) x.tied);
-      };
-      received = refl;
-      sent = refl;
-    }
-
-takes : {limits : Limits} {uses : Uses} (old new : GatewayConnection) (origin : Option OriginConnection)
-    → TakesOrigin old origin new → Leads limits uses old new
-takes old new (Some origin) h = taken old new h.0 h.3
-takes old new None (inl h) = unchanged h.1
-takes old new None (inr h) = taken old new h.0 h.2
-
--- the conditions of the request that waits are put
-conditioned : (etags since : Option FieldValue) (old new : GatewayConnection) (b : AskedRequest) → old.asked ≡ Some b
-    → sent_fields new b ≡ with_conditions etags since (fields_of b.outgoing.fields.items) → (a : AskedRequest)
-    → old.asked ≡ Some a → AreFieldsOf a (sent_fields old a) → AreFieldsOf a (sent_fields new a)
-conditioned etags since old new b is_b put a is x =
-    let same : b ≡ a = cc (sym is_b ∙ is) in
-    subst (λ (c : AskedRequest). AreFieldsOf c (sent_fields new c)) same (inr (etags, since, put))
-
-conditions : {limits : Limits} {uses : Uses} (etags since : Option FieldValue) (old new : GatewayConnection)
-    → Conditions etags since old new → Leads limits uses old new
-conditions etags since old new (inl h) = unchanged h.1
-conditions {limits} {uses} etags since old new (inr h) = λ p x. record {
-  past = p;
-  held = record {
-    loose = record {
-      peer = same_peer h.3 ∙ x.loose.peer;
-      reached = subst (λ (m : StreamConnection). Stream.IsReached limits m p) (sym (same_client h.3)) x.loose.reached;
-      served = x.loose.served;
-      origin = subst (OriginIn limits) (sym (same_origin h.3)) x.loose.origin;
-    };
-    tied = subst (λ (s : Stage). TiedAt limits uses s new p) (sym (same_stage h.3))
-        (tied_on limits uses uses old.stage old new p p (grows_same uses)
-        (conditioned etags since old new h.0 h.1 h.2) (same_asked h.3) (same_heard h.3) refl refl
-        (λ a t c. carries_kept (same_asked h.3) refl (same_origin h.3) c) x.tied);
-  };
-  received = refl;
-  sent = refl;
-}
-
--- ---- the origin's bytes
-
-at_most : (a b : ℕ) → min a b ≤ b
-at_most a b = omega arith
-
-on_some : (P : OriginConnection → OriginConnection → Type 0) (old new : Option OriginConnection)
-    (before : OriginConnection) → old ≡ Some before → OnOrigin P old new
-    → (after : OriginConnection) × (new ≡ Some after) × P before after
-on_some P (Some old) (Some new) before is h =
-    let same : old ≡ before = cc in (new, refl, subst (λ (o : OriginConnection). P o new) same h)
-on_some P None new before is h = absurd (cc)
-on_some P (Some old) None before is h = absurd h
-
--- bytes go over the origin's connection, or its input ends
-changes_origin : (limits : Limits) (uses now : Uses) (P : OriginConnection → OriginConnection → Type 0)
-    (old new : GatewayConnection) (p : Stream.Past) → Grows uses now
-    → ((before after : OriginConnection) (o : Origin.Past) → P before after → Origin.IsReached limits before o
-    → (n : Origin.Past) × Origin.IsReached limits after n × (n.now ≡ o.now)
-    × ((older : List Traffic) → old.origin ≡ Some before → uses.traffic ≡ traffic_of o ∷ older
-    → now.traffic ≡ traffic_of n ∷ older))
-    → ChangesOrigin P old new → Held limits uses old p → Held limits now new p
-changes_origin limits uses now P old new p grows step h held =
-    let goes : OriginGoes limits old.origin new.origin = on_origin P old.origin new.origin
-    (λ before after x r. let n = step before after r.0 x r.1 in (n.0, n.1)) h.0 in
-    let f : Frame old new = frame h.1 refl refl refl refl (λ a. refl) in
-    record {
-      loose = record {
-        peer = f.peer ∙ (held.loose.peer ∙ sym grows.peer);
-        reached = subst (λ (m : StreamConnection). Stream.IsReached limits m p) (sym (same_client h.1))
-            held.loose.reached;
-        served = served_grows grows held.loose.served;
-        origin = goes.step held.loose.origin;
-      };
-      tied = subst (λ (s : Stage). TiedAt limits now s new p) (sym f.stage)
-          (tied_on limits uses now old.stage old new p p grows (frame_fields f) f.asked f.heard refl refl (λ a t c.
-          let x = on_some P old.origin new.origin c.origin c.is h.0 in
-          let n = step c.origin x.0 c.past x.2 c.reached in
-          record {
-            asked = f.asked ∙ c.asked;
-            head = c.head;
-            decided = decided_grows a grows c.decided;
-            origin = x.0;
-            is = x.1;
-            past = n.0;
-            reached = n.1;
-            request = c.request;
-            sends = c.sends;
-            interim = c.interim;
-            now = n.2 ∙ c.now;
-            older = c.older;
-            traffic = n.3 c.older c.is c.traffic;
-          }) held.tied);
-    }
-
-last_is : (f g : Traffic → Traffic) (lines older : List Traffic) (t : Traffic) → ((u : Traffic) → f u ≡ g u)
-    → lines ≡ t ∷ older → on_last f lines ≡ g t ∷ older
-last_is f g lines older t same is = ap (on_last f) is ∙ ap (λ (u : Traffic). u ∷ older) (same t)
-
-receives_as : (goes is : Bool) (bytes : List ℕ) → goes ≡ is → (t : Traffic)
-    → receives goes bytes t ≡ receives is bytes t
-receives_as goes is bytes same t = ap (λ (b : Bool). receives b bytes t) same
-
-open_as : (old : Option OriginConnection) (before : OriginConnection) (ended : Bool) → old ≡ Some before
-    → before.ended ≡ ended → is_origin_open old ≡ not ended
-open_as old before ended is same = ap is_origin_open is ∙ ap not same
-
-origin_receives : {limits : Limits} (uses : Uses) (old : Option OriginConnection) (bytes : List ℕ)
-    (before after : OriginConnection) (o : Origin.Past) → ReceivesOrigin bytes before after
-    → Origin.IsReached limits before o
-    → (n : Origin.Past) × Origin.IsReached limits after n × (n.now ≡ o.now)
-    × ((older : List Traffic) → old ≡ Some before → uses.traffic ≡ traffic_of o ∷ older
-    → on_last (receives (is_origin_open old) bytes) uses.traffic ≡ traffic_of n ∷ older)
-origin_receives {limits} uses old bytes before after o (inl h) r = (
-  o,
-  subst (λ (m : OriginConnection). Origin.IsReached limits m o) (sym h.1) r,
-  refl,
-  λ older is line. last_is (receives (is_origin_open old) bytes) (receives false bytes) uses.traffic older
-      (traffic_of o) (receives_as (is_origin_open old) false bytes (open_as old before true is h.0)) line,
-)
-origin_receives uses old bytes before after o (inr h) r = (
-  record o { received = o.received ++ bytes },
-  Origin.Received before after o bytes r h.0 h.1,
-  refl,
-  λ older is line. last_is (receives (is_origin_open old) bytes) (receives true bytes) uses.traffic older
-      (traffic_of o) (receives_as (is_origin_open old) true bytes (open_as old before false is h.0)) line,
-)
-
-written_as : (count : ℕ) (old : Option OriginConnection) (before : OriginConnection) → old ≡ Some before
-    → (t : Traffic)
-    → writes (written_of count old) t
-    ≡ writes (take (min count (length before.output.items)) before.output.items) t
-written_as count old before is t =
-    ap (λ (o : Option OriginConnection). writes (written_of count o) t) is
-
-origin_writes : {limits : Limits} (uses : Uses) (old : Option OriginConnection) (count : ℕ)
-    (before after : OriginConnection) (o : Origin.Past) → HandsOutOrigin count before after
-    → Origin.IsReached limits before o
-    → (n : Origin.Past) × Origin.IsReached limits after n × (n.now ≡ o.now)
-    × ((older : List Traffic) → old ≡ Some before → uses.traffic ≡ traffic_of o ∷ older
-    → on_last (writes (written_of count old)) uses.traffic ≡ traffic_of n ∷ older)
-origin_writes uses old count before after o out r = (
-  record o { sent = o.sent ++ take (min count (length before.output.items)) before.output.items },
-  Origin.Written before after o (min count (length before.output.items)) r
-      (at_most count (length before.output.items)) out,
-  refl,
-  λ older is line. last_is (writes (written_of count old))
-      (writes (take (min count (length before.output.items)) before.output.items)) uses.traffic older (traffic_of o)
-      (written_as count old before is) line,
-)
-
--- ---- histories
-
 -- the parts were reached by calls of their own, and what they told is of one exchange
-record Run (limits : Limits) (m : GatewayConnection) (p : Past) : Type 0 where
-  client : Stream.Past
-  held : Held limits p.uses m client
-  received : client.received ≡ p.received
-  sent : client.sent ≡ p.sent
+abbrev Run : Limits → Uses → List Traffic → GatewayConnection → List ℕ → List ℕ → Type 0
+Run limits uses lines m received sent =
+    (q : Stream.Past) × (n : Origin.Past) × Held limits uses lines m q n × (q.received ≡ received) × (q.sent ≡ sent)
 
-on : {limits : Limits} {old new : GatewayConnection} {p : Past} → Leads limits p.uses old new → Run limits old p
-    → Run limits new p
-on leads r =
-    let x = leads r.client r.held in
-    record { client = x.past; held = x.held; received = x.received ∙ r.received; sent = x.sent ∙ r.sent }
+on : {limits : Limits} {uses : Uses} {lines : List Traffic} {old new : GatewayConnection} {received sent : List ℕ}
+    → Leads limits uses lines old new → Run limits uses lines old received sent
+    → Run limits uses lines new received sent
+on leads r = let x = leads.step r.0 r.1 r.2 in (x.0, x.1, x.2, x.3 ∙ r.3, x.4 ∙ r.4)
 
 -- bytes of the client
-client_bytes : (limits : Limits) (uses : Uses) (old new : GatewayConnection) (p q : Stream.Past)
-    → Stream.IsReached limits new.client q → Served limits uses q → new.origin ≡ old.origin → Frame old new
-    → head_of q.heard ≡ head_of p.heard → q.answer.final ≡ p.answer.final → Held limits uses old p
-    → Held limits uses new q
-client_bytes limits uses old new p q reached served origin f head final h = record {
-  loose = record {
-    peer = f.peer ∙ h.loose.peer;
-    reached = reached;
-    served = served;
-    origin = subst (OriginIn limits) (sym origin) h.loose.origin;
-  };
-  tied = tied_by limits uses old new p q f head final (λ a t c. carries_kept f.asked head origin c) h.tied;
-}
+same_served : {limits : Limits} {uses : Uses} {p : Stream.Past} (received sent : List ℕ) → Served limits uses p
+    → Served limits uses (record p { received = received; sent = sent })
+same_served received sent s = record { before = s.before; interim = s.interim; now = s.now }
 
-waiting_grows : {old new : Uses} {m : GatewayConnection} {p : Stream.Past} → Grows old new → Waiting old m p
-    → Waiting new m p
-waiting_grows grows x = record {
-  a = x.a;
-  asked = x.asked;
-  head = x.head;
-  decided = decided_grows x.a grows x.decided;
-  fields = x.fields;
-}
+runs : (limits : Limits) (uses : Uses) {m : GatewayConnection} {p : Past} → IsReached limits m p
+    → Grows p.uses uses → Run limits uses p.uses.traffic m p.received p.sent
+runs limits uses (Opened peer m new) g = (
+  Stream.no_past,
+  Origin.no_past,
+  (
+    (
+      new.peer_is ∙ sym g.0,
+      Stream.Opened m.client new.client,
+      record { before = tt; interim = tt; now = tt },
+      subst (λ (origin : Option OriginConnection). Origins limits uses [] origin Origin.no_past) (sym new.origin) tt,
+    ),
+    subst (λ (s : Stage). TiedAt uses s (parts_of m Stream.no_past Origin.no_past)) (sym new.stage) tt,
+  ),
+  refl,
+  refl,
+)
+runs limits uses (Received old new p bytes before going h) g = let r = runs limits uses before g in
+    let q : Stream.Past = record (r.0) { received = r.0.received ++ bytes } in
+    let reached = Stream.Received old.client new.client r.0 bytes r.2.0.1 going h.0 in
+    let x = after limits uses p.uses.traffic q h.1
+    (q, r.1, ((r.2.0.0, reached, same_served q.received q.sent r.2.0.2, r.2.0.3), r.2.1), refl, refl) in
+    (x.0, x.1, x.2, x.3 ∙ ap (λ (t : List ℕ). t ++ bytes) r.3, x.4 ∙ r.4)
+runs limits uses (Finished old new p before h) g =
+    on (finishes_client limits uses p.uses.traffic old new h) (runs limits uses before g)
+runs limits uses (Written old new p count before within h) g = let r = runs limits uses before g in
+    let q : Stream.Past = record (r.0) { sent = r.0.sent ++ take count old.client.output.items } in
+    let reached = Stream.Written old.client new.client r.0 count r.2.0.1 within h.0 in
+    let x = after limits uses p.uses.traffic q h.1
+    (q, r.1, ((r.2.0.0, reached, same_served q.received q.sent r.2.0.2, r.2.0.3), r.2.1), refl, refl) in
+    (x.0, x.1, x.2, x.3 ∙ r.3, x.4 ∙ ap (λ (t : List ℕ). t ++ take count old.client.output.items) r.4)
+runs limits uses (OriginReceived old new p bytes before h) g =
+    let f : (t : Traffic) → Traffic = receives (is_origin_open old.origin) bytes in
+    let lines = p.uses.traffic in
+    let r = runs limits uses before
+    (g.0, g.1, g.2, λ t i. g.3 t (on_last_grows f (receives_front (is_origin_open old.origin) bytes) lines t i)) in
+    let x = changes_origin limits uses lines (on_last f lines) (ReceivesOrigin bytes) old new r.0 r.1 g.3
+    (origin_receives limits old.origin lines bytes) h r.2 in (r.0, x.0, x.1, r.3, r.4)
+runs limits uses (OriginFinished old new p before h) g =
+    let r = runs limits uses before g in
+    let x = changes_origin limits uses p.uses.traffic p.uses.traffic OriginSteps.Finishes old new r.0 r.1 g.3
+    (λ before after is o older at reached line. (
+      o.received,
+      o.sent,
+      Origin.Finished before after o reached is,
+      line,
+    )) h r.2 in
+    (r.0, x.0, x.1, r.3, r.4)
+runs limits uses (OriginWritten old new p count before h) g =
+    let f : (t : Traffic) → Traffic = writes (written_of count old.origin) in
+    let lines = p.uses.traffic in
+    let r = runs limits uses before
+    (g.0, g.1, g.2, λ t i. g.3 t (on_last_grows f (writes_front (written_of count old.origin)) lines t i)) in
+    let x = changes_origin limits uses lines (on_last f lines) (HandsOutOrigin count) old new r.0 r.1 g.3
+    (origin_writes limits old.origin lines count) h r.2 in (r.0, x.0, x.1, r.3, r.4)
+runs limits uses (Said old new p rules date event before h) g = on (says limits uses p.uses.traffic
+    rules date old new event (g.1 rules (inl refl)) h) (runs limits uses before (g.0, λ r i. g.1 r (inr i), g.2, g.3))
+runs limits uses (Sent old new p origin o watches before at reached h) g =
+    let r = runs limits uses before (g.0, g.1, g.2, λ t i. g.3 t (inr i)) in
+    let w = tied_at limits uses p.uses.traffic old r.0 r.1 At.Asking at r.2 in
+    let x = sends limits uses (traffic_of o ∷ p.uses.traffic) old new origin watches r.0 o w
+    (r.2.0.0, r.2.0.1, r.2.0.2, tt) (reached, (g.3 (traffic_of o) (went_over refl), p.uses.traffic, refl)) h in
+    (x.0, x.1, x.2, x.3 ∙ r.3, x.4 ∙ r.4)
+runs limits uses (Conditioned old new p etags since before h) g =
+    on (conditions limits uses p.uses.traffic etags since old new h) (runs limits uses before g)
+runs limits uses (Answered old between new p status before settled h) g = on (answers_settled
+    limits uses p.uses.traffic old between new (Because.Chosen status) settled h) (runs limits uses before g)
+runs limits uses (Again old new p before h) g =
+    on (asks_again limits uses p.uses.traffic old new h) (runs limits uses before g)
+runs limits uses (Connected old new p before h) g =
+    on (connects limits uses p.uses.traffic old new h) (runs limits uses before g)
+runs limits uses (Given old new p status reason fields size before h) g =
+    on (freely limits uses p.uses.traffic (gives limits uses p.uses.traffic old new status reason fields size
+    (g.2 (record { status = status; reason = reason; fields = fields; size = size }) (inl refl)) h))
+    (runs limits uses before (g.0, g.1, λ head i. g.2 head (inr i), g.3))
+runs limits uses (GivenPiece old new p piece before at h) g =
+    on (gives_piece limits uses p.uses.traffic old new piece at h.0 h.1) (runs limits uses before g)
+runs limits uses (GivenEnd old new p trailers before h) g =
+    on (gives_end limits uses p.uses.traffic old new trailers h) (runs limits uses before g)
+runs limits uses (NotGiven old new p refusal error before h) g =
+    on (refuses_in_giving limits uses p.uses.traffic old new refusal error h) (runs limits uses before g)
+runs limits uses (NotBegun old new p status reason fields size error before h) g =
+    on (refuses_giving limits uses p.uses.traffic old new status reason fields size error h) (runs limits uses before g)
+runs limits uses (Passed old new p before h) g =
+    on (passes limits uses p.uses.traffic old new h) (runs limits uses before g)
+runs limits uses (TimedOut old new p before h) g =
+    on (times_out limits uses p.uses.traffic (phase_of old) old new h) (runs limits uses before g)
+runs limits uses (Taken old new p origin before h) g =
+    on (takes limits uses p.uses.traffic old new origin h) (runs limits uses before g)
+runs limits uses (Dated old new p now before h) g =
+    on (stays limits uses p.uses.traffic {old = old} h.2 (λ q n x. x)) (runs limits uses before g)
+runs limits uses (Closing old new p before is) g =
+    on (stays limits uses p.uses.traffic {old = old} is (λ q n x. x)) (runs limits uses before g)
 
-loose_grows : {limits : Limits} {old new : Uses} {m : GatewayConnection} {p : Stream.Past} → Grows old new
-    → Loose limits old m p → Loose limits new m p
-loose_grows grows x = record {
-  peer = x.peer ∙ sym grows.peer;
-  reached = x.reached;
-  served = served_grows grows x.served;
-  origin = x.origin;
-}
-
-held_grows : {limits : Limits} {old new : Uses} {m : GatewayConnection} {p : Stream.Past} → Grows old new
-    → new.traffic ≡ old.traffic → Held limits old m p → Held limits new m p
-held_grows {limits} {old} {new} {m} {p} grows same h = record {
-  loose = loose_grows grows h.loose;
-  tied = tied_on limits old new m.stage m m p p grows (λ a is x. x) refl refl refl refl (λ a t c. record {
-    asked = c.asked;
-    head = c.head;
-    decided = decided_grows a grows c.decided;
-    origin = c.origin;
-    is = c.is;
-    past = c.past;
-    reached = c.reached;
-    request = c.request;
-    sends = c.sends;
-    interim = c.interim;
-    now = c.now;
-    older = c.older;
-    traffic = same ∙ c.traffic;
-  }) h.tied;
-}
-
-runs : {limits : Limits} {m : GatewayConnection} {p : Past} → IsReached limits m p
-    → Run limits m p
-runs {limits} (Opened peer m new) = record {
-  client = Stream.no_past;
-  held = record {
-    loose = record {
-      peer = new.peer_is;
-      reached = Stream.Opened m.client new.client;
-      served = record { before = tt; interim = tt; now = tt };
-      origin = subst (OriginIn limits) (sym new.origin) tt;
-    };
-    tied = free_tied limits (no_past peer).uses m.stage m Stream.no_past (free_at new.stage tt);
-  };
-  received = refl;
-  sent = refl;
-}
-runs {limits} (Received old new p bytes before going h) =
-    let r = runs before in
-    let q : Stream.Past = record (r.client) { received = r.client.received ++ bytes } in
-    record {
-      client = q;
-      held = client_bytes limits p.uses old new r.client q
-          (Stream.Received old.client new.client r.client bytes r.held.loose.reached going h.0)
-          (record {
-            before = r.held.loose.served.before;
-            interim = r.held.loose.served.interim;
-            now = r.held.loose.served.now;
-          }) (same_origin h.1)
-          (frame h.1 refl refl refl refl (λ a. refl)) refl refl r.held;
-      received = ap (λ (t : List ℕ). t ++ bytes) r.received;
-      sent = r.sent;
-    }
-runs (Finished old new p before h) =
-    on (client_moves (same_origin h.1) (frame h.1 refl refl refl refl (λ a. refl))
-    (client_finishes old.client new.client h.0)
-    (λ p r s. (refl, refl))) (runs before)
-runs {limits} (Written old new p count before within h) =
-    let r = runs before in
-    let q : Stream.Past = record (r.client) { sent = r.client.sent ++ take count old.client.output.items } in
-    record {
-      client = q;
-      held = client_bytes limits p.uses old new r.client q
-          (Stream.Written old.client new.client r.client count r.held.loose.reached within h.0)
-          (record {
-            before = r.held.loose.served.before;
-            interim = r.held.loose.served.interim;
-            now = r.held.loose.served.now;
-          }) (same_origin h.1)
-          (frame h.1 refl refl refl refl (λ a. refl)) refl refl r.held;
-      received = r.received;
-      sent = ap (λ (t : List ℕ). t ++ take count old.client.output.items) r.sent;
-    }
-runs {limits} (OriginReceived old new p bytes before h) =
-    let r = runs before in
-    record {
-      client = r.client;
-      held = changes_origin limits p.uses (goes_over (receives (is_origin_open old.origin) bytes) p.uses)
-          (ReceivesOrigin bytes) old new r.client
-          (grows_over (receives (is_origin_open old.origin) bytes) (receives_front (is_origin_open old.origin) bytes)
-          p.uses) (origin_receives p.uses old.origin bytes) h r.held;
-      received = r.received;
-      sent = r.sent;
-    }
-runs {limits} (OriginFinished old new p before h) =
-    let r = runs before in
-    record {
-      client = r.client;
-      held = changes_origin limits p.uses p.uses OriginSteps.Finishes old new r.client (grows_same p.uses)
-          (λ m n o is x. (o, Origin.Finished m n o x is, refl, λ older at line. line)) h r.held;
-      received = r.received;
-      sent = r.sent;
-    }
-runs {limits} (OriginWritten old new p count before h) =
-    let r = runs before in
-    record {
-      client = r.client;
-      held = changes_origin limits p.uses (goes_over (writes (written_of count old.origin)) p.uses)
-          (HandsOutOrigin count) old new r.client
-          (grows_over (writes (written_of count old.origin)) (writes_front (written_of count old.origin)) p.uses)
-          (origin_writes p.uses old.origin count) h r.held;
-      received = r.received;
-      sent = r.sent;
-    }
-runs (Said old new p rules date event before h) =
-    let r = runs before in
-    on {p = record p { uses = with_rules rules p.uses }} (says rules date old new event (inl refl) h) (record {
-      client = r.client;
-      held = held_grows (grows_rules rules p.uses) refl r.held;
-      received = r.received;
-      sent = r.sent;
-    })
-runs {limits} (Sent old new p origin o watches before at reached h) =
-    let r = runs before in
-    let uses : Uses = with_traffic (traffic_of o) p.uses in
-    on {p = record p { uses = uses }} (sends old new origin watches p.uses.traffic at (o, reached) refl h) (record {
-      client = r.client;
-      held = record {
-        loose = loose_grows (grows_traffic (traffic_of o) p.uses) r.held.loose;
-        tied = subst (λ (s : Stage). TiedAt limits uses s old r.client) (sym at)
-            (waiting_grows (grows_traffic (traffic_of o) p.uses)
-            (subst (λ (s : Stage). TiedAt limits p.uses s old r.client) at r.held.tied));
-      };
-      received = r.received;
-      sent = r.sent;
-    })
-runs (Conditioned old new p etags since before h) = on (conditions etags since old new h) (runs before)
-runs (Answered old between new p status before settled h) =
-    on (freely (goes_then {b = between} (settles old between settled) (answers between new (Because.Chosen status) h))
-    (answers_free between new (Because.Chosen status) h)) (runs before)
-runs (Again old new p before h) = on (asks_again old new h) (runs before)
-runs (Connected old new p before h) = on (connects old new h) (runs before)
-runs (Given old new p status reason fields size before h) =
-    let r = runs before in
-    let head : GivenHead = record { status = status; reason = reason; fields = fields; size = size } in
-    on {p = record p { uses = with_given head p.uses }} (gives old new status reason fields size (inl refl) h) (record {
-      client = r.client;
-      held = held_grows (grows_given head p.uses) refl r.held;
-      received = r.received;
-      sent = r.sent;
-    })
-runs (GivenPiece old new p piece before at h) = on (gives_piece old new piece at h.0 h.1) (runs before)
-runs (GivenEnd old new p trailers before h) = on (gives_end old new trailers h) (runs before)
-runs (NotGiven old new p refusal error before h) = on (refuses_in_giving old new refusal error h) (runs before)
-runs (NotBegun old new p status reason fields size error before h) =
-    on (refuses_giving old new status reason fields size error h) (runs before)
-runs (Passed old new p before h) = on (passes old new h) (runs before)
-runs (TimedOut old new p before h) = on (times_out (phase_of old) old new h) (runs before)
-runs (Taken old new p origin before h) = on (takes old new origin h) (runs before)
-runs (Dated old new p now before h) =
-    on (rests (same_client h.2) (same_origin h.2) (frame h.2 refl refl refl refl (λ a. refl))) (runs before)
-runs (Closing old new p before is) =
-    on (rests (same_client is) (same_origin is) (frame is refl refl refl refl (λ a. refl))) (runs before)
+origin_in : (limits : Limits) (uses : Uses) (lines : List Traffic) (origin : Option OriginConnection) (o : Origin.Past)
+    → Origins limits uses lines origin o → OriginIn limits origin
+origin_in limits uses lines (Some origin) o x = (o, x.0)
+origin_in limits uses lines None o x = tt
 
 pub record Ran (limits : Limits) (m : GatewayConnection) (p : Past) : Type 0 where
   pub client : Stream.Past
@@ -2924,15 +1634,14 @@ pub record Ran (limits : Limits) (m : GatewayConnection) (p : Past) : Type 0 whe
   pub served : Served limits p.uses client
   pub origin : OriginIn limits m.origin
 
-pub run : {limits : Limits} {m : GatewayConnection} {p : Past} → IsReached limits m p
-    → Ran limits m p
-run reached =
-    let r = runs reached in
+pub run : {limits : Limits} {m : GatewayConnection} {p : Past} → IsReached limits m p → Ran limits m p
+run {limits} {m} {p} reached =
+    let r = runs limits p.uses reached (refl, λ r i. i, λ head i. i, λ t i. i) in
     record {
-      client = r.client;
-      reached = r.held.loose.reached;
-      received = r.received;
-      sent = r.sent;
-      served = r.held.loose.served;
-      origin = r.held.loose.origin;
+      client = r.0;
+      reached = r.2.0.1;
+      received = r.3;
+      sent = r.4;
+      served = r.2.0.2;
+      origin = origin_in limits p.uses p.uses.traffic m.origin r.1 r.2.0.3;
     }

@@ -7,16 +7,14 @@ use Rattle.gateway_exchange.specs.declared.tunnel.Tunnel.{Tunnel}
 -- bytes that come go behind those that wait
 comes : (sent waits bytes now first came : List ℕ) → now ≡ waits ++ bytes → sent ++ waits ≡ first ++ came
     → sent ++ now ≡ first ++ (came ++ bytes)
-comes sent waits bytes now first came is held =
-    ap (λ (t : List ℕ). sent ++ t) is ∙ sym (append_assoc sent waits bytes) ∙ ap (λ (t : List ℕ). t ++ bytes) held
-    ∙ append_assoc first came bytes
+comes sent waits bytes now first came is held = ap (λ (t : List ℕ). sent ++ t) is
+    ∙ sym (append_assoc sent waits bytes) ∙ ap (λ (t : List ℕ). t ++ bytes) held ∙ append_assoc first came bytes
 
 -- bytes that go were the first of those that waited
 goes : (count : ℕ) (sent waits now total : List ℕ) → now ≡ drop count waits → sent ++ waits ≡ total
     → (sent ++ take count waits) ++ now ≡ total
-goes count sent waits now total is held =
-    ap (λ (t : List ℕ). (sent ++ take count waits) ++ t) is ∙ append_assoc sent (take count waits) (drop count waits)
-    ∙ ap (λ (t : List ℕ). sent ++ t) (take-append-drop count waits) ∙ held
+goes count sent waits now total is held = ap (λ (t : List ℕ). (sent ++ take count waits) ++ t) is ∙ append_assoc sent
+    (take count waits) (drop count waits) ∙ ap (λ (t : List ℕ). sent ++ t) (take-append-drop count waits) ∙ held
 
 pub conveyed : {first t : Tunnel} {p : Past} → IsReached first t p → Conveyed first t p
 conveyed {first} Begun = record {

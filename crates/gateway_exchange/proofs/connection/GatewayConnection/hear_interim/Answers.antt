@@ -22,24 +22,20 @@ returns-in-Err-put_interim c =
     )
 
 pub returns-in-Ok-Forward : goal.returns-in-Ok-Forward
-returns-in-Ok-Forward c =
-    let asked : c.args.self.now.asked ≡ Some c.in-Some.asked = search rules in
+returns-in-Ok-Forward c = let asked : c.args.self.now.asked ≡ Some c.in-Some.asked = search rules in
     let sent = rw c.in-Ok-Forward.field-0-is at c.in-Ok-Forward.ensures in
     inl (c.in-Some.asked, asked, inl (c.in-Ok-Forward.sent, sent, inl (c.in_default-put_interim.ensures, refl)))
 
 pub returns-in-Ok-Discard : goal.returns-in-Ok-Discard
-returns-in-Ok-Discard c =
-    let asked : c.args.self.now.asked ≡ Some c.in-Some.asked = search rules in
+returns-in-Ok-Discard c = let asked : c.args.self.now.asked ≡ Some c.in-Some.asked = search rules in
     let dropped = rw c.in-Ok-Discard.field-0-is at c.in-Ok-Discard.ensures in
     inl (c.in-Some.asked, asked, inr (inl (dropped, refl)))
 
 pub returns-in-Ok-Reject : goal.returns-in-Ok-Reject
-returns-in-Ok-Reject c =
-    let asked : c.args.self.now.asked ≡ Some c.in-Some.asked = search rules in
+returns-in-Ok-Reject c = let asked : c.args.self.now.asked ≡ Some c.in-Some.asked = search rules in
     let refused = rw c.in-Ok-Reject.field-0-is at c.in-Ok-Reject.ensures in
     inl (c.in-Some.asked, asked, inr (inr (inl (c.in-Ok-Reject.rejection, refused, c.fail-in-Ok-Reject.ensures))))
 
 pub returns : goal.returns
-returns c =
-    let asked : c.args.self.now.asked ≡ Some c.in-Some.asked = search rules in
+returns c = let asked : c.args.self.now.asked ≡ Some c.in-Some.asked = search rules in
     inl (c.in-Some.asked, asked, inr (inr (inr c.fail-in-Err.ensures)))
