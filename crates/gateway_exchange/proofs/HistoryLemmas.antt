@@ -264,8 +264,11 @@ module _ (limits : Limits) (uses : Uses) (lines : List Traffic) where
 
   informed_served : (b : Bare) (p : Stream.Past) → Served limits uses p → ((asked : StreamRequest)
       → head_of p.heard ≡ Some asked → IsInterim limits uses asked b) → Served limits uses (Stream.informs b p)
-  informed_served b p s is =
-      record { before = s.before; interim = interim_more (head_of p.heard) p.answer.interim b s.interim is; now = s.now }
+  informed_served b p s is = record {
+    before = s.before;
+    interim = interim_more (head_of p.heard) p.answer.interim b s.interim is;
+    now = s.now;
+  }
 
   now_is : (head : Option StreamRequest) (final : Final) → ((asked : StreamRequest)
       → head ≡ Some asked → IsServedNow limits uses (Some asked) final) → IsServedNow limits uses head final
@@ -993,8 +996,9 @@ module _ (limits : Limits) (uses : Uses) (lines : List Traffic) where
       let t = tied_at old p o At.Forwarding at h in
       passes_interim rules date (with_origin old origin) new t.0.a response p
       (record o { now = Origin.tell (Comes.Interim response) o.now }) t.0.asked_is.head_is
-      (λ sent forwards. interim_passed old.origin origin rules date t.0.a response sent o among t.0.asked_is.decided h.0.3 t.1 says
-      forwards) (of_known t.0.a t.0.asked_is.is d.1) (said_quietly old origin (Comes.Interim response) tt says p o h)
+      (λ sent forwards. interim_passed old.origin origin rules date t.0.a response sent o among t.0.asked_is.decided
+      h.0.3 t.1 says forwards) (of_known t.0.a t.0.asked_is.is d.1)
+      (said_quietly old origin (Comes.Interim response) tt says p o h)
   hears_forwarding rules date old new told at among origin (Comes.Head response) says d p o h =
       let t = tied_at old p o At.Forwarding at h in
       let s = says_in old.origin origin t.1.connection (Comes.Head response) t.1.is says in
@@ -1016,8 +1020,9 @@ module _ (limits : Limits) (uses : Uses) (lines : List Traffic) where
       let t = tied_at old p o At.Forwarding at h in
       passes_switch rules date (with_origin old origin) new t.0.a response p
       (record o { now = Origin.tell (Comes.Switched response) o.now }) t.0.asked_is.head_is
-      (λ fields switches. switch_passed old.origin origin rules date t.0.a response fields old.client.server.request.minor o among
-      t.0.asked_is.decided h.0.3 t.1 says switches) (of_known t.0.a t.0.asked_is.is d.1)
+      (λ fields switches. switch_passed old.origin origin rules date t.0.a response fields
+      old.client.server.request.minor o among t.0.asked_is.decided h.0.3 t.1 says switches)
+      (of_known t.0.a t.0.asked_is.is d.1)
       (h.0.0, h.0.1, h.0.2, origin_says old.origin origin (Comes.Switched response) says o h.0.3)
   hears_forwarding rules date old new told at among origin Comes.Closed says d p o h =
       (goes_end (heard_origin old origin Comes.Closed says)
@@ -1417,8 +1422,8 @@ went_over : {t : Traffic} {lines older : List Traffic} → lines ≡ t ∷ older
 went_over {t} is = subst (WentOver t) (sym is) (inl ([], append-nil t.received, [], append-nil t.sent))
 
 -- what an origin's connection does with its bytes
-abbrev CarriesBytes : Limits → Option OriginConnection → List Traffic → List Traffic → OriginConnection → OriginConnection
-    → Type 0
+abbrev CarriesBytes : Limits → Option OriginConnection → List Traffic → List Traffic → OriginConnection
+    → OriginConnection → Type 0
 CarriesBytes limits old lines more before after =
     (o : Origin.Past) (older : List Traffic) → old ≡ Some before → Origin.IsReached limits before o
     → lines ≡ traffic_of o ∷ older → (received : List ℕ) × (sent : List ℕ) × Origin.IsReached limits after

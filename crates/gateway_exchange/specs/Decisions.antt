@@ -50,25 +50,23 @@ websocket_if opens = if opens then Some (codes "websocket") else None
 
 -- the next connection: the origin server speaks HTTP/1.1
 abbrev pub next_hop : GatewayRules → Peer → Option Line → Hop
-next_hop rules peer upgrade =
-    record {
-      server = Http11;
-      connection = offering upgrade;
-      forwarding = rules.forwarding;
-      arrival = peer_arrival peer;
-    }
+next_hop rules peer upgrade = record {
+  server = Http11;
+  connection = offering upgrade;
+  forwarding = rules.forwarding;
+  arrival = peer_arrival peer;
+}
 
 -- ---- what is sent
 
 -- the request as `gateway_messages` sees it, by the authority of its target
 abbrev pub asked : GatewayRules → StreamRequest → Option Line → Forwarding.Request
-asked rules request authority =
-    record {
-      protocol = protocol_of request.minor;
-      method = request.method;
-      authority = given_host rules.authority (lines_at request.fields) authority;
-      fields = lines_at request.fields;
-    }
+asked rules request authority = record {
+  protocol = protocol_of request.minor;
+  method = request.method;
+  authority = given_host rules.authority (lines_at request.fields) authority;
+  fields = lines_at request.fields;
+}
 
 -- the gateway sends the 100 (Continue) that would be the origin's
 abbrev pub takes_over : Bool → Expectation → Bool
@@ -111,8 +109,7 @@ IsAnswered rules peer request authority (Because.Rejected why) =
     Rejects rules.gateway (asked rules request authority) why
 IsAnswered rules peer request authority Because.FinalRecipient =
     (framing : Framing) × IsForGateway rules.gateway (asked rules request authority) framing
-IsAnswered rules peer request authority Because.LengthRequired =
-    (opens : Bool)
+IsAnswered rules peer request authority Because.LengthRequired = (opens : Bool)
     × LacksLength rules.gateway (next_hop rules peer (websocket_if opens)) (asked rules request authority)
 IsAnswered rules peer request authority own = ⊥
 

@@ -54,8 +54,7 @@ pub record Past : Type 0 where
   pub uses : Uses
 
 abbrev pub no_past : Peer → Past
-no_past peer =
-    record { received = []; sent = []; uses = record { peer = peer; rules = []; given = []; traffic = [] } }
+no_past peer = record { received = []; sent = []; uses = record { peer = peer; rules = []; given = []; traffic = [] } }
 
 abbrev pub with_rules : GatewayRules → Uses → Uses
 with_rules rules uses = record uses { rules = rules ∷ uses.rules }
@@ -110,10 +109,9 @@ pub data IsReached (limits : Limits) : GatewayConnection → Past → Type 0 whe
       → count ≤ length old.client.output.items
       → ChangesClient (λ before after. StreamSteps.HandsOut before count after) old new
       → IsReached limits new (record p { sent = p.sent ++ take count old.client.output.items })
-  OriginReceived : (old new : GatewayConnection) (p : Past) (bytes : List ℕ) → IsReached limits old p
-      → ChangesOrigin (ReceivesOrigin bytes) old new
-      → IsReached limits new
-      (record p { uses = goes_over (receives (is_origin_open old.origin) bytes) p.uses })
+  OriginReceived : (old new : GatewayConnection) (p : Past) (bytes : List ℕ)
+      → IsReached limits old p → ChangesOrigin (ReceivesOrigin bytes) old new
+      → IsReached limits new (record p { uses = goes_over (receives (is_origin_open old.origin) bytes) p.uses })
   OriginFinished : (old new : GatewayConnection) (p : Past) → IsReached limits old p
       → ChangesOrigin OriginSteps.Finishes old new → IsReached limits new p
   OriginWritten : (old new : GatewayConnection) (p : Past) (count : ℕ) → IsReached limits old p
@@ -124,14 +122,12 @@ pub data IsReached (limits : Limits) : GatewayConnection → Past → Type 0 whe
       → IsReached limits new (record p { uses = with_rules rules p.uses })
   Sent : (old new : GatewayConnection) (p : Past) (origin : OriginConnection) (o : Origin.Past) (watches : Bool)
       → IsReached limits old p → old.stage ≡ At.Asking → Origin.IsReached limits origin o
-      → Sends old origin watches new
-      → IsReached limits new (record p { uses = with_traffic (traffic_of o) p.uses })
+      → Sends old origin watches new → IsReached limits new (record p { uses = with_traffic (traffic_of o) p.uses })
   Conditioned : (old new : GatewayConnection) (p : Past) (etags since : Option FieldValue)
       → IsReached limits old p → Conditions etags since old new → IsReached limits new p
   Answered : (old between new : GatewayConnection) (p : Past) (status : ℕ) → IsReached limits old p
       → Settles old between → Answers between (Because.Chosen status) new → IsReached limits new p
-  Again : (old new : GatewayConnection) (p : Past) → IsReached limits old p → AsksAgain old new
-      → IsReached limits new p
+  Again : (old new : GatewayConnection) (p : Past) → IsReached limits old p → AsksAgain old new → IsReached limits new p
   Connected : (old new : GatewayConnection) (p : Past) → IsReached limits old p → Connects old new
       → IsReached limits new p
   Given : (old new : GatewayConnection) (p : Past) (status : ℕ) (reason : List ℕ) (fields : List Header)
@@ -149,8 +145,7 @@ pub data IsReached (limits : Limits) : GatewayConnection → Past → Type 0 whe
   NotBegun : (old new : GatewayConnection) (p : Past) (status : ℕ) (reason : List ℕ) (fields : List Header)
       (size : BodySize) (error : WriteError) → IsReached limits old p
       → RefusesGiving old status reason fields size error new → IsReached limits new p
-  Passed : (old new : GatewayConnection) (p : Past) → IsReached limits old p → Passes old new
-      → IsReached limits new p
+  Passed : (old new : GatewayConnection) (p : Past) → IsReached limits old p → Passes old new → IsReached limits new p
   TimedOut : (old new : GatewayConnection) (p : Past) → IsReached limits old p → TimesOut old new
       → IsReached limits new p
   Taken : (old new : GatewayConnection) (p : Past) (origin : Option OriginConnection) → IsReached limits old p
@@ -169,15 +164,13 @@ OriginIn limits None = ⊤
 
 -- the response is the gateway's own, which has no content
 abbrev pub IsOwn : Response → Type 0
-IsOwn r =
-    (own : Own) × (is_last : Bool) × (date : Option OwnDate) × (r.status ≡ own_status own)
-    × (r.reason ≡ reason_of (own_status own)) × (r.headers ≡ own_fields is_last date own) × (r.size ≡ Known 0)
-    × (r.pieces ≡ [])
+IsOwn r = (own : Own)
+    × (is_last : Bool) × (date : Option OwnDate) × (r.status ≡ own_status own) × (r.reason ≡ reason_of (own_status own))
+    × (r.headers ≡ own_fields is_last date own) × (r.size ≡ Known 0) × (r.pieces ≡ [])
 
 -- its head was given by the caller; that of the last response says so too
 abbrev pub IsGiven : Uses → Response → Type 0
-IsGiven uses r =
-    (is_last : Bool) × (fields : List Header) × (r.headers ≡ closing is_last fields)
+IsGiven uses r = (is_last : Bool) × (fields : List Header) × (r.headers ≡ closing is_last fields)
     × IsIn (record { status = r.status; reason = r.reason; fields = fields; size = r.size }) uses.given
 
 -- the request is sent so by rules that were passed in
@@ -208,9 +201,8 @@ WentOver t (first ∷ later) = IsFrontOf t first ⊎ WentOver t later
 
 -- what is forwarded of a response to this request, by rules that the caller passed in
 abbrev pub IsHeard : Uses → AskedRequest → Heard → Type 0
-IsHeard uses a h =
-    (rules : GatewayRules) × IsIn rules uses.rules × (date : ℕ)
-    × IsForwardedResponse rules.gateway date (answered a h.response.status h.response) h.sent
+IsHeard uses a h = (rules : GatewayRules) × IsIn rules uses.rules
+    × (date : ℕ) × IsForwardedResponse rules.gateway date (answered a h.response.status h.response) h.sent
 
 -- the response has the head that is sent of this one, and this content; the head of the last response says so too
 pub record HasHead (h : Heard) (content : List ℕ) (r : Response) : Type 0 where
@@ -224,19 +216,17 @@ pub record HasHead (h : Heard) (content : List ℕ) (r : Response) : Type 0 wher
 -- what an origin's connection told of a response, so far, or to its end
 abbrev pub now_of : Option (Entries FieldValue) → Request → List OriginResponse → OriginResponse → List ℕ → Origin.Now
 now_of None request interim response content = Origin.Hears request interim response content
-now_of (Some trailers) request interim response content =
-    Origin.Over (record {
-      request = request;
-      interim = interim;
-      final = record { response = response; content = content; trailers = trailers };
-    })
+now_of (Some trailers) request interim response content = Origin.Over (record {
+  request = request;
+  interim = interim;
+  final = record { response = response; content = content; trailers = trailers };
+})
 
 -- the response was ended with the trailer fields that are forwarded, or wasn't ended
 abbrev pub EndsAs : Uses → Heard → Option (Entries FieldValue) → Option (List Header) → Type 0
 EndsAs uses h None None = ⊤
-EndsAs uses h (Some trailers) (Some sent) =
-    (rules : GatewayRules) × IsIn rules uses.rules
-    × IsTrailers rules.gateway h.sent.framing (lines_at h.response.fields) trailers sent
+EndsAs uses h (Some trailers) (Some sent) = (rules : GatewayRules)
+    × IsIn rules uses.rules × IsTrailers rules.gateway h.sent.framing (lines_at h.response.fields) trailers sent
 EndsAs uses h trailers sent = ⊥
 
 -- The response is forwarded: one of the connections to an origin that were handed in told it of this request. Its head

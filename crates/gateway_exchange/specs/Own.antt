@@ -72,8 +72,7 @@ own_fields is_last date own = date_fields date ++ close_fields (is_last || own_c
 
 -- a response without content, with these fields, is put to its end
 abbrev pub PutsWith : List Header → StreamConnection → Own → StreamConnection → Type 0
-PutsWith fields old own new =
-    (between : StreamConnection)
+PutsWith fields old own new = (between : StreamConnection)
     × Responds old (own_status own) (reason_of (own_status own)) fields (Known 0) between × Ends between [] new
 
 -- nothing of it is put, or its head alone

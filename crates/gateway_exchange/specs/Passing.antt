@@ -43,9 +43,8 @@ IsTrailers gateway framing fields received sent =
 
 -- the end of the request is put to the origin
 abbrev pub EndsRequest : Gateway → AskedRequest → Entries FieldValue → OriginConnection → OriginConnection → Type 0
-EndsRequest gateway a trailers old new =
-    (sent : List Header) × IsTrailers gateway a.outgoing.framing (lines_at a.head.fields) trailers sent
-    × Origin.Ends old sent new
+EndsRequest gateway a trailers old new = (sent : List Header)
+    × IsTrailers gateway a.outgoing.framing (lines_at a.head.fields) trailers sent × Origin.Ends old sent new
 
 -- nothing is put: memory ran out, or the connection or `http1` says why
 abbrev pub RefusesRequestEnd : Gateway → AskedRequest → Entries FieldValue → OriginConnection → WriteError
@@ -59,19 +58,17 @@ RefusesRequestEnd gateway a trailers old error new =
 
 -- the response as `gateway_messages` sees it, as one of this status
 abbrev pub answered : AskedRequest → ℕ → OriginResponse → Answers.Response
-answered a status response =
-    record {
-      protocol = protocol_of response.minor;
-      status = status;
-      fields = lines_at response.fields;
-      method = a.head.method;
-      client = protocol_of a.head.minor;
-    }
+answered a status response = record {
+  protocol = protocol_of response.minor;
+  status = status;
+  fields = lines_at response.fields;
+  method = a.head.method;
+  client = protocol_of a.head.minor;
+}
 
 -- an interim response is put to the client
 abbrev pub PutsInterim : OriginResponse → ForwardedResponse → StreamConnection → StreamConnection → Type 0
-PutsInterim response sent old new =
-    Stream.Informs old response.status response.reason (fields_of sent.fields.items) new
+PutsInterim response sent old new = Stream.Informs old response.status response.reason (fields_of sent.fields.items) new
 
 abbrev pub RefusesInterim : OriginResponse → ForwardedResponse → StreamConnection → WriteError → StreamConnection
     → Type 0
@@ -82,9 +79,8 @@ RefusesInterim response sent old error new =
 
 -- the head of the final response is put to the client; that of the last says so
 abbrev pub PutsResponse : Bool → Heard → StreamConnection → StreamConnection → Type 0
-PutsResponse is_last h old new =
-    Stream.Responds old h.response.status h.response.reason (closing is_last (fields_of h.sent.fields.items))
-    (response_size h.sent.content) new
+PutsResponse is_last h old new = Stream.Responds old h.response.status h.response.reason
+    (closing is_last (fields_of h.sent.fields.items)) (response_size h.sent.content) new
 
 abbrev pub RefusesResponse : Bool → Heard → StreamConnection → WriteError → StreamConnection → Type 0
 RefusesResponse is_last h old error new =
@@ -94,9 +90,8 @@ RefusesResponse is_last h old error new =
 
 -- the end of the response is put to the client
 abbrev pub EndsResponse : Gateway → Heard → Entries FieldValue → StreamConnection → StreamConnection → Type 0
-EndsResponse gateway h trailers old new =
-    (sent : List Header) × IsTrailers gateway h.sent.framing (lines_at h.response.fields) trailers sent
-    × Stream.Ends old sent new
+EndsResponse gateway h trailers old new = (sent : List Header)
+    × IsTrailers gateway h.sent.framing (lines_at h.response.fields) trailers sent × Stream.Ends old sent new
 
 abbrev pub RefusesResponseEnd : Gateway → Heard → Entries FieldValue → StreamConnection → WriteError
     → StreamConnection → Type 0

@@ -53,8 +53,7 @@ pub record IsNew (limits : Limits) (peer : Peer) (m : GatewayConnection) : Type 
 
 -- bytes of the client are received
 abbrev pub TakesClient : GatewayConnection → List ℕ → GatewayConnection → Type 0
-TakesClient old bytes new =
-    Stream.Receives old.client bytes new.client
+TakesClient old bytes new = Stream.Receives old.client bytes new.client
     × (new ≡ record old { client = new.client; client_hungry = new.client_hungry; begun = new.begun })
 
 -- and none after the end of its input
@@ -90,8 +89,7 @@ HandsOutOrigin count old new = Origin.HandsOut old (min count (length old.output
 abbrev pub ChangesOrigin : (OriginConnection → OriginConnection → Type 0) → GatewayConnection → GatewayConnection
     → Type 0
 ChangesOrigin P old new =
-    OnOrigin P old.origin new.origin
-    × (new ≡ record old { origin = new.origin; origin_hungry = new.origin_hungry })
+    OnOrigin P old.origin new.origin × (new ≡ record old { origin = new.origin; origin_hungry = new.origin_hungry })
 
 abbrev pub is_empty : {A : Type 0} → List A → Bool
 is_empty [] = true
@@ -161,9 +159,8 @@ abbrev pub with_client : GatewayConnection → StreamConnection → GatewayConne
 with_client m client = record m { client = client }
 
 abbrev pub AwaitsRequest : GatewayRules → GatewayConnection → Option GatewayEvent → GatewayConnection → Type 0
-AwaitsRequest rules old told new =
-    (event : StreamEvent) × (client : StreamConnection) × Stream.Says old.client event client
-    × Awaits rules (with_client old client) event told new
+AwaitsRequest rules old told new = (event : StreamEvent) × (client : StreamConnection)
+    × Stream.Says old.client event client × Awaits rules (with_client old client) event told new
 
 -- ---- sending
 
@@ -241,8 +238,7 @@ Conditions etags since old new =
 
 -- content is put to the origin
 abbrev pub PutsContent : GatewayConnection → List ℕ → GatewayConnection → Type 0
-PutsContent old piece new =
-    (before : OriginConnection) × (after : OriginConnection) × (old.origin ≡ Some before)
+PutsContent old piece new = (before : OriginConnection) × (after : OriginConnection) × (old.origin ≡ Some before)
     × Origin.Puts before piece after × (new ≡ record old { origin = Some after; touched = true })
 
 abbrev pub RefusesContent : GatewayConnection → List ℕ → WriteError → GatewayConnection → Type 0
@@ -286,9 +282,8 @@ PassesUp rules old (Is.Rejected why) new = Fails old (Because.Unread why) new
 PassesUp rules old event new = new ≡ record old { stage = At.Aborted }
 
 abbrev pub HearsClient : GatewayRules → GatewayConnection → GatewayConnection → Type 0
-HearsClient rules old new =
-    (event : StreamEvent) × (client : StreamConnection) × Stream.Says old.client event client
-    × PassesUp rules (with_client old client) event new
+HearsClient rules old new = (event : StreamEvent) × (client : StreamConnection)
+    × Stream.Says old.client event client × PassesUp rules (with_client old client) event new
 
 -- ---- responses
 
@@ -321,8 +316,7 @@ PutsHead old h new =
 
 -- it is put, and remembered for its trailer fields
 abbrev pub ShowsHead : GatewayConnection → Heard → GatewayConnection → Type 0
-ShowsHead old h new =
-    (between : GatewayConnection) × PutsHead old h between × (new ≡ record between { heard = Some h })
+ShowsHead old h new = (between : GatewayConnection) × PutsHead old h between × (new ≡ record between { heard = Some h })
 
 -- it waits for the caller if that watches, and is put otherwise
 abbrev pub TellsHead : Bool → GatewayConnection → Heard → GatewayConnection → Type 0
@@ -421,16 +415,14 @@ abbrev pub with_origin : GatewayConnection → Option OriginConnection → Gatew
 with_origin m origin = record m { origin = origin }
 
 abbrev pub HearsOrigin : GatewayRules → ℕ → GatewayConnection → Option GatewayEvent → GatewayConnection → Type 0
-HearsOrigin rules date old told new =
-    (event : OriginEvent) × (origin : Option OriginConnection) × SaysIn old.origin event origin
-    × PassesDown rules date (with_origin old origin) event told new
+HearsOrigin rules date old told new = (event : OriginEvent) × (origin : Option OriginConnection)
+    × SaysIn old.origin event origin × PassesDown rules date (with_origin old origin) event told new
 
 -- ---- the caller's answers
 
 -- where a connection goes on after a response: with the next request, if its client's connection does
 abbrev pub IsNext : GatewayConnection → Stage → Type 0
-IsNext m next =
-    (Stream.GoesOn m.client × (next ≡ At.Idle)) ⊎ (¬ (Stream.GoesOn m.client) × (next ≡ At.Closed))
+IsNext m next = (Stream.GoesOn m.client × (next ≡ At.Idle)) ⊎ (¬ (Stream.GoesOn m.client) × (next ≡ At.Closed))
 
 abbrev pub is_absent_content : ContentFraming → Bool
 is_absent_content Absent = true
@@ -473,20 +465,17 @@ ConnectsAs old new =
     × Answers (with_client old client) (Because.Unsendable error) new)
 
 abbrev pub ConnectsNow : GatewayConnection → GatewayConnection → Type 0
-ConnectsNow old new =
-    (event : StreamEvent) × (client : StreamConnection) × Stream.Says old.client event client
-    × ConnectsAs (with_client old client) new
+ConnectsNow old new = (event : StreamEvent)
+    × (client : StreamConnection) × Stream.Says old.client event client × ConnectsAs (with_client old client) new
 
 abbrev pub Connects : GatewayConnection → GatewayConnection → Type 0
 Connects old new = ((old.stage ≢ At.Asking) × (new ≡ old)) ⊎ ((old.stage ≡ At.Asking) × ConnectsNow old new)
 
 -- the head of a response that the caller gives is put; that of the last says so
 abbrev pub Gives : GatewayConnection → ℕ → List ℕ → List Header → BodySize → GatewayConnection → Type 0
-Gives old status reason fields size new =
-    IsAsking old × (client : StreamConnection)
-    × Stream.Responds old.client status reason (closing old.is_last fields) size client
-    × (between : GatewayConnection) × Settles (with_client old client) between
-    × (new ≡ record between { stage = At.Giving })
+Gives old status reason fields size new = IsAsking old × (client : StreamConnection)
+    × Stream.Responds old.client status reason (closing old.is_last fields) size client × (between : GatewayConnection)
+    × Settles (with_client old client) between × (new ≡ record between { stage = At.Giving })
 
 abbrev pub RefusesGiving : GatewayConnection → ℕ → List ℕ → List Header → BodySize → WriteError → GatewayConnection
     → Type 0
@@ -498,9 +487,8 @@ RefusesGiving old status reason fields size error new =
 
 -- its end is put
 abbrev pub EndsGiving : GatewayConnection → List Header → GatewayConnection → Type 0
-EndsGiving old trailers new =
-    (old.stage ≡ At.Giving) × Stream.Ends old.client trailers new.client
-    × (new ≡ record old { client = new.client; stage = At.Ended })
+EndsGiving old trailers new = (old.stage ≡ At.Giving)
+    × Stream.Ends old.client trailers new.client × (new ≡ record old { client = new.client; stage = At.Ended })
 
 -- nothing of it is put
 abbrev pub RefusesInGiving : Option WriteError → GatewayConnection → WriteError → GatewayConnection → Type 0
@@ -516,10 +504,8 @@ EndsIdleAs old (Is.Rejected why) new = Answers old Because.LateRequest new
 EndsIdleAs old event new = new ≡ record old { stage = At.Closed }
 
 abbrev pub EndsIdle : GatewayConnection → GatewayConnection → Type 0
-EndsIdle old new =
-    (ended : StreamConnection) × (event : StreamEvent) × (client : StreamConnection)
-    × Stream.Finishes old.client ended × Stream.Says ended event client
-    × EndsIdleAs (with_client old client) event new
+EndsIdle old new = (ended : StreamConnection) × (event : StreamEvent) × (client : StreamConnection)
+    × Stream.Finishes old.client ended × Stream.Says ended event client × EndsIdleAs (with_client old client) event new
 
 -- what is done before a request, and before a response
 abbrev pub idle_phase : Bool → Bool → ExchangePhase
@@ -597,9 +583,8 @@ OfFit None = ⊥
 
 -- the origin's connection is taken while no message passes, and given if it is fit
 abbrev pub TakesOrigin : GatewayConnection → Option OriginConnection → GatewayConnection → Type 0
-TakesOrigin old (Some origin) new =
-    (is_passing old.stage ≡ false) × (old.origin ≡ Some origin) × Origin.IsFit origin
-    × (new ≡ record old { origin = None; origin_hungry = false })
+TakesOrigin old (Some origin) new = (is_passing old.stage ≡ false)
+    × (old.origin ≡ Some origin) × Origin.IsFit origin × (new ≡ record old { origin = None; origin_hungry = false })
 TakesOrigin old None new =
     ((is_passing old.stage ≡ true) × (new ≡ old))
     ⊎ ((is_passing old.stage ≡ false) × ¬ (OfFit old.origin)
@@ -631,8 +616,7 @@ StepsAt At.Judging rules date old told new = (told ≡ Some Tells.Response) × (
 StepsAt At.Giving rules date old told new = (told ≡ Some Tells.Waits) × (new ≡ old)
 StepsAt At.Ended rules date old told new =
     (told ≡ Some Tells.Exchanged) × IsNext old new.stage × (new ≡ record old { stage = new.stage })
-StepsAt At.Repeating rules date old told new =
-    (told ≡ Some Tells.Exchanged) × (new ≡ record old { stage = At.Asking })
+StepsAt At.Repeating rules date old told new = (told ≡ Some Tells.Exchanged) × (new ≡ record old { stage = At.Asking })
 StepsAt At.Switched rules date old told new = (told ≡ Some Tells.Tunnel) × (new ≡ old)
 StepsAt At.Closed rules date old told new = (told ≡ Some Tells.Closed) × (new ≡ old)
 StepsAt At.Aborted rules date old told new = (told ≡ Some Tells.Aborted) × (new ≡ old)

@@ -12,12 +12,7 @@ returns-in-Err-put_interim c =
       inl (
         c.in-Ok-Forward.sent,
         sent,
-        inr (
-          error.error,
-          c.put_interim.new.client,
-          error.ensures,
-          c.fail.ensures,
-        ),
+        inr (error.error, c.put_interim.new.client, error.ensures, c.fail.ensures),
       ),
     )
 
