@@ -72,10 +72,7 @@ module _ {Y Z : Type 0} (target : List ℕ) where
   pub lookup-shown : (es : Entries Y Z) → items_of (lookup (is_key target) es) ≡ responses_at target (shown es)
   lookup-shown [] = refl
   lookup-shown (e ∷ es) = elim (is_key target e.0) as (λ b. items_of (cond b (Some e.1) (lookup (is_key target) es))
-      ≡ cond b e.1.items (responses_at target (shown es))) [
-        | true ↦ refl
-        | false ↦ lookup-shown es
-      ]
+      ≡ cond b e.1.items (responses_at target (shown es))) [ true ↦ refl | false ↦ lookup-shown es ]
 
   -- the responses of the first entry, if its key is that of the target
   pub first-shown : (es : Entries Y Z) (e : String Y × Vec StoredResponse Z) → slice_get es 0 ≡ Some e
@@ -235,14 +232,8 @@ none-last (e ∷ es) new h left = absurd (some-last e es h)
 -- with later numbers
 pub counted-later : {limits : Limits} {responses bytes next later : ℕ} {contents : Contents}
     → IsCounted limits responses bytes next contents → next ≤ later → IsCounted limits responses bytes later contents
-counted-later {next = next} {later = later} {contents = contents} are rises = record {
-  counted = are.counted;
-  weighed = are.weighed;
-  few = are.few;
-  light = are.light;
-  sized = are.sized;
-  numbered = numbered-later next later contents rises are.numbered;
-}
+counted-later {next = next} {later = later} {contents = contents} are rises =
+    assumption (are, numbered-later next later contents rises are.numbered)
 
 module _ {limits : Limits} {responses bytes next : ℕ} {old new : Contents} where
   -- without one of its targets
@@ -311,12 +302,8 @@ pub record IsFrontWithout (limits : Limits) (responses bytes : ℕ) (old new : C
 
 module _ (limits : Limits) (responses bytes : ℕ) where
   pub front-all : (old : Contents) → IsFrontWithout limits responses bytes old old
-  front-all old = record {
-    count = length old;
-    within = omega arith;
-    front = sym (take-length old);
-    longest = λ past. absurd (omega (arith, past));
-  }
+  front-all old = let front = sym (take-length old) in
+      record { count = length old; within = omega arith; front = front; longest = λ past. absurd (omega (arith, past)) }
 
   module _ (few : responses ≤ limits.responses) (light : bytes ≤ limits.bytes) where
     not_empty : (mid : Contents) → ¬ (HasRoom limits responses bytes mid) → 0 < length mid

@@ -114,9 +114,6 @@ module _ (next : ℕ) (old : Contents) (later : ℕ) (new : Contents) (rises : n
         goes-put target other fewer-other (left ++ fresh ∷ [])
         (λ one h. elim (Has-append _ _ _ h) [
           | inl a ↦ each-left these within kept one a
-          | inr b ↦ elim b [
-            | inl same ↦ inr (rw is_first at (rw same at above))
-            | inr none ↦ absurd none
-          ]
+          | inr b ↦ elim b [ inl same ↦ inr (rw is_first at (rw same at above)) | inr none ↦ absurd none ]
         ])
         put

@@ -9,8 +9,7 @@ use Rattle.cache_rules.specs.{declared.stored.StoredResponse.StoredResponse, Sto
 use Rattle.cache_rules.specs.declared.{freshening.Exchange.Exchange, storing.Reception.Reception}
 use Rattle.cache_store.specs.{Changes.{IsFront, IsRefreshedTo, IsRest}, History.IsJustified, Numbers.numbered}
 use Rattle.cache_store.specs.{Updates.{AreLeft, BecomesBeside, BecomesByHead}, Served.{IsRightlyServed, Serves}}
-use Rattle.cache_store.specs.declared.lookup.Lookup.{Lookup, TheVariants.{Forward, Serve, Validate}}
-use Rattle.cache_store.specs.declared.lookup.Lookup.TheVariants.{ServeAndRevalidate, Unavailable, ValidateOrServe}
+use Rattle.cache_store.specs.declared.lookup.Lookup.{Lookup, TheVariants.{Serve, ServeAndRevalidate}}
 use Rattle.cache_store.specs.{declared.freshening.Refreshed.TheVariants.{Absent, Once, Stored, Unchanged}, History.Has}
 use Rattle.cache_store.specs.Contents.{Contents, is_for, responses_at, Target, used, with_target, without}
 use Rattle.cache_store.specs.History.{HasUnder, Call, Call.{Answered, Arrived, Described, Looked, Removed, Validated}}
@@ -22,10 +21,7 @@ use Rattle.cache_policy.specs.declared.decision.Decision.TheVariants as decision
 pub Has-append : {X : Type 0} (xs ys : List X) (x : X) → Has (xs ++ ys) x → Has xs x ⊎ Has ys x
 Has-append [] ys x h = inr h
 Has-append (y ∷ xs) ys x (inl same) = inl (inl same)
-Has-append (y ∷ xs) ys x (inr h) = elim (Has-append xs ys x h) [
-  | inl a ↦ inl (inr a)
-  | inr b ↦ inr b
-]
+Has-append (y ∷ xs) ys x (inr h) = elim (Has-append xs ys x h) [ inl a ↦ inl (inr a) | inr b ↦ inr b ]
 
 pub Has-take : {X : Type 0} (n : ℕ) (xs : List X) (x : X) → Has (take n xs) x → Has xs x
 Has-take zero xs x h = absurd h
@@ -81,10 +77,7 @@ Has-without target contents entry h = let kept = Has-filter (λ e. not (is_for t
 pub Has-used : (target : List ℕ) (contents : Contents) (entry : Target) → Has (used target contents) entry → Has
     contents entry
 Has-used target contents entry h = elim (Has-append (filter (is_for target) contents) (without target contents) entry
-    h) [
-      | inl a ↦ (Has-filter (is_for target) contents entry a).0
-      | inr b ↦ (Has-without target contents entry b).0
-    ]
+    h) [ inl a ↦ (Has-filter (is_for target) contents entry a).0 | inr b ↦ (Has-without target contents entry b).0 ]
 
 pub HasUnder-weaker : (old new : Contents) → ((entry : Target) → Has new entry → Has old entry) → (target : List ℕ)
     (stored : StoredResponse) → HasUnder new target stored → HasUnder old target stored
@@ -110,10 +103,7 @@ pub under-put : (target : List ℕ) (responses : List StoredResponse) (rest new 
     ∷ rest → (other : List ℕ) (stored : StoredResponse) → HasUnder new other stored
     → HasUnder rest other stored ⊎ ((target ≡ other) × Has responses stored)
 under-put target responses rest new put other stored h = elim (subst (λ l. Has l (other, h.responses)) put h.at) [
-  | inl same ↦ inr (
-    ap (λ entry. entry.0) same,
-    subst (λ l. Has l stored) (sym (ap (λ entry. entry.1) same)) h.among,
-  )
+  | inl same ↦ inr (ap (λ entry. entry.0) same, subst (λ l. Has l stored) (sym (ap (λ entry. entry.1) same)) h.among)
   | inr k ↦ inl (record { responses = h.responses; at = k; among = h.among })
 ]
 
@@ -183,10 +173,7 @@ module _ (policy : Policy) (limits : Limits) where
             | inl a ↦ inl (rw is.0 at (stays target stored (Has-rest (request_of_stored one) (responses_at target old)
                 inserted.others inserted.beside stored
                 (Has-drop inserted.trimmed.count inserted.others stored (rw inserted.trimmed.left at a)))))
-            | inr b ↦ elim b [
-              | inl same ↦ inr (is.0, allowed, rw same at kept_as)
-              | inr none ↦ absurd none
-            ]
+            | inr b ↦ elim b [ inl same ↦ inr (is.0, allowed, rw same at kept_as) | inr none ↦ absurd none ]
           ]
         ]
     arrived target came reception (inr (inr front)) other stored h = inl (weaker (fewer-front target front) other
@@ -202,10 +189,7 @@ module _ (policy : Policy) (limits : Limits) where
           let was = Has-left (BecomesBeside policy request update exchange) those left are stored h in
           let justified = stays target was.0 (within was.0 was.1) in
           elim was.2 [
-            | inl is ↦ inr (
-              refl,
-              (was.0, justified, is.0.sought.0, is.0.sought.1, is.1.0, is.1.1),
-            )
+            | inl is ↦ inr (refl, (was.0, justified, is.0.sought.0, is.0.sought.1, is.1.0, is.1.1))
             | inr same ↦ inl (subst (IsJustified policy target calls) (sym (same_Some stored was.0 same.1)) justified)
           ]
 
@@ -217,14 +201,8 @@ module _ (policy : Policy) (limits : Limits) where
           let was = r.selected.response in
           inr (
             refl,
-            (
-              was,
-              stays target was (Has-slice_get (responses_at target old) r.place was r.selected.at),
-              r.selected.is.0,
-              r.selected.is.1,
-              r.freshened,
-              reusable,
-            ),
+            let justified = stays target was (Has-slice_get (responses_at target old) r.place was r.selected.at) in
+                (was, justified, r.selected.is.0, r.selected.is.1, r.freshened, reusable),
           )
 
       others : (place : ℕ) (stored : StoredResponse) → Has (remove (responses_at target old) place) stored
@@ -355,7 +333,4 @@ module _ (policy : Policy) (limits : Limits) (calls : History) (contents : Conte
       (shown same.0 is.shown) age (sym same.1 ∙ is.age) (is.found.decided.0, inr (inr is.found.decided.3))
   lookup_served (ServeAndRevalidate named line) is number age same = served decisions.ServeAndRevalidate is.place number
       is.found (shown same.0 is.shown) age (sym same.1 ∙ is.age) (is.found.decided.0, inr (inl is.found.decided.2))
-  lookup_served (Validate named fields) is number age none = absurd none
-  lookup_served (ValidateOrServe named fields) is number age none = absurd none
-  lookup_served Unavailable is number age none = absurd none
-  lookup_served Forward is number age none = absurd none
+  lookup_served lookup is number age none = absurd none

@@ -28,14 +28,7 @@ module _ (policy : Policy) (request : Request) (status : ℕ) (given stored : Li
 
   stores : (by : Governing) → StoresBy policy.kind request status given (directed request.fields) by
       → StoresBy policy.kind request status stored (directed request.fields) by
-  stores by may = record {
-    understood = may.understood;
-    stored = may.stored;
-    request_lets = may.request_lets;
-    response_lets = may.response_lets;
-    shareable = may.shareable;
-    suited = suited by may.suited;
-  }
+  stores by may = assumption (may, suited by may.suited)
 
   same-stores : MayStoreUnder policy request status given → MayStoreUnder policy request status stored
   same-stores may = stores (governing policy.targets stored) (rw (← governed) at may)
@@ -137,12 +130,9 @@ module _ (policy : Policy) (target : List ℕ) where
 
   none-after : (call : Call) (earlier : History) (stored : StoredResponse) → Removes target call
       → IsJustified policy target (call ∷ earlier) stored → ⊥
-  none-after (Looked other) earlier stored none is = none
-  none-after (Arrived other came reception) earlier stored none is = none
-  none-after (Validated other request update exchange) earlier stored none is = none
-  none-after (Described other request head exchange) earlier stored none is = none
   none-after (Answered other method status) earlier stored removes is = is.0 removes.1 removes.0
   none-after (Removed other) earlier stored same is = is.0 same
+  none-after call earlier stored none is = none
 
   -- nothing from before a removal is justified after it
   module _ (call : Call) (earlier : History) (removes : Removes target call) where

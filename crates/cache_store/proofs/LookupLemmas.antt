@@ -42,31 +42,15 @@ module _ (policy : Policy) (most : ℕ) (request : Request) (now : ℕ) (respons
       shown = shown number is.1;
       age = is.2;
     })
-    | inr same ↦ inr (record {
-      place = place;
-      found = found_as decided decisions.ServeStale same;
-      shown = shown number is.1;
-      age = is.2;
-    })
+    | inr same ↦ inr (let found = found_as decided decisions.ServeStale same in
+        record { place = place; found = found; shown = shown number is.1; age = is.2 })
   ]
-  answer_by decided (ServeAndRevalidate number age) is = record {
-    place = place;
-    found = found_as decided decisions.ServeAndRevalidate is.0;
-    shown = shown number is.1;
-    age = is.2;
-  }
-  answer_by decided (Validate number fields) is = record {
-    place = place;
-    found = found_as decided decisions.Revalidate is.0;
-    shown = shown number is.1;
-    fields = is.2;
-  }
-  answer_by decided (ValidateOrServe number fields) is = record {
-    place = place;
-    found = found_as decided decisions.RevalidateOrServe is.0;
-    shown = shown number is.1;
-    fields = is.2;
-  }
+  answer_by decided (ServeAndRevalidate number age) is = let found = found_as decided decisions.ServeAndRevalidate
+      is.0 in record { place = place; found = found; shown = shown number is.1; age = is.2 }
+  answer_by decided (Validate number fields) is = let found = found_as decided decisions.Revalidate is.0 in
+      record { place = place; found = found; shown = shown number is.1; fields = is.2 }
+  answer_by decided (ValidateOrServe number fields) is = let found = found_as decided decisions.RevalidateOrServe
+      is.0 in record { place = place; found = found; shown = shown number is.1; fields = is.2 }
   answer_by decided Unavailable is = inl (place, found_as decided decisions.Unavailable is)
   answer_by decided Forward is = absurd (subst IsDecided is decided).2
 

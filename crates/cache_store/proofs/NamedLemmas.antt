@@ -25,10 +25,6 @@ module _ (base : Parts) (all : List Line) where
 pub named-append : (base : Parts) (first second : List Line) (named others : List Parts) → AreNamedBy base first named
     → AreNamedBy base second others → AreNamedBy base (first ++ second) (named ++ others)
 named-append base [] second named others none are = subst (λ l. AreNamedBy base second (l ++ others)) (sym none) are
-named-append base (line ∷ first) second named others (found, rest, names, left, put) are = (
-  found,
-  rest ++ others,
-  names,
-  named-append base first second rest others left are,
-  ap (λ l. l ++ others) put ∙ append_assoc (option_to_list found) rest others,
-)
+named-append base (line ∷ first) second named others (found, rest, names, left, put) are =
+    let appended = ap (λ l. l ++ others) put ∙ append_assoc (option_to_list found) rest others in
+    (found, rest ++ others, names, named-append base first second rest others left are, appended)

@@ -28,26 +28,19 @@ run_kept policy limits first (call ∷ calls) last (before, ran, step, goes, are
 
 -- ---- one number
 
+two-in : (number : ℕ) (xs : List StoredResponse) (x a b : StoredResponse) → times_in number (x ∷ xs) ≤ 1 → x ≡ a
+    → Has xs b → a.number ≡ number → b.number ≡ number → ⊥
+two-in number xs x a b once here there is_a is_b = let first = times-has number (x ∷ []) a (inl here) is_a in
+    let other = times-has number xs b there is_b in omega (arith, times-cons number x xs, times-cons number x [])
+
 unique-in : (number : ℕ) (xs : List StoredResponse) (a b : StoredResponse) → times_in number xs ≤ 1 → Has xs a
     → Has xs b → a.number ≡ number → b.number ≡ number → a ≡ b
 unique-in number [] a b once none h is_a is_b = absurd none
 unique-in number (x ∷ xs) a b once (inl here) (inl too) is_a is_b = sym here ∙ too
-unique-in number (x ∷ xs) a b once (inl here) (inr there) is_a is_b = absurd (omega (
-  arith,
-  once,
-  times-cons number x xs,
-  times-has number (x ∷ []) a (inl here) is_a,
-  times-cons number x [],
-  times-has number xs b there is_b,
-))
-unique-in number (x ∷ xs) a b once (inr there) (inl here) is_a is_b = absurd (omega (
-  arith,
-  once,
-  times-cons number x xs,
-  times-has number (x ∷ []) b (inl here) is_b,
-  times-cons number x [],
-  times-has number xs a there is_a,
-))
+unique-in number (x ∷ xs) a b once (inl here) (inr there) is_a is_b =
+    absurd (two-in number xs x a b once here there is_a is_b)
+unique-in number (x ∷ xs) a b once (inr there) (inl here) is_a is_b =
+    absurd (two-in number xs x b a once here there is_b is_a)
 unique-in number (x ∷ xs) a b once (inr one) (inr other) is_a is_b =
     unique-in number xs a b (omega (arith, once, times-cons number x xs)) one other is_a is_b
 
@@ -55,11 +48,8 @@ module _ (number : ℕ) where
   used-has : (contents : Contents) (entry : Target) (stored : StoredResponse) → Has contents entry
       → Has entry.1 stored → stored.number ≡ number → 1 ≤ times_used number contents
   used-has [] entry stored none among is = absurd none
-  used-has (first ∷ contents) entry stored (inl here) among is = omega (
-    arith,
-    used-cons number first contents,
-    times-has number first.1 stored (subst (λ (e : Target). Has e.1 stored) (sym here) among) is,
-  )
+  used-has (first ∷ contents) entry stored (inl here) among is = let counts_once = times-has number first.1 stored
+      (subst (λ (e : Target). Has e.1 stored) (sym here) among) is in omega (arith, used-cons number first contents)
   used-has (first ∷ contents) entry stored (inr there) among is =
       omega (arith, used-cons number first contents, used-has contents entry stored there among is)
 

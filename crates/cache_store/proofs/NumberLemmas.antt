@@ -1,5 +1,5 @@
 -- Which response a number names.
-use Rattle.std.proofs.Common.{[], ◌++◌, ◌+◌, ◌-◌, ◌<◌, ◌∷◌, ◌≡◌, ◌≢◌, ◌≤◌, Bool, cond, false, List, suc, true, zero, ℕ}
+use Rattle.std.proofs.Common.{[], ◌++◌, ◌+◌, ◌<◌, ◌∷◌, ◌≡◌, ◌≢◌, ◌≤◌, Bool, cond, false, List, suc, true, zero, ℕ}
 use Rattle.std.proofs.Common.{ap, arith, get_or, inl, inr, length, None, Option, refl, remove, slice_get, Some, sym}
 use Rattle.std.proofs.{Common.{◌∙◌, drop, option_to_list, take}, lemmas.{Bool.cases_lt, Option.same_Some}}
 use Rattle.std.proofs.lemmas.List.Sums.{sum_by-append, sum_by-cons, sum_by-remove, sum_by-take-drop}
@@ -32,10 +32,7 @@ one-own number stored same = ap one_if (own-number number stored same)
 
 pub one-other : (number : ℕ) (stored : StoredResponse) → stored.number ≢ number → one_in number stored ≡ 0
 one-other number stored differs = (elim (has_number number stored) as (λ b. has_number number stored ≡ b
-    → one_if b ≡ 0) [
-      | true ↦ λ t. absurd (differs (is-number number stored t))
-      | false ↦ λ t. refl
-    ]) refl
+    → one_if b ≡ 0) [ true ↦ λ t. absurd (differs (is-number number stored t)) | false ↦ λ t. refl ]) refl
 
 -- one that is there counts
 pub times-has : (number : ℕ) (xs : List StoredResponse) (stored : StoredResponse) → Has xs stored
@@ -142,43 +139,24 @@ module _ (next : ℕ) (new : StoredResponse) (old other rest : Contents) (taken 
     (fewer : (number : ℕ) → times_in number others ≤ times_in number taken)
     (trimmed : ℕ) (is_kept : kept ≡ drop trimmed others) (front : ℕ) (is_rest : rest ≡ take front other) where
   within : (number : ℕ) → times_in number kept + times_used number rest ≤ times_used number old
-  within number = omega (
-    arith,
-    all number,
-    fewer number,
-    ap (times_in number) is_kept,
-    sum_by-take-drop (one_in number) others trimmed,
-    ap (times_used number) is_rest,
-    sum_by-take-drop (λ (e : Target). times_in number e.1) other front,
-  )
+  within number = let rests = sum_by-take-drop (λ (e : Target). times_in number e.1) other front in
+      let keeps = sum_by-take-drop (one_in number) others trimmed in
+      omega (arith, all number, fewer number, ap (times_in number) is_kept, ap (times_used number) is_rest)
 
   pub numbered-inserted : AreNumberedWith next (kept ++ new ∷ []) rest
   numbered-inserted = record {
     once = λ number. (elim (has_number number new) as (λ b. has_number number new ≡ b
         → times_in number (kept ++ new ∷ []) + times_used number rest ≤ 1) [
-          | true ↦ λ t. let same = is-number number new t in omega (
-            arith,
-            within number,
-            times-last number kept new,
-            one-own number new same,
-            ap (λ n. times_used n old) same,
-            unused,
-          )
-          | false ↦ λ t. omega (
-            arith,
-            within number,
-            times-last number kept new,
-            one-other number new (not-number number new t),
-            are.once number,
-          )
+          | true ↦ λ t. let same = is-number number new t in
+              let is_unused = ap (λ n. times_used n old) same in
+              omega (arith, within number, times-last number kept new, one-own number new same)
+          | false ↦ λ t.
+              let other_one = one-other number new (not-number number new t) in
+              omega (arith, within number, times-last number kept new, are.once number)
         ]) refl;
-    below = λ number past. omega (
-      arith,
-      within number,
-      times-last number kept new,
-      one-other number new (λ same. omega (arith, same, last, past)),
-      are.below number past,
-    );
+    below = λ number past.
+        let other_one = one-other number new (λ same. omega (arith, same, last, past)) in
+        omega (arith, within number, times-last number kept new, are.below number past);
   }
 
 -- what is left of updated responses, and perhaps the answer beside it
@@ -192,31 +170,16 @@ module _ (next later first : ℕ) (old other : Contents) (taken these left : Lis
   left-once number = elim (cases_lt number first) [
     | inl before ↦ omega (arith, renumbered.before number before, fewer number, all number, are.once number)
     | inr from ↦ elim (cases_lt number (first + length these)) [
-      | inl given ↦ omega (
-        arith,
-        renumbered.given number from given,
-        fewer number,
-        all number,
-        are.below number (omega (arith, is_first, from)),
-      )
-      | inr after ↦ omega (
-        arith,
-        renumbered.after number after,
-        fewer number,
-        all number,
-        are.once number,
-      )
+      | inl given ↦
+          let unused_past = are.below number (omega (arith, is_first, from)) in
+          omega (arith, renumbered.given number from given, fewer number, all number)
+      | inr after ↦ omega (arith, renumbered.after number after, fewer number, all number, are.once number)
     ]
   ]
 
   left-below : (number : ℕ) → first + length these ≤ number → times_in number left + times_used number other ≡ 0
-  left-below number past = omega (
-    arith,
-    renumbered.after number past,
-    fewer number,
-    all number,
-    are.below number (omega (arith, is_first, past)),
-  )
+  left-below number past = let unused_past = are.below number (omega (arith, is_first, past)) in
+      omega (arith, renumbered.after number past, fewer number, all number)
 
   pub numbered-left : AreNumberedWith later left other
   numbered-left = record {
@@ -229,18 +192,12 @@ module _ (next later first : ℕ) (old other : Contents) (taken these left : Lis
   numbered-again fresh last one_less = record {
     once = λ number. (elim (has_number number fresh) as (λ b. has_number number fresh ≡ b
         → times_in number (left ++ fresh ∷ []) + times_used number other ≤ 1) [
-          | true ↦ λ t. omega (
-            arith,
-            times-last number left fresh,
-            one-own number fresh (is-number number fresh t),
-            left-below number (omega (arith, last, is-number number fresh t)),
-          )
-          | false ↦ λ t. omega (
-            arith,
-            times-last number left fresh,
-            one-other number fresh (not-number number fresh t),
-            left-once number,
-          )
+          | true ↦ λ t.
+              let none_left = left-below number (omega (arith, last, is-number number fresh t)) in
+              omega (arith, times-last number left fresh, one-own number fresh (is-number number fresh t))
+          | false ↦ λ t.
+              let other_one = one-other number fresh (not-number number fresh t) in
+              omega (arith, times-last number left fresh, left-once number)
         ]) refl;
     below = λ number past. omega (
       arith,
@@ -256,10 +213,7 @@ times-same : (number : ℕ) (one new : StoredResponse) → new ≡ one → times
 times-same number one new same = omega (arith, times-cons number new [], ap (one_in number) same)
 
 one-most : (number : ℕ) (one : StoredResponse) → one_in number one ≤ 1
-one-most number one = elim (has_number number one) as (λ b. one_if b ≤ 1) [
-  | true ↦ omega arith
-  | false ↦ omega arith
-]
+one-most number one = elim (has_number number one) as (λ b. one_if b ≤ 1) [ true ↦ omega arith | false ↦ omega arith ]
 
 fate-other : (number given : ℕ) (one : StoredResponse) (fate : Option StoredResponse)
     → IsSameOrNumbered one given fate → number ≢ given → times_in number (option_to_list fate) ≤ one_in number one
@@ -291,35 +245,23 @@ pub renumbering-next : (first last : ℕ) (all left next others these : List Sto
     → IsSameOrNumbered one last fate → AreRenumbering first last all left these
     → AreRenumbering first (last + 1) all next others
 renumbering-next first last all left next others these one fate from split put is so_far = record {
-  before = λ number past. omega (
-    arith,
-    so_far.before number past,
-    counts number,
-    fate-other number last one fate is (λ same. omega (arith, same, past, from)),
-  );
+  before = λ number past. let fates = fate-other number last one fate is (λ same. omega (arith, same, past, from)) in
+      omega (arith, so_far.before number past, counts number);
   given = λ number above past. elim (cases_lt number last) [
-    | inl earlier ↦ omega (
-      arith,
-      so_far.given number above earlier,
-      counts number,
-      fate-other number last one fate is (λ same. omega (arith, same, earlier)),
-    )
+    | inl earlier ↦
+        let fates = fate-other number last one fate is (λ same. omega (arith, same, earlier)) in
+        omega (arith, so_far.given number above earlier, counts number)
     | inr now ↦ omega (arith, so_far.after number now, counts number, fate-most number fate)
   ];
-  after = λ number past. omega (
-    arith,
-    so_far.after number (omega (arith, past)),
-    counts number,
-    fate-other number last one fate is (λ same. omega (arith, same, past)),
-  );
+  after = λ number past.
+      let fates = fate-other number last one fate is (λ same. omega (arith, same, past)) in
+      omega (arith, so_far.after number (omega (arith, past)), counts number);
 }
   where
     counts : (number : ℕ) → (times_in number next ≡ times_in number left + times_in number (option_to_list fate))
         × (times_in number these ≡ one_in number one + times_in number others)
-    counts number = (
-      ap (times_in number) put ∙ sum_by-append (one_in number) left (option_to_list fate),
-      ap (times_in number) split ∙ times-cons number one others,
-    )
+    counts number = let more = ap (times_in number) put ∙ sum_by-append (one_in number) left (option_to_list fate) in
+        (more, ap (times_in number) split ∙ times-cons number one others)
 
 pub renumbering-end : (first last : ℕ) (all left rest : List StoredResponse) → AreRenumbering first last all left rest
     → AreRenumbered first last all left

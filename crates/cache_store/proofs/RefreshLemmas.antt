@@ -57,31 +57,13 @@ module _ (all taken : List StoredResponse) (place : ℕ) (fields : List Field) (
 
 pub freshened_numbered : (old : StoredResponse) (update : LineMap) (exchange : Exchange) (n : ℕ) (fresh
     : StoredResponse) → IsFreshened old update exchange fresh → IsFreshened old update exchange (renumbered n fresh)
-freshened_numbered old update exchange n fresh is = record {
-  method = is.method;
-  request = is.request;
-  status = is.status;
-  content = is.content;
-  requested = is.requested;
-  received = is.received;
-  fields = is.fields;
-}
+freshened_numbered old update exchange n fresh is = assumption is
 
 module _ (policy : Policy) (stored : LineMap) (request : Request) (update : LineMap) (n : ℕ) (fresh : StoredResponse)
   where
     reusable_numbered : IsReusable policy stored request update fresh
         → IsReusable policy stored request update (renumbered n fresh)
-    reusable_numbered is = (
-      is.0,
-      record { first = is.1.first; validating = is.1.validating; suits = is.1.suits; fair = is.1.fair },
-    )
-
-    reusable_unnumbered : IsReusable policy stored request update (renumbered n fresh)
-        → IsReusable policy stored request update fresh
-    reusable_unnumbered is = (
-      is.0,
-      record { first = is.1.first; validating = is.1.validating; suits = is.1.suits; fair = is.1.fair },
-    )
+    reusable_numbered is = (is.0, assumption is.1)
 
 -- the names are those of the code
 module _ (policy own : Policy) (target : List ℕ) (request : Request) (update : LineMap) (exchange : Exchange) (old new
@@ -127,7 +109,8 @@ module _ (policy own : Policy) (target : List ℕ) (request : Request) (update :
         left = left;
         refreshed = refreshed (renumbered n fresh) (freshened_numbered d update exchange n fresh freshened.1);
         unusable = λ is. freshened.2 (subst (λ one. IsReusable own (fields_of_stored one) request update fresh)
-            (sym is_d) (rw (← is_own) at (reusable_unnumbered policy _ request update n fresh is)));
+            (sym is_d)
+            (rw (← is_own) at (reusable_numbered policy _ request update fresh.number (renumbered n fresh) is)));
         put = put ∙ ap (λ c. with_target target left c) is_other;
       })
 
@@ -143,18 +126,13 @@ pub none_refreshed : (policy : Policy) (target : List ℕ) (request : Request) (
     → IsRefreshed policy target request update exchange contents contents answer
 none_refreshed policy target request update exchange contents none Absent is = (is, refl)
 none_refreshed policy target request update exchange contents none Unchanged is = (none, is, refl)
-none_refreshed policy target request update exchange contents none (Stored at) is = absurd is
-none_refreshed policy target request update exchange contents none (Once fresh) is = absurd is
+none_refreshed policy target request update exchange contents none other is = absurd is
 
 -- what a HEAD leaves
 pub head_refreshed : (policy own : Policy) (target : List ℕ) (request : Request) (update : LineMap)
     (exchange : Exchange) (old new other : Contents) (taken left : List StoredResponse) → own ≡ policy → other ≡ without
     target old → taken ≡ responses_at target old → AreLeft (λ one. Becomes own request update exchange one Head)
     taken left → new ≡ with_target target left other → IsRefreshedByHead policy target request update exchange old new
-head_refreshed policy own target request update exchange old new other taken left is_own is_other is_taken are_left
-    put =
-    record {
-      left = left;
-      each = rw is_taken at (rw is_own at are_left);
-      put = put ∙ ap (λ c. with_target target left c) is_other;
-    }
+head_refreshed policy own target request update exchange old new other
+    taken left is_own is_other is_taken are_left put = let put = put ∙ ap (λ c. with_target target left c) is_other in
+    record { left = left; each = rw is_taken at (rw is_own at are_left); put = put }

@@ -27,11 +27,8 @@ module _ (B : StoredResponse → Option StoredResponse → Type 0) (all : List S
 -- the next of the responses is too small
 pub next_too_small : (all these others : List StoredResponse) (one : StoredResponse) (fields : List Field)
     → these ≡ one ∷ others → All (Contains all) these → IsTooSmallFor one.response fields → IsOneTooSmallFor all fields
-next_too_small all these others one fields split among small = record {
-  stored = one;
-  among = All-head (Contains all) one others (subst (All (Contains all)) split among);
-  small = small;
-}
+next_too_small all these others one fields split among small = let among = All-head (Contains all) one others
+    (subst (All (Contains all)) split among) in record { stored = one; among = among; small = small }
 
 module _ (policy : Policy) (request : Request) (update : LineMap) (exchange : Exchange) (old : StoredResponse) where
   -- what is left of the response after `freshen`

@@ -6,7 +6,7 @@ use Rattle.cache_store.specs.{Parts.{History.Step, Received.IsPart}, Numbers.num
 use Rattle.cache_store.specs.declared.{limits.Limits.Limits, parts.store_recording.Recorded.Recorded}
 use Rattle.cache_store.specs.{declared.parts.extent.Extent.Extent, Parts.History.PartCall.Received}
 use Rattle.cache_store.specs.declared.parts.store_answering.PartLookup.{PartLookup, TheVariants.Forward}
-use Rattle.cache_store.specs.declared.parts.store_answering.PartLookup.TheVariants.{Complete, Serve, Unavailable}
+use Rattle.cache_store.specs.declared.parts.store_answering.PartLookup.TheVariants.{Serve, Unavailable}
 use Rattle.cache_store.specs.declared.parts.store_recording.Recorded.TheVariants.{Once, Stored, Unstored, Whole}
 use Rattle.cache_store.specs.Parts.Answering.{IsAsked, IsDecided, IsLookedUp, IsReuse, IsReused, IsValidation}
 use Rattle.cache_store.specs.Parts.Recording.{IsKeptAs, IsMerged, IsRecordedAs, IsSelectedPart, IsTaken, IsTakenAlone}
@@ -40,9 +40,8 @@ module _ (policy : Policy) (limits : Limits) (key : List ℕ) (old : Contents) (
   pub kept_recorded : (part : StoredResponse) → IsTaken policy (responses_at key old) came reception part
       → (recorded : Recorded) → IsKeptAs policy limits key old part new recorded → Records recorded
   kept_recorded part taken Unstored kept = inr (part, taken, kept)
-  kept_recorded part taken Stored kept = (part, taken, kept)
-  kept_recorded part taken (Whole whole) kept = (part, taken, kept)
   kept_recorded part taken (Once once) kept = absurd kept
+  kept_recorded part taken other kept = (part, taken, kept)
 
   -- a part that isn't combined
   pub alone_recorded : (extent : Extent) → IsPart policy came reception extent
@@ -71,10 +70,9 @@ module _ (policy : Policy) (limits : Limits) (key : List ℕ) (old : Contents) (
 module _ (policy : Policy) (most : ℕ) (request : Request) (now : ℕ) (parts : List StoredResponse) (number : ℕ) where
   decided_lookup : (lookup : PartLookup) → IsDecided policy most request now parts lookup
       → IsLookedUp policy most request now parts lookup
-  decided_lookup (Serve answer) is = is
-  decided_lookup (Complete fields) is = is
   decided_lookup Unavailable is = inl is
   decided_lookup Forward is = inl is
+  decided_lookup lookup is = is
 
   -- the selected part may be reused
   module _ (stored : StoredResponse) (age : Field) (at : Some stored ≡ numbered number parts) where
@@ -89,10 +87,7 @@ module _ (policy : Policy) (most : ℕ) (request : Request) (now : ℕ) (parts :
           found = served.found;
           number = number;
           shown = served.shown;
-          does = inl (
-            reuse,
-            rw same at (rw served.age at is),
-          );
+          does = inl (reuse, rw same at (rw served.age at is));
         })
 
     pub reused_lookup : IsFoundServed policy most request now parts decisions.Serve number age

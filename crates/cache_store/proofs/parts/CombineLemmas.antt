@@ -11,16 +11,7 @@ use Rattle.cache_store.specs.declared.parts.{combining.Combined.TheVariants.{Onc
 
 -- the response with the content of another one
 abbrev with_content_of : StoredResponse → StoredResponse → StoredResponse
-with_content_of stored fresh = record {
-  method = fresh.method;
-  request = fresh.request;
-  status = fresh.status;
-  response = fresh.response;
-  content = stored.content;
-  requested = fresh.requested;
-  received = fresh.received;
-  number = fresh.number;
-}
+with_content_of stored fresh = record fresh { content = stored.content }
 
 freshened-whole : (stored head fresh : StoredResponse) (update : LineMap) (exchange : Exchange) → IsHeadOfStored stored
     head → IsFreshened head update exchange fresh → IsFreshened stored update exchange (with_content_of stored fresh)
@@ -62,21 +53,9 @@ module _ (policy : Policy) (stored came head fresh combined : StoredResponse) (r
   whole = with_content_of stored fresh
 
   is-combination : IsCombination stored came own other whole combined
-  is-combination =
-      let is_extended : IsExtended fresh (joined own stored.content other came.content) (extent_fields
-      (joint own other)) combined = rw is_changes at (rw is_bytes at extended) in
-      record {
-        freshened = freshened-whole _ _ _ _ _ is_head (rw is_exchange at by);
-        extended = record {
-          method = is_extended.method;
-          request = is_extended.request;
-          status = is_extended.status;
-          requested = is_extended.requested;
-          received = is_extended.received;
-          content = is_extended.content;
-          fields = is_extended.fields;
-        };
-      }
+  is-combination = let is_extended : IsExtended fresh (joined own stored.content other came.content)
+      (extent_fields (joint own other)) combined = rw is_changes at (rw is_bytes at extended) in
+      record { freshened = freshened-whole _ _ _ _ _ is_head (rw is_exchange at by); extended = assumption is_extended }
 
   -- the content of the stored part changes nothing
   own-reusable : IsReusable policy (fields_of_stored head) request (fields_of_stored came) fresh
@@ -85,12 +64,7 @@ module _ (policy : Policy) (stored came head fresh combined : StoredResponse) (r
       let asked = subst (λ (r : Request). MayBeReused policy r (fields_of_stored came) fresh) is_request is.1 in (
         subst (λ (r : Entries FieldValue). IsForOthers policy (lines_at r) (fields_of_stored came)) is_head.response
             is.0,
-        record {
-          first = asked.first;
-          validating = asked.validating;
-          suits = asked.suits;
-          fair = asked.fair;
-        },
+        assumption asked,
       )
 
   reusable-before : IsReusable policy (fields_of_stored stored) (request_of_stored came) (fields_of_stored came) whole
@@ -98,12 +72,8 @@ module _ (policy : Policy) (stored came head fresh combined : StoredResponse) (r
   reusable-before is = (
     subst (λ (r : Entries FieldValue). IsForOthers policy (lines_at r) (fields_of_stored came)) (sym is_head.response)
         is.0,
-    subst (λ (r : Request). MayBeReused policy r (fields_of_stored came) fresh) (sym is_request) (record {
-      first = is.1.first;
-      validating = is.1.validating;
-      suits = is.1.suits;
-      fair = is.1.fair;
-    }),
+    subst (λ (r : Request). MayBeReused policy r (fields_of_stored came) fresh) (sym is_request)
+        (assumption is.1),
   )
 
   pub reusable : IsReusable policy (fields_of_stored head) request (fields_of_stored came) fresh

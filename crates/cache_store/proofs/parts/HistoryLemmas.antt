@@ -9,7 +9,7 @@ use Rattle.cache_store.proofs.parts.ByteLemmas.{all-joined, all-within, AllAt, l
 use Rattle.cache_store.proofs.parts.FieldLemmas.{combined-range, IsPartOf, received-is, recorded-says, tags-same}
 use Rattle.cache_store.proofs.parts.FieldLemmas.{combined-tag, extent-is, extent-stored, recorded-range, tag-stored}
 use Rattle.cache_store.proofs.parts.FieldLemmas.{joint-is, recorded-tag, recorded_lines, some-tag, whole-lines}
-use Rattle.cache_store.specs.{Parts.Combining.{AreCombinable, Holds, IsCombination}, Changes.IsStoredAs, Contents.used}
+use Rattle.cache_store.specs.{Parts.Combining.{AreCombinable, Holds, IsCombination}, Changes.IsStoredAs}
 use Rattle.cache_store.specs.{Parts.Extents.{joint, strong_tag}, Numbers.numbered, History.{Has, History, IsJustified}}
 use Rattle.cache_store.specs.declared.parts.store_answering.PartLookup.TheVariants.{Serve}
 use Rattle.cache_store.specs.Parts.{History.PartCall.{Answered, Received, Removed}, Answering.{HasBytesAt, IsLookedUp}}
@@ -166,26 +166,22 @@ module _ (policy : Policy) (limits : Limits) where
         → IsFaithful (call ∷ calls) key stored
     later call key stored is tag own strong holds i byte h = earlier _ _ _ _ _ _ _ (is tag own strong holds i byte h)
 
-    same-known : (call : PartCall) → new ≡ old → IsKnown (call ∷ calls) new
-    same-known call same = record {
-      history = known.history;
-      ran = subst (StoreRun policy limits known.history) (sym same) known.ran;
-      traced = λ key stored j. later call key stored (known.traced key stored j);
+    known-by : (call : PartCall) (history : History) → StoreRun policy limits history new
+        → ((key : List ℕ) (stored : StoredResponse) → IsJustified policy key history stored
+        → IsJustified policy key known.history stored) → IsKnown (call ∷ calls) new
+    known-by call history ran was = record {
+      history = history;
+      ran = ran;
+      traced = λ key stored j. later call key stored (known.traced key stored (was key stored j));
     }
+
+    same-known : (call : PartCall) → new ≡ old → IsKnown (call ∷ calls) new
+    same-known call same = known-by call known.history
+        (subst (StoreRun policy limits known.history) (sym same) known.ran) (λ key stored j. j)
 
     removed-known : (call : PartCall) (key : List ℕ) → new ≡ without key old → IsKnown (call ∷ calls) new
-    removed-known call key left = record {
-      history = StoreRemoved key ∷ known.history;
-      ran = (old, known.ran, left);
-      traced = λ other stored j. later call other stored (known.traced other stored j.1);
-    }
-
-    looked-known : (key : List ℕ) → new ≡ used key old → IsKnown (Looked key ∷ calls) new
-    looked-known key left = record {
-      history = StoreLooked key ∷ known.history;
-      ran = (old, known.ran, left);
-      traced = λ other stored j. later (Looked key) other stored (known.traced other stored j);
-    }
+    removed-known call key left =
+        known-by call (StoreRemoved key ∷ known.history) (old, known.ran, left) (λ other stored j. j.1)
 
     received-known : (key : List ℕ) (came : StoredResponse) (reception : Reception)
         → Step policy limits (Received key came reception) old new → IsKnown (Received key came reception ∷ calls) new
@@ -218,7 +214,8 @@ module _ (policy : Policy) (limits : Limits) where
             (traced-taken calls old known key came reception part taken)))
 
     step-known : (call : PartCall) → Step policy limits call old new → IsKnown (call ∷ calls) new
-    step-known (Looked key) change = looked-known key change
+    step-known (Looked key) change =
+        known-by (Looked key) (StoreLooked key ∷ known.history) (old, known.ran, change) (λ other stored j. j)
     step-known (Received key came reception) change = received-known key came reception change
     step-known (Answered key method status) (inl (is, left)) = removed-known (Answered key method status) key left
     step-known (Answered key method status) (inr (isnt, same)) = same-known (Answered key method status) same

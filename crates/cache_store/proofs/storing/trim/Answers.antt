@@ -20,17 +20,11 @@ loop-limits-preserved c =
     }
 
 pub overflow_sub-bytes : goal.overflow_sub-bytes
-overflow_sub-bytes c =
-    let mid = c.loop-limits.responses.items in
+overflow_sub-bytes c = let mid = c.loop-limits.responses.items in
     let target = c.args.target.now in
-    let cramped : ¬ (FitsAlone c.args.limits (length mid + 1) (bytes_at target mid + c.args.size)) =
-    rw (c.loop-limits.invariant.bytes, c.len.ensures, c.loop-limits.responses.ok.0) at c.loop-limits-test.ensures in
+    let cramped : ¬ (FitsAlone c.args.limits (length mid + 1) (bytes_at target mid + c.args.size))
+    = rw (c.loop-limits.invariant.bytes, c.len.ensures, c.loop-limits.responses.ok.0) at c.loop-limits-test.ensures in
     let first = sum_by-remove (size_at target) mid 0 c.remove-oldest.result
     (trim-some c.args.limits target c.args.size c.requires.alone mid cramped) in
-    omega (
-      arith,
-      c.loop-limits.invariant.bytes,
-      first,
-      c.size_at-bytes.ensures,
-      ap (size_at target) c.remove-oldest.ensures.value,
-    )
+    let value = ap (size_at target) c.remove-oldest.ensures.value in
+    omega (arith, c.loop-limits.invariant.bytes, c.size_at-bytes.ensures)

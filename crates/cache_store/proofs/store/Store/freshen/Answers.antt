@@ -18,12 +18,8 @@ pub returns-in_default-clause-step : goal.returns-in_default-clause-step
 returns-in_default-clause-step c = inl (c.unrefreshed.result, returns-in_default-clause-ok c)
 
 pub remove-stored-requires : goal.remove-stored-requires
-remove-stored-requires c = omega (
-  arith,
-  within _ _ _ _ (rw c.responses.ensures at c.in-Some.ensures),
-  ap length c.take_out-responses.ensures.taken,
-  c.take_out-responses.result.ok.0,
-)
+remove-stored-requires c = let taken = ap length c.take_out-responses.ensures.taken in
+    omega (arith, within _ _ _ _ (rw c.responses.ensures at c.in-Some.ensures), c.take_out-responses.result.ok.0)
 
 pub put_with-requires-clause-absent : goal.put_with-requires-clause-absent
 put_with-requires-clause-absent c = rw (← (c.take_numbers.ensures.contents ∙ c.take_out-responses.ensures.contents)) at
@@ -112,14 +108,8 @@ pub overflow_add-number : goal.overflow_add-number
 overflow_add-number c =
     let inside = within_taken _ _ _ _ _ _ c.responses.ensures c.take_out-responses.ensures.taken c.in-Some.ensures in
     let less = one_less _ _ _ inside c.remove-stored.ensures.items in
-    omega (
-      arith,
-      less,
-      c.in_ok-first.ensures.ok,
-      c.len.ensures ∙ c.take_out-responses.result.ok.0,
-      c.len-2.ensures ∙
-          c.remove-stored.new.self.ok.0,
-    )
+    let len = c.len.ensures ∙ c.take_out-responses.result.ok.0 in
+    omega (arith, c.in_ok-first.ensures.ok, c.len-2.ensures ∙ c.remove-stored.new.self.ok.0)
 
 pub left_of-requires : goal.left_of-requires
 left_of-requires c =
@@ -136,21 +126,16 @@ put_with-requires-clause-few c =
 
 pub put_with-requires-clause-numbers : goal.put_with-requires-clause-numbers
 put_with-requires-clause-numbers c =
-    let inside = within_taken _ _ _ _ _ c.in-Some.place c.responses.ensures c.take_out-responses.ensures.taken
-    c.in-Some.ensures in
-    let less = one_less c.take_out-responses.result.items c.remove-stored.new.self.items c.in-Some.place inside
-    c.remove-stored.ensures.items in
+    let inside = within_taken _ _ _ _ _ _ c.responses.ensures c.take_out-responses.ensures.taken c.in-Some.ensures in
+    let less = one_less _ _ _ inside c.remove-stored.ensures.items in
+    let len = c.len.ensures ∙ c.take_out-responses.result.ok.0 in
     rw (← c.take_numbers.ensures.contents) at (numbered-again c.args.self.now.next c.take_numbers.new.self.next
     c.in_ok-first.first (contents_of c.args.self.now) (contents_of c.take_out-responses.new.self)
     c.take_out-responses.result.items c.remove-stored.new.self.items c.in_ok-left.left.items
     c.args.self.now.counted.numbered c.take_out-responses.ensures.numbers
-    (c.in_ok-first.ensures.ok.0 ∙ c.take_out-responses.ensures.next) (omega (
-      arith,
-      c.in_ok-first.ensures.ok,
-      c.take_out-responses.ensures.next,
-      c.len.ensures ∙ c.take_out-responses.result.ok.0,
-    )) (λ
-    number. rw c.remove-stored.ensures.items
+    (c.in_ok-first.ensures.ok.0 ∙ c.take_out-responses.ensures.next)
+    (omega (arith, c.in_ok-first.ensures.ok, c.take_out-responses.ensures.next))
+    (λ number. rw c.remove-stored.ensures.items
     (fewer-removed number c.take_out-responses.result.items c.in-Some.place c.remove-stored.result inside))
     c.in_ok-left.ensures.numbers (omega (arith, less)) c.renumber.result (ap
     (λ (stored : StoredResponse). stored.number) c.renumber.ensures ∙ ap (λ n. c.in_ok-first.first + n)
@@ -165,21 +150,16 @@ put_in-requires-clause-few c =
 
 pub put_in-requires-clause-numbers : goal.put_in-requires-clause-numbers
 put_in-requires-clause-numbers c =
-    let inside = within_taken _ _ _ _ _ c.in-Some.place c.responses.ensures c.take_out-responses.ensures.taken
-    c.in-Some.ensures in
-    let less = one_less c.take_out-responses.result.items c.remove-stored.new.self.items c.in-Some.place inside
-    c.remove-stored.ensures.items in
+    let inside = within_taken _ _ _ _ _ _ c.responses.ensures c.take_out-responses.ensures.taken c.in-Some.ensures in
+    let less = one_less _ _ _ inside c.remove-stored.ensures.items in
+    let len = c.len.ensures ∙ c.take_out-responses.result.ok.0 in
     rw (← c.take_numbers.ensures.contents) at (numbered-left c.args.self.now.next c.take_numbers.new.self.next
     c.in_ok-first.first (contents_of c.args.self.now) (contents_of c.take_out-responses.new.self)
     c.take_out-responses.result.items c.remove-stored.new.self.items c.in_ok-left.left.items
     c.args.self.now.counted.numbered c.take_out-responses.ensures.numbers
-    (c.in_ok-first.ensures.ok.0 ∙ c.take_out-responses.ensures.next) (omega (
-      arith,
-      c.in_ok-first.ensures.ok,
-      c.take_out-responses.ensures.next,
-      c.len.ensures ∙ c.take_out-responses.result.ok.0,
-    )) (λ
-    number. rw c.remove-stored.ensures.items
+    (c.in_ok-first.ensures.ok.0 ∙ c.take_out-responses.ensures.next)
+    (omega (arith, c.in_ok-first.ensures.ok, c.take_out-responses.ensures.next))
+    (λ number. rw c.remove-stored.ensures.items
     (fewer-removed number c.take_out-responses.result.items c.in-Some.place c.remove-stored.result inside))
     c.in_ok-left.ensures.numbers (omega (arith, less)))
 

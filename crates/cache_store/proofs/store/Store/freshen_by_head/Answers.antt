@@ -31,29 +31,24 @@ returns-in_err-put_in-clause-numbers c = goes-without _ _ _ _
     (c.in_err-put_in.ensures.err ∙ c.take_numbers.ensures.contents ∙ c.take_out-responses.ensures.contents)
 
 pub returns-in_err-first-clause-memory : goal.returns-in_err-first-clause-memory
-returns-in_err-first-clause-memory c = OnErr-from c.from_residual.result (omega (
-  arith,
-  c.in_err-first.ensures.some,
-  c.len.ensures ∙ c.take_out-responses.result.ok.0,
-  ap length c.take_out-responses.ensures.taken,
-))
+returns-in_err-first-clause-memory c =
+    let len = c.len.ensures ∙ c.take_out-responses.result.ok.0 in
+    let taken = ap length c.take_out-responses.ensures.taken in
+    OnErr-from c.from_residual.result (omega (arith, c.in_err-first.ensures.some))
 
 pub left_of-requires : goal.left_of-requires
 left_of-requires c = omega (arith, c.in_ok-first.ensures.ok, c.len.ensures ∙ c.take_out-responses.result.ok.0)
 
 pub put_in-requires-clause-numbers : goal.put_in-requires-clause-numbers
 put_in-requires-clause-numbers c =
+    let len = c.len.ensures ∙ c.take_out-responses.result.ok.0 in
     rw (← c.take_numbers.ensures.contents) at (numbered-left c.args.self.now.next c.take_numbers.new.self.next
     c.in_ok-first.first (contents_of c.args.self.now) (contents_of c.take_out-responses.new.self)
     c.take_out-responses.result.items c.take_out-responses.result.items c.in_ok-left.left.items
     c.args.self.now.counted.numbered c.take_out-responses.ensures.numbers
-    (c.in_ok-first.ensures.ok.0 ∙ c.take_out-responses.ensures.next) (omega (
-      arith,
-      c.in_ok-first.ensures.ok,
-      c.take_out-responses.ensures.next,
-      c.len.ensures ∙ c.take_out-responses.result.ok.0,
-    ))
-    (λ number. omega arith) c.in_ok-left.ensures.numbers (omega arith))
+    (c.in_ok-first.ensures.ok.0 ∙ c.take_out-responses.ensures.next)
+    (omega (arith, c.in_ok-first.ensures.ok, c.take_out-responses.ensures.next)) (λ number. omega arith)
+    c.in_ok-left.ensures.numbers (omega arith))
 
 pub returns-clause-numbers : goal.returns-clause-numbers
 returns-clause-numbers c = goes-left _ _ _ _

@@ -14,15 +14,10 @@ bytes_at-requires c = let counts = counts-last _ _ (ap (λ m. m.entries) c.pop_l
     (omega (arith, counts (λ entry. bytes_at entry.0 entry.1), c.args.self.now.counted))
 
 pub overflow_sub-self-in-Some : goal.overflow_sub-self-in-Some
-overflow_sub-self-in-Some c =
-    let counts = counts-last _ _ (ap (λ m. m.entries) c.pop_lru.ensures.entries) (c.in-Some.target, c.in-Some.responses)
-    (sym c.in-Some.ensures.value) in
-    omega (
-      arith,
-      counts (λ entry. bytes_at entry.0 entry.1),
-      rw (c.as_str.ensures.value, c.deref.ensures.value) at c.bytes_at.ensures,
-      c.args.self.now.counted,
-    )
+overflow_sub-self-in-Some c = let counts = counts-last _ _ (ap (λ m. m.entries) c.pop_lru.ensures.entries)
+    (c.in-Some.target, c.in-Some.responses) (sym c.in-Some.ensures.value) in
+    let size = rw (c.as_str.ensures.value, c.deref.ensures.value) at c.bytes_at.ensures in
+    omega (arith, counts (λ entry. bytes_at entry.0 entry.1), c.args.self.now.counted)
 
 pub invariant_of-self : goal.invariant_of-self
 invariant_of-self c =
@@ -42,10 +37,8 @@ invariant_of-self c =
 pub invariant_of-self-in_default : goal.invariant_of-self-in_default
 invariant_of-self-in_default c =
     let same = none-last _ _ (sym c.in_default.ensures.value) (ap (λ m. m.entries) c.pop_lru.ensures.entries) in
-    record {
-      unbounded = ap (λ m. m.cap) c.pop_lru.ensures.entries ∙ c.args.self.now.unbounded;
-      counted = rw same c.args.self.now.counted;
-    }
+    let unbounded = ap (λ m. m.cap) c.pop_lru.ensures.entries ∙ c.args.self.now.unbounded in
+    record { unbounded = unbounded; counted = rw same c.args.self.now.counted }
 
 pub returns-in-Some-clause-contents : goal.returns-in-Some-clause-contents
 returns-in-Some-clause-contents c = shown-last _ _ (ap (λ m. m.entries) c.pop_lru.ensures.entries)

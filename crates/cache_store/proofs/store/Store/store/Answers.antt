@@ -2,9 +2,7 @@ use Rattle.{std.proofs.Common.{◌∙◌, arith, inl, inr, refl}, cache_store.pr
 use Rattle.cache_store.{proofs.StoringLemmas.same_number, specs.{Changes.FitsAlone, Contents.size_at}}
 use Rattle.cache_store.proofs.store.Store.store.Goals as goal
 use Rattle.cache_store.proofs.store.Store.store.Goals.{then-not-is_stored-via-then-not-is_stored}
-use Rattle.cache_store.proofs.store.Store.store.Goals.{
-  then-not-is_stored-via-else-not-is_stored+then-not-fits,
-}
+use Rattle.cache_store.proofs.store.Store.store.Goals.{then-not-is_stored-via-else-not-is_stored+then-not-fits}
 
 pub returns-then-not-is_stored-clause-unstored : goal.returns-then-not-is_stored-clause-unstored
 returns-then-not-is_stored-clause-unstored c = λ _. elim c.then-not-is_stored.branch [

@@ -15,11 +15,8 @@ bytes_at-requires c = rw c.deref.ensures.value
     (omega (arith, c.popped-taken.ensures.counts (λ entry. bytes_at entry.0 entry.1) refl))
 
 pub overflow_sub-self-2 : goal.overflow_sub-self-2
-overflow_sub-self-2 c = omega (
-  arith,
-  c.popped-taken.ensures.counts (λ entry. bytes_at entry.0 entry.1) refl,
-  c.bytes_at.ensures ∙ ap (bytes_at c.args.target.now) c.deref.ensures.value,
-)
+overflow_sub-self-2 c = let counts = c.bytes_at.ensures ∙ ap (bytes_at c.args.target.now) c.deref.ensures.value in
+    omega (arith, c.popped-taken.ensures.counts (λ entry. bytes_at entry.0 entry.1) refl)
 
 pub invariant_of-self : goal.invariant_of-self
 invariant_of-self c = record {

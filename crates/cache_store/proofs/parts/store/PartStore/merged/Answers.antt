@@ -2,14 +2,8 @@ use Rattle.std.proofs.{Common.inr, lemmas.Result.IfOk-weaker, lemmas.Result.on_e
 use Rattle.cache_store.proofs.parts.store.PartStore.merged.Goals as goal
 
 pub returns-in-Some-clause-merged : goal.returns-in-Some-clause-merged
-returns-in-Some-clause-merged c =
-    IfOk-weaker c.combine.result _ _
-    (λ result is. inr (
-      c.in-Some.stored.now,
-      c.in-Some.ensures,
-      rw c.policy.ensures at is,
-    ))
-    c.combine.ensures.combined
+returns-in-Some-clause-merged c = IfOk-weaker c.combine.result _ _
+    (λ result is. inr (c.in-Some.stored.now, c.in-Some.ensures, rw c.policy.ensures at is)) c.combine.ensures.combined
 
 pub returns-in-Some-clause-memory : goal.returns-in-Some-clause-memory
 returns-in-Some-clause-memory c =

@@ -64,8 +64,4 @@ returns-in-Apart-clause-full c = λ full.
 
 pub returns-in-Stored-clause-full : goal.returns-in-Stored-clause-full
 returns-in-Stored-clause-full c = λ full.
-    inr (inl (
-      c.in-Stored.part,
-      rw c.in-Stored.is at c.in_ok-merged.ensures.merged,
-      c.keep.ensures.full full,
-    ))
+    inr (inl (c.in-Stored.part, rw c.in-Stored.is at c.in_ok-merged.ensures.merged, c.keep.ensures.full full))
